@@ -1,0 +1,17 @@
+-- What reading words takes from a reader, and why it fails.
+use Rattle.std.specs.Prelude.{◌≢◌, ℕ, ◌*◌, ◌%◌, ◌<◌, ◌≤◌, List, length, Option, ⊤}
+use Rattle.std.specs.Io.KnownBytes.{Consumes}
+use Rattle.segment_image.specs.declared.fault.ReadFault.{ReadFault}
+use Rattle.segment_image.specs.declared.fault.ReadFault.TheVariants.{NoMemory, Device, TooLong, NotWords}
+
+-- A fault of a call that reads at most `limit` words has its cause in the bytes that the reader had left. Want of
+-- memory and a device that fails have none there.
+abbrev pub IsCausedBy : ℕ → List ℕ → ReadFault → Type 0
+IsCausedBy limit bytes NoMemory = ⊤
+IsCausedBy limit bytes Device = ⊤
+IsCausedBy limit bytes TooLong = 8 * limit < length bytes
+IsCausedBy limit bytes NotWords = (length bytes ≤ 8 * limit) × (length bytes % 8 ≢ 0)
+
+-- a call took at most so many of the bytes that a reader had, which were `old` and are `new`
+abbrev pub TakesAtMost : ℕ → Option (List ℕ) → Option (List ℕ) → Type 0
+TakesAtMost most old new = (taken : List ℕ) × Consumes old new taken × (length taken ≤ most)

@@ -1,0 +1,51 @@
+//! The blocks of an image.
+
+use crate::fault::ImageFault;
+
+/// What a block's header says.
+#[derive(Clone, Copy, Debug, PartialEq, Eq)]
+pub struct BlockHead {
+    /// The words of the block, its header of four included.
+    pub size: u64,
+    /// The type: 0 purged, 1 histogram, 2 counts, 3 sparse sample.
+    pub tag: u64,
+    /// The reference of the next record on the list; the queue's, 12, ends the list.
+    pub next: u64,
+}
+
+ghost use Rattle.std.specs.Prelude.{◌≡◌, Ok};
+ghost use Rattle.segment_image.specs.Header.{header_of};
+ghost use Rattle.segment_image.specs.Block.{block_of};
+
+use crate::head::SegmentHead;
+
+const BLOCK_COOKIE: u64 = 0xC879_9269;
+const MIN_BLOCK: u64 = 5;
+
+/// The header of the block at a reference of an image whose header is `head`.
+///
+/// `BadRef` where the reference is below 16 or the smallest block does not fit below the free pointer; `BadBlock`
+/// where the cookie is another, the size is below five words, the block passes the free pointer, or its first and
+/// last word lie in different pages. It takes no memory.
+pub fn block(words: &[u64], head: &SegmentHead, reference: u64) -> Result<BlockHead, ImageFault>
+    requires { header_of words.now ≡ Ok head.now }
+    ensures { result ≡ block_of words.now head.now reference }
+{
+    if reference < 16 || head.free < MIN_BLOCK || reference > head.free - MIN_BLOCK {
+        return Err(ImageFault::BadRef);
+    }
+    let at = reference as usize;
+    let size = words[at];
+    if words[at + 1] != BLOCK_COOKIE || size < MIN_BLOCK || size > head.free - reference {
+        return Err(ImageFault::BadBlock);
+    }
+    let page = head.shape.page();
+    if reference / page != (reference + size - 1) / page {
+        return Err(ImageFault::BadBlock);
+    }
+    Ok(BlockHead {
+        size,
+        tag: words[at + 2],
+        next: words[at + 3],
+    })
+}

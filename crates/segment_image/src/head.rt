@@ -1,0 +1,78 @@
+//! The header of an image.
+
+use crate::fault::ImageFault;
+use crate::shape::Shape;
+
+/// What an image's header says.
+#[derive(Clone, Copy, Debug, PartialEq, Eq)]
+pub struct SegmentHead {
+    /// The words of the segment and of its pages.
+    pub shape: Shape,
+    /// The version of the format.
+    pub version: u64,
+    /// The segment's id, any number.
+    pub id: u64,
+    /// The free pointer: the words from there on were never claimed.
+    pub free: u64,
+    /// The tail of the list of records as the last publisher left it; reading does not look at it.
+    pub tail: u64,
+    /// Whether some thread found the segment corrupt.
+    pub corrupt: bool,
+    /// Whether an allocation did not fit.
+    pub full: bool,
+}
+
+ghost use Rattle.std.specs.Prelude.{◌≡◌};
+ghost use Rattle.segment_image.specs.Header.{header_of};
+
+const SEGMENT_COOKIE: u64 = 0x4083_05DC;
+const HEADER_WORDS: usize = 16;
+const READY: u64 = 1;
+const DELETED: u64 = 2;
+const CORRUPT_FLAG: u64 = 1;
+const FULL_FLAG: u64 = 2;
+
+/// The header of an image, or its first fault: `TooShort`, `BadCookie`, `BadVersion`, `BadPage`, `BadSize`,
+/// `NotReady`, `Deleted`, `BadFree`, `BadQueue`, checked in this order. Any words may be given. It takes no memory.
+pub fn header(words: &[u64]) -> Result<SegmentHead, ImageFault>
+    ensures { result ≡ header_of words.now }
+{
+    if words.len() < HEADER_WORDS {
+        return Err(ImageFault::TooShort);
+    }
+    if words[0] != SEGMENT_COOKIE {
+        return Err(ImageFault::BadCookie);
+    }
+    if words[1] != 1 {
+        return Err(ImageFault::BadVersion);
+    }
+    let size = words[2];
+    let shape = match Shape::of(size, words[3]) {
+        Err(ImageFault::BadPage) => return Err(ImageFault::BadPage),
+        Ok(shape) if size == words.len() as u64 => shape,
+        _ => return Err(ImageFault::BadSize),
+    };
+    let state = words[5];
+    if state != READY && state != DELETED {
+        return Err(ImageFault::NotReady);
+    }
+    if state == DELETED {
+        return Err(ImageFault::Deleted);
+    }
+    let free = words[7];
+    if free < 16 || free > size {
+        return Err(ImageFault::BadFree);
+    }
+    if words[12] != 4 || words[13] != 1 || words[14] != 0 {
+        return Err(ImageFault::BadQueue);
+    }
+    Ok(SegmentHead {
+        shape,
+        version: words[1],
+        id: words[4],
+        free,
+        tail: words[8],
+        corrupt: words[6] & CORRUPT_FLAG != 0,
+        full: words[6] & FULL_FLAG != 0,
+    })
+}

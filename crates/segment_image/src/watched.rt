@@ -1,0 +1,113 @@
+//! A reader or a writer that remembers whether it failed.
+
+ghost use Rattle.std.specs.Prelude.{◌≡◌, ◌||◌, true, false, is_err, OnOk};
+ghost use Rattle.std.specs.Io.{ReadsAtMost, WritesAtMost};
+ghost use Rattle.std.specs.Io.KnownBytes.{Appends, Consumes, Keeps, ReadConsumes, WriteAppends};
+
+use std::io;
+use std::io::{Read, Write};
+
+/// Passes reads and writes on, and remembers whether one of them failed.
+#[derive(Debug, Drop)]
+pub struct Watched<T> {
+    inner: T,
+    failed: bool,
+}
+
+impl<T> Watched<T> {
+    ghost use Rattle.segment_image.specs.Watched.{has_failed, watched_inner};
+
+    /// Watches a reader or a writer from here on.
+    pub fn new(inner: T) -> Watched<T>
+        ensures inner { watched_inner result ≡ inner }
+        ensures failed { has_failed result ≡ false }
+    {
+        Watched {
+            inner,
+            failed: false,
+        }
+    }
+
+    /// Whether a read, a write or a flush that was passed on has failed.
+    pub fn failed(&self) -> bool
+        ensures { result ≡ has_failed self.now }
+    {
+        self.failed
+    }
+
+    /// The reader or the writer itself.
+    pub fn into_inner(self) -> T
+        ensures { result ≡ watched_inner self }
+    {
+        self.inner
+    }
+}
+
+impl<R: Read> Read for Watched<R> {
+    ghost use Rattle.segment_image.specs.Watched.{has_failed, watched_inner};
+
+    ghost remaining = { λ watched. R.remaining (watched_inner watched) };
+
+    fn read(&mut self, buf: &mut [u8]) -> io::Result<usize>
+        ensures bound { ReadsAtMost result buf.new }
+        ensures bytes { ReadConsumes (R.remaining (watched_inner self.old)) (R.remaining (watched_inner self.new)) result buf.new }
+        ensures failed { has_failed self.new ≡ (has_failed self.old || is_err result) }
+    {
+        let outcome = self.inner.read(buf);
+        if outcome.is_err() {
+            self.failed = true;
+        }
+        outcome
+    }
+
+    fn read_exact(&mut self, buf: &mut [u8]) -> io::Result<()>
+        ensures bytes { OnOk result (Consumes (R.remaining (watched_inner self.old)) (R.remaining (watched_inner self.new)) buf.new) }
+        ensures failed { has_failed self.new ≡ (has_failed self.old || is_err result) }
+    {
+        let outcome = self.inner.read_exact(buf);
+        if outcome.is_err() {
+            self.failed = true;
+        }
+        outcome
+    }
+}
+
+impl<W: Write> Write for Watched<W> {
+    ghost use Rattle.segment_image.specs.Watched.{has_failed, watched_inner};
+
+    ghost contents = { λ watched. W.contents (watched_inner watched) };
+
+    fn write(&mut self, buf: &[u8]) -> io::Result<usize>
+        ensures bound { WritesAtMost result buf.now }
+        ensures bytes { WriteAppends (W.contents (watched_inner self.old)) (W.contents (watched_inner self.new)) result buf.now }
+        ensures failed { has_failed self.new ≡ (has_failed self.old || is_err result) }
+    {
+        let outcome = self.inner.write(buf);
+        if outcome.is_err() {
+            self.failed = true;
+        }
+        outcome
+    }
+
+    fn flush(&mut self) -> io::Result<()>
+        ensures bytes { Keeps (W.contents (watched_inner self.old)) (W.contents (watched_inner self.new)) }
+        ensures failed { has_failed self.new ≡ (has_failed self.old || is_err result) }
+    {
+        let outcome = self.inner.flush();
+        if outcome.is_err() {
+            self.failed = true;
+        }
+        outcome
+    }
+
+    fn write_all(&mut self, buf: &[u8]) -> io::Result<()>
+        ensures bytes { OnOk result (Appends (W.contents (watched_inner self.old)) (W.contents (watched_inner self.new)) buf.now) }
+        ensures failed { has_failed self.new ≡ (has_failed self.old || is_err result) }
+    {
+        let outcome = self.inner.write_all(buf);
+        if outcome.is_err() {
+            self.failed = true;
+        }
+        outcome
+    }
+}

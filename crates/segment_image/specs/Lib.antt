@@ -1,8 +1,8 @@
 pub mod Checks
-pub mod Faults
+pub mod Fault
 pub mod Words
 pub mod Shape
-pub mod Header
-pub mod Block
+pub mod Head
+pub mod Blocks
 pub mod Watched
 pub mod Transfer

@@ -14,8 +14,8 @@ pub struct BlockHead {
 }
 
 ghost use Rattle.std.specs.Prelude.{◌≡◌, Ok};
-ghost use Rattle.segment_image.specs.Header.{header_of};
-ghost use Rattle.segment_image.specs.Block.{block_of};
+ghost use Rattle.segment_image.specs.Head.{header_of};
+ghost use Rattle.segment_image.specs.Blocks.{block_of};
 
 use crate::head::SegmentHead;
 

@@ -48,7 +48,7 @@ pub enum ImageFault {
 
 impl ImageFault {
     ghost use Rattle.std.specs.Prelude.{◌≡◌};
-    ghost use Rattle.segment_image.specs.Faults.{image_fault_number};
+    ghost use Rattle.segment_image.specs.Fault.{image_fault_number};
 
     /// The fault's number, from 1.
     pub fn number(&self) -> u32
@@ -77,7 +77,7 @@ pub enum ReadFault {
 
 impl ReadFault {
     ghost use Rattle.std.specs.Prelude.{◌≡◌};
-    ghost use Rattle.segment_image.specs.Faults.{read_fault_number};
+    ghost use Rattle.segment_image.specs.Fault.{read_fault_number};
 
     /// The fault's number, from 1.
     pub fn number(&self) -> u32

@@ -23,7 +23,7 @@ pub struct SegmentHead {
 }
 
 ghost use Rattle.std.specs.Prelude.{◌≡◌};
-ghost use Rattle.segment_image.specs.Header.{header_of};
+ghost use Rattle.segment_image.specs.Head.{header_of};
 
 const SEGMENT_COOKIE: u64 = 0x4083_05DC;
 const HEADER_WORDS: usize = 16;

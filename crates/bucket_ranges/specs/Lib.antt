@@ -1,0 +1,9 @@
+pub use Rattle.segment_image.specs.Checks
+pub use Rattle.segment_image.specs.Words
+pub use Rattle.segment_image.specs.Head
+pub use Rattle.segment_image.specs.Blocks
+pub mod Fault
+pub mod Spec
+pub mod Ranges
+pub mod Single
+pub mod Reading

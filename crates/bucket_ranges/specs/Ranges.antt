@@ -1,0 +1,22 @@
+-- The boundaries of buckets.
+use Rattle.std.specs.Prelude.{ℕ, ◌+◌, ◌-◌, ◌*◌, ◌/◌, ◌<◌, ◌≤◌, List, [], ◌∷◌, ◌++◌, map, length, slice_index}
+use Rattle.std.specs.List.{range_with_len}
+use Rattle.bucket_ranges.specs.declared.spec.Spec.{Spec}
+use Rattle.bucket_ranges.specs.declared.spec.Spec.TheVariants.{Linear, Boolean}
+
+-- boundary i of a linear spec, for i from 1 to n - 1: as far from `min` to `max` as i is from 1 to n - 1, rounded
+abbrev pub inner_boundary : ℕ → ℕ → ℕ → ℕ → ℕ
+inner_boundary min max n i = (2 * (min * (n - 1 - i) + max * (i - 1)) + (n - 2)) / (2 * (n - 2))
+
+-- all boundaries of a linear spec, from 0 to 2,147,483,647
+abbrev pub linear_boundaries : ℕ → ℕ → ℕ → List ℕ
+linear_boundaries min max n = 0 ∷ (map (inner_boundary min max n) (range_with_len 1 (n - 1)) ++ 2147483647 ∷ [])
+
+-- the boundaries of a spec
+abbrev pub boundaries_of : Spec → List ℕ
+boundaries_of (Linear min max n) = linear_boundaries min max n
+boundaries_of Boolean = linear_boundaries 1 2 3
+
+-- what every list of boundaries keeps: each is at most 2,147,483,647
+abbrev pub AreBoundaries : List ℕ → Type 0
+AreBoundaries boundaries = (i : ℕ) → slice_index boundaries i ≤ 2147483647

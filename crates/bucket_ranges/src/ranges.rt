@@ -1,0 +1,121 @@
+//! The ranges of a histogram's buckets.
+
+use crate::spec::{Spec, SpecFault};
+use std::alloc::{AllocError, Global};
+use std::marker::Model;
+
+/// The boundaries of a histogram's buckets, ascending: bucket i has the values from boundary i up to boundary
+/// i + 1. A clause sees the list of boundaries.
+#[derive(Debug, Drop)]
+pub struct Ranges {
+    boundaries: Vec<u32>,
+}
+
+impl Model for Ranges {
+    ghost use Rattle.std.specs.Prelude.{ℕ, List};
+    ghost use Rattle.bucket_ranges.specs.Ranges.{AreBoundaries};
+
+    ghost Value = { List ℕ };
+
+    ghost view = { λ ranges. ranges.boundaries.items };
+
+    ghost invariant = { λ ranges. AreBoundaries ranges.boundaries.items };
+}
+
+impl Ranges {
+    ghost use Rattle.std.specs.Prelude.{◌≡◌, ◌+◌, ◌-◌, ◌<◌, length, pos, slice_index, MatchResult, MatchOption, Err};
+    ghost use Rattle.bucket_ranges.specs.Spec.{spec_fault};
+    ghost use Rattle.bucket_ranges.specs.Ranges.{boundaries_of};
+
+    /// The ranges of a spec.
+    ///
+    /// The first fault is answered: `BadMin`, `BadMax`, `TooFew`, `TooMany`; then `NoMemory` where there is none.
+    pub fn of(alloc: Global, spec: &Spec) -> Result<Ranges, SpecFault>
+        ensures { MatchOption (spec_fault spec.now) (MatchResult result (λ ranges. ranges ≡ boundaries_of spec.now) (λ fault. fault ≡ SpecFault.NoMemory)) (λ fault. result ≡ Err fault) }
+    {
+        match *spec {
+            Spec::Linear { min, max, n } => {
+                check_linear(min, max, n)?;
+                linear(alloc, min, max, n).map_err(|_| SpecFault::NoMemory)
+            }
+            Spec::Boolean => linear(alloc, 1, 2, 3).map_err(|_| SpecFault::NoMemory),
+        }
+    }
+
+    /// The number of buckets.
+    pub fn len(&self) -> usize
+        ensures { result ≡ length self.now - 1 }
+    {
+        self.boundaries.len().saturating_sub(1)
+    }
+
+    /// The least value of bucket `i`.
+    pub fn low(&self, i: usize) -> i32
+        requires { i + 1 < length self.now }
+        ensures { result ≡ pos (slice_index self.now i) }
+    {
+        self.boundaries[i] as i32
+    }
+
+    /// The least value behind bucket `i`.
+    pub fn high(&self, i: usize) -> i32
+        requires { i + 1 < length self.now }
+        ensures { result ≡ pos (slice_index self.now (i + 1)) }
+    {
+        self.boundaries[i + 1] as i32
+    }
+}
+
+ghost use Rattle.std.specs.Prelude.{◌≡◌, ◌+◌, ◌<◌, ◌≤◌, Ok, IfOk, OnErr, IsErrOf};
+ghost use Rattle.segment_image.specs.Checks.{checked};
+ghost use Rattle.bucket_ranges.specs.Spec.{linear_checks, IsLinear};
+ghost use Rattle.bucket_ranges.specs.Ranges.{inner_boundary as inner_boundary_of, linear_boundaries};
+
+const MAX_VALUE: u32 = 2_147_483_647;
+const MAX_BUCKETS: u32 = 1000;
+
+// The first fault of a linear spec.
+fn check_linear(min: u32, max: u32, n: u32) -> Result<(), SpecFault>
+    ensures { result ≡ checked (linear_checks min max n) tt }
+{
+    if min == 0 {
+        return Err(SpecFault::BadMin);
+    }
+    if max <= min || max > MAX_VALUE - 1 {
+        return Err(SpecFault::BadMax);
+    }
+    if n < 3 {
+        return Err(SpecFault::TooFew);
+    }
+    if n > MAX_BUCKETS || n > max - min + 2 {
+        return Err(SpecFault::TooMany);
+    }
+    Ok(())
+}
+
+// Boundary i of a lawful linear spec, for i from 1 to n - 1.
+fn inner_boundary(min: u32, max: u32, n: u32, i: u32) -> u32
+    requires lawful { IsLinear min max n }
+    requires from { 1 ≤ i }
+    requires below { i < n }
+    ensures value { result ≡ inner_boundary_of min max n i }
+    ensures small { result ≤ 2147483646 }
+{
+    let steps = u64::from(n - 2);
+    let sum = u64::from(min) * u64::from(n - 1 - i) + u64::from(max) * u64::from(i - 1);
+    ((2 * sum + steps) / (2 * steps)) as u32
+}
+
+// The boundaries of a lawful linear spec.
+fn linear(alloc: Global, min: u32, max: u32, n: u32) -> Result<Ranges, AllocError>
+    requires { IsLinear min max n }
+    ensures { IfOk result (λ ranges. ranges ≡ linear_boundaries min max n) }
+{
+    let mut boundaries = Vec::with_capacity(alloc, n as usize + 1)?;
+    boundaries.push(0)?;
+    for i in 1..n {
+        boundaries.push(inner_boundary(min, max, n, i))?;
+    }
+    boundaries.push(MAX_VALUE)?;
+    Ok(Ranges { boundaries })
+}

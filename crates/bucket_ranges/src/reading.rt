@@ -1,0 +1,35 @@
+//! What a record of a segment can be refused for. The definition of a reading is in `specs/Reading.antt`.
+
+use thiserror::Error;
+
+/// Why a record is not read: the first of these that holds.
+#[derive(Clone, Copy, Debug, PartialEq, Eq, Error)]
+pub enum RecordFault {
+    /// The block is shorter than a record's fields, or the kind is none that is read.
+    #[error("BadKind")]
+    BadKind = 1,
+    /// The name is unlawful, or its words do not fit in the block.
+    #[error("BadName")]
+    BadName = 2,
+    /// The words of the spec are those of no lawful spec, or its counts do not fit in a page.
+    #[error("BadSpec")]
+    BadSpec = 3,
+    /// The counts reference names no block of counts of that size, or a bucket's total passes 2^32 - 1.
+    #[error("BadCounts")]
+    BadCounts = 4,
+    /// The single word has no lawful form, or it is disabled while there are no counts.
+    #[error("BadSingle")]
+    BadSingle = 5,
+}
+
+impl RecordFault {
+    ghost use Rattle.std.specs.Prelude.{◌≡◌};
+    ghost use Rattle.bucket_ranges.specs.Fault.{record_fault_number};
+
+    /// The fault's number, from 1.
+    pub fn number(&self) -> u32
+        ensures { result ≡ record_fault_number self.now }
+    {
+        *self as u32
+    }
+}

@@ -1,0 +1,45 @@
+//! How a histogram splits the values into buckets.
+
+use thiserror::Error;
+
+/// How a histogram splits the values from 0 to 2,147,483,647 into buckets (Chromium's `base::Histogram`; exponential
+/// ranges are left out).
+#[derive(Debug, Drop, PartialEq, Eq)]
+pub enum Spec {
+    /// `n` buckets: one below `min`, one from `max` on, and the others between them as even as whole numbers allow.
+    Linear { min: u32, max: u32, n: u32 },
+    /// The values 0, 1, and 2 and above: a linear histogram from 1 to 2 with three buckets.
+    Boolean,
+}
+
+/// What is wrong with a spec: the first of these that holds.
+#[derive(Clone, Copy, Debug, PartialEq, Eq, Error)]
+pub enum SpecFault {
+    /// The minimum is 0.
+    #[error("BadMin")]
+    BadMin = 1,
+    /// The maximum is not above the minimum, or above 2,147,483,646.
+    #[error("BadMax")]
+    BadMax = 2,
+    /// There are fewer than three buckets.
+    #[error("TooFew")]
+    TooFew = 3,
+    /// There are over 1,000 buckets, or more than the values from minimum to maximum give.
+    #[error("TooMany")]
+    TooMany = 4,
+    /// There was no memory for the ranges.
+    #[error("NoMemory")]
+    NoMemory = 7,
+}
+
+impl SpecFault {
+    ghost use Rattle.std.specs.Prelude.{◌≡◌};
+    ghost use Rattle.bucket_ranges.specs.Fault.{spec_fault_number};
+
+    /// The fault's number, from 1.
+    pub fn number(&self) -> u32
+        ensures { result ≡ spec_fault_number self.now }
+    {
+        *self as u32
+    }
+}

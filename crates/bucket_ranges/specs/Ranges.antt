@@ -1,5 +1,5 @@
 -- The boundaries of buckets.
-use Rattle.std.specs.Prelude.{ℕ, ◌+◌, ◌-◌, ◌*◌, ◌/◌, ◌<◌, ◌≤◌, List, [], ◌∷◌, ◌++◌, map, length, slice_index}
+use Rattle.std.specs.Prelude.{◌≡◌, ℕ, ◌+◌, ◌-◌, ◌*◌, ◌/◌, ◌<◌, ◌≤◌, List, [], ◌∷◌, ◌++◌, map, length, slice_index}
 use Rattle.std.specs.List.{range_with_len}
 use Rattle.bucket_ranges.specs.declared.spec.Spec.{Spec}
 use Rattle.bucket_ranges.specs.declared.spec.Spec.TheVariants.{Linear, Boolean}
@@ -17,6 +17,22 @@ abbrev pub boundaries_of : Spec → List ℕ
 boundaries_of (Linear min max n) = linear_boundaries min max n
 boundaries_of Boolean = linear_boundaries 1 2 3
 
--- what every list of boundaries keeps: each is at most 2,147,483,647
-abbrev pub AreBoundaries : List ℕ → Type 0
-AreBoundaries boundaries = (i : ℕ) → slice_index boundaries i ≤ 2147483647
+-- each is at most 2,147,483,647
+abbrev pub AreValues : List ℕ → Type 0
+AreValues boundaries = (i : ℕ) → slice_index boundaries i ≤ 2147483647
+
+-- each is below the next
+abbrev pub IsAscending : List ℕ → Type 0
+IsAscending boundaries = (i : ℕ) → i + 1 < length boundaries → slice_index boundaries i < slice_index boundaries (i + 1)
+
+-- what every list of boundaries keeps
+pub record AreBoundaries (boundaries : List ℕ) : Type 0 where
+  pub small : AreValues boundaries
+  pub ascending : IsAscending boundaries
+
+-- boundaries that split the values from 0 to 2,147,483,647 among so many buckets, none of them empty
+pub record IsSplit (buckets : ℕ) (boundaries : List ℕ) : Type 0 where
+  pub count : length boundaries ≡ buckets + 1
+  pub first : slice_index boundaries 0 ≡ 0
+  pub last : slice_index boundaries buckets ≡ 2147483647
+  pub ascending : IsAscending boundaries

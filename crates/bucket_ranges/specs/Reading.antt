@@ -1,10 +1,10 @@
 -- What the words of a segment read as, for any words at all.
-use Rattle.std.specs.Prelude.{◌≡◌, ◌≢◌, Bool, true, false, not, ◌&&◌, ◌||◌, ◌==◌, nat_lt, nat_le, if◌then◌else◌, ℕ, ◌+◌, ◌-◌, ◌*◌, ◌/◌, ◌^◌, ◌<◌, ◌≤◌, ℤ, pos, List, [], ◌∷◌, length, map, take, filter, slice_index, Option, Some, None, is_none, option_map, IfSome}
+use Rattle.std.specs.Prelude.{◌≡◌, ◌≢◌, Bool, true, not, ◌&&◌, ◌||◌, ◌==◌, nat_lt, nat_le, if◌then◌else◌, ℕ, ◌+◌, ◌*◌, ◌/◌, ◌<◌, ◌≤◌, ℤ, pos, List, [], ◌∷◌, length, map, take, filter, slice_index, Option, None, is_none, option_map}
 use Rattle.std.specs.Int.{w64, cast_signed}
 use Rattle.std.specs.Str.{bytes_eq}
 use Rattle.std.specs.List.{range_with_len, slice_range, list_any, list_all, filter_map}
 use Rattle.segment_image.specs.Checks.{first_fault}
-use Rattle.segment_image.specs.Words.{word_at, bytes_of_words}
+use Rattle.segment_image.specs.Words.{bytes_of_words}
 use Rattle.segment_image.specs.Blocks.{field_at, is_placed, is_claimed}
 use Rattle.segment_image.specs.declared.fault.ImageFault.{ImageFault}
 use Rattle.segment_image.specs.declared.fault.ImageFault.TheVariants.{BadRef, BadBlock, Loop}
@@ -49,10 +49,10 @@ stop_of words head references =
     let next = next_of words (before references (length references)) in
     if next == 12 then None
     else first_fault (
-        (not (is_placed head next), BadRef)
-        ∷ (not (is_claimed words head next), BadBlock)
-        ∷ (list_any (λ reference. reference == next) references, Loop)
-        ∷ [])
+    (not (is_placed head next), BadRef)
+    ∷ (not (is_claimed words head next), BadBlock)
+    ∷ (list_any (λ reference. reference == next) references, Loop)
+    ∷ [])
 
 -- ---- the fields of a histogram's record
 
@@ -72,24 +72,30 @@ is_name_byte byte = nat_le 0x21 byte && nat_le byte 0x7E && not (byte == 0x2C) &
 
 -- a name: 1 to 128 such bytes, of which the first is no exclamation mark
 abbrev pub is_name : List ℕ → Bool
-is_name name = nat_le 1 (length name) && nat_le (length name) 128 && list_all is_name_byte name && not (slice_index name 0 == 0x21)
+is_name name = nat_le 1 (length name) && nat_le (length name) 128 && not (slice_index name 0 == 0x21) && list_all is_name_byte name
 
 -- the kinds that are read: 1 linear, 2 boolean
 abbrev pub is_kind : ℕ → Bool
 is_kind kind = (kind == 1) || (kind == 2)
 
--- the spec that the words of a record name
+-- the spec that a kind, a minimum, a maximum and a number of buckets name
+abbrev pub spec_named : ℕ → ℕ → ℕ → ℕ → Spec
+spec_named kind min max n = if kind == 2 then Boolean else Linear min max n
+
+-- whether they are those of a lawful spec
+abbrev pub is_spec_named : ℕ → ℕ → ℕ → ℕ → Bool
+is_spec_named kind min max n =
+    if kind == 2 then (min == 1) && (max == 2) && (n == 3) else is_none (spec_fault (Linear min max n))
+
+-- the spec of a record
 abbrev pub spec_of : List ℕ → ℕ → Spec
 spec_of words reference =
-    if field_at words reference 4 == 2 then Boolean
-    else Linear (field_at words reference 5) (field_at words reference 6) (field_at words reference 7)
+    spec_named (field_at words reference 4) (field_at words reference 5) (field_at words reference 6) (field_at words reference 7)
 
 -- whether the words of a record are those of a lawful spec
 abbrev pub has_spec : List ℕ → ℕ → Bool
 has_spec words reference =
-    if field_at words reference 4 == 2
-    then (field_at words reference 5 == 1) && (field_at words reference 6 == 2) && (field_at words reference 7 == 3)
-    else is_none (spec_fault (spec_of words reference))
+    is_spec_named (field_at words reference 4) (field_at words reference 5) (field_at words reference 6) (field_at words reference 7)
 
 -- the number of buckets
 abbrev pub record_buckets : List ℕ → ℕ → ℕ
@@ -99,11 +105,17 @@ record_buckets words reference = buckets_of (spec_of words reference)
 abbrev pub record_single : List ℕ → ℕ → Option SingleWord
 record_single words reference = single_of (record_buckets words reference) (field_at words reference 9)
 
--- the total of bucket i: its count, where there are counts, and the units that the single word holds for it
+-- the count of bucket i, where there is a block of counts
+abbrev pub count_at : List ℕ → ℕ → ℕ → ℕ
+count_at words counts i = if counts == 0 then 0 else field_at words counts (4 + i)
+
+-- the total of bucket i: its count, and the units that a single word holds for it
+abbrev pub total_at : List ℕ → ℕ → Option SingleWord → ℕ → ℕ
+total_at words counts single i = count_at words counts i + units_packed single i
+
+-- the total of bucket i of a record
 abbrev pub total_of : List ℕ → ℕ → ℕ → ℕ
-total_of words reference i =
-    let counts = field_at words reference 8 in
-    (if counts == 0 then 0 else field_at words counts (4 + i)) + units_packed (record_single words reference) i
+total_of words reference i = total_at words (field_at words reference 8) (record_single words reference) i
 
 -- the totals of all buckets
 abbrev pub totals_of : List ℕ → ℕ → List ℕ
@@ -122,17 +134,32 @@ has_counts words head reference =
     let counts = field_at words reference 8 in
     (counts == 0)
     || (is_block words head counts && (field_at words counts 2 == 2)
-        && nat_le (4 + 2 * record_buckets words reference) (field_at words counts 0))
+    && nat_le (4 + 2 * record_buckets words reference) (field_at words counts 0))
+
+-- whether the block is shorter than a record's fields, or the kind is none that is read
+abbrev pub is_bad_kind : List ℕ → ℕ → Bool
+is_bad_kind words reference = nat_lt (field_at words reference 0) 16 || not (is_kind (field_at words reference 4))
+
+-- whether the spec is unlawful, or its counts do not fit in a page
+abbrev pub is_bad_spec : List ℕ → ℕ → ℕ → Bool
+is_bad_spec words page reference = not (has_spec words reference) || nat_lt page (4 + 2 * record_buckets words reference)
+
+-- whether one of these totals is above 2^32 - 1
+abbrev pub has_large : List ℕ → Bool
+has_large totals = list_any (λ total. nat_lt 4294967295 total) totals
+
+-- whether a single word has no form, or says that the counts are in use while there are none
+abbrev pub is_bad_single : Option SingleWord → ℕ → Bool
+is_bad_single single counts = is_none single || (is_disabled single && (counts == 0))
 
 -- what can be wrong with a histogram's record, in order
 abbrev pub record_checks : List ℕ → SegmentHead → ℕ → List (Bool × RecordFault)
 record_checks words head reference =
-    (nat_lt (field_at words reference 0) 16 || not (is_kind (field_at words reference 4)), BadKind)
+    (is_bad_kind words reference, BadKind)
     ∷ (not (has_name words reference), BadName)
-    ∷ (not (has_spec words reference) || nat_lt head.shape.page (4 + 2 * record_buckets words reference), BadSpec)
-    ∷ (not (has_counts words head reference) || list_any (λ total. nat_lt 4294967295 total) (totals_of words reference), BadCounts)
-    ∷ (is_none (record_single words reference)
-        || (is_disabled (record_single words reference) && (field_at words reference 8 == 0)), BadSingle)
+    ∷ (is_bad_spec words head.shape.page reference, BadSpec)
+    ∷ (not (has_counts words head reference) || has_large (totals_of words reference), BadCounts)
+    ∷ (is_bad_single (record_single words reference) (field_at words reference 8), BadSingle)
     ∷ []
 
 -- the first fault of a histogram's record
@@ -156,8 +183,8 @@ histogram_of words reference = record {
   name = name_of words reference;
   spec = spec_of words reference;
   counts = map
-    (λ i. (pos (slice_index (boundaries_of (spec_of words reference)) i), total_of words reference i))
-    (range_with_len 0 (record_buckets words reference));
+      (λ i. (pos (slice_index (boundaries_of (spec_of words reference)) i), total_of words reference i))
+      (range_with_len 0 (record_buckets words reference));
   sum = cast_signed w64 (field_at words reference 11);
   redundant = field_at words reference 13;
 }
@@ -178,7 +205,7 @@ lawful_records words head references =
 
 -- whether two records have the same name
 abbrev pub same_name : List ℕ → ℕ → ℕ → Bool
-same_name words a b = bytes_eq (name_of words a) (name_of words b)
+same_name words a b = bytes_eq (name_of words b) (name_of words a)
 
 -- the fault of a record beside its reference, if it has one
 abbrev pub bad_record : List ℕ → SegmentHead → ℕ → Option (ℕ × RecordFault)

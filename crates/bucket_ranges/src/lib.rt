@@ -9,7 +9,9 @@ mod ranges;
 pub mod reading;
 mod single;
 mod spec;
+#[cfg(test)]
+mod tests;
 
-pub use ranges::Ranges;
+pub use ranges::{Ranges, buckets_split_values};
 pub use single::SingleWord;
 pub use spec::{Spec, SpecFault};

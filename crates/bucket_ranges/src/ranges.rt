@@ -23,15 +23,16 @@ impl Model for Ranges {
 }
 
 impl Ranges {
-    ghost use Rattle.std.specs.Prelude.{◌≡◌, ◌+◌, ◌-◌, ◌<◌, length, pos, slice_index, MatchResult, MatchOption, Err};
-    ghost use Rattle.bucket_ranges.specs.Spec.{spec_fault};
+    ghost use Rattle.std.specs.Prelude.{◌≡◌, ◌+◌, ◌-◌, ◌<◌, length, pos, slice_index, MatchResult, MatchOption, IfOk, Err};
+    ghost use Rattle.bucket_ranges.specs.Spec.{spec_fault, buckets_of};
     ghost use Rattle.bucket_ranges.specs.Ranges.{boundaries_of};
 
     /// The ranges of a spec.
     ///
     /// The first fault is answered: `BadMin`, `BadMax`, `TooFew`, `TooMany`; then `NoMemory` where there is none.
     pub fn of(alloc: Global, spec: &Spec) -> Result<Ranges, SpecFault>
-        ensures { MatchOption (spec_fault spec.now) (MatchResult result (λ ranges. ranges ≡ boundaries_of spec.now) (λ fault. fault ≡ SpecFault.NoMemory)) (λ fault. result ≡ Err fault) }
+        ensures boundaries { MatchOption (spec_fault spec.now) (MatchResult result (λ ranges. ranges ≡ boundaries_of spec.now) (λ fault. fault ≡ SpecFault.NoMemory)) (λ fault. result ≡ Err fault) }
+        ensures buckets { IfOk result (λ ranges. length ranges ≡ buckets_of spec.now + 1) }
     {
         match *spec {
             Spec::Linear { min, max, n } => {
@@ -49,10 +50,11 @@ impl Ranges {
         self.boundaries.len().saturating_sub(1)
     }
 
-    /// The least value of bucket `i`.
+    /// The least value of bucket `i`, which is below the least value behind it.
     pub fn low(&self, i: usize) -> i32
         requires { i + 1 < length self.now }
-        ensures { result ≡ pos (slice_index self.now i) }
+        ensures value { result ≡ pos (slice_index self.now i) }
+        ensures below { slice_index self.now i < slice_index self.now (i + 1) }
     {
         self.boundaries[i] as i32
     }
@@ -66,12 +68,21 @@ impl Ranges {
     }
 }
 
-ghost use Rattle.std.specs.Prelude.{◌≡◌, ◌+◌, ◌<◌, ◌≤◌, Ok, IfOk, OnErr, IsErrOf};
+ghost use Rattle.std.specs.Prelude.{◌≡◌, ◌+◌, ◌<◌, ◌≤◌, length, None, IfOk};
 ghost use Rattle.segment_image.specs.Checks.{checked};
-ghost use Rattle.bucket_ranges.specs.Spec.{linear_checks, IsLinear};
-ghost use Rattle.bucket_ranges.specs.Ranges.{inner_boundary as inner_boundary_of, linear_boundaries};
+ghost use Rattle.bucket_ranges.specs.declared.spec.Spec.{Spec};
+ghost use Rattle.bucket_ranges.specs.Spec.{linear_checks, IsLinear, spec_fault, buckets_of};
+ghost use Rattle.bucket_ranges.specs.Ranges.{inner_boundary as inner_boundary_of, linear_boundaries, boundaries_of, IsSplit};
+
+/// The buckets of a spec without a fault split the values from 0 to 2,147,483,647, and none of them is empty.
+///
+/// It does nothing: what it promises is a law of the definitions.
+pub fn buckets_split_values()
+    ensures { (spec : Spec) → spec_fault spec ≡ None → IsSplit (buckets_of spec) (boundaries_of spec) }
+{}
 
 const MAX_VALUE: u32 = 2_147_483_647;
+
 const MAX_BUCKETS: u32 = 1000;
 
 // The first fault of a linear spec.
@@ -109,7 +120,8 @@ fn inner_boundary(min: u32, max: u32, n: u32, i: u32) -> u32
 // The boundaries of a lawful linear spec.
 fn linear(alloc: Global, min: u32, max: u32, n: u32) -> Result<Ranges, AllocError>
     requires { IsLinear min max n }
-    ensures { IfOk result (λ ranges. ranges ≡ linear_boundaries min max n) }
+    ensures boundaries { IfOk result (λ ranges. ranges ≡ linear_boundaries min max n) }
+    ensures len { IfOk result (λ ranges. length ranges ≡ n + 1) }
 {
     let mut boundaries = Vec::with_capacity(alloc, n as usize + 1)?;
     boundaries.push(0)?;

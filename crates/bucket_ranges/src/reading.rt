@@ -33,3 +33,22 @@ impl RecordFault {
         *self as u32
     }
 }
+
+ghost use Rattle.std.specs.Prelude.{◌≡◌, ℕ, List};
+ghost use Rattle.segment_image.specs.declared.head.SegmentHead.{SegmentHead};
+ghost use Rattle.bucket_ranges.specs.Reading.{IsListed, IsReading, Reading};
+
+/// What a segment's list of records is, is settled by its words: any two lists of the same words are one.
+///
+/// It does nothing: what it promises is a law of the definitions.
+pub fn one_list()
+    ensures { (words : List ℕ) (head : SegmentHead) (a b : List ℕ) → IsListed words head a → IsListed words head b → a ≡ b }
+{}
+
+/// What a segment reads as is settled by its words: any two readings of the same words are one. So two readers, or a
+/// reader and a writer, that keep to the definition of a reading cannot differ.
+///
+/// It does nothing: what it promises is a law of the definitions.
+pub fn one_reading()
+    ensures { (words : List ℕ) (head : SegmentHead) (a b : Reading) → IsReading words head a → IsReading words head b → a ≡ b }
+{}

@@ -16,7 +16,9 @@ pub enum SingleWord {
 }
 
 const DISABLED_BIT: u64 = 1 << 63;
+
 const NO_BUCKET: u64 = 65_535;
+
 const UNITS: u64 = 1 << 32;
 
 impl SingleWord {

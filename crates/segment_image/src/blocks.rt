@@ -20,13 +20,14 @@ ghost use Rattle.segment_image.specs.Blocks.{block_of};
 use crate::head::SegmentHead;
 
 const BLOCK_COOKIE: u64 = 0xC879_9269;
+
 const MIN_BLOCK: u64 = 5;
 
-/// The header of the block at a reference of an image whose header is `head`.
+/// The header of the block at a reference of an image whose header, read from the same words, is `head`.
 ///
-/// `BadRef` where the reference is below 16 or the smallest block does not fit below the free pointer; `BadBlock`
-/// where the cookie is another, the size is below five words, the block passes the free pointer, or its first and
-/// last word lie in different pages. It takes no memory.
+/// `BadRef` where the reference is below 16 or the smallest block, of five words, does not fit below the free
+/// pointer; `BadBlock` where the cookie is another, the size is below five words, the block passes the free pointer,
+/// or its first and last word lie in different pages. It takes no memory.
 pub fn block(words: &[u64], head: &SegmentHead, reference: u64) -> Result<BlockHead, ImageFault>
     requires { header_of words.now ≡ Ok head.now }
     ensures { result ≡ block_of words.now head.now reference }

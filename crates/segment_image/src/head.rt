@@ -26,10 +26,15 @@ ghost use Rattle.std.specs.Prelude.{◌≡◌};
 ghost use Rattle.segment_image.specs.Head.{header_of};
 
 const SEGMENT_COOKIE: u64 = 0x4083_05DC;
+
 const HEADER_WORDS: usize = 16;
+
 const READY: u64 = 1;
+
 const DELETED: u64 = 2;
+
 const CORRUPT_FLAG: u64 = 1;
+
 const FULL_FLAG: u64 = 2;
 
 /// The header of an image, or its first fault: `TooShort`, `BadCookie`, `BadVersion`, `BadPage`, `BadSize`,

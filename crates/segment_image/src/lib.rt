@@ -1,8 +1,12 @@
 //! The words of a segment's image: its shape, its header and its blocks, and how bytes become words.
 //!
-//! An image is a list of 64-bit words. The layout follows Chromium's `persistent_memory_allocator`, with words of
-//! its own. A header or a block is given exactly where the words are lawful, and otherwise the first fault; what
-//! is read from a device is the words whose little-endian bytes the device had left. No call here trusts a word.
+//! An image is a list of 64-bit words, in a file eight bytes for each, the least byte first. The layout follows
+//! Chromium's `persistent_memory_allocator`, with words of its own. No call here trusts a word.
+//!
+//! - [`Shape::of`], [`header`] and [`block`] answer what the words say exactly where all checks hold, and otherwise
+//!   the first check that fails, in the order that [`ImageFault`] lists them. They take no memory.
+//! - [`read_words`] answers the words whose bytes are all that a reader had left, and otherwise why there are none.
+//! - A [`Watched`] passes reads and writes on, and says whether one of them failed.
 #![tactic(auto)]
 
 mod blocks;
@@ -18,3 +22,6 @@ pub use head::{SegmentHead, header};
 pub use shape::Shape;
 pub use transfer::read_words;
 pub use watched::Watched;
+
+#[cfg(test)]
+mod tests;

@@ -65,7 +65,9 @@ ghost use Rattle.std.specs.Prelude.{◌≡◌, true};
 ghost use Rattle.segment_image.specs.Shape.{is_page, is_size};
 
 const MIN_PAGE: u64 = 64;
+
 const MAX_PAGE: u64 = 65_536;
+
 const MAX_SIZE: u64 = 1_048_576;
 
 fn is_lawful_page(page: u64) -> bool

@@ -1,7 +1,8 @@
 //! Words from a device.
 
-ghost use Rattle.std.specs.Prelude.{◌≡◌, ◌↔◌, ◌+◌, ◌*◌, ◌<◌, ◌≤◌, ◌%◌, ◌^◌, ◌++◌, true, false, length, take, IfSome, IfOk, IfErr, OnOk, OnErr, IsErrOf, MatchResult, vec_len};
+ghost use Rattle.std.specs.Prelude.{◌≡◌, ◌↔◌, ◌+◌, ◌*◌, ◌<◌, ◌≤◌, ◌%◌, ◌++◌, true, false, length, take, IfSome, IfOk, IfErr, OnOk, OnErr, IsErrOf, MatchResult, vec_len};
 ghost use Rattle.std.specs.Io.KnownBytes.{Consumes, IsAtEnd};
+ghost use Rattle.byteorder.specs.Endian.{little_bytes};
 ghost use Rattle.segment_image.specs.Words.{bytes_of_words};
 ghost use Rattle.segment_image.specs.Watched.{has_failed, watched_inner};
 ghost use Rattle.segment_image.specs.Transfer.{IsCausedBy, TakesAtMost};
@@ -13,6 +14,7 @@ use std::alloc::{AllocError, Global};
 use std::io::Read;
 
 const BLOCK_WORDS: usize = 1024;
+
 const BLOCK_BYTES: usize = 8192;
 
 // Reads until the block is full or the reader is at its end, and answers how many bytes came.
@@ -23,8 +25,8 @@ fn fill<R: Read>(reader: &mut Watched<R>, block: &mut [u8]) -> Result<usize, Rea
     ensures end { IfOk result (λ n. n < length block.new → IsAtEnd (R.remaining (watched_inner reader.new))) }
     ensures device { IfErr result (λ e. e ≡ ReadFault.Device) }
     ensures taken { TakesAtMost (length block.new) (R.remaining (watched_inner reader.old)) (R.remaining (watched_inner reader.new)) }
-    ensures failed { (OnErr result (has_failed reader.new ≡ true)) }
-    ensures went { (OnOk result (has_failed reader.new ≡ false)) }
+    ensures failed { OnErr result (has_failed reader.new ≡ true) }
+    ensures went { OnOk result (has_failed reader.new ≡ false) }
 {
     let mut filled = 0;
     while filled < block.len() {
@@ -37,6 +39,14 @@ fn fill<R: Read>(reader: &mut Watched<R>, block: &mut [u8]) -> Result<usize, Rea
     Ok(filled)
 }
 
+// The word whose eight bytes these are, the least first.
+fn word(bytes: &[u8]) -> u64
+    requires { length bytes.now ≡ 8 }
+    ensures { little_bytes 8 result ≡ bytes.now }
+{
+    LittleEndian::read_u64(bytes)
+}
+
 // Puts the words that the bytes are at the end.
 fn push_words(words: &mut Vec<u64>, bytes: &[u8]) -> Result<(), AllocError>
     requires { length bytes.now % 8 ≡ 0 }
@@ -44,17 +54,17 @@ fn push_words(words: &mut Vec<u64>, bytes: &[u8]) -> Result<(), AllocError>
     ensures len { OnOk result (8 * length words.new.items ≡ 8 * length words.old.items + length bytes.now) }
 {
     for chunk in bytes.chunks_exact(8) {
-        words.push(LittleEndian::read_u64(chunk))?;
+        words.push(word(chunk))?;
     }
     Ok(())
 }
 
-/// The words of all bytes that a reader has left, at most `limit` of them, eight little-endian bytes for each.
+/// All bytes that a reader has left, as at most `limit` words of eight bytes each, the least byte first.
 ///
-/// `Device` where a read failed in this call, of whatever sort the failure is; `TooLong` where more than
-/// `8 * limit` bytes come; `NotWords` where their number is no multiple of eight, which is known at their end;
-/// `NoMemory` where there is none for the words, for which memory is asked only as bytes come. No more than
-/// `8 * limit + 1` bytes are taken from the reader.
+/// The reader is one that has not failed before. `Device` where a read failed in this call, of whatever sort the
+/// failure is; `TooLong` where more than `8 * limit` bytes come; `NotWords` where no more come and their number is
+/// no multiple of eight, which is known at their end; `NoMemory` where there is none for the words, for which
+/// memory is asked only as bytes come. No more than `8 * limit + 1` bytes are taken from the reader.
 pub fn read_words<R: Read>(
     alloc: Global,
     reader: &mut Watched<R>,
@@ -65,16 +75,23 @@ pub fn read_words<R: Read>(
         (λ words. (bytes_of_words words.items ≡ bytes) × (vec_len words ≤ limit)) (IsCausedBy limit bytes)) }
     ensures device { IsErrOf result ReadFault.Device ↔ (has_failed reader.new ≡ true) }
     ensures end { OnOk result (IsAtEnd (R.remaining (watched_inner reader.new))) }
-    ensures taken { 8 * limit + 1 < 2 ^ 64 → TakesAtMost (8 * limit + 1) (R.remaining (watched_inner reader.old)) (R.remaining (watched_inner reader.new)) }
+    ensures taken { TakesAtMost (8 * limit + 1) (R.remaining (watched_inner reader.old)) (R.remaining (watched_inner reader.new)) }
 {
     let mut words = Vec::new(alloc);
     let mut block = [0u8; BLOCK_BYTES];
     loop {
         let room = limit - words.len();
-        let wanted = if room < BLOCK_WORDS { 8 * room + 1 } else { BLOCK_BYTES };
+        let wanted = if room < BLOCK_WORDS {
+            8 * room + 1
+        } else {
+            BLOCK_BYTES
+        };
         let filled = fill(reader, &mut block[..wanted])?;
+        if filled.div_ceil(8) > room {
+            return Err(ReadFault::TooLong);
+        }
         if filled % 8 != 0 {
-            return Err(if filled > 8 * room { ReadFault::TooLong } else { ReadFault::NotWords });
+            return Err(ReadFault::NotWords);
         }
         push_words(&mut words, &block[..filled]).map_err(|_| ReadFault::NoMemory)?;
         if filled < wanted {

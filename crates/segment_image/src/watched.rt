@@ -35,6 +35,18 @@ impl<T> Watched<T> {
         self.failed
     }
 
+    // Remembers whether a call failed, and passes its outcome on.
+    fn watch<X>(&mut self, outcome: io::Result<X>) -> io::Result<X>
+        ensures outcome { result ≡ outcome }
+        ensures inner { watched_inner self.new ≡ watched_inner self.old }
+        ensures failed { has_failed self.new ≡ (has_failed self.old || is_err outcome) }
+    {
+        if outcome.is_err() {
+            self.failed = true;
+        }
+        outcome
+    }
+
     /// The reader or the writer itself.
     pub fn into_inner(self) -> T
         ensures { result ≡ watched_inner self }
@@ -53,22 +65,16 @@ impl<R: Read> Read for Watched<R> {
         ensures bytes { ReadConsumes (R.remaining (watched_inner self.old)) (R.remaining (watched_inner self.new)) result buf.new }
         ensures failed { has_failed self.new ≡ (has_failed self.old || is_err result) }
     {
-        let outcome = self.inner.read(buf);
-        if outcome.is_err() {
-            self.failed = true;
-        }
-        outcome
+        let read = self.inner.read(buf);
+        self.watch(read)
     }
 
     fn read_exact(&mut self, buf: &mut [u8]) -> io::Result<()>
         ensures bytes { OnOk result (Consumes (R.remaining (watched_inner self.old)) (R.remaining (watched_inner self.new)) buf.new) }
         ensures failed { has_failed self.new ≡ (has_failed self.old || is_err result) }
     {
-        let outcome = self.inner.read_exact(buf);
-        if outcome.is_err() {
-            self.failed = true;
-        }
-        outcome
+        let filled = self.inner.read_exact(buf);
+        self.watch(filled)
     }
 }
 
@@ -82,32 +88,23 @@ impl<W: Write> Write for Watched<W> {
         ensures bytes { WriteAppends (W.contents (watched_inner self.old)) (W.contents (watched_inner self.new)) result buf.now }
         ensures failed { has_failed self.new ≡ (has_failed self.old || is_err result) }
     {
-        let outcome = self.inner.write(buf);
-        if outcome.is_err() {
-            self.failed = true;
-        }
-        outcome
+        let written = self.inner.write(buf);
+        self.watch(written)
     }
 
     fn flush(&mut self) -> io::Result<()>
         ensures bytes { Keeps (W.contents (watched_inner self.old)) (W.contents (watched_inner self.new)) }
         ensures failed { has_failed self.new ≡ (has_failed self.old || is_err result) }
     {
-        let outcome = self.inner.flush();
-        if outcome.is_err() {
-            self.failed = true;
-        }
-        outcome
+        let flushed = self.inner.flush();
+        self.watch(flushed)
     }
 
     fn write_all(&mut self, buf: &[u8]) -> io::Result<()>
         ensures bytes { OnOk result (Appends (W.contents (watched_inner self.old)) (W.contents (watched_inner self.new)) buf.now) }
         ensures failed { has_failed self.new ≡ (has_failed self.old || is_err result) }
     {
-        let outcome = self.inner.write_all(buf);
-        if outcome.is_err() {
-            self.failed = true;
-        }
-        outcome
+        let sent = self.inner.write_all(buf);
+        self.watch(sent)
     }
 }

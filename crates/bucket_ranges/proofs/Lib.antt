@@ -1,0 +1,4 @@
+pub mod Boundaries
+pub mod Walks
+pub mod Firsts
+pub mod Ascent

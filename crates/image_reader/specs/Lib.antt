@@ -1,0 +1,11 @@
+pub use Rattle.segment_image.specs.Checks
+pub use Rattle.segment_image.specs.Words
+pub use Rattle.segment_image.specs.Head
+pub use Rattle.segment_image.specs.Blocks
+pub use Rattle.bucket_ranges.specs.Spec
+pub use Rattle.bucket_ranges.specs.Ranges
+pub use Rattle.bucket_ranges.specs.Single
+pub use Rattle.bucket_ranges.specs.Reading
+pub mod Views
+pub mod Records
+pub mod Names

@@ -1,0 +1,25 @@
+-- What one record of a histogram gives.
+use Rattle.std.specs.Prelude.{◌≡◌, ℕ, List, Option, Some, None, Result, Ok, Err, ⊤}
+use Rattle.segment_image.specs.declared.head.SegmentHead.{SegmentHead}
+use Rattle.bucket_ranges.specs.declared.reading.RecordFault.{RecordFault}
+use Rattle.bucket_ranges.specs.Reading.{record_fault, histogram_of}
+use Rattle.image_reader.specs.declared.reading.HistReading.{HistReading}
+use Rattle.image_reader.specs.declared.record.Refusal.{Refusal}
+use Rattle.image_reader.specs.declared.record.Refusal.TheVariants.{Memory, Fault}
+use Rattle.image_reader.specs.Views.{histogram_view}
+
+-- the record has no fault, and this is its histogram
+pub record IsHistogramAt (words : List ℕ) (head : SegmentHead) (at : ℕ) (hist : HistReading) : Type 0 where
+  pub lawful : record_fault words head at ≡ None
+  pub histogram : histogram_view hist ≡ histogram_of words at
+
+-- there was no memory, or this is the record's first fault
+abbrev pub IsRefusedBy : List ℕ → SegmentHead → ℕ → Refusal → Type 0
+IsRefusedBy words head at Memory = ⊤
+IsRefusedBy words head at (Fault fault) = record_fault words head at ≡ Some fault
+
+-- where a call is refused, there was no memory, or it is this fault, for this cause
+abbrev pub RefusedOnly : {X : Type 0} → RecordFault → Type 0 → Result X Refusal → Type 0
+RefusedOnly fault cause (Ok x) = ⊤
+RefusedOnly fault cause (Err Memory) = ⊤
+RefusedOnly fault cause (Err (Fault other)) = (other ≡ fault) × cause

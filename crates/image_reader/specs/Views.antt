@@ -1,0 +1,30 @@
+-- What the values of this crate are as values of the definition of a reading.
+use Rattle.std.specs.Prelude.{ℕ, map}
+use Rattle.bucket_ranges.specs.Reading as definition
+use Rattle.bucket_ranges.specs.declared.reading.RecordFault.{RecordFault}
+use Rattle.image_reader.specs.declared.reading.HistReading.{HistReading}
+use Rattle.image_reader.specs.declared.reading.BadRecord.{BadRecord}
+use Rattle.image_reader.specs.declared.reading.Reading.{Reading}
+
+abbrev pub histogram_view : HistReading → definition.Histogram
+histogram_view hist = record {
+  reference = hist.reference;
+  name = hist.name.items;
+  spec = hist.spec;
+  counts = hist.counts.items;
+  sum = hist.sum;
+  redundant = hist.redundant;
+}
+
+abbrev pub bad_view : BadRecord → ℕ × RecordFault
+bad_view bad = (bad.reference, bad.fault)
+
+abbrev pub reading_view : Reading → definition.Reading
+reading_view reading = record {
+  id = reading.id;
+  full = reading.full;
+  corrupt = reading.corrupt;
+  hists = map histogram_view reading.hists.items;
+  bad = map bad_view reading.bad.items;
+  stopped = reading.stopped;
+}

@@ -1,0 +1,52 @@
+//! The list of a segment's records.
+
+ghost use Rattle.std.specs.Prelude.{◌≡◌, Ok, IfOk};
+ghost use Rattle.segment_image.specs.Head.{header_of};
+ghost use Rattle.bucket_ranges.specs.Reading.{IsListed, stop_of};
+
+use segment_image::{ImageFault, SegmentHead, block};
+use std::alloc::{AllocError, Global};
+
+const QUEUE: u64 = 12;
+
+/// The records of a list in its order, and why it goes no further before its end.
+#[derive(Drop)]
+pub(crate) struct Listed {
+    pub(crate) references: Vec<u64>,
+    pub(crate) stopped: Option<ImageFault>,
+}
+
+/// The list of the segment whose header is `head`.
+pub(crate) fn walk(alloc: Global, words: &[u64], head: &SegmentHead) -> Result<Listed, AllocError>
+    requires { header_of words.now ≡ Ok head.now }
+    ensures listed { IfOk result (λ list. IsListed words.now head.now list.references.items) }
+    ensures stopped { IfOk result (λ list. list.stopped ≡ stop_of words.now head.now list.references.items) }
+{
+    let mut met = vec![in alloc; false; words.len()]?;
+    let mut references = Vec::new(alloc);
+    let mut next = words[15];
+    while next != QUEUE {
+        let found = match block(words, head, next) {
+            Ok(found) => found,
+            Err(fault) => {
+                return Ok(Listed {
+                    references,
+                    stopped: Some(fault),
+                });
+            }
+        };
+        if met[next as usize] {
+            return Ok(Listed {
+                references,
+                stopped: Some(ImageFault::Loop),
+            });
+        }
+        met[next as usize] = true;
+        references.push(next)?;
+        next = found.next;
+    }
+    Ok(Listed {
+        references,
+        stopped: None,
+    })
+}

@@ -1,0 +1,2 @@
+pub mod TakePut
+pub mod ReadWords

@@ -1,0 +1,81 @@
+//! Why the program did not do what it was asked to, and the status with which it then ends.
+
+ghost use Rattle.std.specs.Prelude.{◌≡◌};
+ghost use Rattle.persist_report.specs.Failure.{IsFailureOf, failure_status, fault_status};
+ghost use Rattle.persist_report.specs.declared.failure.Failure.TheVariants.{Fault};
+ghost use Rattle.persist_report_core.specs.declared.fault.CliFault.TheVariants.{NoMemory};
+
+use clap::error::ErrorKind;
+use persist_report_core::CliFault;
+use std::alloc::AllocError;
+use std::fmt;
+
+/// Why the program did not do what it was asked to. Its text is whole lines for the error stream.
+#[derive(Debug, Drop)]
+pub enum Failure {
+    /// The command line asks for nothing that the program does.
+    Usage(clap::Error),
+    /// What it asks for failed.
+    Fault(CliFault),
+}
+
+impl Failure {
+    /// The status with which the program ends: 2 for `Usage`, and that of the fault for `Fault`.
+    pub fn status(&self) -> u8
+        ensures { result ≡ failure_status self.now }
+    {
+        match self {
+            Failure::Usage(_) => 2,
+            Failure::Fault(fault) => fault_status(fault),
+        }
+    }
+}
+
+/// The status of a fault: 3 where the bytes are no image, 4 where a device failed, and 5 for want of memory.
+fn fault_status(fault: &CliFault) -> u8
+    ensures { result ≡ fault_status fault.now }
+{
+    match fault {
+        CliFault::TooLong | CliFault::NotWords | CliFault::Image(_) => 3,
+        CliFault::Read | CliFault::Write => 4,
+        CliFault::NoMemory => 5,
+    }
+}
+
+impl From<CliFault> for Failure {
+    ghost from_gives = { λ fault failure. failure ≡ Fault fault };
+
+    fn from(fault: CliFault) -> Failure {
+        Failure::Fault(fault)
+    }
+}
+
+impl From<AllocError> for Failure {
+    ghost from_gives = { λ _ failure. failure ≡ Fault NoMemory };
+
+    fn from(_error: AllocError) -> Failure {
+        Failure::Fault(CliFault::NoMemory)
+    }
+}
+
+impl From<clap::Error> for Failure {
+    ghost from_gives = { IsFailureOf };
+
+    // Reading the command line takes memory too, and the want of it is no mistake in the words.
+    fn from(error: clap::Error) -> Failure {
+        if error.kind() == ErrorKind::OutOfMemory {
+            Failure::Fault(CliFault::NoMemory)
+        } else {
+            Failure::Usage(error)
+        }
+    }
+}
+
+impl fmt::Display for Failure {
+    fn fmt<W: fmt::Write>(&self, f: &mut fmt::Formatter<W>) -> fmt::Result {
+        match self {
+            Failure::Usage(error) => write!(f, "{error}"),
+            Failure::Fault(fault) => writeln!(f, "persist_report: {fault}"),
+        }
+    }
+}

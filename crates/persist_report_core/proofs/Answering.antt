@@ -1,0 +1,61 @@
+-- Why there is no report, and what the report is where there is one.
+use Rattle.std.proofs.Common.{◌≡◌, ◌≢◌, ◌∙◌, ◌⊎◌, inl, inr, ℕ, List, Option, Some, None, Result, Ok, Err, MatchResult, OnOk, ap, refl}
+use Rattle.std.proofs.lemmas.Result.{MatchResult-at_ok, MatchResult-at_err}
+use Rattle.std.specs.Io.KnownBytes.{Appends, Keeps}
+use Rattle.segment_image.specs.Head.{header_of}
+use Rattle.segment_image.specs.declared.head.SegmentHead.{SegmentHead}
+use Rattle.segment_image.specs.declared.fault.ImageFault.{ImageFault}
+use Rattle.segment_image.specs.declared.fault.ImageFault.TheVariants as image
+use Rattle.persist_report_core.specs.declared.fault.CliFault.TheVariants.{Image}
+use Rattle.persist_report_core.specs.Fault.{fault_of_image}
+use Rattle.persist_report_core.specs.Report.{AreWordsOf, IsCausedBy}
+
+-- what an image's header answers is its fault
+image_cause : (bytes words : List ℕ) (fault : ImageFault) → AreWordsOf bytes words → (fault ≡ image.NoMemory) ⊎ (header_of words ≡ Err fault) → fault ≢ image.NoMemory → IsCausedBy bytes (Image fault)
+image_cause bytes words fault same (inl want) other = absurd (other want)
+image_cause bytes words fault same (inr refused) other = (words, same, refused)
+
+-- the cause of a fault of an image
+fault_cause : (bytes words : List ℕ) (fault : ImageFault) → AreWordsOf bytes words → (fault ≡ image.NoMemory) ⊎ (header_of words ≡ Err fault) → IsCausedBy bytes (fault_of_image fault)
+fault_cause bytes words image.NoMemory same h = tt
+fault_cause bytes words image.TooShort same h = image_cause bytes words image.TooShort same h (λ e. cc e)
+fault_cause bytes words image.BadCookie same h = image_cause bytes words image.BadCookie same h (λ e. cc e)
+fault_cause bytes words image.BadVersion same h = image_cause bytes words image.BadVersion same h (λ e. cc e)
+fault_cause bytes words image.BadPage same h = image_cause bytes words image.BadPage same h (λ e. cc e)
+fault_cause bytes words image.BadSize same h = image_cause bytes words image.BadSize same h (λ e. cc e)
+fault_cause bytes words image.NotReady same h = image_cause bytes words image.NotReady same h (λ e. cc e)
+fault_cause bytes words image.Deleted same h = image_cause bytes words image.Deleted same h (λ e. cc e)
+fault_cause bytes words image.BadFree same h = image_cause bytes words image.BadFree same h (λ e. cc e)
+fault_cause bytes words image.BadQueue same h = image_cause bytes words image.BadQueue same h (λ e. cc e)
+fault_cause bytes words image.BadRef same h = image_cause bytes words image.BadRef same h (λ e. cc e)
+fault_cause bytes words image.BadBlock same h = image_cause bytes words image.BadBlock same h (λ e. cc e)
+fault_cause bytes words image.Loop same h = image_cause bytes words image.Loop same h (λ e. cc e)
+
+-- what a reading that was refused says of the header
+header_refused : {R : Type 0} (P : SegmentHead → R → Type 0) (header : Result SegmentHead ImageFault) (r : Result R ImageFault) (fault : ImageFault) → r ≡ Err fault
+    → MatchResult header (λ head. MatchResult r (P head) (λ f. f ≡ image.NoMemory)) (λ other. r ≡ Err other) → (fault ≡ image.NoMemory) ⊎ (header ≡ Err fault)
+header_refused P (Ok head) r fault e h = inl (MatchResult-at_err (P head) (λ f. f ≡ image.NoMemory) fault e h)
+header_refused P (Err other) r fault e h = let same : other ≡ fault = cc (e, h) in inr (ap (λ f. Err f) same)
+
+-- the cause of a refused reading
+pub reading_cause : {R : Type 0} (P : SegmentHead → R → Type 0) (bytes words : List ℕ) (r : Result R ImageFault) (fault : ImageFault) → AreWordsOf bytes words → r ≡ Err fault
+    → MatchResult (header_of words) (λ head. MatchResult r (P head) (λ f. f ≡ image.NoMemory)) (λ other. r ≡ Err other) → IsCausedBy bytes (fault_of_image fault)
+reading_cause P bytes words r fault same e h = fault_cause bytes words fault same (header_refused P (header_of words) r fault e h)
+
+-- the header of a reading that was made
+pub header_taken : {R : Type 0} (P : SegmentHead → R → Type 0) (header : Result SegmentHead ImageFault) (r : Result R ImageFault) (reading : R) → r ≡ Ok reading
+    → MatchResult header (λ head. MatchResult r (P head) (λ f. f ≡ image.NoMemory)) (λ other. r ≡ Err other) → (head : SegmentHead) × (header ≡ Ok head) × P head reading
+header_taken P (Ok head) r reading e h = (head, refl, MatchResult-at_ok (P head) (λ f. f ≡ image.NoMemory) reading e h)
+header_taken P (Err fault) r reading e h = absurd (cc (e, h))
+
+-- a flush after a write
+pub Appends-kept : (text : List ℕ) (old written flushed : Option (List ℕ)) → Appends old written text → Keeps written flushed → Appends old flushed text
+Appends-kept text None written flushed p q = tt
+Appends-kept text (Some old) None flushed p q = absurd p
+Appends-kept text (Some old) (Some written) None p q = absurd q
+Appends-kept text (Some old) (Some written) (Some flushed) p q = q ∙ p
+
+-- what holds in any case holds where a result is Ok
+pub OnOk-always : {T E : Type 0} (P : Type 0) (r : Result T E) → P → OnOk r P
+OnOk-always P (Ok x) p = p
+OnOk-always P (Err e) p = tt

@@ -1,0 +1,8 @@
+-- The elements of mapped lists.
+use Rattle.std.proofs.Common.{◌≡◌, ◌∙◌, ℕ, ◌<◌, List, length, get_or, map, All, ap, sym, subst}
+use Rattle.std.proofs.lemmas.List.{get_or-map, length-map}
+
+-- what holds of each image holds of the image of an element
+pub All-image_at : {X Y : Type 0} (P : Y → Type 0) (g : X → Y) (xs : List X) (i : ℕ) (x : X) → All P (map g xs) → i < length xs → x ≡ get_or xs i x → P (g x)
+All-image_at P g xs i x all h is =
+    subst P (get_or-map g xs i x (g x) h ∙ ap g (sym is)) (all i (g x) (rw length-map h))

@@ -1,0 +1,40 @@
+-- The faults of a call, and what they come from.
+use Rattle.std.specs.Prelude.{ℕ}
+use Rattle.segment_image.specs.declared.fault.ImageFault.{ImageFault}
+use Rattle.segment_image.specs.declared.fault.ImageFault.TheVariants as image
+use Rattle.segment_image.specs.declared.fault.ReadFault.{ReadFault}
+use Rattle.segment_image.specs.declared.fault.ReadFault.TheVariants as reading
+use Rattle.persist_report_core.specs.declared.fault.CliFault.{CliFault}
+use Rattle.persist_report_core.specs.declared.fault.CliFault.TheVariants as cli
+
+-- the number of a fault
+abbrev pub cli_fault_number : CliFault → ℕ
+cli_fault_number cli.Read = 1
+cli_fault_number cli.Write = 2
+cli_fault_number cli.TooLong = 3
+cli_fault_number cli.NotWords = 4
+cli_fault_number (cli.Image fault) = 5
+cli_fault_number cli.NoMemory = 11
+
+-- the fault of a call whose reading of words failed
+abbrev pub fault_of_read : ReadFault → CliFault
+fault_of_read reading.NoMemory = cli.NoMemory
+fault_of_read reading.Device = cli.Read
+fault_of_read reading.TooLong = cli.TooLong
+fault_of_read reading.NotWords = cli.NotWords
+
+-- the fault of a call whose image was refused; want of memory is no fault of the image
+abbrev pub fault_of_image : ImageFault → CliFault
+fault_of_image image.NoMemory = cli.NoMemory
+fault_of_image image.TooShort = cli.Image image.TooShort
+fault_of_image image.BadCookie = cli.Image image.BadCookie
+fault_of_image image.BadVersion = cli.Image image.BadVersion
+fault_of_image image.BadPage = cli.Image image.BadPage
+fault_of_image image.BadSize = cli.Image image.BadSize
+fault_of_image image.NotReady = cli.Image image.NotReady
+fault_of_image image.Deleted = cli.Image image.Deleted
+fault_of_image image.BadFree = cli.Image image.BadFree
+fault_of_image image.BadQueue = cli.Image image.BadQueue
+fault_of_image image.BadRef = cli.Image image.BadRef
+fault_of_image image.BadBlock = cli.Image image.BadBlock
+fault_of_image image.Loop = cli.Image image.Loop

@@ -1,0 +1,19 @@
+//! The report of a segment's image.
+//!
+//! An image is read whole, then what its words read as is put into text, and only then is the text written: a
+//! report is written whole or, but for a writer that fails, not at all. The text of a report is defined in
+//! `specs/Text.antt`, and what a call answers in `specs/Report.antt`.
+#![tactic(auto)]
+
+mod fault;
+mod lines;
+mod reporting;
+mod text;
+mod words;
+
+pub use fault::CliFault;
+pub use reporting::report;
+pub use text::text_of;
+
+#[cfg(test)]
+mod tests;

@@ -1,0 +1,61 @@
+//! The report of an image.
+
+ghost use Rattle.std.specs.Prelude.{◌≡◌, ◌≢◌, ◌↔◌, ℕ, List, true, false, OnOk, IfOk, IfErr, IfSome, IsErrOf, is_err};
+ghost use Rattle.std.specs.Io.KnownBytes.{Appends};
+ghost use Rattle.segment_image.specs.Words.{bytes_of_words};
+ghost use Rattle.segment_image.specs.Watched.{has_failed, watched_inner};
+ghost use Rattle.persist_report_core.specs.Report.{IsReportOf, IsCausedBy};
+
+use crate::fault::CliFault;
+use crate::text::text_of;
+use segment_image::{Watched, read_words};
+use std::alloc::Global;
+use std::io::{Read, Write};
+
+// An image has at most so many words.
+const MAX_WORDS: usize = 1_048_576;
+
+// The text of the report of the image that the words are.
+fn text_of_words(alloc: Global, words: &[u64]) -> Result<Vec<u8>, CliFault>
+    ensures text { IfOk result (λ text. IsReportOf (bytes_of_words words.now) text.items) }
+    ensures cause { IfErr result (λ fault. IsCausedBy (bytes_of_words words.now) fault) }
+    ensures other { IfErr result (λ fault. (fault ≢ CliFault.Read) × (fault ≢ CliFault.Write)) }
+{
+    let reading = image_reader::read(alloc, words)?;
+    Ok(text_of(alloc, &reading)?)
+}
+
+// Writes a text out to the device itself.
+fn write_out<W: Write>(writer: &mut Watched<W>, text: &[u8]) -> Result<(), CliFault>
+    requires { has_failed writer.old ≡ false }
+    ensures ok { OnOk result (Appends (W.contents (watched_inner writer.old)) (W.contents (watched_inner writer.new)) text.now) }
+    ensures err { IfErr result (λ fault. fault ≡ CliFault.Write) }
+    ensures failed { has_failed writer.new ≡ is_err result }
+{
+    writer.write_all(text).map_err(|_| CliFault::Write)?;
+    writer.flush().map_err(|_| CliFault::Write)
+}
+
+/// Writes the report of the image that the reader has left.
+///
+/// `Read` where a read fails; `TooLong` where more than 8,388,608 bytes come; `NotWords` where their number is no
+/// multiple of eight; `Image` with the first fault of the image's header; `NoMemory` where there is none. After
+/// each of these nothing was written. `Write` where a write or the flush fails. Records that are no lawful
+/// histograms, and a list of records that is broken, are no faults: they are lines of the report.
+pub fn report<R: Read, W: Write>(
+    alloc: Global,
+    reader: &mut Watched<R>,
+    writer: &mut Watched<W>,
+) -> Result<(), CliFault>
+    requires reader_sound { has_failed reader.old ≡ false }
+    requires writer_sound { has_failed writer.old ≡ false }
+    ensures text { OnOk result (IfSome (R.remaining (watched_inner reader.old)) (λ bytes. (text : List ℕ) × IsReportOf bytes text × Appends (W.contents (watched_inner writer.old)) (W.contents (watched_inner writer.new)) text)) }
+    ensures cause { IfErr result (λ fault. IfSome (R.remaining (watched_inner reader.old)) (λ bytes. IsCausedBy bytes fault)) }
+    ensures read { IsErrOf result CliFault.Read ↔ (has_failed reader.new ≡ true) }
+    ensures write { IsErrOf result CliFault.Write ↔ (has_failed writer.new ≡ true) }
+    ensures untouched { IfErr result (λ fault. fault ≢ CliFault.Write → writer.new ≡ writer.old) }
+{
+    let words = read_words(alloc, reader, MAX_WORDS)?;
+    let text = text_of_words(alloc, &words)?;
+    write_out(writer, &text)
+}

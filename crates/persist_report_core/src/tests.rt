@@ -1,0 +1,319 @@
+use crate::{CliFault, report};
+use segment_image::{ImageFault, Watched};
+use std::alloc::{AllocError, Global};
+use std::io;
+use std::io::{Read, Write};
+use std::test::*;
+
+const COOKIE: u64 = 0xC879_9269;
+
+const DISABLED: u64 = 1 << 63;
+
+// An image of 1,024 bytes with a fresh boolean histogram `A` at word 16, and then these words changed.
+fn image_with(alloc: Global, changes: &[(usize, u64)]) -> Result<Vec<u8>, AllocError> {
+    let header = [
+        0x4083_05DC,
+        1,
+        128,
+        64,
+        7,
+        1,
+        0,
+        32,
+        16,
+        0,
+        0,
+        0,
+        4,
+        1,
+        0,
+        16,
+    ];
+    let record = [16, COOKIE, 1, 12, 2, 1, 2, 3, 0, 0, 0, 0, 0, 0, 1, 65];
+    let mut words = Vec::new(alloc);
+    words.extend_from_slice(&header)?;
+    words.extend_from_slice(&record)?;
+    words.resize(128, 0u64)?;
+    for (at, word) in changes {
+        if let Some(place) = words.get_mut(*at) {
+            *place = *word;
+        }
+    }
+    let mut bytes = Vec::new(alloc);
+    for word in &words {
+        bytes.extend_from_slice(&word.to_le_bytes())?;
+    }
+    Ok(bytes)
+}
+
+// Two samples 1 and one sample 0, of which the first two were packed in the single word before.
+const THREE_SAMPLES: [(usize, u64); 10] = [
+    (7, 42),
+    (24, 32),
+    (25, DISABLED + 1),
+    (27, 2),
+    (29, 3),
+    (32, 10),
+    (33, COOKIE),
+    (34, 2),
+    (36, 1),
+    (37, 2),
+];
+
+// The same, stopped while the units of the single word were on their way to the counts.
+const IN_TRANSIT: [(usize, u64); 8] = [
+    (7, 42),
+    (24, 32),
+    (25, DISABLED + 1),
+    (27, 2),
+    (29, 2),
+    (32, 10),
+    (33, COOKIE),
+    (34, 2),
+];
+
+// Names that do not ascend along the list: `B` at 16, then `A` at 32.
+const B_THEN_A: [(usize, u64); 14] = [
+    (7, 48),
+    (8, 32),
+    (19, 32),
+    (31, 66),
+    (32, 16),
+    (33, COOKIE),
+    (34, 1),
+    (35, 12),
+    (36, 2),
+    (37, 1),
+    (38, 2),
+    (39, 3),
+    (46, 1),
+    (47, 65),
+];
+
+fn report_of(alloc: Global, image: &[u8]) -> Result<Vec<u8>, CliFault> {
+    let mut reader = Watched::new(image);
+    let mut writer = Watched::new(Vec::new(alloc));
+    report(alloc, &mut reader, &mut writer)?;
+    Ok(writer.into_inner())
+}
+
+#[test]
+fn texts(rt: HostRuntime) -> Result<(), Fail> {
+    let alloc = rt.alloc();
+    let cases: [(&[(usize, u64)], &[u8]); 11] = [
+        (&[], b"A,total,0,0\n"),
+        (
+            &THREE_SAMPLES,
+            b"A,boolean,0,1,1\nA,boolean,1,2,2\nA,total,3,2\n",
+        ),
+        (&IN_TRANSIT, b"A,total,0,2\n!redundant,A,2\n"),
+        (&B_THEN_A, b"A,total,0,0\nB,total,0,0\n"),
+        (&[(6, 1)], b"A,total,0,0\n!flag,corrupt\n"),
+        (
+            &[(6, 3), (29, 5)],
+            b"A,total,0,0\n!flag,corrupt\n!flag,full\n!redundant,A,5\n",
+        ),
+        (&[(20, 5)], b"!bad,16,BadKind\n"),
+        (&[(19, 16)], b"A,total,0,0\n!stopped,Loop\n"),
+        (&[(15, 13)], b"!stopped,BadRef\n"),
+        (&[(15, 32)], b"!stopped,BadRef\n"),
+        (&[(17, 0)], b"!stopped,BadBlock\n"),
+    ];
+    for (changes, expected) in cases {
+        let image = image_with(alloc, changes)?;
+        let text = report_of(alloc, &image)?;
+        assert_eq!(rt; text.as_slice(), expected, "with the words {changes:?}");
+    }
+    Ok(())
+}
+
+#[test]
+fn image_faults(rt: HostRuntime) -> Result<(), Fail> {
+    let alloc = rt.alloc();
+    let cases = [
+        (0, 0, ImageFault::BadCookie),
+        (1, 3, ImageFault::BadVersion),
+        (3, 60, ImageFault::BadPage),
+        (2, 64, ImageFault::BadSize),
+        (5, 0, ImageFault::NotReady),
+        (5, 2, ImageFault::Deleted),
+        (7, 15, ImageFault::BadFree),
+        (7, 129, ImageFault::BadFree),
+        (13, 0, ImageFault::BadQueue),
+    ];
+    for (at, word, fault) in cases {
+        let image = image_with(alloc, &[(at, word)])?;
+        let found = report_of(alloc, &image).err();
+        assert_eq!(rt;
+            found,
+            Some(CliFault::Image(fault)),
+            "with word {at} = {word}"
+        );
+    }
+    Ok(())
+}
+
+#[test]
+fn cut_images(rt: HostRuntime) -> Result<(), Fail> {
+    let alloc = rt.alloc();
+    let image = image_with(alloc, &THREE_SAMPLES)?;
+    assert_eq!(rt; image.len(), 1024);
+    for len in 0..1024 {
+        let expected = if len % 8 != 0 {
+            CliFault::NotWords
+        } else if len < 128 {
+            CliFault::Image(ImageFault::TooShort)
+        } else {
+            CliFault::Image(ImageFault::BadSize)
+        };
+        let found = report_of(alloc, &image[..len]).err();
+        assert_eq!(rt; found, Some(expected), "at {len} bytes");
+    }
+    Ok(())
+}
+
+// Bytes without an end, made up from a seed.
+#[derive(Drop)]
+struct Noise {
+    state: u64,
+}
+
+impl Read for Noise {
+    fn read(&mut self, buf: &mut [u8]) -> io::Result<usize> {
+        for byte in buf.iter_mut() {
+            self.state ^= self.state << 13;
+            self.state ^= self.state >> 7;
+            self.state ^= self.state << 17;
+            *byte = (self.state >> 56) as u8;
+        }
+        Ok(buf.len())
+    }
+}
+
+#[test]
+fn long_noise(rt: HostRuntime) {
+    let alloc = rt.alloc();
+    let cases = [
+        (8_388_607, CliFault::NotWords),
+        (8_388_608, CliFault::Image(ImageFault::BadCookie)),
+        (8_388_609, CliFault::TooLong),
+    ];
+    for (len, fault) in cases {
+        let noise = Noise {
+            state: 88_172_645_463_325_252,
+        };
+        let mut reader = Watched::new(noise.take(len));
+        let mut writer = Watched::new(Vec::new(alloc));
+        let found = report(alloc, &mut reader, &mut writer).err();
+        assert_eq!(rt; found, Some(fault), "at {len} bytes");
+        assert!(rt; writer.into_inner().is_empty());
+    }
+}
+
+// A device that takes or gives at most 16 bytes a call. The call of one number fails, and later ones pass.
+#[derive(Drop)]
+struct FailAt<T> {
+    inner: T,
+    calls: usize,
+    failing: usize,
+}
+
+impl<T> FailAt<T> {
+    fn count_call(&mut self) -> io::Result<()> {
+        let fails = self.calls == self.failing;
+        self.calls = self.calls.saturating_add(1);
+        if fails {
+            return Err(io::Error::from(io::ErrorKind::BrokenPipe));
+        }
+        Ok(())
+    }
+}
+
+impl<T: Read> Read for FailAt<T> {
+    fn read(&mut self, buf: &mut [u8]) -> io::Result<usize> {
+        self.count_call()?;
+        let most = buf.len().min(16);
+        self.inner.read(&mut buf[..most])
+    }
+}
+
+impl<T: Write> Write for FailAt<T> {
+    fn write(&mut self, buf: &[u8]) -> io::Result<usize> {
+        self.count_call()?;
+        let most = buf.len().min(16);
+        self.inner.write(&buf[..most])
+    }
+
+    fn flush(&mut self) -> io::Result<()> {
+        self.count_call()?;
+        self.inner.flush()
+    }
+}
+
+#[derive(Drop)]
+struct Outcome {
+    result: Result<(), CliFault>,
+    reads: usize,
+    writes: usize,
+    text: Vec<u8>,
+}
+
+fn run_with(alloc: Global, image: &[u8], failing_read: usize, failing_write: usize) -> Outcome {
+    let mut reader = Watched::new(FailAt {
+        inner: image,
+        calls: 0,
+        failing: failing_read,
+    });
+    let mut writer = Watched::new(FailAt {
+        inner: Vec::new(alloc),
+        calls: 0,
+        failing: failing_write,
+    });
+    let result = report(alloc, &mut reader, &mut writer);
+    let reader = reader.into_inner();
+    let writer = writer.into_inner();
+    Outcome {
+        result,
+        reads: reader.calls,
+        writes: writer.calls,
+        text: writer.inner,
+    }
+}
+
+#[test]
+fn failing_devices(rt: HostRuntime) -> Result<(), Fail> {
+    let alloc = rt.alloc();
+    let image = image_with(alloc, &THREE_SAMPLES)?;
+    let sound = run_with(alloc, &image, usize::MAX, usize::MAX);
+    assert_eq!(rt; sound.result, Ok(()));
+    assert_eq!(rt; sound.text.len(), 44);
+    assert!(rt; sound.reads >= 64);
+    // Three writes and a flush.
+    assert_eq!(rt; sound.writes, 4);
+    for failing in 0..sound.reads {
+        let outcome = run_with(alloc, &image, failing, usize::MAX);
+        assert_eq!(rt; outcome.result, Err(CliFault::Read), "at read {failing}");
+        assert!(rt; outcome.text.is_empty());
+    }
+    for failing in 0..sound.writes {
+        let outcome = run_with(alloc, &image, usize::MAX, failing);
+        assert_eq!(rt; outcome.result, Err(CliFault::Write), "at write {failing}");
+    }
+    Ok(())
+}
+
+#[test]
+fn fault_texts(rt: HostRuntime) -> Result<(), Fail> {
+    let cases = [
+        (CliFault::Read, "Read"),
+        (CliFault::Write, "Write"),
+        (CliFault::TooLong, "TooLong"),
+        (CliFault::NotWords, "NotWords"),
+        (CliFault::Image(ImageFault::BadCookie), "Image BadCookie"),
+        (CliFault::NoMemory, "NoMemory"),
+    ];
+    for (fault, text) in cases {
+        assert_eq!(rt; fault.to_string(rt.alloc())?.as_str(), text);
+    }
+    Ok(())
+}

@@ -1,5 +1,5 @@
 -- What a lawful header and a lawful block say of the words.
-use Rattle.std.proofs.Common.{◌≡◌, Bool, true, false, not, ◌&&◌, ◌||◌, ◌==◌, if◌then◌else◌, ℕ, ◌+◌, ◌-◌, ◌/◌, ◌<◌, ◌≤◌, List, [], ◌∷◌, length, Option, Some, None, Ok, Err, refl, arith, ap, inl, inr, sym, ◌∙◌}
+use Rattle.std.proofs.Common.{◌≡◌, Bool, true, false, not, ◌&&◌, ◌==◌, if◌then◌else◌, ℕ, ◌+◌, ◌-◌, ◌/◌, ◌≤◌, List, [], ◌∷◌, length, Option, Some, None, Ok, Err, refl, arith, ap, sym, ◌∙◌}
 use Rattle.std.specs.Prelude.{nat_le, nat_lt}
 use Rattle.std.specs.List.{AllByRecursion, list_any}
 use Rattle.std.proofs.lemmas.Bool.{not-false, or_parts, and_parts, and_from, ltb-false, leb-true, eqb-true, eq-eqb, ne_eqb}
@@ -152,7 +152,7 @@ pub stop_of-end : (words : List ℕ) (head : SegmentHead) (references : List ℕ
 stop_of-end words head references next is end =
     let last : ℕ = next_of words (before references (length references)) in
     stop_at-end (last == 12) (first_fault (
-        (not (is_placed head last), BadRef)
-        ∷ (not (is_claimed words head last), BadBlock)
-        ∷ (list_any (λ (x : ℕ). x == last) references, Loop)
-        ∷ [])) (eq-eqb last 12 (sym is ∙ end))
+    (not (is_placed head last), BadRef)
+    ∷ (not (is_claimed words head last), BadBlock)
+    ∷ (list_any (λ (x : ℕ). x == last) references, Loop)
+    ∷ [])) (eq-eqb last 12 (sym is ∙ end))

@@ -4,3 +4,4 @@ pub mod Records
 pub mod NameLengths
 pub mod NameSets
 pub mod Gathered
+pub mod Prefixes

@@ -1,6 +1,6 @@
 -- The length of a name.
-use Rattle.std.proofs.Common.{◌≡◌, Bool, true, false, ◌&&◌, not, ◌==◌, ℕ, ◌+◌, ◌-◌, ◌*◌, ◌/◌, ◌<◌, ◌≤◌, List, [], ◌∷◌, ◌++◌, length, take, drop, ◌⊎◌, inl, inr, refl, arith, length-take, length-drop, length-append}
-use Rattle.std.specs.Prelude.{nat_le, slice_index, slice_range}
+use Rattle.std.proofs.Common.{◌≡◌, Bool, false, ◌&&◌, not, ◌==◌, ℕ, ◌+◌, ◌-◌, ◌*◌, ◌<◌, ◌≤◌, List, [], ◌∷◌, length, take, drop, ◌⊎◌, inl, inr, refl, arith, length-take, length-drop, length-append}
+use Rattle.std.specs.Prelude.{nat_le, slice_index}
 use Rattle.std.specs.List.{list_all}
 use Rattle.std.proofs.lemmas.Bool.{cases_Bool, leb-true, lt-leb, and_left, and_right}
 use Rattle.byteorder.specs.Endian.{little_bytes}

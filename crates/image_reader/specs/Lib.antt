@@ -8,4 +8,5 @@ pub use Rattle.bucket_ranges.specs.Single
 pub use Rattle.bucket_ranges.specs.Reading
 pub mod Views
 pub mod Records
+pub mod Prefix
 pub mod Names

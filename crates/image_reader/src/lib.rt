@@ -10,8 +10,11 @@ mod names;
 mod reader;
 mod reading;
 mod record;
+#[cfg(test)]
+mod tests;
 mod walk;
 
 pub use bucket_ranges::reading::RecordFault;
+pub use names::name_prefix;
 pub use reader::read;
 pub use reading::{BadRecord, HistReading, Reading};

@@ -2,21 +2,36 @@
 
 ghost use Rattle.std.specs.Prelude.{◌≡◌, ◌||◌, ℕ, List, false, not, IfOk, OnOk};
 ghost use Rattle.std.specs.Str.{bytes_eq};
+ghost use Rattle.image_reader.specs.Prefix.{prefix_of};
 
 use std::alloc::{AllocError, Global};
 use std::collections::BTreeSet;
 
-/// Names, in an ordered set.
+/// The first eight bytes of a name as a number, the first byte the highest; bytes that are not there count as 0.
+/// Names whose prefixes differ stand in the order of their prefixes, so a comparison seldom reads the names.
+pub fn name_prefix(name: &[u8]) -> u64
+    ensures { result ≡ prefix_of name.now }
+{
+    let mut prefix = 0;
+    for i in 0..8 {
+        let byte = if i < name.len() { name[i] } else { 0 };
+        prefix = prefix * 256 + u64::from(byte);
+    }
+    prefix
+}
+
+/// Names in an ordered set, each behind its prefix.
 #[derive(Drop)]
 pub(crate) struct Names {
-    set: BTreeSet<Vec<u8>>,
+    set: BTreeSet<(u64, Vec<u8>)>,
 }
 
 impl Names {
-    ghost use Rattle.image_reader.specs.Names.{holds};
+    ghost use Rattle.image_reader.specs.Names.{holds, ArePrefixed};
 
     pub(crate) fn new(alloc: Global) -> Names
-        ensures { (name : List ℕ) → holds result name ≡ false }
+        ensures holds { (name : List ℕ) → holds result name ≡ false }
+        ensures prefixed { ArePrefixed result }
     {
         Names {
             set: BTreeSet::new(alloc),
@@ -25,10 +40,13 @@ impl Names {
 
     /// Adds a name, and says whether it is new.
     pub(crate) fn insert(&mut self, alloc: Global, name: &[u8]) -> Result<bool, AllocError>
+        requires { ArePrefixed self.old }
         ensures new { IfOk result (λ new. new ≡ not (holds self.old name.now)) }
         ensures holds { OnOk result ((other : List ℕ) → holds self.new other ≡ (holds self.old other || bytes_eq other name.now)) }
+        ensures prefixed { OnOk result (ArePrefixed self.new) }
     {
+        let prefix = name_prefix(name);
         let name = Vec::from_slice(alloc, name)?;
-        Ok(self.set.insert(name)?)
+        Ok(self.set.insert((prefix, name))?)
     }
 }

@@ -19,10 +19,15 @@ use segment_image::{SegmentHead, block};
 use std::alloc::{AllocError, AllocFailed, Global};
 
 const MIN_SIZE: u64 = 16;
+
 const MAX_NAME: u64 = 128;
+
 const LINEAR: u64 = 1;
+
 const BOOLEAN: u64 = 2;
+
 const COUNTS_TAG: u64 = 2;
+
 const MAX_TOTAL: u64 = 4_294_967_295;
 
 /// Why a record gives no histogram.
@@ -154,12 +159,7 @@ fn is_lawful_byte(byte: u8) -> bool
 }
 
 // The spec of the record and its ranges, or BadSpec.
-fn spec_at(
-    alloc: Global,
-    words: &[u64],
-    page: u64,
-    at: usize,
-) -> Result<(Spec, Ranges), Refusal>
+fn spec_at(alloc: Global, words: &[u64], page: u64, at: usize) -> Result<(Spec, Ranges), Refusal>
     requires { at + 16 ≤ length words.now }
     ensures spec { IfOk result (λ found. (found.0 ≡ spec_of words.now at) × (found.1 ≡ boundaries_of (spec_of words.now at)) × (length found.1 ≡ record_buckets words.now at + 1)) }
     ensures lawful { IfOk result (λ found. is_bad_spec words.now page at ≡ false) }
@@ -198,12 +198,7 @@ fn spec_named(kind: u64, min: u64, max: u64, n: u64) -> Option<Spec>
 }
 
 // The block of the record's counts, 0 where there are none, or BadCounts.
-fn counts_at(
-    words: &[u64],
-    head: &SegmentHead,
-    at: usize,
-    buckets: usize,
-) -> Result<usize, Refusal>
+fn counts_at(words: &[u64], head: &SegmentHead, at: usize, buckets: usize) -> Result<usize, Refusal>
     requires header { header_of words.now ≡ Ok head.now }
     requires within { at + 16 ≤ length words.now }
     requires buckets { buckets ≡ record_buckets words.now at }
@@ -229,10 +224,12 @@ fn units_packed(single: &Option<SingleWord>, bucket: usize) -> u64
     ensures { result ≡ units_packed_of single.now bucket }
 {
     match single {
-        Some(SingleWord::Packed {
-            bucket: packed,
-            units,
-        }) if *packed == bucket => *units,
+        Some(
+            SingleWord::Packed {
+                bucket: packed,
+                units,
+            },
+        ) if *packed == bucket => *units,
         _ => 0,
     }
 }

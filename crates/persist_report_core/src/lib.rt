@@ -7,6 +7,7 @@
 
 mod fault;
 mod lines;
+mod order;
 mod reporting;
 mod text;
 mod words;

@@ -10,6 +10,7 @@ ghost use Rattle.persist_report_core.specs.Lines.{IsAtLine, Adds};
 ghost use Rattle.persist_report_core.specs.Readable.{IsReadable};
 
 use crate::lines::{into_text, new_lines, put_line};
+use crate::order::in_order;
 use crate::words::{image_fault_word, kind_word, record_fault_word};
 use bucket_ranges::Ranges;
 use csv::Writer;
@@ -198,22 +199,6 @@ fn put_stopped(lines: &mut Writer<Vec<u8>>, stopped: Option<ImageFault>) -> Resu
         put_line(lines, &[b"!stopped", image_fault_word(fault)])?;
     }
     Ok(())
-}
-
-// References to the histograms.
-fn references(alloc: Global, hists: &[HistReading]) -> Result<Vec<&HistReading>, AllocError>
-    ensures { IfOk result (λ references. map (λ hist. hist.now) references.items ≡ hists.now) }
-{
-    hists.iter().collect(alloc)
-}
-
-// The histograms of a reading, ascending by the bytes of their names.
-fn in_order(alloc: Global, reading: &Reading) -> Result<Vec<&HistReading>, AllocError>
-    ensures { IfOk result (λ hists. AreInOrder (map (λ hist. histogram_view hist.now) hists.items) (reading_view reading.now)) }
-{
-    let mut hists = references(alloc, &reading.hists)?;
-    hists.sort_by(|a, b| a.name.cmp(&b.name))?;
-    Ok(hists)
 }
 
 /// The text of the report of a reading: the histograms by name, then the flags that are set, the redundant counts

@@ -1,12 +1,12 @@
 -- The checks of a record in their order: the first that fails gives the fault, and without one the fields are the
 -- histogram's.
-use Rattle.std.proofs.Common.{◌≡◌, Bool, true, false, not, ◌||◌, ℕ, ◌-◌, ◌+◌, List, [], ◌∷◌, length, map, refl, ap, sym, subst, ◌∙◌, arith}
+use Rattle.std.proofs.Common.{◌≡◌, true, false, ℕ, ◌-◌, length, map, refl, ap, sym, subst, ◌∙◌, arith}
 use Rattle.std.specs.List.{range_with_len}
 use Rattle.std.proofs.lemmas.Bool.{or_from, or_right, not_from_true}
 use Rattle.std.proofs.lemmas.Result.{err_from_is_err_and}
 use Rattle.bucket_ranges.specs.declared.reading.RecordFault.TheVariants.{BadCounts, BadSingle}
 use Rattle.bucket_ranges.specs.Single.{single_of}
-use Rattle.bucket_ranges.specs.Reading.{histogram_of, is_bad_spec, is_bad_single, has_counts, has_large, total_at, totals_of, record_buckets, record_single}
+use Rattle.bucket_ranges.specs.Reading.{histogram_of, is_bad_spec, is_bad_single, has_large, total_at, totals_of, record_buckets}
 use Rattle.segment_image.specs.Blocks.{field_at}
 use Rattle.image_reader.proofs.Records.{IsRefusedBy-from_only, PassesThree, record_fault-counts, record_fault-single, record_fault-none, is_bad_counts, is_bad_word, totals_of-found, counts-found, same_histogram}
 use Rattle.std.proofs.lemmas.Int.{to_z-of_z}

@@ -1,5 +1,5 @@
 -- The totals go one behind the other; one that is too large is among all totals.
-use Rattle.std.proofs.Common.{◌≡◌, refl, arith, ◌-◌, length, ap, ◌∙◌, ℤ, ℕ}
+use Rattle.std.proofs.Common.{◌≡◌, refl, arith, ◌-◌, length, ℕ}
 use Rattle.std.specs.Prelude.{pos, slice_index}
 use mir.Syntax.{w32}
 use mir.Val.{to_z, of_z}
@@ -9,9 +9,11 @@ use Rattle.image_reader.proofs.Records.{has_large-at, has_large-more, map-range-
 use Rattle.image_reader.proofs.record.totals.Goals as goal
 
 pub returns-in_default-clause-fault : goal.returns-in_default-clause-fault
-returns-in_default-clause-fault c =
-    (refl, has_large-at (total_at c.args.words.now c.args.counts c.args.single.now) (length c.args.ranges.now - 1)
-    c.loop-bucket.bucket (omega arith) c.in_default.ensures.large)
+returns-in_default-clause-fault c = (
+  refl,
+  has_large-at (total_at c.args.words.now c.args.counts c.args.single.now) (length c.args.ranges.now - 1)
+      c.loop-bucket.bucket (omega arith) c.in_default.ensures.large,
+)
 
 pub loop-bucket-preserved : goal.loop-bucket-preserved
 loop-bucket-preserved c =

@@ -1,12 +1,10 @@
 -- Each step of the walk, from the lemmas on walks, on headers and on marks.
-use Rattle.std.proofs.Common.{◌≡◌, ℕ, ◌<◌, ◌≤◌, length, get_or, arith, refl, ap, sym, ◌∙◌, false, true, replicate, [], ◌∷◌, ◌++◌, Some, length-set}
+use Rattle.std.proofs.Common.{◌≡◌, ◌<◌, length, arith, refl, ap, sym, ◌∙◌, false, true, replicate, [], ◌∷◌, ◌++◌, length-set}
 use Rattle.std.proofs.lemmas.List.{length-replicate}
 use Rattle.segment_image.specs.declared.fault.ImageFault.TheVariants.{Loop}
-use Rattle.std.specs.Prelude.{◌==◌}
-use Rattle.std.specs.List.{list_any}
-use Rattle.std.proofs.lemmas.Bool.{ne_eqb, eq-eqb}
+use Rattle.std.proofs.lemmas.Bool.{eq-eqb}
 use Rattle.segment_image.specs.declared.blocks.BlockHead.{BlockHead}
-use Rattle.bucket_ranges.specs.Reading.{IsListed, stop_of, next_of, before}
+use Rattle.bucket_ranges.specs.Reading.{next_of}
 use Rattle.bucket_ranges.proofs.Walks.{IsWalk-none, IsWalk-push, IsListed-from_fault, IsListed-from_end}
 use Rattle.image_reader.proofs.Headers.{IsBlockHead-from_block, block_extent, stop_of-bad_block, stop_of-loop, stop_of-end}
 use Rattle.image_reader.proofs.Marks.{before-last, unmet-set, marks-push, unmarked_at, read_mark}
@@ -76,10 +74,10 @@ loop-next-preserved c =
     let pushed : c.push.new.self.items ≡ c.loop-next.references.items ++ c.loop-next.next ∷ [] = c.in_ok-push.ensures.items in
     record {
       walk = rw pushed (IsWalk-push c.args.words.now c.args.head.now c.loop-next.references.items c.loop-next.next
-      c.loop-next.invariant.walk (sym c.loop-next.invariant.next) block.lawful
-      (sym (c.loop-next.invariant.marks c.loop-next.next) ∙ (sym marked ∙ c.if-index.false)));
+          c.loop-next.invariant.walk (sym c.loop-next.invariant.next) block.lawful
+          (sym (c.loop-next.invariant.marks c.loop-next.next) ∙ (sym marked ∙ c.if-index.false)));
       next = rw pushed (ap (λ (found : BlockHead). found.next) (sym block.found_is)
-      ∙ ap (next_of c.args.words.now) (sym (before-last c.loop-next.references.items c.loop-next.next)));
+          ∙ ap (next_of c.args.words.now) (sym (before-last c.loop-next.references.items c.loop-next.next)));
       marks = λ r. rw pushed (marks-push c.loop-next.met.items c.loop-next.references.items c.loop-next.next within c.loop-next.invariant.marks r);
       long = length-set c.loop-next.met.items c.loop-next.next true ∙ c.loop-next.invariant.long;
     }

@@ -1,0 +1,140 @@
+//! The words of segments that the tests read.
+
+use std::process::Abort;
+
+/// The words of every segment here: 128, in pages of 64.
+pub(crate) type Words = [u64; 128];
+
+/// What word 1 of an allocated block is.
+pub(crate) const BLOCK_COOKIE: u64 = 0xC879_9269;
+
+/// What a disabled single word is above its bucket.
+pub(crate) const DISABLED: u64 = 1 << 63;
+
+/// A disabled single word where nothing was packed.
+pub(crate) const NOTHING_PACKED: u64 = DISABLED + 65_535;
+
+/// The words with some of them changed.
+pub(crate) fn changed(rt: &impl Abort, words: &Words, changes: &[(usize, u64)]) -> Words {
+    let mut words = *words;
+    for (index, value) in changes {
+        assert!(rt; *index < words.len());
+        words[*index] = *value;
+    }
+    words
+}
+
+/// A ready segment with id 7 and no record.
+pub(crate) fn blank(rt: &impl Abort) -> Words {
+    let header = [
+        (0, 0x4083_05DC),
+        (1, 1),
+        (2, 128),
+        (3, 64),
+        (4, 7),
+        (5, 1),
+        (7, 16),
+        (8, 12),
+        (12, 4),
+        (13, 1),
+        (15, 12),
+    ];
+    changed(rt, &[0; 128], &header)
+}
+
+/// The words with an empty boolean histogram, of this word as its name, in 16 words at `at`, which is 0 until then.
+/// It is no part of the list yet, and its next is the end.
+fn with_boolean(rt: &impl Abort, words: &Words, at: usize, name: u64) -> Words {
+    assert!(rt; at <= 112);
+    let record = [
+        (at, 16),
+        (at + 1, BLOCK_COOKIE),
+        (at + 2, 1),
+        (at + 3, 12),
+        (at + 4, 2),
+        (at + 5, 1),
+        (at + 6, 2),
+        (at + 7, 3),
+        (at + 14, 1),
+        (at + 15, name),
+    ];
+    changed(rt, words, &record)
+}
+
+/// An empty boolean histogram `A` at 16.
+pub(crate) fn one_empty(rt: &impl Abort) -> Words {
+    let words = with_boolean(rt, &blank(rt), 16, 65);
+    changed(rt, &words, &[(7, 32), (8, 16), (15, 16)])
+}
+
+/// The histogram `A` with the counts 1, 2 and 0 in a block at 32.
+pub(crate) fn one_counted(rt: &impl Abort) -> Words {
+    let changes = [
+        (7, 42),
+        (24, 32),
+        (25, DISABLED + 1),
+        (27, 2),
+        (29, 3),
+        (32, 10),
+        (33, BLOCK_COOKIE),
+        (34, 2),
+        (36, 1),
+        (37, 2),
+    ];
+    changed(rt, &one_empty(rt), &changes)
+}
+
+/// Two empty boolean histograms, `A` at 16 and one of this word as its name at 32.
+pub(crate) fn two_empty(rt: &impl Abort, name: u64) -> Words {
+    let words = with_boolean(rt, &one_empty(rt), 32, name);
+    changed(rt, &words, &[(7, 48), (8, 32), (19, 32)])
+}
+
+/// The booleans `A` at 16 and `B` at 32, of which both name one block of counts, at 48.
+pub(crate) fn shared_counts(rt: &impl Abort) -> Words {
+    let changes = [
+        (7, 58),
+        (24, 48),
+        (25, NOTHING_PACKED),
+        (40, 48),
+        (41, NOTHING_PACKED),
+        (48, 10),
+        (49, BLOCK_COOKIE),
+        (50, 2),
+        (52, 1),
+    ];
+    changed(rt, &two_empty(rt, 66), &changes)
+}
+
+/// Three histograms: `A` at 16, with two packed samples; then `queue.len`, linear from 1 to 10 with five buckets, at
+/// 64, with its counts at 48; then `B` at 32.
+pub(crate) fn three(rt: &impl Abort) -> Words {
+    let changes = [
+        (7, 81),
+        (19, 64),
+        (25, (1 << 32) + 2),
+        (27, 2),
+        (29, 2),
+        (48, 14),
+        (49, BLOCK_COOKIE),
+        (50, 2),
+        (53, 4),
+        (56, 1),
+        (64, 17),
+        (65, BLOCK_COOKIE),
+        (66, 1),
+        (67, 32),
+        (68, 1),
+        (69, 1),
+        (70, 10),
+        (71, 5),
+        (72, 48),
+        (73, DISABLED + 1),
+        (75, 14),
+        (77, 5),
+        (78, 9),
+        (79, 0x656C_2E65_7565_7571),
+        (80, 0x6E),
+    ];
+    changed(rt, &two_empty(rt, 66), &changes)
+}

@@ -134,7 +134,7 @@ no_fault false false false true none = absurd (cc)
 no_fault false false false false none = (refl, refl, refl, refl)
 
 -- a linear spec without a fault is lawful
-is_linear-from_checks : (min max n : ℕ) → first_fault (linear_checks min max n) ≡ None → IsLinear min max n
+pub is_linear-from_checks : (min max n : ℕ) → first_fault (linear_checks min max n) ≡ None → IsLinear min max n
 is_linear-from_checks min max n none =
     let checks = no_fault (min == 0) (nat_le max min || nat_lt 2147483646 max) (nat_lt n 3)
     (nat_lt 1000 n || nat_lt (max - min + 2) n) none in

@@ -3,6 +3,7 @@ use Rattle.std.proofs.Common.{◌≡◌, Bool, true, false, ◌||◌, ◌==◌, 
 use Rattle.std.specs.List.{list_any, sum_by}
 use Rattle.std.proofs.lemmas.Bool.{cases_eq, eq-eqb, ne_eqb}
 use Rattle.std.proofs.lemmas.List.{get_or_default, get_or_push, length_push}
+use Rattle.std.proofs.Math.Bool.{or-false, or-true}
 use Rattle.std.proofs.lemmas.List.Folds.{list_any-append}
 use Rattle.std.proofs.lemmas.List.Sums.{sum_by-set}
 use Rattle.bucket_ranges.specs.Reading.{before}
@@ -19,17 +20,9 @@ unmet-set met reference within new =
     let before : here ≡ 1 = rw new refl in
     omega (arith, sum_by-set (λ is_met. if is_met then 0 else 1) met reference true false within, before)
 
-or_false : (b : Bool) → (b || false) ≡ b
-or_false true = refl
-or_false false = refl
-
-or_true : (b : Bool) → (b || true) ≡ true
-or_true true = refl
-or_true false = refl
-
 -- what one more element at the end adds to a test
 pub list_any-push : {X : Type 0} (p : X → Bool) (xs : List X) (y : X) → list_any p (xs ++ y ∷ []) ≡ (list_any p xs || p y)
-list_any-push p xs y = list_any-append p xs (y ∷ []) ∙ ap (λ b. list_any p xs || b) (or_false (p y))
+list_any-push p xs y = list_any-append p xs (y ∷ []) ∙ ap (λ b. list_any p xs || b) (or-false (p y))
 
 -- marks that say of each reference whether it is in a list still do with one more reference, once that is marked
 pub marks-push : (met : List Bool) (references : List ℕ) (reference : ℕ) → reference < length met
@@ -41,11 +34,11 @@ marks-push met references reference within marks r =
       | inl same ↦
           let mine : (reference == r) ≡ true = eq-eqb reference r (sym same) in
           let marked : get_or (set met reference true) r false ≡ true = rw same (get_or-set_same met reference true false within) in
-          marked ∙ sym (more ∙ (ap (λ b. list_any (λ other. other == r) references || b) mine ∙ or_true _))
+          marked ∙ sym (more ∙ (ap (λ b. list_any (λ other. other == r) references || b) mine ∙ or-true _))
       | inr other ↦
           let mine : (reference == r) ≡ false = ne_eqb reference r (λ e. other (sym e)) in
           let kept : get_or (set met reference true) r false ≡ get_or met r false = get_or-set_other met reference r true false other in
-          kept ∙ (marks r ∙ sym (more ∙ (ap (λ b. list_any (λ other. other == r) references || b) mine ∙ or_false _)))
+          kept ∙ (marks r ∙ sym (more ∙ (ap (λ b. list_any (λ other. other == r) references || b) mine ∙ or-false _)))
     ]
 
 -- before the walk nothing is marked

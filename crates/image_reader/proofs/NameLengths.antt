@@ -1,18 +1,12 @@
 -- The length of a name.
-use Rattle.std.proofs.Common.{◌≡◌, Bool, false, ◌&&◌, not, ◌==◌, ℕ, ◌+◌, ◌-◌, ◌*◌, ◌<◌, ◌≤◌, List, [], ◌∷◌, length, take, drop, ◌⊎◌, inl, inr, refl, arith, length-take, length-drop, length-append}
+use Rattle.std.proofs.Common.{◌≡◌, Bool, false, ◌&&◌, not, ◌==◌, ℕ, ◌+◌, ◌-◌, ◌*◌, ◌<◌, ◌≤◌, List, length, take, drop, ◌⊎◌, inl, inr, arith, length-take, length-drop}
 use Rattle.std.specs.Prelude.{nat_le, slice_index}
 use Rattle.std.specs.List.{list_all}
 use Rattle.std.proofs.lemmas.Bool.{cases_Bool, leb-true, lt-leb, and_left, and_right}
-use Rattle.byteorder.specs.Endian.{little_bytes}
 use Rattle.segment_image.specs.Words.{bytes_of_words}
+use Rattle.segment_image.proofs.ReadWords.{length-bytes_of_words}
 use Rattle.segment_image.specs.Blocks.{field_at}
 use Rattle.bucket_ranges.specs.Reading.{name_words, name_of, is_name, is_name_byte, has_name}
-
--- eight bytes a word
-pub length-bytes_of_words : (words : List ℕ) → length (bytes_of_words words) ≡ 8 * length words
-length-bytes_of_words [] = refl
-length-bytes_of_words (word ∷ words) =
-    omega (arith, length-append (little_bytes 8 word) (bytes_of_words words), length-bytes_of_words words)
 
 -- a name whose words lie in the image has the length that its record says
 pub length-name_of : (words : List ℕ) (at : ℕ) → at + (15 + name_words (field_at words at 14)) ≤ length words

@@ -12,25 +12,16 @@ use Rattle.std.specs.BTreeMap.{is_at}
 use Rattle.std.specs.BTreeSet.{insert_key}
 use Rattle.std.proofs.lemmas.Map.Text.{is_eq-slice_cmp}
 use Rattle.std.proofs.lemmas.Slice.Eq.{bytes_eq-Decides}
+use Rattle.std.proofs.Math.Bool.{or_comm, or_assoc}
 
 -- an order of keys that ties only keys of the same bytes
 abbrev pub TiesSame : {K : Type 0} → (K → List ℕ) → (K → K → Ordering) → Type 0
 TiesSame {K} items cmp = (a b : K) → Equal ≡ cmp a b → items a ≡ items b
 
-or_comm : (a b : Bool) → (a || b) ≡ (b || a)
-or_comm true true = refl
-or_comm true false = refl
-or_comm false true = refl
-or_comm false false = refl
-
 or_again : (a b : Bool) → (a || b) ≡ ((a || b) || a)
 or_again true b = refl
 or_again false true = refl
 or_again false false = refl
-
-or_assoc : (a b c : Bool) → (a || (b || c)) ≡ ((a || b) || c)
-or_assoc true b c = refl
-or_assoc false b c = refl
 
 -- the step of an insert, by what the order says of the key and the first one
 insert_step : (o : Ordering) (here rest new : Bool) (all less same more : Bool)
@@ -39,7 +30,7 @@ insert_step : (o : Ordering) (here rest new : Bool) (all less same more : Bool)
 insert_step Less here rest new all less same more l s m t e = e ∙ (l ∙ or_comm new (here || rest))
 insert_step Equal here rest new all less same more l s m t e =
     e ∙ (s ∙ (or_again here rest ∙ ap (λ b. (here || rest) || b) (sym (t refl))))
-insert_step Greater here rest new all less same more l s m t e = e ∙ (m ∙ or_assoc here rest new)
+insert_step Greater here rest new all less same more l s m t e = e ∙ (m ∙ sym (or_assoc here rest new))
 
 -- a test of a choice by an ordering is the choice of the tests
 choice : {X : Type 0} (p : X → Bool) (o : Ordering) (a b c : X) → p (match_ordering o a b c) ≡ match_ordering o (p a) (p b) (p c)

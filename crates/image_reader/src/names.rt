@@ -29,6 +29,7 @@ pub(crate) struct Names {
 impl Names {
     ghost use Rattle.image_reader.specs.Names.{holds, ArePrefixed};
 
+    /// No names.
     pub(crate) fn new(alloc: Global) -> Names
         ensures holds { (name : List ℕ) → holds result name ≡ false }
         ensures prefixed { ArePrefixed result }

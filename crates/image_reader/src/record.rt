@@ -1,4 +1,9 @@
 //! One record of a histogram.
+//!
+//! The words of a record, counted from the first of its block: 4 is the kind; 5 to 7 are the minimum, the maximum and
+//! the number of buckets; 8 is the reference of the block of counts, 0 where there is none; 9 is the single word; 11
+//! is the sum; 13 is the redundant count; 14 is the length of the name, whose bytes stand from 15 on, eight a word.
+//! The counts stand from word 4 of their block on.
 
 ghost use Rattle.std.specs.Prelude.{◌≡◌, ◌≤◌, ◌<◌, ◌+◌, ◌-◌, ℕ, true, false, length, map, pos, slice_index, Ok, is_none, IfOk, IfSome, IfNone, MatchOption, MatchResult};
 ghost use Rattle.std.specs.List.{range_with_len, list_all};
@@ -33,7 +38,9 @@ const MAX_TOTAL: u64 = 4_294_967_295;
 /// Why a record gives no histogram.
 #[derive(Debug, Drop)]
 pub(crate) enum Refusal {
+    /// There was no memory.
     Memory,
+    /// The record's first fault.
     Fault(RecordFault),
 }
 

@@ -1,32 +1,24 @@
 -- The buckets of a lawful spec and their boundaries.
-use Rattle.std.proofs.Common.{◌≡◌, ◌∙◌, ℕ, ◌+◌, ◌-◌, ◌<◌, ◌≤◌, Bool, true, false, ◌||◌, ◌==◌, List, [], ◌∷◌, length, Option, Some, None, if◌then◌else◌, All, lit<, map, ap, refl, arith}
+use Rattle.std.proofs.Common.{◌≡◌, ◌∙◌, ℕ, ◌+◌, ◌<◌, ◌≤◌, Bool, true, false, ◌==◌, List, [], ◌∷◌, length, Option, Some, None, if◌then◌else◌, All, ap, refl, arith}
 use Rattle.std.proofs.Common.{ℤ, pos, get_or, drop, take, sym, subst, Vec, Global}
 use Rattle.std.specs.Fmt.{decimal, signed_decimal}
-use Rattle.std.specs.List.{range_with_len, zip, flat_map}
+use Rattle.std.specs.List.{zip, flat_map}
 use Rattle.std.proofs.lemmas.Grind.{get_or_after_one}
 use Rattle.std.proofs.lemmas.Slice.Zip.{get_or-zip, length-zip}
 use Rattle.bucket_ranges.specs.Reading.{Histogram}
 use Rattle.persist_report_core.specs.Text.{bucket_text, line, kind_word}
-use Rattle.std.specs.Prelude.{nat_lt}
-use Rattle.std.proofs.lemmas.Bool.{ltb-false}
 use Rattle.std.proofs.lemmas.Bool.Decides.{nat_tests}
 use Rattle.csv.specs.declared.writer.Writer.{Writer}
 use Rattle.persist_report_core.specs.Lines.{Adds}
 use Rattle.persist_report_core.proofs.Adding.{Adds-step, Adds-nothing}
-use Rattle.std.proofs.lemmas.List.{length-append, length-drop}
+use Rattle.std.proofs.lemmas.List.{length-drop}
 use Rattle.std.proofs.lemmas.List.Elements.{All-cons}
-use Rattle.std.proofs.lemmas.List.FromFn.{length-map-range_with_len}
 use Rattle.segment_image.specs.Checks.{first_fault}
 use Rattle.bucket_ranges.specs.declared.spec.Spec.{Spec}
 use Rattle.bucket_ranges.specs.declared.spec.Spec.TheVariants.{Linear, Boolean}
-use Rattle.bucket_ranges.specs.declared.spec.SpecFault.TheVariants.{TooFew}
-use Rattle.bucket_ranges.specs.Spec.{spec_fault, buckets_of, linear_checks}
-use Rattle.bucket_ranges.specs.Ranges.{boundaries_of, inner_boundary, linear_boundaries}
-
--- both parts of a test that fails fail
-pub or_parts : (a b : Bool) → (a || b) ≡ false → (a ≡ false) × (b ≡ false)
-or_parts false b e = (refl, e)
-or_parts true b e = absurd (cc e)
+use Rattle.bucket_ranges.specs.Spec.{spec_fault, buckets_of}
+use Rattle.bucket_ranges.specs.Ranges.{boundaries_of}
+use Rattle.bucket_ranges.proofs.Ascent.{is_linear-from_checks, boundaries_of-split}
 
 -- a check that comes first, where none fails
 no_first_fault : {F : Type 0} (failed : Bool) (fault : F) (rest : Option F) → (if failed then Some fault else rest) ≡ None → (failed ≡ false) × (rest ≡ None)
@@ -40,30 +32,14 @@ all_pass (check ∷ rest) e =
     let (here, later) = no_first_fault check.0 check.1 (first_fault rest) e in
     All-cons (λ check. check.0 ≡ false) check rest here (all_pass rest later)
 
--- a lawful linear spec has 3 to 1,000 buckets
-pub linear_buckets : (min max n : ℕ) → first_fault (linear_checks min max n) ≡ None → (3 ≤ n) × (n ≤ 1000)
-linear_buckets min max n e =
-    let passes = all_pass (linear_checks min max n) e in
-    let few : nat_lt n 3 ≡ false = passes 2 (false, TooFew) (lit< tt) in
-    let many : (nat_lt 1000 n || nat_lt (max - min + 2) n) ≡ false = passes 3 (false, TooFew) (lit< tt) in
-    (ltb-false n 3 few, ltb-false 1000 n (or_parts (nat_lt 1000 n) (nat_lt (max - min + 2) n) many).0)
-
 -- a lawful spec has 1 to 1,000 buckets
 pub few_buckets : (spec : Spec) → spec_fault spec ≡ None → (1 ≤ buckets_of spec) × (buckets_of spec ≤ 1000)
-few_buckets (Linear min max n) e = let (few, many) = linear_buckets min max n e in (omega (arith, few), many)
+few_buckets (Linear min max n) e = let linear = is_linear-from_checks min max n e in (omega (arith, linear.few), linear.many)
 few_buckets Boolean e = (omega arith, omega arith)
-
--- linear boundaries are one more than the buckets
-linear_length : (min max n : ℕ) → 1 ≤ n → length (linear_boundaries min max n) ≡ n + 1
-linear_length min max n h =
-    let inner = length-map-range_with_len (inner_boundary min max n) 1 (n - 1) in
-    let both = length-append (map (inner_boundary min max n) (range_with_len 1 (n - 1))) (2147483647 ∷ []) in
-    omega (arith, inner, both)
 
 -- the boundaries are one more than the buckets
 pub length-boundaries_of : (spec : Spec) → spec_fault spec ≡ None → length (boundaries_of spec) ≡ buckets_of spec + 1
-length-boundaries_of (Linear min max n) e = let (few, many) = linear_buckets min max n e in linear_length min max n (omega (arith, few))
-length-boundaries_of Boolean e = linear_length 1 2 3 (omega arith)
+length-boundaries_of spec e = (boundaries_of-split spec e).count
 
 -- the bucket at i of as many counts as there are buckets
 pub bucket_at : (counts : List (ℤ × ℕ)) (boundaries : List ℕ) (i : ℕ) (d : (ℤ × ℕ) × ℕ) → i < length counts → i + 1 < length boundaries

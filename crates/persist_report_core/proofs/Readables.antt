@@ -2,7 +2,7 @@
 use Rattle.std.proofs.Common.{◌≡◌, ℕ, ◌+◌, ◌*◌, ◌^◌, ◌<◌, ◌≤◌, Bool, true, false, not, ◌||◌, ◌&&◌, ◌==◌, List, [], ◌∷◌, length, Option, Some, None, is_none, All, pos, slice_index, ℤ, get_or, lit<, sum_by, map, filter, refl, sym, subst, arith, if◌then◌else◌}
 use Rattle.std.specs.Prelude.{nat_lt}
 use Rattle.std.specs.List.{range_with_len, list_any}
-use Rattle.std.proofs.lemmas.Bool.{ltb-false}
+use Rattle.std.proofs.lemmas.Bool.{ltb-false, not-false, or_parts}
 use Rattle.std.proofs.lemmas.List.Elements.{filter_passes, All-filter, All-map, All-cons, All-tail}
 use Rattle.std.proofs.lemmas.List.FromFn.{length-map-range_with_len}
 use Rattle.std.proofs.lemmas.List.Sums.{sum_by-le}
@@ -15,7 +15,7 @@ use Rattle.bucket_ranges.specs.Ranges.{boundaries_of}
 use Rattle.bucket_ranges.specs.Spec.{spec_fault}
 use Rattle.bucket_ranges.specs.Reading.{Reading, IsReading, histogram_of, histogram_records, lawful_records, first_of_each, same_name, record_fault, has_spec, spec_of, total_of, totals_of, record_buckets, record_checks, has_counts}
 use Rattle.persist_report_core.specs.Readable.{IsReadable}
-use Rattle.persist_report_core.proofs.Buckets.{or_parts, all_pass, few_buckets}
+use Rattle.persist_report_core.proofs.Buckets.{all_pass, few_buckets}
 
 -- what holds of all holds of the first of each group of equals
 pub All-first_of_each : {X : Type 0} (same : X → X → Bool) (P : X → Type 0) (xs : List X) → All P xs → All P (first_of_each same xs)
@@ -31,11 +31,6 @@ all_within limit f (i ∷ is) e =
     let parts = or_parts (nat_lt limit (f i)) (list_any (λ total. nat_lt limit total) (map f is)) e in
     All-cons (λ i. f i ≤ limit) i is (ltb-false limit (f i) parts.0) (all_within limit f is parts.1)
 
--- what is not false is true
-not_not : (b : Bool) → not b ≡ false → b ≡ true
-not_not true e = refl
-not_not false e = absurd (cc e)
-
 -- an option that is none
 none_is : {X : Type 0} (o : Option X) → is_none o ≡ true → o ≡ None
 none_is None e = refl
@@ -48,7 +43,7 @@ record_lawful words head reference e =
     let passes = all_pass (record_checks words head reference) e in
     let spec : (not (has_spec words reference) || nat_lt head.shape.page (4 + 2 * record_buckets words reference)) ≡ false = passes 2 (false, BadSpec) (lit< tt) in
     let counts : (not (has_counts words head reference) || list_any (λ total. nat_lt 4294967295 total) (totals_of words reference)) ≡ false = passes 3 (false, BadSpec) (lit< tt) in
-    (not_not (has_spec words reference) (or_parts _ _ spec).0, (or_parts _ _ counts).1)
+    (not-false (has_spec words reference) (or_parts _ _ spec).0, (or_parts _ _ counts).1)
 
 -- a boolean spec is lawful, and a linear one where it was checked
 boolean_or : (is_boolean : Bool) (linear : Spec) (fields : Bool)

@@ -4,5 +4,6 @@ pub mod Words
 pub mod Shape
 pub mod Head
 pub mod Blocks
+pub mod Image
 pub mod Watched
 pub mod Transfer

@@ -25,11 +25,13 @@ pub struct SegmentHead {
 ghost use Rattle.std.specs.Prelude.{◌≡◌};
 ghost use Rattle.segment_image.specs.Head.{header_of};
 
-const SEGMENT_COOKIE: u64 = 0x4083_05DC;
+pub(crate) const SEGMENT_COOKIE: u64 = 0x4083_05DC;
 
-const HEADER_WORDS: usize = 16;
+pub(crate) const HEADER_WORDS: usize = 16;
 
-const READY: u64 = 1;
+pub(crate) const READY: u64 = 1;
+
+pub(crate) const VERSION: u64 = 1;
 
 const DELETED: u64 = 2;
 
@@ -48,7 +50,7 @@ pub fn header(words: &[u64]) -> Result<SegmentHead, ImageFault>
     if words[0] != SEGMENT_COOKIE {
         return Err(ImageFault::BadCookie);
     }
-    if words[1] != 1 {
+    if words[1] != VERSION {
         return Err(ImageFault::BadVersion);
     }
     let size = words[2];

@@ -12,6 +12,7 @@
 mod blocks;
 mod fault;
 mod head;
+mod image;
 mod shape;
 mod transfer;
 mod watched;
@@ -19,6 +20,7 @@ mod watched;
 pub use blocks::{BlockHead, block};
 pub use fault::{ImageFault, ReadFault};
 pub use head::{SegmentHead, header};
+pub use image::{Image, blank_is_ready};
 pub use shape::Shape;
 pub use transfer::read_words;
 pub use watched::Watched;

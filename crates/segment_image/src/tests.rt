@@ -1,7 +1,7 @@
 //! Tests of what no clause says: values from outside, texts, and readers and writers that fail.
 
 use crate::{
-    BlockHead, ImageFault, ReadFault, SegmentHead, Shape, Watched, block, header, read_words,
+    BlockHead, Image, ImageFault, ReadFault, SegmentHead, Shape, Watched, block, header, read_words,
 };
 use std::io;
 use std::io::{Read, Write};
@@ -273,5 +273,52 @@ fn texts_and_numbers(rt: HostRuntime) -> Result<(), Fail> {
         assert_eq!(rt; fault.number(), number);
         assert_eq!(rt; fault.to_string(rt.alloc())?.as_str(), name);
     }
+    Ok(())
+}
+
+#[test]
+fn blank_segments(rt: HostRuntime) -> Result<(), Fail> {
+    let image = Image::blank(rt.alloc(), 128, 64, 7)?;
+    let header = [
+        0x4083_05DC,
+        1,
+        128,
+        64,
+        7,
+        1,
+        0,
+        16,
+        12,
+        0,
+        0,
+        0,
+        4,
+        1,
+        0,
+        12,
+    ];
+    let words = image.words();
+    assert_eq!(rt; words.len(), 128);
+    assert_eq!(rt; &words[..16], header.as_slice());
+    assert!(rt; words[16..].iter().all(|word| *word == 0));
+    assert_eq!(rt; Image::blank(rt.alloc(), 64, 64, 7)?.words().len(), 64);
+    for (size, page, fault) in [
+        (128, 60, ImageFault::BadPage),
+        (96, 64, ImageFault::BadSize),
+    ] {
+        assert_eq!(rt; Image::blank(rt.alloc(), size, page, 7).err(), Some(fault));
+    }
+    Ok(())
+}
+
+#[test]
+fn deleted_segment(rt: HostRuntime) -> Result<(), Fail> {
+    let mut image = Image::blank(rt.alloc(), 128, 64, 7)?;
+    image.set_deleted();
+    let words = image.words();
+    assert_eq!(rt; words.get(5).copied(), Some(2));
+    assert_eq!(rt; header(words).err(), Some(ImageFault::Deleted));
+    let kept = words.iter().filter(|word| **word != 0).count();
+    assert_eq!(rt; kept, 11);
     Ok(())
 }

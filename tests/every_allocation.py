@@ -18,6 +18,9 @@ HERE = pathlib.Path(__file__).resolve().parent
 CRATE = HERE.parent / "crates" / "persist_report"
 COMMAND_LINES = [
     ["report"],
+    ["report", "stdin"],
+    ["report", "no/such/file"],
+    ["report", 40 * "a-long-path/"],
     ["report", "--help"],
     ["--help"],
     ["--version"],
@@ -87,12 +90,12 @@ class Refusing:
         """What the program answers, and how many calls it made."""
         setting = dict(os.environ, LD_PRELOAD=str(self.library), CALLS=str(self.calls), REFUSED_CALL=str(refused))
         image = (CRATE / "stdin").read_bytes()
-        done = subprocess.run([self.program, *words], input=image, capture_output=True, env=setting, timeout=60)
+        done = subprocess.run([self.program, *words], input=image, capture_output=True, cwd=CRATE, env=setting, timeout=60)
         return (done.returncode, done.stdout, done.stderr), int(self.calls.read_text())
 
 
 def main(arguments):
-    program = pathlib.Path(arguments[0]) if arguments else CRATE / "out" / "persist_report"
+    program = pathlib.Path(arguments[0]).resolve() if arguments else CRATE / "out" / "persist_report"
     if len(arguments) > 1 or not program.is_file():
         print(__doc__ if len(arguments) > 1 else f"{program}: no such program", file=sys.stderr)
         return 2

@@ -30,7 +30,7 @@ pub record AreBoundaries (boundaries : List ℕ) : Type 0 where
   pub small : AreValues boundaries
   pub ascending : IsAscending boundaries
 
--- boundaries that split the values from 0 to 2,147,483,647 among so many buckets, none of them empty
+-- boundaries that split the values below 2,147,483,647 among so many buckets, none of them empty
 pub record IsSplit (buckets : ℕ) (boundaries : List ℕ) : Type 0 where
   pub count : length boundaries ≡ buckets + 1
   pub first : slice_index boundaries 0 ≡ 0

@@ -74,7 +74,7 @@ ghost use Rattle.bucket_ranges.specs.declared.spec.Spec.{Spec};
 ghost use Rattle.bucket_ranges.specs.Spec.{linear_checks, IsLinear, spec_fault, buckets_of};
 ghost use Rattle.bucket_ranges.specs.Ranges.{inner_boundary as inner_boundary_of, linear_boundaries, boundaries_of, IsSplit};
 
-/// The buckets of a spec without a fault split the values from 0 to 2,147,483,647, and none of them is empty.
+/// The buckets of a spec without a fault split the values from 0 to 2,147,483,646, and none of them is empty.
 ///
 /// It does nothing: what it promises is a law of the definitions.
 pub fn buckets_split_values()

@@ -2,7 +2,7 @@
 
 use thiserror::Error;
 
-/// How a histogram splits the values from 0 to 2,147,483,647 into buckets (Chromium's `base::Histogram`; exponential
+/// How a histogram splits the values from 0 to 2,147,483,646 into buckets (Chromium's `base::Histogram`; exponential
 /// ranges are left out).
 #[derive(Debug, Drop, PartialEq, Eq)]
 pub enum Spec {

@@ -22,7 +22,8 @@ pub struct SegmentHead {
     pub full: bool,
 }
 
-ghost use Rattle.std.specs.Prelude.{◌≡◌};
+ghost use Rattle.std.specs.Prelude.{◌≡◌, ◌==◌, ◌&&◌, not, [], ◌∷◌};
+ghost use Rattle.segment_image.specs.Checks.{first_fault};
 ghost use Rattle.segment_image.specs.Head.{header_of};
 
 pub(crate) const SEGMENT_COOKIE: u64 = 0x4083_05DC;
@@ -59,12 +60,8 @@ pub fn header(words: &[u64]) -> Result<SegmentHead, ImageFault>
         Ok(shape) if size == words.len() as u64 => shape,
         _ => return Err(ImageFault::BadSize),
     };
-    let state = words[5];
-    if state != READY && state != DELETED {
-        return Err(ImageFault::NotReady);
-    }
-    if state == DELETED {
-        return Err(ImageFault::Deleted);
+    if let Some(fault) = state_fault(words[5]) {
+        return Err(fault);
     }
     let free = words[7];
     if free < 16 || free > size {
@@ -82,4 +79,17 @@ pub fn header(words: &[u64]) -> Result<SegmentHead, ImageFault>
         corrupt: words[6] & CORRUPT_FLAG != 0,
         full: words[6] & FULL_FLAG != 0,
     })
+}
+
+// `NotReady` or `Deleted`, where a segment's state is one of these.
+fn state_fault(state: u64) -> Option<ImageFault>
+    ensures { result ≡ first_fault ((not (state == 1) && not (state == 2), ImageFault.NotReady) ∷ (state == 2, ImageFault.Deleted) ∷ []) }
+{
+    if state != READY && state != DELETED {
+        return Some(ImageFault::NotReady);
+    }
+    if state == DELETED {
+        return Some(ImageFault::Deleted);
+    }
+    None
 }

@@ -6,6 +6,7 @@
 //! - [`Shape::of`], [`header`] and [`block`] answer what the words say exactly where all checks hold, and otherwise
 //!   the first check that fails, in the order that [`ImageFault`] lists them. They take no memory.
 //! - [`read_words`] answers the words whose bytes are all that a reader had left, and otherwise why there are none.
+//! - An [`Image`] has the words of a whole segment: those of a new one, or such as [`header`] accepts.
 //! - A [`Watched`] passes reads and writes on, and says whether one of them failed.
 #![tactic(auto)]
 

@@ -164,10 +164,9 @@ fn shapes(rt: HostRuntime) -> Result<(), Fail> {
     Ok(())
 }
 
-#[test]
-fn image_faults(rt: HostRuntime) -> Result<(), Fail> {
-    let blank = blank_words();
-    let head = SegmentHead {
+// The header of the words of `blank_words`.
+fn blank_head() -> Result<SegmentHead, ImageFault> {
+    Ok(SegmentHead {
         shape: Shape::of(128, 64)?,
         version: 1,
         id: 7,
@@ -175,8 +174,13 @@ fn image_faults(rt: HostRuntime) -> Result<(), Fail> {
         tail: 12,
         corrupt: false,
         full: false,
-    };
-    assert_eq!(rt; header(&blank), Ok(head));
+    })
+}
+
+#[test]
+fn image_faults(rt: HostRuntime) -> Result<(), Fail> {
+    let blank = blank_words();
+    assert_eq!(rt; header(&blank), Ok(blank_head()?));
     assert_eq!(rt; header(&[]), Err(ImageFault::TooShort));
     for (index, value, fault) in [
         (0, 0, ImageFault::BadCookie),
@@ -194,15 +198,20 @@ fn image_faults(rt: HostRuntime) -> Result<(), Fail> {
         words[index] = value;
         assert_eq!(rt; header(&words), Err(fault), "with {value} at {index}");
     }
+    Ok(())
+}
+
+#[test]
+fn flags_of_a_header(rt: HostRuntime) -> Result<(), Fail> {
     for (flags, corrupt, full) in [(1, true, false), (2, false, true), (7, true, true)] {
-        let mut words = blank;
+        let mut words = blank_words();
         words[6] = flags;
         assert_eq!(rt;
             header(&words),
             Ok(SegmentHead {
                 corrupt,
                 full,
-                ..head
+                ..blank_head()?
             })
         );
     }

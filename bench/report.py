@@ -22,7 +22,7 @@ PROGRAM = HERE.parent / "crates" / "persist_report" / "out" / "persist_report"
 SIZES = [131_072, 262_144, 524_288, 1_048_576]
 PAGE = 65_536
 RECORD = 16
-TURNS = 15
+TURNS = 40
 MOST = 2.3
 
 

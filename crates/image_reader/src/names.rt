@@ -1,7 +1,9 @@
 //! The names that a reader has met.
 
-ghost use Rattle.std.specs.Prelude.{◌≡◌, ◌||◌, ℕ, List, false, not, IfOk, OnOk};
+ghost use Rattle.std.specs.Prelude.{◌≡◌, ◌||◌, ℕ, List, true, false, not, IfOk, OnOk};
+ghost use Rattle.std.specs.List.{list_all};
 ghost use Rattle.std.specs.Str.{bytes_eq};
+ghost use Rattle.bucket_ranges.specs.Reading.{is_name_byte};
 ghost use Rattle.image_reader.specs.Prefix.{prefix_of};
 
 use std::alloc::{AllocError, Global};
@@ -20,19 +22,20 @@ pub fn name_prefix(name: &[u8]) -> u64
     prefix
 }
 
-/// Names in an ordered set, each behind its prefix.
+/// Names in an ordered set, each as its prefix and the bytes behind its first eight. No byte of a name is 0, so the
+/// two tell the name, and a name of up to eight bytes takes no memory of its own.
 #[derive(Drop)]
 pub(crate) struct Names {
     set: BTreeSet<(u64, Vec<u8>)>,
 }
 
 impl Names {
-    ghost use Rattle.image_reader.specs.Names.{holds, ArePrefixed};
+    ghost use Rattle.image_reader.specs.Names.{holds, AreKeys};
 
     /// No names.
     pub(crate) fn new(alloc: Global) -> Names
         ensures holds { (name : List ℕ) → holds result name ≡ false }
-        ensures prefixed { ArePrefixed result }
+        ensures keys { AreKeys result }
     {
         Names {
             set: BTreeSet::new(alloc),
@@ -41,13 +44,13 @@ impl Names {
 
     /// Adds a name, and says whether it is new.
     pub(crate) fn insert(&mut self, alloc: Global, name: &[u8]) -> Result<bool, AllocError>
-        requires { ArePrefixed self.old }
+        requires keys { AreKeys self.old }
+        requires lawful { list_all is_name_byte name.now ≡ true }
         ensures new { IfOk result (λ new. new ≡ not (holds self.old name.now)) }
         ensures holds { OnOk result ((other : List ℕ) → holds self.new other ≡ (holds self.old other || bytes_eq other name.now)) }
-        ensures prefixed { OnOk result (ArePrefixed self.new) }
+        ensures keys { OnOk result (AreKeys self.new) }
     {
-        let prefix = name_prefix(name);
-        let name = Vec::from_slice(alloc, name)?;
-        Ok(self.set.insert((prefix, name))?)
+        let rest = Vec::from_slice(alloc, &name[name.len().min(8)..])?;
+        Ok(self.set.insert((name_prefix(name), rest))?)
     }
 }

@@ -1,12 +1,12 @@
 //! The reading of a segment.
 
 ghost use Rattle.std.specs.Prelude.{◌≡◌, ◌<◌, ◌++◌, [], ◌∷◌, ℕ, Ok, Err, true, length, map, slice_index, IfOk, OnOk, MatchResult, if◌then◌else◌, ◌||◌};
-ghost use Rattle.std.specs.List.{filter_map};
+ghost use Rattle.std.specs.List.{filter_map, list_all};
 ghost use Rattle.std.specs.Str.{bytes_eq};
 ghost use Rattle.segment_image.specs.Head.{header_of};
-ghost use Rattle.bucket_ranges.specs.Reading.{IsReading, is_block, histogram_of, histogram_records, lawful_records, first_of_each, same_name, bad_record};
+ghost use Rattle.bucket_ranges.specs.Reading.{IsReading, is_block, histogram_of, histogram_records, lawful_records, first_of_each, same_name, bad_record, is_name_byte};
 ghost use Rattle.image_reader.specs.Views.{histogram_view, bad_view, reading_view};
-ghost use Rattle.image_reader.specs.Names.{holds, ArePrefixed};
+ghost use Rattle.image_reader.specs.Names.{holds, AreKeys};
 
 use crate::names::Names;
 use crate::reading::{BadRecord, HistReading, Reading};
@@ -98,10 +98,11 @@ fn keep(
     hists: &mut Vec<HistReading>,
     hist: HistReading,
 ) -> Result<(), AllocError>
-    requires { ArePrefixed names.old }
+    requires keys { AreKeys names.old }
+    requires lawful { list_all is_name_byte hist.name.items ≡ true }
     ensures hists { OnOk result (hists.new.items ≡ hists.old.items ++ (if holds names.old hist.name.items then [] else hist ∷ [])) }
     ensures names { OnOk result ((other : _) → holds names.new other ≡ (holds names.old other || bytes_eq other hist.name.items)) }
-    ensures prefixed { OnOk result (ArePrefixed names.new) }
+    ensures keys { OnOk result (AreKeys names.new) }
 {
     if names.insert(alloc, &hist.name)? {
         hists.push(hist)?;

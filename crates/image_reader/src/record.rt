@@ -74,7 +74,8 @@ pub(crate) fn histogram(
     requires header { header_of words.now ≡ Ok head.now }
     requires least { 5 ≤ field_at words.now at 0 }
     requires within { at + field_at words.now at 0 ≤ length words.now }
-    ensures { MatchResult result (IsHistogramAt words.now head.now at) (IsRefusedBy words.now head.now at) }
+    ensures found { MatchResult result (IsHistogramAt words.now head.now at) (IsRefusedBy words.now head.now at) }
+    ensures name { IfOk result (λ hist. list_all is_name_byte hist.name.items ≡ true) }
 {
     check_kind(words, at)?;
     let name = name_at(alloc, words, at)?;
@@ -112,6 +113,7 @@ fn name_at(alloc: Global, words: &[u64], at: usize) -> Result<Vec<u8>, Refusal>
     requires within { at + field_at words.now at 0 ≤ length words.now }
     requires long { 16 ≤ field_at words.now at 0 }
     ensures name { IfOk result (λ name. (has_name words.now at ≡ true) × (name.items ≡ name_of words.now at)) }
+    ensures lawful { IfOk result (λ name. list_all is_name_byte name.items ≡ true) }
     ensures fault { RefusedOnly RecordFault.BadName (has_name words.now at ≡ false) result }
 {
     let len = words[at + 14];
@@ -283,7 +285,7 @@ fn totals(
     ensures small { IfOk result (λ totals. has_large (map (total_at words.now counts single.now) (range_with_len 0 (length ranges.now - 1))) ≡ false) }
     ensures fault { RefusedOnly RecordFault.BadCounts (has_large (map (total_at words.now counts single.now) (range_with_len 0 (length ranges.now - 1))) ≡ true) result }
 {
-    let mut totals = Vec::new(alloc);
+    let mut totals = Vec::with_capacity(alloc, ranges.len())?;
     for bucket in 0..ranges.len() {
         let Some(total) = total(words, counts, single, bucket) else {
             return Err(Refusal::Fault(RecordFault::BadCounts));

@@ -1,22 +1,35 @@
 //! The order of the histograms in a report: ascending by the bytes of their names.
 
-ghost use Rattle.std.specs.Prelude.{◌≡◌, ◌<◌, ℕ, IfOk, map, slice_index};
+ghost use Rattle.std.specs.Prelude.{◌≡◌, ◌<◌, ◌^◌, ◌==◌, not, ℕ, All, IfOk, map, slice_index};
 ghost use Rattle.std.specs.Ordering.{nat_cmp};
 ghost use Rattle.std.specs.Cmp.Lexicographic.{slice_cmp};
 ghost use Rattle.image_reader.specs.Prefix.{prefix_of};
 ghost use Rattle.image_reader.specs.Views.{histogram_view, reading_view};
-ghost use Rattle.persist_report_core.specs.Text.{AreInOrder};
+ghost use Rattle.persist_report_core.specs.Text.{units_of, AreInOrder};
+ghost use Rattle.persist_report_core.specs.Readable.{IsReadable};
 
 use image_reader::{HistReading, Reading, name_prefix};
 use std::alloc::{AllocError, Global};
 use std::cmp::Ordering;
 
-// A histogram behind the prefix of its name, so that a comparison seldom goes to the names themselves.
+/// A histogram with what saves the way to it. The order of names is no order of memory: a comparison seldom goes to
+/// the names themselves, and a histogram is looked at only where it has lines.
 #[derive(Clone, Copy)]
-struct Named<'a> {
+pub(crate) struct Named<'a> {
     prefix: u64,
-    hist: &'a HistReading,
+    /// Whether the redundant count differs from the units.
+    pub(crate) differs: bool,
+    pub(crate) hist: &'a HistReading,
     ghost prefixed: { prefix ≡ prefix_of hist.now.name.items },
+    ghost differs_is: { differs ≡ not (hist.now.redundant == units_of (histogram_view hist.now)) },
+}
+
+/// The units of a histogram.
+pub(crate) fn units(hist: &HistReading) -> u64
+    requires { units_of (histogram_view hist.now) < 2 ^ 64 }
+    ensures { result ≡ units_of (histogram_view hist.now) }
+{
+    hist.counts.iter().map(|(_, count)| *count).sum()
 }
 
 // A name against another, each beside its prefix.
@@ -40,36 +53,28 @@ fn compare(a: &Named<'_>, b: &Named<'_>) -> Ordering
     compare_names(a.prefix, name, b.prefix, other)
 }
 
-// References to the histograms, each behind the prefix of its name.
+// The histograms in the order of the list.
 fn all_named(alloc: Global, hists: &[HistReading]) -> Result<Vec<Named<'_>>, AllocError>
+    requires { All IsReadable (map histogram_view hists.now) }
     ensures { IfOk result (λ named. map (λ named. named.hist.now) named.items ≡ hists.now) }
 {
     let mut named = Vec::with_capacity(alloc, hists.len())?;
     for hist in hists {
         named.push(Named {
             prefix: name_prefix(&hist.name),
+            differs: hist.redundant != units(hist),
             hist,
         })?;
     }
     Ok(named)
 }
 
-// The histograms without their prefixes.
-fn unnamed<'a>(alloc: Global, named: &[Named<'a>]) -> Result<Vec<&'a HistReading>, AllocError>
-    ensures { IfOk result (λ hists. map (λ hist. hist.now) hists.items ≡ map (λ named. named.hist.now) named.now) }
+/// The histograms of a reading, ascending by the bytes of their names.
+pub(crate) fn in_order(alloc: Global, reading: &Reading) -> Result<Vec<Named<'_>>, AllocError>
+    requires { All IsReadable (map histogram_view reading.now.hists.items) }
+    ensures { IfOk result (λ hists. AreInOrder (map (λ named. histogram_view named.hist.now) hists.items) (reading_view reading.now)) }
 {
-    let mut hists = Vec::with_capacity(alloc, named.len())?;
-    for one in named {
-        hists.push(one.hist)?;
-    }
+    let mut hists = all_named(alloc, &reading.hists)?;
+    hists.sort_by(|a, b| compare(a, b))?;
     Ok(hists)
-}
-
-// The histograms of a reading, ascending by the bytes of their names.
-pub(crate) fn in_order(alloc: Global, reading: &Reading) -> Result<Vec<&HistReading>, AllocError>
-    ensures { IfOk result (λ hists. AreInOrder (map (λ hist. histogram_view hist.now) hists.items) (reading_view reading.now)) }
-{
-    let mut named = all_named(alloc, &reading.hists)?;
-    named.sort_by(|a, b| compare(a, b))?;
-    unnamed(alloc, &named)
 }

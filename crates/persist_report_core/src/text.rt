@@ -10,21 +10,13 @@ ghost use Rattle.persist_report_core.specs.Lines.{IsAtLine, Adds};
 ghost use Rattle.persist_report_core.specs.Readable.{IsReadable};
 
 use crate::lines::{into_text, new_lines, put_line};
-use crate::order::in_order;
+use crate::order::{Named, in_order, units};
 use crate::words::{image_fault_word, kind_word, record_fault_word};
 use bucket_ranges::Ranges;
 use csv::Writer;
 use image_reader::{BadRecord, HistReading, Reading};
 use segment_image::ImageFault;
 use std::alloc::{AllocError, Global};
-
-// The units of a histogram.
-fn units(hist: &HistReading) -> u64
-    requires { units_of (histogram_view hist.now) < 2 ^ 64 }
-    ensures { result ≡ units_of (histogram_view hist.now) }
-{
-    hist.counts.iter().map(|(_, count)| *count).sum()
-}
 
 // The line of a bucket: its least value, the least value behind it, and its units.
 fn put_bucket(
@@ -109,14 +101,14 @@ fn put_histogram(
 fn put_histograms(
     alloc: Global,
     lines: &mut Writer<Vec<u8>>,
-    hists: &[&HistReading],
+    hists: &[Named<'_>],
 ) -> Result<(), AllocError>
     requires ready { IsAtLine lines.old }
-    requires readable { All IsReadable (map (λ hist. histogram_view hist.now) hists.now) }
-    ensures { OnOk result (Adds lines.old lines.new (flat_map histogram_text (map (λ hist. histogram_view hist.now) hists.now))) }
+    requires readable { All IsReadable (map (λ named. histogram_view named.hist.now) hists.now) }
+    ensures { OnOk result (Adds lines.old lines.new (flat_map histogram_text (map (λ named. histogram_view named.hist.now) hists.now))) }
 {
-    for hist in hists {
-        put_histogram(alloc, lines, hist)?;
+    for named in hists {
+        put_histogram(alloc, lines, named.hist)?;
     }
     Ok(())
 }
@@ -136,15 +128,17 @@ fn put_flag(lines: &mut Writer<Vec<u8>>, word: &[u8], flag: bool) -> Result<(), 
 fn put_redundant(
     alloc: Global,
     lines: &mut Writer<Vec<u8>>,
-    hist: &HistReading,
+    named: &Named<'_>,
 ) -> Result<(), AllocError>
-    requires ready { IsAtLine lines.old }
-    requires small { units_of (histogram_view hist.now) < 2 ^ 64 }
-    ensures { OnOk result (Adds lines.old lines.new (redundant_text (histogram_view hist.now))) }
+    requires { IsAtLine lines.old }
+    ensures { OnOk result (Adds lines.old lines.new (redundant_text (histogram_view named.now.hist.now))) }
 {
-    if hist.redundant != units(hist) {
-        let redundant = hist.redundant.to_string(alloc)?;
-        put_line(lines, &[b"!redundant", &hist.name, redundant.as_bytes()])?;
+    if named.differs {
+        let redundant = named.hist.redundant.to_string(alloc)?;
+        put_line(
+            lines,
+            &[b"!redundant", &named.hist.name, redundant.as_bytes()],
+        )?;
     }
     Ok(())
 }
@@ -153,14 +147,13 @@ fn put_redundant(
 fn put_redundants(
     alloc: Global,
     lines: &mut Writer<Vec<u8>>,
-    hists: &[&HistReading],
+    hists: &[Named<'_>],
 ) -> Result<(), AllocError>
-    requires ready { IsAtLine lines.old }
-    requires readable { All IsReadable (map (λ hist. histogram_view hist.now) hists.now) }
-    ensures { OnOk result (Adds lines.old lines.new (flat_map redundant_text (map (λ hist. histogram_view hist.now) hists.now))) }
+    requires { IsAtLine lines.old }
+    ensures { OnOk result (Adds lines.old lines.new (flat_map redundant_text (map (λ named. histogram_view named.hist.now) hists.now))) }
 {
-    for hist in hists {
-        put_redundant(alloc, lines, hist)?;
+    for named in hists {
+        put_redundant(alloc, lines, named)?;
     }
     Ok(())
 }

@@ -15,7 +15,7 @@ loop-reference-init c =
     record {
       gathered = rw (c.new-hists.ensures.items, c.new-bad.ensures.items)
           (IsGathered-none c.args.words.now c.args.head.now (holds c.new-names.result) c.new-names.ensures.holds);
-      prefixed = c.new-names.ensures.prefixed;
+      keys = c.new-names.ensures.keys;
     }
 
 pub bounds-words-at : goal.bounds-words-at
@@ -62,19 +62,19 @@ loop-reference-preserved c =
             (IsGathered-lawful c.args.words.now c.args.head.now _ c.loop-reference.hists.items c.loop-reference.bad.items
             (holds c.loop-reference.names) (holds w.keep.new.names) at w.in-Ok.hist c.loop-reference.invariant.gathered
             (eq-eqb (field_at c.args.words.now at 2) 1 w.if-words-at-eq-HISTOGRAM_TAG.true)
-            w.in-Ok.ensures.lawful w.in-Ok.ensures.histogram w.in_ok-keep-in-Ok.ensures.names)
+            w.in-Ok.ensures.found.lawful w.in-Ok.ensures.found.histogram w.in_ok-keep-in-Ok.ensures.names)
         | then-words-at-eq-HISTOGRAM_TAG+in-Err-Fault+in_ok-push-in-Err-Fault w ↦
             rw (w.hists-is, w.bad-is, w.names-is, w.in_ok-push-in-Err-Fault.ensures.items)
             (IsGathered-bad c.args.words.now c.args.head.now _ c.loop-reference.hists.items c.loop-reference.bad.items
             (holds c.loop-reference.names) at w.in-Err-Fault.fault c.loop-reference.invariant.gathered
-            (eq-eqb (field_at c.args.words.now at 2) 1 w.if-words-at-eq-HISTOGRAM_TAG.true) (subst (IsRefusedBy c.args.words.now c.args.head.now at) w.in-Err-Fault.field-0-is w.in-Err-Fault.ensures))
+            (eq-eqb (field_at c.args.words.now at 2) 1 w.if-words-at-eq-HISTOGRAM_TAG.true) (subst (IsRefusedBy c.args.words.now c.args.head.now at) w.in-Err-Fault.field-0-is w.in-Err-Fault.ensures.found))
         | else-words-at-eq-HISTOGRAM_TAG w ↦
             rw (w.hists-is, w.bad-is, w.names-is) (IsGathered-other c.args.words.now c.args.head.now _ _ _ _ at c.loop-reference.invariant.gathered
             (ne_eqb (field_at c.args.words.now at 2) 1 w.if-words-at-eq-HISTOGRAM_TAG.false))
       ]);
-      prefixed = elim c.if-words-at-eq-HISTOGRAM_TAG.branch [
-        | then-words-at-eq-HISTOGRAM_TAG+in-Ok+in_ok-keep-in-Ok w ↦ rw w.names-is w.in_ok-keep-in-Ok.ensures.prefixed
-        | then-words-at-eq-HISTOGRAM_TAG+in-Err-Fault+in_ok-push-in-Err-Fault w ↦ rw w.names-is c.loop-reference.invariant.prefixed
-        | else-words-at-eq-HISTOGRAM_TAG w ↦ rw w.names-is c.loop-reference.invariant.prefixed
+      keys = elim c.if-words-at-eq-HISTOGRAM_TAG.branch [
+        | then-words-at-eq-HISTOGRAM_TAG+in-Ok+in_ok-keep-in-Ok w ↦ rw w.names-is w.in_ok-keep-in-Ok.ensures.keys
+        | then-words-at-eq-HISTOGRAM_TAG+in-Err-Fault+in_ok-push-in-Err-Fault w ↦ rw w.names-is c.loop-reference.invariant.keys
+        | else-words-at-eq-HISTOGRAM_TAG w ↦ rw w.names-is c.loop-reference.invariant.keys
       ];
     }

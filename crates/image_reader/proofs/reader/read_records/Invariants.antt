@@ -1,5 +1,5 @@
 use Rattle.std.proofs.Common.{take}
-use Rattle.image_reader.specs.Names.{holds, ArePrefixed}
+use Rattle.image_reader.specs.Names.{holds, AreKeys}
 use Rattle.image_reader.proofs.Gathered.{IsGathered}
 use Rattle.image_reader.proofs.reader.read_records.Given as goal
 
@@ -7,5 +7,5 @@ use Rattle.image_reader.proofs.reader.read_records.Given as goal
 abbrev pub invariant-loop-reference : goal.invariant-loop-reference
 invariant-loop-reference l = record {
   gathered : IsGathered l.words l.head (take l.reference-index l.references) l.hists.items l.bad.items (holds l.names);
-  prefixed : ArePrefixed l.names;
+  keys : AreKeys l.names;
 }

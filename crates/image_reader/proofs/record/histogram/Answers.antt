@@ -12,8 +12,8 @@ use Rattle.image_reader.proofs.Records.{IsRefusedBy-from_only, PassesThree, reco
 use Rattle.std.proofs.lemmas.Int.{to_z-of_z}
 use Rattle.image_reader.proofs.record.histogram.Goals as goal
 
-pub returns-in_err-counts : goal.returns-in_err-counts
-returns-in_err-counts c =
+pub returns-in_err-counts-clause-found : goal.returns-in_err-counts-clause-found
+returns-in_err-counts-clause-found c =
     let page : c.page.result ≡ c.args.head.now.shape.page = c.page.ensures.value in
     let three : PassesThree c.args.words.now c.args.head.now c.args.at = record {
       kind = c.in_ok-check_kind.ensures.ok;
@@ -35,8 +35,8 @@ returns-in_err-counts c =
     (λ cause. record_fault-counts c.args.words.now c.args.head.now c.args.at three
     (or_right _ _ (ap has_large (sym found) ∙ cause))))
 
-pub returns-in_err-check_single : goal.returns-in_err-check_single
-returns-in_err-check_single c =
+pub returns-in_err-check_single-clause-found : goal.returns-in_err-check_single-clause-found
+returns-in_err-check_single-clause-found c =
     let page : c.page.result ≡ c.args.head.now.shape.page = c.page.ensures.value in
     let three : PassesThree c.args.words.now c.args.head.now c.args.at = record {
       kind = c.in_ok-check_kind.ensures.ok;
@@ -61,8 +61,8 @@ returns-in_err-check_single c =
     c.in_err-check_single.field-0.0 c.in_err-check_single.ensures.fault
     (λ cause. record_fault-single c.args.words.now c.args.head.now c.args.at three counts (sym word ∙ cause)))
 
-pub returns : goal.returns
-returns c =
+pub returns-clause-found : goal.returns-clause-found
+returns-clause-found c =
     let page : c.page.result ≡ c.args.head.now.shape.page = c.page.ensures.value in
     let three : PassesThree c.args.words.now c.args.head.now c.args.at = record {
       kind = c.in_ok-check_kind.ensures.ok;

@@ -7,7 +7,7 @@ use Rattle.persist_report_core.proofs.text.put_histograms.Goals as goal
 
 pub put_histogram-requires-clause-readable : goal.put_histogram-requires-clause-readable
 put_histogram-requires-clause-readable c =
-    All-image_at IsReadable (λ hist. histogram_view hist.now) c.args.hists.now c.loop-hist.hist-index c.hist-item.result c.requires.readable c.loop-hist-test.true c.hist-item.is
+    All-image_at IsReadable (λ named. histogram_view named.hist.now) c.args.hists.now c.loop-named.named-index c.named-item.result c.requires.readable c.loop-named-test.true c.named-item.is
 
 pub returns : goal.returns
-returns c = Adds-all histogram_text (λ hist. histogram_view hist.now) c.args.hists.now c.loop-hist.hist-index c.loop-hist-test.false c.loop-hist.invariant
+returns c = Adds-all histogram_text (λ named. histogram_view named.hist.now) c.args.hists.now c.loop-named.named-index c.loop-named-test.false c.loop-named.invariant

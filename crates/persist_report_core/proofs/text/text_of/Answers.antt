@@ -9,20 +9,14 @@ use Rattle.persist_report_core.proofs.text.text_of.Goals as goal
 
 pub put_histograms-requires-clause-readable : goal.put_histograms-requires-clause-readable
 put_histograms-requires-clause-readable c =
-    let hists = map (λ hist. histogram_view hist.now) c.in_ok-hists.hists.items in
+    let hists = map (λ named. histogram_view named.hist.now) c.in_ok-hists.hists.items in
     let all = map histogram_view c.args.reading.now.hists.items in
     rw c.deref.ensures.value (All-permutation IsReadable all hists (IsPermutation-sym hists all c.in_ok-hists.ensures.same) c.requires)
-
-pub put_redundants-requires-clause-readable : goal.put_redundants-requires-clause-readable
-put_redundants-requires-clause-readable c =
-    let hists = map (λ hist. histogram_view hist.now) c.in_ok-hists.hists.items in
-    let all = map histogram_view c.args.reading.now.hists.items in
-    rw c.deref-2.ensures.value (All-permutation IsReadable all hists (IsPermutation-sym hists all c.in_ok-hists.ensures.same) c.requires)
 
 pub returns : goal.returns
 returns c =
     let reading = reading_view c.args.reading.now in
-    let hists = map (λ hist. histogram_view hist.now) c.in_ok-hists.hists.items in
+    let hists = map (λ named. histogram_view named.hist.now) c.in_ok-hists.hists.items in
     let histograms = rw c.deref.ensures.value at c.in_ok-put_histograms.ensures in
     let redundants = rw c.deref-2.ensures.value at c.in_ok-put_redundants.ensures in
     let bad = rw c.deref-3.ensures.value at c.in_ok-put_all_bad.ensures in

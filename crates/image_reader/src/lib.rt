@@ -2,8 +2,8 @@
 //!
 //! A reading is exactly what the definition in `bucket_ranges`, `specs/Reading.antt`, gives of the words: of each
 //! name the first lawful histogram of the list, each record that has a fault, and why the list goes no further.
-//! The reader takes time that is linear in the words and in what it answers, up to a logarithm for names: a reference that was met is marked
-//! in one truth value a word, and names are kept in an ordered set.
+//! The reader takes time that is linear in the words and in what it answers, up to a logarithm for names: a reference
+//! that was met is marked in one truth value a word, and names are kept in an ordered set.
 #![tactic(auto)]
 
 mod names;

@@ -1,7 +1,7 @@
 -- Texts that are written one after the other.
 use Rattle.std.proofs.Common.{◌≡◌, ◌∙◌, ℕ, ◌+◌, ◌<◌, ◌≤◌, List, [], ◌∷◌, ◌++◌, length, take, get_or, map, ap, sym, subst, append_assoc, Vec, Global, codes}
 use Rattle.std.specs.List.{flat_map}
-use Rattle.std.proofs.lemmas.List.{append-nil, take_more, take_all}
+use Rattle.std.proofs.lemmas.List.{append-nil, map-append, take_more, take_all}
 use Rattle.std.proofs.lemmas.List.Folds.{flat_map-map}
 use Rattle.std.proofs.lemmas.List.Concat.{flat_map-append}
 use Rattle.csv.specs.declared.writer.Writer.{Writer}
@@ -36,6 +36,12 @@ pub Adds-all : {X Y : Type 0} (f : Y → List ℕ) (g : X → Y) (xs : List X) (
     → Adds first last (flat_map (λ x. f (g x)) (take i xs)) → Adds first last (flat_map f (map g xs))
 Adds-all f g xs i {first} {last} h p =
     subst (Adds first last) (ap (flat_map (λ x. f (g x))) (take_all i xs h) ∙ sym (flat_map-map f g xs)) p
+
+-- the texts of the elements of one list behind those of another
+pub Adds-lists : {X Y : Type 0} (f : Y → List ℕ) (g : X → Y) (xs ys : List X) {first second third : Writer (Vec ℕ Global)}
+    → Adds first second (flat_map f (map g xs)) → Adds second third (flat_map f (map g ys)) → Adds first third (flat_map f (map g (xs ++ ys)))
+Adds-lists f g xs ys {first} {second} {third} p q =
+    subst (Adds first third) (sym (ap (flat_map f) (map-append g xs ys) ∙ flat_map-append f (map g xs) (map g ys))) (Adds-both p q)
 
 -- the parts of a report, written one after the other into fresh memory, are its text
 pub whole_text : (hists : List Histogram) (reading : Reading) {start a b c d e end : Writer (Vec ℕ Global)} → written start ≡ []

@@ -18,6 +18,9 @@ use image_reader::{BadRecord, HistReading, Reading};
 use segment_image::ImageFault;
 use std::alloc::{AllocError, Global};
 
+// So many histograms are looked at together.
+const BATCH: usize = 64;
+
 // The line of a bucket: its least value, the least value behind it, and its units.
 fn put_bucket(
     alloc: Global,
@@ -70,12 +73,13 @@ fn put_total(
     alloc: Global,
     lines: &mut Writer<Vec<u8>>,
     hist: &HistReading,
+    units: u64,
 ) -> Result<(), AllocError>
     requires ready { IsAtLine lines.old }
-    requires small { units_of (histogram_view hist.now) < 2 ^ 64 }
+    requires units { units ≡ units_of (histogram_view hist.now) }
     ensures { OnOk result (Adds lines.old lines.new (line (hist.now.name.items ∷ codes "total" ∷ decimal (units_of (histogram_view hist.now)) ∷ signed_decimal hist.now.sum ∷ []))) }
 {
-    let units = units(hist).to_string(alloc)?;
+    let units = units.to_string(alloc)?;
     let sum = hist.sum.to_string(alloc)?;
     put_line(
         lines,
@@ -88,13 +92,45 @@ fn put_histogram(
     alloc: Global,
     lines: &mut Writer<Vec<u8>>,
     hist: &HistReading,
+    units: u64,
 ) -> Result<(), AllocError>
     requires ready { IsAtLine lines.old }
     requires readable { IsReadable (histogram_view hist.now) }
+    requires units { units ≡ units_of (histogram_view hist.now) }
     ensures { OnOk result (Adds lines.old lines.new (histogram_text (histogram_view hist.now))) }
 {
     put_buckets(alloc, lines, hist)?;
-    put_total(alloc, lines, hist)
+    put_total(alloc, lines, hist, units)
+}
+
+// The units of each of these histograms.
+fn all_units(alloc: Global, batch: &[Named<'_>]) -> Result<Vec<u64>, AllocError>
+    requires { All IsReadable (map (λ named. histogram_view named.hist.now) batch.now) }
+    ensures { IfOk result (λ all. all.items ≡ map (λ named. units_of (histogram_view named.hist.now)) batch.now) }
+{
+    let mut all = Vec::with_capacity(alloc, batch.len())?;
+    for named in batch {
+        all.push(units(named.hist))?;
+    }
+    Ok(all)
+}
+
+// The lines of a few histograms. They lie apart in memory, and what is short goes over all of them first: so the
+// processor waits for many of them at once, and not for one after the other.
+fn put_batch(
+    alloc: Global,
+    lines: &mut Writer<Vec<u8>>,
+    batch: &[Named<'_>],
+) -> Result<(), AllocError>
+    requires ready { IsAtLine lines.old }
+    requires readable { All IsReadable (map (λ named. histogram_view named.hist.now) batch.now) }
+    ensures { OnOk result (Adds lines.old lines.new (flat_map histogram_text (map (λ named. histogram_view named.hist.now) batch.now))) }
+{
+    let units = all_units(alloc, batch)?;
+    for (i, named) in batch.iter().enumerate() {
+        put_histogram(alloc, lines, named.hist, units[i])?;
+    }
+    Ok(())
 }
 
 // The lines of all histograms.
@@ -107,8 +143,8 @@ fn put_histograms(
     requires readable { All IsReadable (map (λ named. histogram_view named.hist.now) hists.now) }
     ensures { OnOk result (Adds lines.old lines.new (flat_map histogram_text (map (λ named. histogram_view named.hist.now) hists.now))) }
 {
-    for named in hists {
-        put_histogram(alloc, lines, named.hist)?;
+    for batch in hists.chunks(BATCH) {
+        put_batch(alloc, lines, batch)?;
     }
     Ok(())
 }

@@ -1,0 +1,233 @@
+-- Each event of each allocation keeps the allocation invariant.
+use Rattle.std.proofs.Common.{◌≡◌, ◌≢◌, ◌⊎◌, ℕ, zero, suc, ◌+◌, ◌-◌, ◌%◌, ◌<◌, ◌≤◌, ◌==◌, eqb, eq-eqb, ne_eqb, Bool, true, false, List, [], ◌∷◌, ◌++◌, length, replicate, get_or, set, inl, inr, ⊎_elim, sym, refl, ap, ap₂, ◌∙◌, subst, arith, length-set}
+use Rattle.std.specs.Prelude.{bit_and, bit_or, if◌then◌else◌, Some, None}
+use Rattle.std.proofs.lemmas.List.{length-replicate}
+use mathlib.Core.Logic.{dite}
+use mathlib.Core.Option.{some, some-injective, some-ne-none}
+use native.Mathlib.Decide.{ℕ_discrete}
+use lib.ListN.{get_elem?}
+use lib.Seq.{set-get_or}
+use Rattle.atomic_table.proofs.Lists.{at_set, at_snoc}
+use Rattle.segment_image.specs.Shape.{Dimensions}
+use Rattle.segment_image.specs.Words.{word_at}
+use Rattle.alloc_core.specs.declared.alloc.Purpose.{Purpose}
+use Rattle.alloc_core.specs.declared.alloc.Purpose.TheVariants as purpose
+use Rattle.alloc_core.specs.declared.alloc.Stage.{Stage}
+use Rattle.alloc_core.specs.declared.alloc.Stage.TheVariants.{LoadFlags, LoadFree, ExchangeFree, StoreSize, StoreCookie, StoreType, SetFull, Claimed, Full, Corrupt}
+use Rattle.alloc_core.specs.declared.planned.Planned.{Planned}
+use Rattle.alloc_core.specs.declared.planned.Planned.TheVariants as plan
+use Rattle.alloc_core.specs.Layout.{Block, extent, Layout, free_of, IsShown, IsAmong, put, raw_block, grown}
+use Rattle.alloc_core.specs.Planned.{planned, is_pointer}
+use Rattle.alloc_core.specs.Event.{Event, load_flags, load_free, exchange_free, store_size, store_cookie, store_type, store_payload, set_flag, spot, change, after}
+use Rattle.alloc_core.specs.Alloc.{Allocation, cookie_of, stage_of_plan, stage_of_cookie, stage_after, seen_after, event_at, next_event, moved, IsRise, IsAimed, IsLawful}
+use Rattle.alloc_core.specs.Laws.{Behind, own, claimed_words, Has, Fits, Keeps}
+use Rattle.alloc_core.proofs.Lawful.{moved_lawful}
+use Rattle.alloc_core.proofs.Layouts.{shown_put, shown_grown, shown_corrupt, shown_full, free_word, free_from, ends_within, free_grown, free_put}
+use Rattle.alloc_core.proofs.Owners.{set_at, among_put, among_last, has_else, has_longer}
+
+Behind-le : (m n : ℕ) → Behind m n → m ≤ n
+Behind-le m n b = ⊎_elim (λ (e : m ≡ n). let h : m ≤ n = omega arith in h) (λ (e : m + 5 ≤ n). let h : m ≤ n = omega arith in h) b
+
+-- the first three words of zeros, one after the other
+first_zero : (n v : ℕ) → 0 < n → set (replicate n 0) 0 v ≡ v ∷ replicate (n - 1) 0
+first_zero zero v h = absurd (omega arith)
+first_zero (suc n) v h = ap (λ (m : ℕ). v ∷ replicate m 0) (omega arith)
+
+second_zero : (n v : ℕ) → 1 < n → set (n ∷ replicate (n - 1) 0) 1 v ≡ n ∷ v ∷ replicate (n - 2) 0
+second_zero n v h =
+    let less : n - 1 - 1 ≡ n - 2 = omega arith in
+    ap (λ (l : List ℕ). n ∷ l) (first_zero (n - 1) v (omega arith) ∙ ap (λ (m : ℕ). v ∷ replicate m 0) less)
+
+third_zero : (n c v : ℕ) → 2 < n → set (n ∷ c ∷ replicate (n - 2) 0) 2 v ≡ n ∷ c ∷ v ∷ replicate (n - 3) 0
+third_zero n c v h =
+    let less : n - 2 - 1 ≡ n - 3 = omega arith in
+    ap (λ (l : List ℕ). n ∷ c ∷ l) (first_zero (n - 2) v (omega arith) ∙ ap (λ (m : ℕ). v ∷ replicate m 0) less)
+
+module _ (shape : Dimensions) (words : List ℕ) (allocations : List Allocation) (owner : ℕ) (a : Allocation)
+    (keeps : Keeps shape words allocations) (mine : get_elem? allocations owner ≡ some a) where
+  fits : Fits shape keeps.layout owner a
+  fits = keeps.each owner a mine
+
+  -- what the words become, and the allocation becomes, keeps what holds
+  abbrev Goes : List ℕ → Allocation → Type 0
+  Goes words' a' = Keeps shape words' (set allocations owner a')
+
+  -- where the others fit as they are
+  goes : (words' : List ℕ) (layout' : Layout) (a' : Allocation) → IsShown shape words' layout' → Fits shape layout' owner a'
+      → ((j : ℕ) (x : Allocation) → j ≢ owner → Fits shape keeps.layout j x → Fits shape layout' j x) → Goes words' a'
+  goes words' layout' a' shown fits' others = record {
+    layout = layout';
+    shown = shown;
+    each = λ j x there. ⊎_elim
+        (λ (t : (j ≡ owner) × (a' ≡ x)). subst (λ (y : ℕ × Allocation). Fits shape layout' y.0 y.1) (λ i. (sym t.0 i, t.1 i)) fits')
+        (λ (t : (j ≢ owner) × (get_elem? allocations j ≡ some x)). others j x t.0 (keeps.each j x t.1))
+        (at_set allocations owner j a' x there);
+  }
+
+  -- where no word changes
+  stays : (i : ℕ) (n : ℕ) (a' : Allocation) → n ≡ get_or words i 0 → Fits shape keeps.layout owner a' → Goes (set words i n) a'
+  stays i n a' same fits' =
+      goes (set words i n) keeps.layout a'
+      (subst (λ (ws : List ℕ). IsShown shape ws keeps.layout) (sym (ap (set words i) same ∙ set-get_or words i 0)) keeps.shown)
+      fits' (λ _ _ _ f. f)
+
+  -- what the allocation is after an event at a stage
+  abbrev at_stage : ℕ → Stage → Allocation
+  at_stage found stage = record a { seen = seen_after a found stage; stage = stage_after a found stage }
+
+  lawful_at : (found : ℕ) (stage : Stage) → a.stage ≡ stage → IsLawful (at_stage found stage)
+  lawful_at found stage e = subst (λ (s : Stage). IsLawful (at_stage found s)) e (moved_lawful a found fits.lawful)
+
+  aimed_at : (stage : Stage) → a.stage ≡ stage → IsAimed a stage
+  aimed_at stage e = subst (IsAimed a) e fits.lawful.aimed
+
+  has_at : (stage : Stage) → a.stage ≡ stage → Has keeps.layout.blocks owner stage
+  has_at stage e = subst (Has keeps.layout.blocks owner) e fits.has
+
+  has_flags : (clear : Bool) → Has keeps.layout.blocks owner (if clear then LoadFree else Corrupt)
+  has_flags true = tt
+  has_flags false = tt
+
+  loads_flags : a.stage ≡ LoadFlags → Goes (after load_flags words) (at_stage (word_at words 6) LoadFlags)
+  loads_flags e =
+      let found : ℕ = word_at words 6 in
+      stays 6 found (at_stage found LoadFlags) refl record {
+        shaped = fits.shaped;
+        lawful = lawful_at found LoadFlags e;
+        behind = fits.behind;
+        has = has_flags (bit_and found 1 == 0);
+      }
+
+  has_tried : (found : ℕ) (good : Bool) (p : Planned) → Has keeps.layout.blocks owner (if good then stage_of_plan found p else Corrupt)
+  has_tried found true (plan.Claim size next) = tt
+  has_tried found true (plan.Waste room) = tt
+  has_tried found true plan.Full = tt
+  has_tried found false p = tt
+
+  loads_free : a.stage ≡ LoadFree → Goes (after load_free words) (at_stage (word_at words 7) LoadFree)
+  loads_free e =
+      let found : ℕ = word_at words 7 in
+      stays 7 found (at_stage found LoadFree) refl record {
+        shaped = fits.shaped;
+        lawful = lawful_at found LoadFree e;
+        behind = inl (free_word shape words keeps.layout keeps.shown);
+        has = has_tried found (is_pointer a.shape found) (planned found a.size a.shape);
+      }
+
+  -- an exchange that went through
+  hits : (next : ℕ) (purpose : Purpose) (found : ℕ) → found ≡ free_of keeps.layout → found ≡ a.seen → IsRise shape found next
+      → IsLawful (record a { stage = StoreSize found (next - found) purpose })
+      → Goes (set words 7 next) (record a { stage = StoreSize found (next - found) purpose })
+  hits next purpose found is same up lawful =
+      let free : ℕ = free_of keeps.layout in
+      let n : ℕ = next - free in
+      let five = up.five in
+      let end : free_of (grown keeps.layout owner n) ≡ next = omega (arith, free_grown keeps.layout owner n, is, five) in
+      goes (set words 7 next) (grown keeps.layout owner n) (record a { stage = StoreSize found (next - found) purpose })
+      (shown_grown shape words keeps.layout owner next keeps.shown (subst (λ (m : ℕ). IsRise shape m next) is up))
+      record {
+        shaped = fits.shaped;
+        lawful = lawful;
+        behind = inr (omega (arith, end, is, same, five));
+        has = subst (λ (m : ℕ). IsAmong (grown keeps.layout owner n).blocks (own owner m (replicate (next - m) 0))) (sym is)
+            (among_last keeps.layout.blocks (raw_block free owner n));
+      }
+      (λ j x ne f. record {
+        shaped = f.shaped;
+        lawful = f.lawful;
+        behind = inr (omega (arith, Behind-le x.seen free f.behind, end, is, five));
+        has = has_longer keeps.layout.blocks (raw_block free owner n) j x.stage f.has;
+      })
+
+  exchanges : (next : ℕ) (purpose : Purpose) → a.stage ≡ ExchangeFree next purpose
+      → Goes (after (exchange_free a.seen next) words) (at_stage (word_at words 7) (ExchangeFree next purpose))
+  exchanges next purpose e =
+      let found : ℕ = word_at words 7 in
+      let is = free_word shape words keeps.layout keeps.shown in
+      let stage_by : Bool → Stage = λ b. if b then StoreSize found (next - found) purpose else LoadFlags in
+      let law : IsLawful (record a { stage = stage_by (found == a.seen) }) = lawful_at found (ExchangeFree next purpose) e in
+      dite (ℕ_discrete found a.seen)
+      (λ same. let hit = eq-eqb found a.seen same in
+      subst (λ (b : Bool). Goes (set words 7 (if b then next else found)) (record a { stage = stage_by b })) (sym hit)
+      (hits next purpose found is same
+      (subst (λ (m : ℕ). IsRise shape m next) (sym same) (subst (λ (s : Dimensions). IsRise s a.seen next) fits.shaped (aimed_at (ExchangeFree next purpose) e).1))
+      (subst (λ (b : Bool). IsLawful (record a { stage = stage_by b })) hit law)))
+      (λ other. let miss = ne_eqb found a.seen other in
+      subst (λ (b : Bool). Goes (set words 7 (if b then next else found)) (record a { stage = stage_by b })) (sym miss)
+      (stays 7 found (record a { stage = LoadFlags }) refl record {
+        shaped = fits.shaped;
+        lawful = subst (λ (b : Bool). IsLawful (record a { stage = stage_by b })) miss law;
+        behind = fits.behind;
+        has = tt;
+      }))
+
+  -- a store into the allocation's own block
+  own_store : (at : ℕ) (ws ws' : List ℕ) (i j v : ℕ) (stage : Stage) → IsAmong keeps.layout.blocks (own owner at ws) → i ≡ at + j → j < length ws
+      → ws' ≡ set ws j v → IsLawful (record a { stage = stage })
+      → ((blocks : List Block) → IsAmong blocks (own owner at ws') → Has blocks owner stage) → Goes (set words i v) (record a { stage = stage })
+  own_store at ws ws' i j v stage (k, there) place lt is lawful has =
+      let b : Block = own owner at ws in
+      let b' : Block = own owner at ws' in
+      let queue = keeps.shown.sound.queue in
+      let other : k ≢ 0 = λ (z : k ≡ 0). absurd (some-ne-none owner (ap (λ (x : Block). x.owner)
+      (some-injective b _ (sym there ∙ (ap (get_elem? keeps.layout.blocks) z ∙ queue.1))))) in
+      let ends : free_of (put keeps.layout k b') ≡ free_of keeps.layout =
+      free_put keeps.layout k b b' there (ap length is ∙ length-set ws j v) in
+      goes (set words i v) (put keeps.layout k b') (record a { stage = stage })
+      (subst (λ (m : ℕ). IsShown shape (set words m v) (put keeps.layout k b')) (sym place)
+      (shown_put shape words keeps.layout k b b' j v keeps.shown there other lt is refl))
+      record {
+        shaped = fits.shaped;
+        lawful = lawful;
+        behind = subst (Behind a.seen) (sym ends) fits.behind;
+        has = has (set keeps.layout.blocks k b') (among_put keeps.layout.blocks k b b' there);
+      }
+      (λ y x ne f. record {
+        shaped = f.shaped;
+        lawful = f.lawful;
+        behind = subst (Behind x.seen) (sym ends) f.behind;
+        has = has_else keeps.layout.blocks k b b' owner y there refl ne x.stage f.has;
+      })
+
+  stores_size : (at size : ℕ) (purpose : Purpose) → a.stage ≡ StoreSize at size purpose
+      → Goes (after (store_size at size) words) (at_stage (word_at words at) (StoreSize at size purpose))
+  stores_size at size purpose e =
+      let five = (aimed_at (StoreSize at size purpose) e).1.five in
+      own_store at (replicate size 0) (size ∷ replicate (size - 1) 0) at 0 size (StoreCookie at size purpose)
+      (has_at (StoreSize at size purpose) e) (omega arith) (omega (arith, length-replicate {A = ℕ} size 0, five))
+      (sym (first_zero size size (omega (arith, five)))) (lawful_at 0 (StoreSize at size purpose) e) (λ blocks among. among)
+
+  stores_cookie : (at size : ℕ) (purpose : Purpose) → a.stage ≡ StoreCookie at size purpose
+      → Goes (after (store_cookie at (cookie_of purpose)) words) (at_stage (word_at words (at + 1)) (StoreCookie at size purpose))
+  stores_cookie at size purpose.Claim e =
+      let five = (aimed_at (StoreCookie at size purpose.Claim) e).1.five in
+      own_store at (size ∷ replicate (size - 1) 0) (size ∷ 0xC8799269 ∷ replicate (size - 2) 0) (at + 1) 1 0xC8799269 (StoreType at size)
+      (has_at (StoreCookie at size purpose.Claim) e) refl (omega (arith, length-replicate {A = ℕ} (size - 1) 0, five))
+      (sym (second_zero size 0xC8799269 (omega (arith, five)))) (lawful_at 0 (StoreCookie at size purpose.Claim) e) (λ blocks among. among)
+  stores_cookie at size purpose.Waste e =
+      let five = (aimed_at (StoreCookie at size purpose.Waste) e).1.five in
+      own_store at (size ∷ replicate (size - 1) 0) (size ∷ 0xFFFFFFFFFFFFFFFF ∷ replicate (size - 2) 0) (at + 1) 1 0xFFFFFFFFFFFFFFFF LoadFlags
+      (has_at (StoreCookie at size purpose.Waste) e) refl (omega (arith, length-replicate {A = ℕ} (size - 1) 0, five))
+      (sym (second_zero size 0xFFFFFFFFFFFFFFFF (omega (arith, five)))) (lawful_at 0 (StoreCookie at size purpose.Waste) e) (λ blocks among. tt)
+
+  stores_type : (at size : ℕ) → a.stage ≡ StoreType at size
+      → Goes (after (store_type at a.tag) words) (at_stage (word_at words (at + 2)) (StoreType at size))
+  stores_type at size e =
+      let five = (aimed_at (StoreType at size) e).1.five in
+      let zeros = length-replicate {A = ℕ} (size - 3) 0 in
+      own_store at (size ∷ 0xC8799269 ∷ replicate (size - 2) 0) (claimed_words size a.tag) (at + 2) 2 a.tag (Claimed at size)
+      (has_at (StoreType at size) e) refl (omega (arith, length-replicate {A = ℕ} (size - 2) 0, five))
+      (sym (third_zero size 0xC8799269 a.tag (omega (arith, five)))) (lawful_at 0 (StoreType at size) e)
+      (λ blocks among. (a.tag ∷ replicate (size - 3) 0, omega (arith, zeros, five), among))
+
+  sets_full : a.stage ≡ SetFull → Goes (after (set_flag 2) words) (at_stage (word_at words 6) SetFull)
+  sets_full e =
+      goes (after (set_flag 2) words) (record keeps.layout { full = true }) (at_stage (word_at words 6) SetFull)
+      (shown_full shape words keeps.layout keeps.shown)
+      record { shaped = fits.shaped; lawful = lawful_at (word_at words 6) SetFull e; behind = fits.behind; has = tt }
+      (λ _ _ _ f. record { shaped = f.shaped; lawful = f.lawful; behind = f.behind; has = f.has })
+
+  -- whatever the next event is
+  pub step_keeps : (stage : Stage) (event : Event) → a.stage ≡ stage → event_at a stage ≡ Some event
+      → Goes (after event words) (at_stage (word_at words (spot event)) stage)
+  step_keeps stage event e is = ?

@@ -1,0 +1,5 @@
+pub mod Pages
+pub mod Lawful
+pub mod Layouts
+pub mod Owners
+pub mod Keeping

@@ -1,0 +1,118 @@
+-- A segment as the words before the queue block, blocks in a row, and zeros.
+use Rattle.std.specs.Prelude.{◌≡◌, ℕ, ◌+◌, ◌-◌, ◌%◌, ◌<◌, ◌≤◌, Bool, true, false, List, [], ◌∷◌, ◌++◌, length, replicate, slice_set}
+use mathlib.Core.Option.{Option, some, none}
+use lib.ListN.{get_elem?}
+use Rattle.segment_image.specs.Shape.{Dimensions}
+
+-- A piece of a segment: the word where it begins, the one who alone may store in it, where there is one, and its
+-- words. The queue block is the first piece; the others are blocks that were claimed, wasted rests of pages, and gaps.
+pub record Block : Type 0 where
+  pub at : ℕ
+  pub owner : Option ℕ
+  pub words : List ℕ
+
+-- what a segment consists of; `spare` are the words behind the last block
+pub record Layout : Type 0 where
+  pub version : ℕ
+  pub id : ℕ
+  pub corrupt : Bool
+  pub full : Bool
+  pub tail : ℕ
+  pub blocks : List Block
+  pub spare : ℕ
+
+-- how many words a block has
+abbrev pub extent : Block → ℕ
+extent block = length block.words
+
+-- where blocks end that begin at a word and follow one another
+abbrev pub end_of : ℕ → List Block → ℕ
+end_of at [] = at
+end_of at (block ∷ blocks) = end_of (at + extent block) blocks
+
+-- the free pointer: where the last block ends
+abbrev pub free_of : Layout → ℕ
+free_of layout = end_of 12 layout.blocks
+
+-- the word of flags: 1 is corrupt, 2 is full
+abbrev pub flags_of : Bool → Bool → ℕ
+flags_of false false = 0
+flags_of true false = 1
+flags_of false true = 2
+flags_of true true = 3
+
+-- the words before the queue block
+abbrev pub head_words : Dimensions → Layout → List ℕ
+head_words shape layout =
+    0x408305DC ∷ layout.version ∷ shape.size ∷ shape.page ∷ layout.id ∷ 1 ∷ flags_of layout.corrupt layout.full
+    ∷ free_of layout ∷ layout.tail ∷ 0 ∷ 0 ∷ 0 ∷ []
+
+-- the words of blocks, one block behind the other, and others behind them
+abbrev pub spread : List ℕ → List Block → List ℕ
+spread others [] = others
+spread others (block ∷ blocks) = block.words ++ spread others blocks
+
+-- all words of a segment
+abbrev pub render : Dimensions → Layout → List ℕ
+render shape layout = head_words shape layout ++ spread (replicate layout.spare 0) layout.blocks
+
+-- each block begins where the one before it ends, is not empty, and lies in one page
+abbrev pub IsLaid : ℕ → ℕ → List Block → Type 0
+IsLaid page at [] = Unit {0}
+IsLaid page at (block ∷ blocks) =
+    (block.at ≡ at) × (0 < extent block) × (at % page + extent block ≤ page) × IsLaid page (at + extent block) blocks
+
+-- the queue block: size 4, cookie 1, type 0, and the reference of the first record
+abbrev pub queue_block : ℕ → Block
+queue_block next = record { at = 12; owner = none; words = 4 ∷ 1 ∷ 0 ∷ next ∷ [] }
+
+-- a page has at least 64 words, and a segment at most 2^20, in whole pages
+pub record IsShape (shape : Dimensions) : Type 0 where
+  pub wide : 64 ≤ shape.page
+  pub one : shape.page ≤ shape.size
+  pub many : shape.size ≤ 1048576
+  pub whole : shape.size % shape.page ≡ 0
+
+-- the layout is one of a segment: the blocks follow one another from the queue block on, they and the spare words are
+-- all words, and the page of the free pointer has room for a smallest block, of five words
+pub record IsSound (shape : Dimensions) (layout : Layout) : Type 0 where
+  pub lawful : IsShape shape
+  pub queue : (next : ℕ) × (get_elem? layout.blocks 0 ≡ some (queue_block next))
+  pub laid : IsLaid shape.page 12 layout.blocks
+  pub ends : free_of layout + layout.spare ≡ shape.size
+  pub leaves : free_of layout % shape.page + 5 ≤ shape.page
+
+-- the words are those of a layout
+pub record IsShown (shape : Dimensions) (words : List ℕ) (layout : Layout) : Type 0 where
+  pub shows : words ≡ render shape layout
+  pub sound : IsSound shape layout
+
+-- a block is one of these
+abbrev pub IsAmong : List Block → Block → Type 0
+IsAmong blocks block = (k : ℕ) × (get_elem? blocks k ≡ some block)
+
+-- a segment without blocks
+abbrev pub fresh : Dimensions → ℕ → ℕ → Layout
+fresh shape version id =
+    let size = shape.size in record {
+      version = version;
+      id = id;
+      corrupt = false;
+      full = false;
+      tail = 12;
+      blocks = queue_block 12 ∷ [];
+      spare = size - 16;
+    }
+
+-- the layout with another block in the place of block k
+abbrev pub put : Layout → ℕ → Block → Layout
+put layout k block = record layout { blocks = slice_set layout.blocks k block }
+
+-- a block of zeros
+abbrev pub raw_block : ℕ → ℕ → ℕ → Block
+raw_block at owner size = record { at = at; owner = some owner; words = replicate size 0 }
+
+-- the layout with a raw block more, which was cut from the spare words
+abbrev pub grown : Layout → ℕ → ℕ → Layout
+grown layout owner size =
+    record layout { blocks = layout.blocks ++ raw_block (free_of layout) owner size ∷ []; spare = layout.spare - size }

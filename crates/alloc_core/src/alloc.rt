@@ -1,0 +1,287 @@
+//! One allocation, an event at a time.
+
+use crate::planned::{FIRST, LEAST, Planned, is_pointer, plan};
+use segment_image::Shape;
+use std::marker::Model;
+use thiserror::Error;
+
+const FLAGS: usize = 6;
+
+const FREE: usize = 7;
+
+const CORRUPT: u64 = 1;
+
+const FULL: u64 = 2;
+
+const ALLOCATED: u64 = 0xC879_9269;
+
+const WASTED: u64 = u64::MAX;
+
+const HEADER: u64 = 4;
+
+/// What the words from a free pointer on are taken for.
+#[derive(Clone, Copy, Debug, PartialEq, Eq)]
+pub enum Purpose {
+    /// For a block.
+    Claim,
+    /// For nothing, since the page ends before a block would.
+    Waste,
+}
+
+/// What an allocation does next, or how it has ended.
+#[derive(Clone, Copy, Debug, PartialEq, Eq)]
+pub enum Stage {
+    /// It loads the flags. Each try begins so.
+    LoadFlags,
+    /// It loads the free pointer.
+    LoadFree,
+    /// It exchanges the free pointer from the one that it loaded.
+    ExchangeFree { next: u64, purpose: Purpose },
+    /// It stores the size of the words that it took.
+    StoreSize { at: u64, size: u64, purpose: Purpose },
+    /// It stores their cookie.
+    StoreCookie { at: u64, size: u64, purpose: Purpose },
+    /// It stores the type of its block.
+    StoreType { at: u64, size: u64 },
+    /// It sets the full flag.
+    SetFull,
+    /// It has its block.
+    Claimed { at: u64, size: u64 },
+    /// The segment has no room for it.
+    Full,
+    /// It found the segment corrupt.
+    Corrupt,
+}
+
+/// What a step of an allocation says.
+#[derive(Clone, Copy, Debug, PartialEq, Eq)]
+pub enum AllocStep {
+    /// The allocation goes on.
+    More,
+    /// It has claimed the block at this reference.
+    Done(u64),
+    /// The segment has no room for it.
+    Full,
+    /// The corrupt flag was set, or the free pointer was none that a segment can have.
+    Corrupt,
+}
+
+/// The payload and the header of a block are more words than a page has.
+#[derive(Clone, Copy, Debug, PartialEq, Eq, Error)]
+#[error("TooLarge")]
+pub struct TooLarge;
+
+/// One allocation of a block. A clause sees the plain record of it, `Allocation` in `specs/Alloc.antt`.
+#[derive(Debug)]
+pub struct Alloc {
+    shape: Shape,
+    size: u64,
+    tag: u64,
+    seen: u64,
+    stage: Stage,
+}
+
+impl Model for Alloc {
+    ghost use Rattle.alloc_core.specs.Alloc.{Allocation, IsLawful};
+
+    ghost Value = { Allocation };
+
+    ghost view = { λ a. record { shape = a.shape; size = a.size; tag = a.tag; seen = a.seen; stage = a.stage } };
+
+    ghost invariant = { λ a. IsLawful record { shape = a.shape; size = a.size; tag = a.tag; seen = a.seen; stage = a.stage } };
+}
+
+impl Stage {
+    ghost use Rattle.std.specs.Prelude.{◌≡◌};
+    ghost use Rattle.alloc_core.specs.Alloc.{answer};
+
+    // What a step says that led here.
+    fn answer(self) -> AllocStep
+        ensures { result ≡ answer self }
+    {
+        match self {
+            Stage::Claimed { at, .. } => AllocStep::Done(at),
+            Stage::Full => AllocStep::Full,
+            Stage::Corrupt => AllocStep::Corrupt,
+            _ => AllocStep::More,
+        }
+    }
+}
+
+impl Purpose {
+    ghost use Rattle.std.specs.Prelude.{◌≡◌};
+    ghost use Rattle.alloc_core.specs.Alloc.{cookie_of};
+
+    // The cookie that says so.
+    fn cookie(self) -> u64
+        ensures { result ≡ cookie_of self }
+    {
+        match self {
+            Purpose::Claim => ALLOCATED,
+            Purpose::Waste => WASTED,
+        }
+    }
+}
+
+impl Alloc {
+    ghost use Rattle.std.specs.Prelude.{◌≡◌, length, is_some, true, IfSome};
+    ghost use Rattle.segment_image.specs.Words.{word_at};
+    ghost use Rattle.alloc_core.specs.Event.{spot, after, change};
+    ghost use Rattle.alloc_core.specs.Planned.{planned, is_pointer};
+    ghost use Rattle.alloc_core.specs.Alloc.{event_at, next_event, stage_of_plan, seen_after, stage_after, started, moved, IsStep};
+
+    /// An allocation of a block with `payload` words behind its header, and of a type; a payload of 0 is taken as 1.
+    ///
+    /// `TooLarge` where header and payload are more words than a page has.
+    pub fn start(shape: Shape, payload: u64, tag: u64) -> Result<Alloc, TooLarge>
+        ensures { result ≡ started shape payload tag }
+    {
+        if payload > shape.page() - HEADER {
+            return Err(TooLarge);
+        }
+        Ok(Alloc {
+            shape,
+            size: HEADER + payload.max(1),
+            tag,
+            seen: 0,
+            stage: Stage::LoadFlags,
+        })
+    }
+
+    /// Goes on by one event, which changes one word at most.
+    ///
+    /// `Done` with the reference of the block, `Full` and `Corrupt` end the allocation; `More` says that it goes on.
+    pub fn step(&mut self, words: &mut [u64]) -> AllocStep
+        requires long { length words.old ≡ self.old.shape.size }
+        requires running { is_some (next_event self.old) ≡ true }
+        ensures step { IsStep self.old words.old self.new words.new result }
+    {
+        let found = self.act(words);
+        self.go_on(found);
+        self.stage.answer()
+    }
+
+    // The next event: what becomes of the words, and the number that it found.
+    fn act(&self, words: &mut [u64]) -> u64
+        requires long { length words.old ≡ self.now.shape.size }
+        requires running { is_some (next_event self.now) ≡ true }
+        ensures words { IfSome (next_event self.now) (λ event. words.new ≡ after event words.old) }
+        ensures found { IfSome (next_event self.now) (λ event. result ≡ word_at words.old (spot event)) }
+    {
+        match self.stage {
+            Stage::LoadFlags => words[FLAGS],
+            Stage::LoadFree => words[FREE],
+            Stage::ExchangeFree { next, .. } => exchange(words, self.seen, next),
+            Stage::StoreSize { at, size, .. } => store(words, at as usize, size),
+            Stage::StoreCookie { at, purpose, .. } => store(words, at as usize + 1, purpose.cookie()),
+            Stage::StoreType { at, .. } => store(words, at as usize + 2, self.tag),
+            Stage::SetFull => set_full(words),
+            Stage::Claimed { .. } | Stage::Full | Stage::Corrupt => 0,
+        }
+    }
+
+    // What becomes of the allocation by the number that was found.
+    fn go_on(&mut self, found: u64)
+        ensures { self.new ≡ moved self.old found }
+    {
+        let seen = self.seen_after(found);
+        let stage = self.stage_after(found);
+        self.seen = seen;
+        self.stage = stage;
+    }
+
+    // The free pointer that was loaded last.
+    fn seen_after(&self, found: u64) -> u64
+        ensures { result ≡ seen_after self.now found self.now.stage }
+    {
+        match self.stage {
+            Stage::LoadFree => found,
+            _ => self.seen,
+        }
+    }
+
+    // The stage that comes next.
+    fn stage_after(&self, found: u64) -> Stage
+        ensures { result ≡ stage_after self.now found self.now.stage }
+    {
+        match self.stage {
+            Stage::LoadFlags if found & CORRUPT == 0 => Stage::LoadFree,
+            Stage::LoadFlags => Stage::Corrupt,
+            Stage::LoadFree if is_pointer(found, &self.shape) => self.tried(found),
+            Stage::LoadFree => Stage::Corrupt,
+            Stage::ExchangeFree { next, purpose } if found == self.seen => Stage::StoreSize {
+                at: found,
+                size: next - found,
+                purpose,
+            },
+            Stage::ExchangeFree { .. } => Stage::LoadFlags,
+            Stage::StoreSize { at, size, purpose } => Stage::StoreCookie { at, size, purpose },
+            Stage::StoreCookie {
+                at,
+                size,
+                purpose: Purpose::Claim,
+            } => Stage::StoreType { at, size },
+            Stage::StoreCookie { .. } => Stage::LoadFlags,
+            Stage::StoreType { at, size } => Stage::Claimed { at, size },
+            Stage::SetFull => Stage::Full,
+            ended => ended,
+        }
+    }
+
+    // The stage that the plan from a lawful free pointer leads to.
+    fn tried(&self, free: u64) -> Stage
+        requires { is_pointer self.now.shape free ≡ true }
+        ensures { result ≡ stage_of_plan free (planned free self.now.size self.now.shape) }
+    {
+        match plan(free, self.size, self.shape) {
+            Planned::Claim { next, .. } => Stage::ExchangeFree {
+                next,
+                purpose: Purpose::Claim,
+            },
+            Planned::Waste { room } => Stage::ExchangeFree {
+                next: free + room,
+                purpose: Purpose::Waste,
+            },
+            Planned::Full => Stage::SetFull,
+        }
+    }
+}
+
+ghost use Rattle.std.specs.Prelude.{◌≡◌, ◌<◌, length, slice_set};
+ghost use Rattle.segment_image.specs.Words.{word_at};
+ghost use Rattle.alloc_core.specs.Event.{exchange_free, set_flag, after};
+
+// Stores a word, and gives the one that was there.
+fn store(words: &mut [u64], at: usize, value: u64) -> u64
+    requires { at < length words.old }
+    ensures words { words.new ≡ slice_set words.old at value }
+    ensures found { result ≡ word_at words.old at }
+{
+    let found = words[at];
+    words[at] = value;
+    found
+}
+
+// Exchanges the free pointer where it is the old one, and gives the one that was there.
+fn exchange(words: &mut [u64], old: u64, new: u64) -> u64
+    requires { 7 < length words.old }
+    ensures words { words.new ≡ after (exchange_free old new) words.old }
+    ensures found { result ≡ word_at words.old 7 }
+{
+    let found = words[FREE];
+    if found == old {
+        words[FREE] = new;
+    }
+    found
+}
+
+// Sets the full flag, and gives the flags that were there.
+fn set_full(words: &mut [u64]) -> u64
+    requires { 6 < length words.old }
+    ensures words { words.new ≡ after (set_flag 2) words.old }
+    ensures found { result ≡ word_at words.old 6 }
+{
+    let found = words[FLAGS];
+    words[FLAGS] = found | FULL;
+    found
+}

@@ -1,0 +1,64 @@
+//! What an allocation does from a free pointer on.
+
+ghost use Rattle.std.specs.Prelude.{◌≡◌};
+ghost use Rattle.alloc_core.specs.Planned.{planned, is_pointer as is_pointer_of};
+
+use segment_image::Shape;
+
+/// The free pointer of a segment without blocks.
+pub(crate) const FIRST: u64 = 16;
+
+/// The words of a smallest block: its header, and one more.
+pub(crate) const LEAST: u64 = 5;
+
+/// What an allocation does from a free pointer on (Chromium's persistent_memory_allocator).
+#[derive(Clone, Copy, Debug, PartialEq, Eq)]
+pub enum Planned {
+    /// It claims `size` words from the free pointer on, which then goes to `next`. The size is more than what was
+    /// asked for where fewer than five words of the page would be left.
+    Claim { size: u64, next: u64 },
+    /// The page ends before: its last `room` words are wasted.
+    Waste { room: u64 },
+    /// The segment ends before.
+    Full,
+}
+
+/// What an allocation of `size` words, its header among them, does from the free pointer `free` on.
+pub fn plan(free: u64, size: u64, shape: Shape) -> Planned
+    ensures { result ≡ planned free size shape }
+{
+    if free > shape.size() || size > shape.size() - free {
+        return Planned::Full;
+    }
+    let room = room_at(free, &shape);
+    if size > room {
+        Planned::Waste { room }
+    } else if room - size < LEAST {
+        Planned::Claim {
+            size: room,
+            next: free + room,
+        }
+    } else {
+        Planned::Claim {
+            size,
+            next: free + size,
+        }
+    }
+}
+
+ghost use Rattle.alloc_core.specs.Planned.{room_at as room_of};
+
+// The words from a free pointer to the end of its page.
+fn room_at(free: u64, shape: &Shape) -> u64
+    ensures { result ≡ room_of shape.now free }
+{
+    shape.page() - free % shape.page()
+}
+
+/// Whether a free pointer is lawful: behind the queue block, within the segment, and with room for a smallest block in
+/// its page.
+pub(crate) fn is_pointer(free: u64, shape: &Shape) -> bool
+    ensures { result ≡ is_pointer_of shape.now free }
+{
+    free >= FIRST && free <= shape.size() && room_at(free, shape) >= LEAST
+}

@@ -1,26 +1,30 @@
 -- Each event of each allocation keeps the allocation invariant.
 use Rattle.std.proofs.Common.{◌≡◌, ◌≢◌, ◌⊎◌, ℕ, zero, suc, ◌+◌, ◌-◌, ◌%◌, ◌<◌, ◌≤◌, ◌==◌, eqb, eq-eqb, ne_eqb, Bool, true, false, List, [], ◌∷◌, ◌++◌, length, replicate, get_or, set, inl, inr, ⊎_elim, sym, refl, ap, ap₂, ◌∙◌, subst, arith, length-set}
-use Rattle.std.specs.Prelude.{bit_and, bit_or, if◌then◌else◌, Some, None}
+use Rattle.std.specs.Prelude.{bit_and, bit_or, if◌then◌else◌, Some, None, Result, Ok, Err, max, nat_lt}
 use Rattle.std.proofs.lemmas.List.{length-replicate}
 use mathlib.Core.Logic.{dite}
 use mathlib.Core.Option.{some, some-injective, some-ne-none}
 use native.Mathlib.Decide.{ℕ_discrete}
 use lib.ListN.{get_elem?}
 use lib.Seq.{set-get_or}
-use Rattle.atomic_table.proofs.Lists.{at_set, at_snoc}
+use Rattle.atomic_table.proofs.Lists.{at_set, at_snoc, set_again}
 use Rattle.segment_image.specs.Shape.{Dimensions}
 use Rattle.segment_image.specs.Words.{word_at}
 use Rattle.alloc_core.specs.declared.alloc.Purpose.{Purpose}
 use Rattle.alloc_core.specs.declared.alloc.Purpose.TheVariants as purpose
 use Rattle.alloc_core.specs.declared.alloc.Stage.{Stage}
 use Rattle.alloc_core.specs.declared.alloc.Stage.TheVariants.{LoadFlags, LoadFree, ExchangeFree, StoreSize, StoreCookie, StoreType, SetFull, Claimed, Full, Corrupt}
+use Rattle.alloc_core.specs.declared.alloc.TooLarge.{TooLarge}
 use Rattle.alloc_core.specs.declared.planned.Planned.{Planned}
 use Rattle.alloc_core.specs.declared.planned.Planned.TheVariants as plan
 use Rattle.alloc_core.specs.Layout.{Block, extent, Layout, free_of, IsShown, IsAmong, put, raw_block, grown}
 use Rattle.alloc_core.specs.Planned.{planned, is_pointer}
 use Rattle.alloc_core.specs.Event.{Event, load_flags, load_free, exchange_free, store_size, store_cookie, store_type, store_payload, set_flag, spot, change, after}
-use Rattle.alloc_core.specs.Alloc.{Allocation, cookie_of, stage_of_plan, stage_of_cookie, stage_after, seen_after, event_at, next_event, moved, IsRise, IsAimed, IsLawful}
+use Rattle.alloc_core.specs.Alloc.{Allocation, cookie_of, stage_of_plan, stage_of_cookie, stage_after, seen_after, event_at, next_event, moved, first_of, started, IsRise, IsAimed, IsLawful}
 use Rattle.alloc_core.specs.Laws.{Behind, own, claimed_words, Has, Fits, Keeps}
+use Rattle.alloc_core.specs.Layout.{IsShape}
+use Rattle.std.proofs.Math.Nat.{le-max_right, max-le}
+use Rattle.std.proofs.lemmas.Bool.{ltb-false}
 use Rattle.alloc_core.proofs.Lawful.{moved_lawful}
 use Rattle.alloc_core.proofs.Layouts.{shown_put, shown_grown, shown_corrupt, shown_full, free_word, free_from, ends_within, free_grown, free_put}
 use Rattle.alloc_core.proofs.Owners.{set_at, among_put, among_last, has_else, has_longer}
@@ -227,7 +231,77 @@ module _ (shape : Dimensions) (words : List ℕ) (allocations : List Allocation)
       record { shaped = fits.shaped; lawful = lawful_at (word_at words 6) SetFull e; behind = fits.behind; has = tt }
       (λ _ _ _ f. record { shaped = f.shaped; lawful = f.lawful; behind = f.behind; has = f.has })
 
+  by : (stage : Stage) (event other : Event) → event ≡ other → Goes (after event words) (at_stage (word_at words (spot event)) stage)
+      → Goes (after other words) (at_stage (word_at words (spot other)) stage)
+  by stage event other same = subst (λ (v : Event). Goes (after v words) (at_stage (word_at words (spot v)) stage)) same
+
   -- whatever the next event is
   pub step_keeps : (stage : Stage) (event : Event) → a.stage ≡ stage → event_at a stage ≡ Some event
       → Goes (after event words) (at_stage (word_at words (spot event)) stage)
-  step_keeps stage event e is = ?
+  step_keeps LoadFlags event e is = by LoadFlags load_flags event (cc is) (loads_flags e)
+  step_keeps LoadFree event e is = by LoadFree load_free event (cc is) (loads_free e)
+  step_keeps (ExchangeFree next purpose) event e is =
+      by (ExchangeFree next purpose) (exchange_free a.seen next) event (cc is) (exchanges next purpose e)
+  step_keeps (StoreSize at size purpose) event e is =
+      by (StoreSize at size purpose) (store_size at size) event (cc is) (stores_size at size purpose e)
+  step_keeps (StoreCookie at size purpose) event e is =
+      by (StoreCookie at size purpose) (store_cookie at (cookie_of purpose)) event (cc is) (stores_cookie at size purpose e)
+  step_keeps (StoreType at size) event e is = by (StoreType at size) (store_type at a.tag) event (cc is) (stores_type at size e)
+  step_keeps SetFull event e is = by SetFull (set_flag 2) event (cc is) (sets_full e)
+  step_keeps (Claimed at size) event e is = absurd (cc is)
+  step_keeps Full event e is = absurd (cc is)
+  step_keeps Corrupt event e is = absurd (cc is)
+
+  -- a store into the payload of the allocation's claimed block
+  pub fill_keeps : (at size index v : ℕ) → a.stage ≡ Claimed at size → 4 + index < size → Keeps shape (after (store_payload at index v) words) allocations
+  fill_keeps at size index v e lt =
+      let (behind, long, among) = has_at (Claimed at size) e in
+      let index_is : suc (suc (suc (suc index))) ≡ 4 + index = omega arith in
+      let same : set allocations owner (record a { stage = Claimed at size }) ≡ allocations =
+      ap (λ (s : Stage). set allocations owner (record a { stage = s })) (sym e) ∙ set_again allocations owner a mine in
+      subst (Keeps shape (after (store_payload at index v) words)) same
+      (own_store at (size ∷ 0xC8799269 ∷ behind) (size ∷ 0xC8799269 ∷ set behind (suc (suc index)) v) (at + (4 + index)) (4 + index) v (Claimed at size)
+      among refl (omega (arith, long, lt)) (ap (λ (j : ℕ). set (size ∷ 0xC8799269 ∷ behind) j v) index_is)
+      (subst (λ (s : Stage). IsLawful (record a { stage = s })) e fits.lawful)
+      (λ blocks has. (set behind (suc (suc index)) v, omega (arith, long, length-set behind (suc (suc index)) v), has)))
+
+-- somebody sets the corrupt flag
+pub corrupt_keeps : (shape : Dimensions) (words : List ℕ) (allocations : List Allocation) → Keeps shape words allocations
+    → Keeps shape (after (set_flag 1) words) allocations
+corrupt_keeps shape words allocations keeps = record {
+  layout = record keeps.layout { corrupt = true };
+  shown = shown_corrupt shape words keeps.layout keeps.shown;
+  each = λ owner a there. let f = keeps.each owner a there in record { shaped = f.shaped; lawful = f.lawful; behind = f.behind; has = f.has };
+}
+
+-- what an allocation is at its start
+started_fits : (shape : Dimensions) (layout : Layout) (owner payload tag : ℕ) (a : Allocation) (over : Bool) → nat_lt shape.page (payload + 4) ≡ over
+    → if◌then◌else◌ {A = Result Allocation TooLarge} over (Err (record {})) (Ok (first_of shape payload tag)) ≡ Ok a
+    → IsShape shape → 16 ≤ free_of layout → Fits shape layout owner a
+started_fits shape layout owner payload tag a true over is lawful from = absurd (cc is)
+started_fits shape layout owner payload tag a false over is lawful from =
+    let fits = ltb-false shape.page (payload + 4) over in
+    let wide = lawful.wide in
+    let least : 1 ≤ max payload 1 = le-max_right payload 1 in
+    let most : max payload 1 ≤ shape.page - 4 = max-le (omega (arith, fits)) (omega (arith, wide)) in
+    let same : first_of shape payload tag ≡ a = cc is in
+    subst (Fits shape layout owner) same (record {
+      shaped = refl;
+      lawful = record { shaped = lawful; least = omega (arith, least); most = omega (arith, most, wide); aimed = tt };
+      behind = inr (omega (arith, from));
+      has = tt;
+    })
+
+-- an allocation begins
+pub start_keeps : (shape : Dimensions) (words : List ℕ) (allocations : List Allocation) (payload tag : ℕ) (a : Allocation)
+    → started shape payload tag ≡ Ok a → Keeps shape words allocations → Keeps shape words (allocations ++ a ∷ [])
+start_keeps shape words allocations payload tag a is keeps = record {
+  layout = keeps.layout;
+  shown = keeps.shown;
+  each = λ owner x there. ⊎_elim
+      (λ old. keeps.each owner x old)
+      (λ (same : a ≡ x). subst (Fits shape keeps.layout owner) same
+      (started_fits shape keeps.layout owner payload tag a (nat_lt shape.page (payload + 4)) refl is keeps.shown.sound.lawful
+      (free_from shape words keeps.layout keeps.shown)))
+      (at_snoc allocations a x owner there);
+}

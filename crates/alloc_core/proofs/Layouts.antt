@@ -2,6 +2,8 @@
 use Rattle.std.proofs.Common.{◌≡◌, ◌≢◌, ◌⊎◌, ℕ, zero, suc, ◌+◌, ◌-◌, ◌%◌, ◌<◌, ◌≤◌, Bool, true, false, List, [], ◌∷◌, ◌++◌, length, replicate, get_or, set, inl, inr, sym, refl, ap, ap₂, ◌∙◌, subst, arith, length-set, length-append}
 use Rattle.std.specs.Prelude.{bit_or}
 use Rattle.std.proofs.lemmas.List.{set-append_left, set-append_right, length-replicate, replicate-append-replicate}
+use Rattle.std.specs.Prelude.{take, drop}
+use Rattle.std.proofs.Math.Seq.{take-append_seam, drop-append-add}
 use mathlib.Core.Option.{Option, some, some-injective, some-ne-none}
 use lib.ListN.{get_elem?}
 use Rattle.atomic_table.proofs.Lists.{at_longer, set_else}
@@ -262,3 +264,34 @@ length_shown shape words layout shown =
 pub free_from : (shape : Dimensions) (words : List ℕ) (layout : Layout) → IsShown shape words layout → 16 ≤ free_of layout
 free_from shape words layout shown =
     ends_within shape.page 12 layout.blocks 0 (queue_block shown.sound.queue.0) shown.sound.laid shown.sound.queue.1
+
+slice_spread : (page at : ℕ) (others : List ℕ) (blocks : List Block) (k : ℕ) (b : Block) (i : ℕ) → IsLaid page at blocks
+    → get_elem? blocks k ≡ some b → at + i ≡ b.at → take (extent b) (drop i (spread others blocks)) ≡ b.words
+slice_spread page at others [] k b i laid e here = absurd (some-ne-none b (sym e))
+slice_spread page at others (x ∷ xs) zero b i laid e here =
+    let same : x ≡ b = some-injective x b e in
+    let s : x.at ≡ b.at = ap (λ (z : Block). z.at) same in
+    let t : x.at ≡ at = laid.0 in
+    let index : i ≡ 0 = omega arith in
+    ap₂ (λ (n : ℕ) (m : ℕ). take n (drop m (x.words ++ spread others xs))) (sym (ap extent same)) index
+    ∙ (take-append_seam x.words (spread others xs) ∙ ap (λ (z : Block). z.words) same)
+slice_spread page at others (x ∷ xs) (suc k) b i laid e here =
+    let from = at_from page (at + extent x) xs k b laid.3 e in
+    let n : ℕ = extent x in
+    let from' : at + n ≤ b.at = from in
+    let step : i ≡ n + (i - n) = omega arith in
+    ap (λ (m : ℕ). take (extent b) (drop m (x.words ++ spread others xs))) step
+    ∙ (ap (take (extent b)) (drop-append-add x.words (spread others xs) (i - n))
+    ∙ slice_spread page (at + n) others xs k b (i - n) laid.3 e (omega arith))
+
+-- the words of a block among all words
+pub slice_shown : (shape : Dimensions) (words : List ℕ) (layout : Layout) (k : ℕ) (b : Block) → IsShown shape words layout
+    → get_elem? layout.blocks k ≡ some b → take (extent b) (drop b.at words) ≡ b.words
+slice_shown shape words layout k b shown e =
+    let from = at_from shape.page 12 layout.blocks k b shown.sound.laid e in
+    let body : List ℕ = spread (replicate layout.spare 0) layout.blocks in
+    let step : b.at ≡ 12 + (b.at - 12) = omega arith in
+    ap (λ (ws : List ℕ). take (extent b) (drop b.at ws)) shown.shows
+    ∙ (ap (λ (m : ℕ). take (extent b) (drop m (head_words shape layout ++ body))) step
+    ∙ (ap (take (extent b)) (drop-append-add (head_words shape layout) body (b.at - 12))
+    ∙ slice_spread shape.page 12 (replicate layout.spare 0) layout.blocks k b (b.at - 12) shown.sound.laid e (omega arith)))

@@ -132,7 +132,9 @@ pub record IsLawful (allocation : Allocation) : Type 0 where
   pub aimed : IsAimed allocation allocation.stage
 
 -- an allocation before its first event; a payload of 0 is taken as 1
+abbrev pub first_of : Dimensions → ℕ → ℕ → Allocation
+first_of shape payload tag = record { shape = shape; size = max payload 1 + 4; tag = tag; seen = 0; stage = LoadFlags }
+
+-- the allocation that is started, where its block fits in a page
 abbrev pub started : Dimensions → ℕ → ℕ → Result Allocation TooLarge
-started shape payload tag =
-    if nat_lt shape.page (payload + 4) then Err (record {})
-    else Ok (record { shape = shape; size = max payload 1 + 4; tag = tag; seen = 0; stage = LoadFlags })
+started shape payload tag = if nat_lt shape.page (payload + 4) then Err (record {}) else Ok (first_of shape payload tag)

@@ -1,13 +1,16 @@
 -- What holds of the words of a segment and of all its allocations between any two events.
-use Rattle.std.specs.Prelude.{◌≡◌, ◌⊎◌, ℕ, ◌+◌, ◌-◌, ◌≤◌, Bool, true, List, ◌∷◌, length, replicate, ⊤}
+use Rattle.std.specs.Prelude.{◌≡◌, ◌≢◌, ◌⊎◌, ℕ, ◌+◌, ◌-◌, ◌%◌, ◌<◌, ◌≤◌, List, [], ◌∷◌, ◌++◌, length, take, drop, replicate, slice_set, bit_or, Option, Some, None, Ok, ⊤}
 use mathlib.Core.Option.{some}
 use lib.ListN.{get_elem?}
 use Rattle.segment_image.specs.Shape.{Dimensions}
+use Rattle.segment_image.specs.Words.{word_at}
+use Rattle.segment_image.specs.Image.{blank_words}
 use Rattle.alloc_core.specs.declared.alloc.Purpose.TheVariants as purpose
 use Rattle.alloc_core.specs.declared.alloc.Stage.{Stage}
 use Rattle.alloc_core.specs.declared.alloc.Stage.TheVariants.{LoadFlags, LoadFree, ExchangeFree, StoreSize, StoreCookie, StoreType, SetFull, Claimed, Full, Corrupt}
 use Rattle.alloc_core.specs.Layout.{Block, Layout, free_of, IsShown, IsAmong}
-use Rattle.alloc_core.specs.Alloc.{Allocation, cookie_of, IsLawful}
+use Rattle.alloc_core.specs.Event.{Event, store_payload, set_flag, spot, after}
+use Rattle.alloc_core.specs.Alloc.{Allocation, next_event, moved, started, IsLawful}
 
 -- a number is another one, or at least five below it
 abbrev pub Behind : ℕ → ℕ → Type 0
@@ -43,3 +46,76 @@ pub record Keeps (shape : Dimensions) (words : List ℕ) (allocations : List All
   pub layout : Layout
   pub shown : IsShown shape words layout
   pub each : (owner : ℕ) (allocation : Allocation) → get_elem? allocations owner ≡ some allocation → Fits shape layout owner allocation
+
+-- the words that an allocation has taken and not wasted: where they begin, and how many they are
+abbrev pub taken : Stage → Option (ℕ × ℕ)
+taken (StoreSize at size purpose.Claim) = Some (at, size)
+taken (StoreCookie at size purpose.Claim) = Some (at, size)
+taken (StoreType at size) = Some (at, size)
+taken (Claimed at size) = Some (at, size)
+taken _ = None
+
+-- of two runs of words one ends before the other begins
+abbrev pub Apart : ℕ × ℕ → ℕ × ℕ → Type 0
+Apart a b = (a.0 + a.1 ≤ b.0) ⊎ (b.0 + b.1 ≤ a.0)
+
+-- what an allocation has claimed, at the moment that it says so
+pub record IsNewBlock (allocation : Allocation) (reference : ℕ) (words : List ℕ) (allocations : List Allocation) (owner : ℕ) : Type 0 where
+  pub size : ℕ
+  -- it has the words that were asked for, and fewer than five more
+  pub enough : allocation.size ≤ size
+  pub spare : size < allocation.size + 5
+  -- its header is stored, and its next and its payload are zeros
+  pub holds : take size (drop reference words) ≡ claimed_words size allocation.tag
+  -- it lies behind the queue block, below the free pointer, and in one page
+  pub from : 16 ≤ reference
+  pub below : reference + size ≤ word_at words 7
+  pub one_page : reference % allocation.shape.page + size ≤ allocation.shape.page
+  -- and apart from what any other allocation has
+  pub apart : (other : ℕ) (b : Allocation) (block : ℕ × ℕ) → other ≢ owner → get_elem? allocations other ≡ some b
+      → taken b.stage ≡ Some block → Apart (reference, size) block
+
+-- a segment and its allocations
+pub record State : Type 0 where
+  pub words : List ℕ
+  pub allocations : List Allocation
+
+-- what can happen: an allocation starts, one goes on by its next event, the owner of a claimed block stores a word of its
+-- payload, or somebody sets the corrupt flag
+pub data Move : Type 0 where
+  starts : (payload tag : ℕ) → Move
+  steps : (owner : ℕ) → Move
+  fills : (owner index value : ℕ) → Move
+  spoils : Move
+
+abbrev pub IsMove : Dimensions → Move → State → State → Type 0
+IsMove shape (starts payload tag) old new =
+    (a : Allocation) × (started shape payload tag ≡ Ok a) × (new ≡ record old { allocations = old.allocations ++ a ∷ [] })
+IsMove shape (steps owner) old new =
+    (a : Allocation) × (get_elem? old.allocations owner ≡ some a) × (event : Event) × (next_event a ≡ Some event)
+    × (new ≡ record { words = after event old.words; allocations = slice_set old.allocations owner (moved a (word_at old.words (spot event))) })
+IsMove shape (fills owner index value) old new =
+    (a : Allocation) × (get_elem? old.allocations owner ≡ some a) × (block : ℕ × ℕ) × (a.stage ≡ Claimed block.0 block.1) × (4 + index < block.1)
+    × (new ≡ record old { words = after (store_payload block.0 index value) old.words })
+IsMove shape spoils old new = new ≡ record old { words = after (set_flag 1) old.words }
+
+-- moves one after the other, whoever makes them
+abbrev pub IsRun : Dimensions → List Move → State → State → Type 0
+IsRun shape [] old new = new ≡ old
+IsRun shape (move ∷ moves) old new = (next : State) × IsMove shape move old next × IsRun shape moves next new
+
+-- the allocation invariant of a state
+abbrev pub StateKeeps : Dimensions → State → Type 0
+StateKeeps shape state = Keeps shape state.words state.allocations
+
+-- a segment without blocks, and no allocation yet
+abbrev pub opening : Dimensions → ℕ → State
+opening shape id = record { words = blank_words shape.size shape.page id; allocations = [] }
+
+-- who set the flags of a state: nobody, somebody who spoiled the segment, or an allocation that is full
+abbrev pub FlagsBy : Move → State → State → Type 0
+FlagsBy move old new =
+    (word_at new.words 6 ≡ word_at old.words 6)
+    ⊎ ((move ≡ spoils) × (word_at new.words 6 ≡ bit_or (word_at old.words 6) 1))
+    ⊎ ((owner : ℕ) × (a : Allocation) × (move ≡ steps owner) × (get_elem? old.allocations owner ≡ some a) × (a.stage ≡ SetFull)
+    × (word_at new.words 6 ≡ bit_or (word_at old.words 6) 2))

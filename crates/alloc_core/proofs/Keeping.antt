@@ -42,7 +42,7 @@ second_zero n v h =
     let less : n - 1 - 1 ≡ n - 2 = omega arith in
     ap (λ (l : List ℕ). n ∷ l) (first_zero (n - 1) v (omega arith) ∙ ap (λ (m : ℕ). v ∷ replicate m 0) less)
 
-third_zero : (n c v : ℕ) → 2 < n → set (n ∷ c ∷ replicate (n - 2) 0) 2 v ≡ n ∷ c ∷ v ∷ replicate (n - 3) 0
+pub third_zero : (n c v : ℕ) → 2 < n → set (n ∷ c ∷ replicate (n - 2) 0) 2 v ≡ n ∷ c ∷ v ∷ replicate (n - 3) 0
 third_zero n c v h =
     let less : n - 2 - 1 ≡ n - 3 = omega arith in
     ap (λ (l : List ℕ). n ∷ c ∷ l) (first_zero (n - 2) v (omega arith) ∙ ap (λ (m : ℕ). v ∷ replicate m 0) less)
@@ -82,10 +82,10 @@ module _ (shape : Dimensions) (words : List ℕ) (allocations : List Allocation)
   lawful_at : (found : ℕ) (stage : Stage) → a.stage ≡ stage → IsLawful (at_stage found stage)
   lawful_at found stage e = subst (λ (s : Stage). IsLawful (at_stage found s)) e (moved_lawful a found fits.lawful)
 
-  aimed_at : (stage : Stage) → a.stage ≡ stage → IsAimed a stage
+  pub aimed_at : (stage : Stage) → a.stage ≡ stage → IsAimed a stage
   aimed_at stage e = subst (IsAimed a) e fits.lawful.aimed
 
-  has_at : (stage : Stage) → a.stage ≡ stage → Has keeps.layout.blocks owner stage
+  pub has_at : (stage : Stage) → a.stage ≡ stage → Has keeps.layout.blocks owner stage
   has_at stage e = subst (Has keeps.layout.blocks owner) e fits.has
 
   has_flags : (clear : Bool) → Has keeps.layout.blocks owner (if clear then LoadFree else Corrupt)
@@ -165,6 +165,17 @@ module _ (shape : Dimensions) (words : List ℕ) (allocations : List Allocation)
         has = tt;
       }))
 
+  -- the words after a store into the allocation's own block
+  pub own_shown : (at : ℕ) (ws ws' : List ℕ) (i j v k : ℕ) → get_elem? keeps.layout.blocks k ≡ some (own owner at ws) → i ≡ at + j
+      → j < length ws → ws' ≡ set ws j v → IsShown shape (set words i v) (put keeps.layout k (own owner at ws'))
+  own_shown at ws ws' i j v k there place lt is =
+      let b : Block = own owner at ws in
+      let b' : Block = own owner at ws' in
+      let other : k ≢ 0 = λ (z : k ≡ 0). absurd (some-ne-none owner (ap (λ (x : Block). x.owner)
+      (some-injective b _ (sym there ∙ (ap (get_elem? keeps.layout.blocks) z ∙ keeps.shown.sound.queue.1))))) in
+      subst (λ (m : ℕ). IsShown shape (set words m v) (put keeps.layout k b')) (sym place)
+      (shown_put shape words keeps.layout k b b' j v keeps.shown there other lt is refl)
+
   -- a store into the allocation's own block
   own_store : (at : ℕ) (ws ws' : List ℕ) (i j v : ℕ) (stage : Stage) → IsAmong keeps.layout.blocks (own owner at ws) → i ≡ at + j → j < length ws
       → ws' ≡ set ws j v → IsLawful (record a { stage = stage })
@@ -172,14 +183,10 @@ module _ (shape : Dimensions) (words : List ℕ) (allocations : List Allocation)
   own_store at ws ws' i j v stage (k, there) place lt is lawful has =
       let b : Block = own owner at ws in
       let b' : Block = own owner at ws' in
-      let queue = keeps.shown.sound.queue in
-      let other : k ≢ 0 = λ (z : k ≡ 0). absurd (some-ne-none owner (ap (λ (x : Block). x.owner)
-      (some-injective b _ (sym there ∙ (ap (get_elem? keeps.layout.blocks) z ∙ queue.1))))) in
       let ends : free_of (put keeps.layout k b') ≡ free_of keeps.layout =
       free_put keeps.layout k b b' there (ap length is ∙ length-set ws j v) in
       goes (set words i v) (put keeps.layout k b') (record a { stage = stage })
-      (subst (λ (m : ℕ). IsShown shape (set words m v) (put keeps.layout k b')) (sym place)
-      (shown_put shape words keeps.layout k b b' j v keeps.shown there other lt is refl))
+      (own_shown at ws ws' i j v k there place lt is)
       record {
         shaped = fits.shaped;
         lawful = lawful;

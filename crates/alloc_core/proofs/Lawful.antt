@@ -88,9 +88,9 @@ module _ (a : Allocation) (lawful : IsShape a.shape) (least : 5 ≤ a.size) (mos
   aimed_after (StoreSize at size purpose) aimed = aimed
   aimed_after (StoreCookie at size purpose) aimed = aimed_cookie at size purpose aimed
   aimed_after (StoreType at size) aimed = aimed
-  aimed_after SetFull aimed = tt
+  aimed_after SetFull aimed = aimed
   aimed_after (Claimed at size) aimed = aimed
-  aimed_after Full aimed = tt
+  aimed_after Full aimed = aimed
   aimed_after Corrupt aimed = tt
 
 pub moved_lawful : (a : Allocation) (found : ℕ) → IsLawful a → IsLawful (moved a found)

@@ -3,3 +3,4 @@ pub mod Lawful
 pub mod Layouts
 pub mod Owners
 pub mod Keeping
+pub mod Steps

@@ -1,5 +1,5 @@
 -- An allocation: what it does next, what becomes of it, and what holds of its block.
-use Rattle.std.specs.Prelude.{◌≡◌, ℕ, ◌+◌, ◌-◌, ◌%◌, ◌<◌, ◌≤◌, ◌==◌, Bool, true, false, List, [], ◌∷◌, replicate, bit_and, if◌then◌else◌, Option, Some, None, Result, Ok, Err, max, nat_lt, ⊤}
+use Rattle.std.specs.Prelude.{◌≡◌, ℕ, ◌+◌, ◌-◌, ◌%◌, ◌<◌, ◌≤◌, ◌==◌, ◌≢◌, ◌⊎◌, Bool, true, false, List, [], ◌∷◌, replicate, bit_and, if◌then◌else◌, Option, Some, None, Result, Ok, Err, max, nat_lt, ⊤}
 use Rattle.alloc_core.specs.declared.alloc.TooLarge.{TooLarge}
 use Rattle.segment_image.specs.Shape.{Dimensions}
 use Rattle.segment_image.specs.Words.{word_at}
@@ -88,6 +88,11 @@ answer Full = said.Full
 answer Corrupt = said.Corrupt
 answer _ = said.More
 
+-- why a step finds a segment corrupt: it loaded the corrupt flag, or a free pointer that no segment has
+abbrev pub IsCorruptBy : Allocation → List ℕ → Type 0
+IsCorruptBy old words =
+    ((old.stage ≡ LoadFlags) × (bit_and (word_at words 6) 1 ≢ 0)) ⊎ ((old.stage ≡ LoadFree) × (is_pointer old.shape (word_at words 7) ≡ false))
+
 -- one step: the next event happens, the allocation is what that makes of it, and the answer says how it stands
 pub record IsStep (old : Allocation) (words : List ℕ) (new : Allocation) (new_words : List ℕ) (step : AllocStep) : Type 0 where
   pub event : Event
@@ -109,7 +114,8 @@ abbrev pub Suits : Allocation → Purpose → ℕ → Type 0
 Suits allocation purpose.Claim size = (allocation.size ≤ size) × (size < allocation.size + 5)
 Suits allocation purpose.Waste size = size < allocation.size
 
--- what holds at a stage, whatever the words are: what it will store lies in the segment, and Full has its cause
+-- what holds at a stage, whatever the words are: what it stores lies in the segment, and it is full where the words that
+-- it wants pass the end of the segment from the free pointer that it loaded
 abbrev pub IsAimed : Allocation → Stage → Type 0
 IsAimed allocation (ExchangeFree next purpose) =
     (16 ≤ allocation.seen) × IsRise allocation.shape allocation.seen next × Suits allocation purpose (next - allocation.seen)
@@ -122,6 +128,7 @@ IsAimed allocation (StoreType at size) =
 IsAimed allocation (Claimed at size) =
     (16 ≤ at) × IsRise allocation.shape at (at + size) × Suits allocation purpose.Claim size
 IsAimed allocation SetFull = allocation.shape.size < allocation.seen + allocation.size
+IsAimed allocation Full = allocation.shape.size < allocation.seen + allocation.size
 IsAimed allocation _ = ⊤
 
 -- an allocation that was started lawfully, whatever was done to the words since

@@ -124,11 +124,14 @@ impl Purpose {
 }
 
 impl Alloc {
-    ghost use Rattle.std.specs.Prelude.{◌≡◌, length, is_some, true, IfSome};
+    ghost use Rattle.std.specs.Prelude.{◌≡◌, ◌+◌, ◌<◌, ℕ, List, length, slice_set, is_some, true, IfSome};
+    ghost use mathlib.Core.Option.{some};
+    ghost use lib.ListN.{get_elem?};
     ghost use Rattle.segment_image.specs.Words.{word_at};
     ghost use Rattle.alloc_core.specs.Event.{spot, after, change};
     ghost use Rattle.alloc_core.specs.Planned.{planned, is_pointer};
-    ghost use Rattle.alloc_core.specs.Alloc.{event_at, next_event, stage_of_plan, seen_after, stage_after, started, moved, IsStep};
+    ghost use Rattle.alloc_core.specs.Alloc.{event_at, next_event, stage_of_plan, seen_after, stage_after, started, moved, Allocation, IsStep, IsCorruptBy};
+    ghost use Rattle.alloc_core.specs.Laws.{Keeps, IsNewBlock};
 
     /// An allocation of a block with `payload` words behind its header, and of a type; a payload of 0 is taken as 1.
     ///
@@ -155,6 +158,10 @@ impl Alloc {
         requires long { length words.old ≡ self.old.shape.size }
         requires running { is_some (next_event self.old) ≡ true }
         ensures step { IsStep self.old words.old self.new words.new result }
+        ensures full { result ≡ AllocStep.Full → self.new.shape.size < self.new.seen + self.new.size }
+        ensures corrupt { result ≡ AllocStep.Corrupt → IsCorruptBy self.old words.old }
+        ensures keeps { (allocations : List Allocation) (owner : ℕ) → get_elem? allocations owner ≡ some self.old → Keeps self.old.shape words.old allocations → Keeps self.old.shape words.new (slice_set allocations owner self.new) }
+        ensures done { (reference : ℕ) → result ≡ AllocStep.Done reference → (allocations : List Allocation) (owner : ℕ) → get_elem? allocations owner ≡ some self.old → Keeps self.old.shape words.old allocations → IsNewBlock self.new reference words.new allocations owner }
     {
         let found = self.act(words);
         self.go_on(found);

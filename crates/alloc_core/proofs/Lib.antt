@@ -4,3 +4,4 @@ pub mod Layouts
 pub mod Owners
 pub mod Keeping
 pub mod Steps
+pub mod Runs

@@ -91,8 +91,8 @@ module _ (a : Allocation) (words : List ℕ) where
   corrupt_at (StoreCookie at size purpose) event e is to = absurd (cookie_goes at size purpose to)
   corrupt_at (StoreType at size) event e is to = absurd (cc to)
   corrupt_at SetFull event e is to = absurd (cc to)
-  corrupt_at (Claimed at size) event e is to = absurd (cc is)
-  corrupt_at Full event e is to = absurd (cc is)
+  corrupt_at (Claimed at size) event e is to = absurd (cc to)
+  corrupt_at Full event e is to = absurd (cc to)
   corrupt_at Corrupt event e is to = absurd (cc is)
 
 pub corrupt_cause : (old new : Allocation) (words new_words : List ℕ) (step : AllocStep) → IsStep old words new new_words step
@@ -222,8 +222,8 @@ typed_stage a found at size (StoreType from n) event is to =
     let same : (from, n) ≡ (at, size) = cc to in ap (λ (p : ℕ × ℕ). StoreType p.0 p.1) same
 typed_stage a found at size SetFull event is to = absurd (cc to)
 typed_stage a found at size (Claimed from n) event is to = absurd (cc is)
-typed_stage a found at size Full event is to = absurd (cc is)
-typed_stage a found at size Corrupt event is to = absurd (cc is)
+typed_stage a found at size Full event is to = absurd (cc to)
+typed_stage a found at size Corrupt event is to = absurd (cc to)
 
 -- the block that was claimed, when its type is stored
 module _ (words : List ℕ) (allocations : List Allocation) (owner : ℕ) (a : Allocation) (reference size : ℕ) (keeps : Keeps a.shape words allocations)

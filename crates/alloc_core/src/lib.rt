@@ -7,6 +7,7 @@
 #![tactic(auto)]
 
 mod alloc;
+pub mod laws;
 mod planned;
 
 pub use alloc::{Alloc, AllocStep, TooLarge};

@@ -1,0 +1,132 @@
+-- The laws of allocation over moves and runs.
+use Rattle.std.proofs.Common.{◌≡◌, ◌≢◌, ◌⊎◌, ℕ, zero, suc, ◌+◌, ◌-◌, ◌%◌, ◌<◌, ◌≤◌, Bool, true, false, List, [], ◌∷◌, ◌++◌, length, get_or, set, inl, inr, sym, refl, ap, ◌∙◌, subst, arith}
+use Rattle.std.specs.Prelude.{Some, None, nat_le, ◌&&◌, bit_or}
+use Rattle.std.proofs.Math.Nat.{mod-le}
+use Rattle.std.proofs.lemmas.Bool.{and_from, le-leb}
+use Rattle.std.proofs.lemmas.List.{get_or-set_other, get_or-set_same}
+use mathlib.Core.Option.{some, some-ne-none}
+use lib.ListN.{get_elem?}
+use lib.Seq.{set-get_or}
+use Rattle.segment_image.specs.Shape.{Dimensions}
+use Rattle.segment_image.specs.Words.{word_at}
+use Rattle.segment_image.specs.Image.{blank_words}
+use Rattle.alloc_core.specs.declared.alloc.Stage.{Stage}
+use Rattle.alloc_core.specs.declared.alloc.Stage.TheVariants.{LoadFlags, LoadFree, ExchangeFree, StoreSize, StoreCookie, StoreType, SetFull, Claimed, Full, Corrupt}
+use Rattle.alloc_core.specs.Layout.{Layout, free_of, render, IsShape, IsSound, IsShown, fresh}
+use Rattle.alloc_core.specs.Planned.{room_at, is_pointer}
+use Rattle.alloc_core.specs.Event.{Event, load_flags, load_free, exchange_free, store_size, store_cookie, store_type, store_payload, set_flag, spot, after}
+use Rattle.alloc_core.specs.Alloc.{Allocation, event_at, cookie_of, IsAimed}
+use Rattle.alloc_core.specs.Laws.{Behind, Keeps, State, Move, starts, steps, fills, spoils, IsMove, IsRun, StateKeeps, opening, FlagsBy}
+use Rattle.alloc_core.proofs.Layouts.{free_word, free_from, length_shown}
+use Rattle.alloc_core.proofs.Keeping.{step_keeps, fill_keeps, corrupt_keeps, start_keeps}
+
+-- the layout without blocks is one of a segment
+fresh_sound : (shape : Dimensions) (version id : ℕ) → IsShape shape → IsSound shape (fresh shape version id)
+fresh_sound shape version id lawful =
+    let wide = lawful.wide in
+    let one = lawful.one in
+    record {
+      lawful = lawful;
+      queue = (12, refl);
+      laid = (refl, omega arith, omega (arith, mod-le 12 shape.page), tt);
+      ends = omega arith;
+      leaves = omega (arith, mod-le 16 shape.page);
+    }
+
+pub opening_keeps : (shape : Dimensions) (id : ℕ) → IsShape shape → StateKeeps shape (opening shape id)
+opening_keeps shape id lawful = record {
+  layout = fresh shape 1 id;
+  shown = record { shows = refl; sound = fresh_sound shape 1 id lawful };
+  each = λ owner a there. absurd (some-ne-none a (sym there));
+}
+
+pub move_keeps : (shape : Dimensions) (move : Move) (old new : State) → StateKeeps shape old → IsMove shape move old new → StateKeeps shape new
+move_keeps shape (starts payload tag) old new keeps (a, is, same) =
+    subst (StateKeeps shape) (sym same) (start_keeps shape old.words old.allocations payload tag a is keeps)
+move_keeps shape (steps owner) old new keeps (a, mine, event, next, same) =
+    subst (StateKeeps shape) (sym same) (step_keeps shape old.words old.allocations owner a keeps mine a.stage event refl next)
+move_keeps shape (fills owner index value) old new keeps (a, mine, block, stage, lt, same) =
+    subst (StateKeeps shape) (sym same) (fill_keeps shape old.words old.allocations owner a keeps mine block.0 block.1 index value stage lt)
+move_keeps shape spoils old new keeps same = subst (StateKeeps shape) (sym same) (corrupt_keeps shape old.words old.allocations keeps)
+
+pub run_keeps : (shape : Dimensions) (moves : List Move) (old new : State) → StateKeeps shape old → IsRun shape moves old new → StateKeeps shape new
+run_keeps shape [] old new keeps same = subst (StateKeeps shape) (sym same) keeps
+run_keeps shape (move ∷ moves) old new keeps (next, first, rest) = run_keeps shape moves next new (move_keeps shape move old next keeps first) rest
+
+-- the free pointer of words that are kept
+pub free_lawful : (shape : Dimensions) (state : State) (owner : ℕ) (a : Allocation) → StateKeeps shape state → get_elem? state.allocations owner ≡ some a
+    → Behind a.seen (word_at state.words 7) × (is_pointer shape (word_at state.words 7) ≡ true)
+free_lawful shape state owner a keeps mine =
+    let is = free_word shape state.words keeps.layout keeps.shown in
+    let sound = keeps.shown.sound in
+    let ends = sound.ends in
+    let leaves = sound.leaves in
+    let from = free_from shape state.words keeps.layout keeps.shown in
+    let free : ℕ = free_of keeps.layout in
+    let room : 5 ≤ room_at shape free = omega arith in
+    let lawful : is_pointer shape free ≡ true =
+    and_from (nat_le 16 free && nat_le free shape.size) (nat_le 5 (room_at shape free))
+    (and_from (nat_le 16 free) (nat_le free shape.size) (le-leb 16 free from) (le-leb free shape.size (omega arith))) (le-leb 5 (room_at shape free) room) in
+    (subst (Behind a.seen) (sym is) (keeps.each owner a mine).behind, subst (λ (n : ℕ). is_pointer shape n ≡ true) (sym is) lawful)
+
+-- a word that an event does not act on
+beside : (words : List ℕ) (i v : ℕ) → i ≢ 6 → word_at (set words i v) 6 ≡ word_at words 6
+beside words i v ne = get_or-set_other words i 6 v 0 (λ e. ne (sym e))
+
+-- flags that were set
+flagged : (words : List ℕ) (v : ℕ) → 6 < length words → word_at (set words 6 v) 6 ≡ v
+flagged words v lt = get_or-set_same words 6 v 0 lt
+
+-- the flags after the next event of an allocation
+step_flags : (words : List ℕ) (a : Allocation) (stage : Stage) (event : Event) → 6 < length words → event_at a stage ≡ Some event → IsAimed a stage
+    → (word_at (after event words) 6 ≡ word_at words 6) ⊎ ((stage ≡ SetFull) × (word_at (after event words) 6 ≡ bit_or (word_at words 6) 2))
+step_flags words a LoadFlags event lt is aimed =
+    let same : load_flags ≡ event = cc is in
+    inl (subst (λ (v : Event). word_at (after v words) 6 ≡ word_at words 6) same (ap (λ (ws : List ℕ). word_at ws 6) (set-get_or words 6 0)))
+step_flags words a LoadFree event lt is aimed =
+    let same : load_free ≡ event = cc is in
+    inl (subst (λ (v : Event). word_at (after v words) 6 ≡ word_at words 6) same (beside words 7 (word_at words 7) (λ e. omega arith)))
+step_flags words a (ExchangeFree next purpose) event lt is aimed =
+    let same : exchange_free a.seen next ≡ event = cc is in
+    inl (subst (λ (v : Event). word_at (after v words) 6 ≡ word_at words 6) same (beside words 7 _ (λ e. omega arith)))
+step_flags words a (StoreSize at size purpose) event lt is aimed =
+    let same : store_size at size ≡ event = cc is in
+    let from = aimed.0 in
+    inl (subst (λ (v : Event). word_at (after v words) 6 ≡ word_at words 6) same (beside words at size (λ e. omega arith)))
+step_flags words a (StoreCookie at size purpose) event lt is aimed =
+    let same : store_cookie at (cookie_of purpose) ≡ event = cc is in
+    let from = aimed.0 in
+    inl (subst (λ (v : Event). word_at (after v words) 6 ≡ word_at words 6) same (beside words (at + 1) (cookie_of purpose) (λ e. omega arith)))
+step_flags words a (StoreType at size) event lt is aimed =
+    let same : store_type at a.tag ≡ event = cc is in
+    let from = aimed.0 in
+    inl (subst (λ (v : Event). word_at (after v words) 6 ≡ word_at words 6) same (beside words (at + 2) a.tag (λ e. omega arith)))
+step_flags words a SetFull event lt is aimed =
+    let same : set_flag 2 ≡ event = cc is in
+    inr (refl, subst (λ (v : Event). word_at (after v words) 6 ≡ bit_or (word_at words 6) 2) same (flagged words (bit_or (word_at words 6) 2) lt))
+step_flags words a (Claimed at size) event lt is aimed = absurd (cc is)
+step_flags words a Full event lt is aimed = absurd (cc is)
+step_flags words a Corrupt event lt is aimed = absurd (cc is)
+
+-- the words of a segment have a word of flags
+has_flags : (shape : Dimensions) (state : State) → StateKeeps shape state → 6 < length state.words
+has_flags shape state keeps =
+    let long = length_shown shape state.words keeps.layout keeps.shown in
+    let wide = keeps.shown.sound.lawful.wide in
+    let one = keeps.shown.sound.lawful.one in
+    omega (arith, long, wide, one)
+
+pub flags_by : (shape : Dimensions) (move : Move) (old new : State) → StateKeeps shape old → IsMove shape move old new → FlagsBy move old new
+flags_by shape (starts payload tag) old new keeps (a, is, same) = inl (ap (λ (s : State). word_at s.words 6) same)
+flags_by shape (steps owner) old new keeps (a, mine, event, next, same) =
+    let now : new.words ≡ after event old.words = ap (λ (s : State). s.words) same in
+    elim (step_flags old.words a a.stage event (has_flags shape old keeps) next (keeps.each owner a mine).lawful.aimed) [
+      | inl kept ↦ inl (ap (λ (ws : List ℕ). word_at ws 6) now ∙ kept)
+      | inr set_by ↦ inr (inr (owner, a, refl, mine, set_by.0, ap (λ (ws : List ℕ). word_at ws 6) now ∙ set_by.1))
+    ]
+flags_by shape (fills owner index value) old new keeps (a, mine, block, stage, lt, same) =
+    let aimed : IsAimed a (Claimed block.0 block.1) = subst (IsAimed a) stage (keeps.each owner a mine).lawful.aimed in
+    let from = aimed.0 in
+    inl (ap (λ (s : State). word_at s.words 6) same ∙ beside old.words (block.0 + (4 + index)) value (λ e. omega arith))
+flags_by shape spoils old new keeps same =
+    inr (inl (refl, ap (λ (s : State). word_at s.words 6) same ∙ flagged old.words (bit_or (word_at old.words 6) 1) (has_flags shape old keeps)))

@@ -1,0 +1,51 @@
+//! The laws of allocation: what holds between any two events of any number of allocations, in any order.
+//!
+//! The functions do nothing. What each promises is a law of the definitions in `specs/Laws.antt` and `specs/Event.antt`,
+//! which the contract of `Alloc::step` cites too. A machine with more kinds of events has the lemmas in
+//! `proofs/Layouts.antt` and `proofs/Owners.antt` for those of allocation.
+
+ghost use Rattle.std.specs.Prelude.{◌≡◌, ◌≢◌, ℕ, List, [], true, Some};
+ghost use mathlib.Core.Option.{some};
+ghost use lib.ListN.{get_elem?};
+ghost use Rattle.segment_image.specs.Shape.{Dimensions};
+ghost use Rattle.segment_image.specs.Words.{word_at};
+ghost use Rattle.alloc_core.specs.Layout.{IsShape};
+ghost use Rattle.alloc_core.specs.Planned.{is_pointer};
+ghost use Rattle.alloc_core.specs.Alloc.{Allocation};
+ghost use Rattle.alloc_core.specs.Laws.{Keeps, Behind, taken, Apart, State, Move, IsMove, IsRun, StateKeeps, opening, FlagsBy};
+
+/// The words of a ready segment without blocks keep the allocation invariant.
+pub fn opening_words_keep()
+    ensures { (shape : Dimensions) (id : ℕ) → IsShape shape → StateKeeps shape (opening shape id) }
+{}
+
+/// Whatever happens next keeps it: an allocation starts, or goes on by its next event; the owner of a claimed block stores
+/// a word of its payload; somebody sets the corrupt flag.
+pub fn moves_keep()
+    ensures { (shape : Dimensions) (move : Move) (old new : State) → StateKeeps shape old → IsMove shape move old new → StateKeeps shape new }
+{}
+
+/// So do any moves, one after the other, in whatever order.
+pub fn runs_keep()
+    ensures { (shape : Dimensions) (moves : List Move) (old new : State) → StateKeeps shape old → IsRun shape moves old new → StateKeeps shape new }
+{}
+
+/// The words that two allocations have taken and not wasted, their claimed blocks among them, are apart.
+pub fn blocks_are_apart()
+    ensures { (shape : Dimensions) (state : State) (i j : ℕ) (a b : Allocation) (block other : ℕ × ℕ) → StateKeeps shape state → i ≢ j
+        → get_elem? state.allocations i ≡ some a → get_elem? state.allocations j ≡ some b
+        → taken a.stage ≡ Some block → taken b.stage ≡ Some other → Apart block other }
+{}
+
+/// The free pointer is lawful, and it is the one that an allocation loaded last, or at least five above it. So an
+/// exchange that fails finds it at least five higher, and no allocation tries for ever.
+pub fn free_pointer_rises()
+    ensures { (shape : Dimensions) (state : State) (owner : ℕ) (a : Allocation) → StateKeeps shape state → get_elem? state.allocations owner ≡ some a
+        → Behind a.seen (word_at state.words 7) × (is_pointer shape (word_at state.words 7) ≡ true) }
+{}
+
+/// The flags change only by those that set them: the corrupt flag by somebody who spoils the segment, the full flag by
+/// an allocation that has found no room.
+pub fn flags_have_setters()
+    ensures { (shape : Dimensions) (move : Move) (old new : State) → StateKeeps shape old → IsMove shape move old new → FlagsBy move old new }
+{}

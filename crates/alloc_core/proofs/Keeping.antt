@@ -1,12 +1,11 @@
 -- Each event of each allocation keeps the allocation invariant.
-use Rattle.std.proofs.Common.{◌≡◌, ◌≢◌, ◌⊎◌, ℕ, zero, suc, ◌+◌, ◌-◌, ◌%◌, ◌<◌, ◌≤◌, ◌==◌, eqb, eq-eqb, ne_eqb, Bool, true, false, List, [], ◌∷◌, ◌++◌, length, replicate, get_or, set, inl, inr, ⊎_elim, sym, refl, ap, ap₂, ◌∙◌, subst, arith, length-set}
-use Rattle.std.specs.Prelude.{bit_and, bit_or, if◌then◌else◌, Some, None, Result, Ok, Err, max, nat_lt}
+use Rattle.std.proofs.Common.{◌≡◌, ◌≢◌, ℕ, ◌+◌, ◌-◌, ◌<◌, ◌≤◌, ◌==◌, eq-eqb, ne_eqb, Bool, true, false, List, [], ◌∷◌, ◌++◌, length, replicate, set, inl, inr, ⊎_elim, sym, refl, ap, ◌∙◌, subst, arith, length-set}
+use Rattle.std.specs.Prelude.{bit_and, if◌then◌else◌, Some, Result, Ok, Err, max, nat_lt}
 use Rattle.std.proofs.lemmas.List.{length-replicate}
 use mathlib.Core.Logic.{dite}
-use mathlib.Core.Option.{some, some-injective, some-ne-none}
+use mathlib.Core.Option.{some}
 use native.Mathlib.Decide.{ℕ_discrete}
 use lib.ListN.{get_elem?}
-use lib.Seq.{set-get_or}
 use Rattle.atomic_table.proofs.Lists.{at_set, at_snoc, set_again}
 use Rattle.segment_image.specs.Shape.{Dimensions}
 use Rattle.segment_image.specs.Words.{word_at}
@@ -17,35 +16,21 @@ use Rattle.alloc_core.specs.declared.alloc.Stage.TheVariants.{LoadFlags, LoadFre
 use Rattle.alloc_core.specs.declared.alloc.TooLarge.{TooLarge}
 use Rattle.alloc_core.specs.declared.planned.Planned.{Planned}
 use Rattle.alloc_core.specs.declared.planned.Planned.TheVariants as plan
-use Rattle.alloc_core.specs.Layout.{Block, extent, Layout, free_of, IsShown, IsAmong, put, raw_block, grown}
+use Rattle.alloc_core.specs.Layout.{Block, Layout, free_of, IsShown, IsAmong, put, raw_block, grown}
 use Rattle.alloc_core.specs.Planned.{planned, is_pointer}
-use Rattle.alloc_core.specs.Event.{Event, load_flags, load_free, exchange_free, store_size, store_cookie, store_type, store_payload, set_flag, spot, change, after}
-use Rattle.alloc_core.specs.Alloc.{Allocation, cookie_of, stage_of_plan, stage_of_cookie, stage_after, seen_after, event_at, next_event, moved, first_of, started, IsRise, IsAimed, IsLawful}
+use Rattle.alloc_core.specs.Event.{Event, load_flags, load_free, exchange_free, store_size, store_cookie, store_type, store_payload, set_flag, spot, after}
+use Rattle.alloc_core.specs.Alloc.{Allocation, cookie_of, stage_of_plan, stage_of_cookie, stage_after, seen_after, event_at, first_of, started, IsRise, IsAimed, IsLawful}
 use Rattle.alloc_core.specs.Laws.{Behind, own, claimed_words, Has, Fits, Keeps}
 use Rattle.alloc_core.specs.Layout.{IsShape}
 use Rattle.std.proofs.Math.Nat.{le-max_right, max-le}
 use Rattle.std.proofs.lemmas.Bool.{ltb-false}
 use Rattle.alloc_core.proofs.Lawful.{moved_lawful}
-use Rattle.alloc_core.proofs.Layouts.{shown_put, shown_grown, shown_corrupt, shown_full, free_word, free_from, ends_within, free_grown, free_put}
-use Rattle.alloc_core.proofs.Owners.{set_at, among_put, among_last, has_else, has_longer}
+use Rattle.alloc_core.proofs.Layouts.{shown_corrupt, shown_full, free_word, free_from, free_grown, free_put}
+use Rattle.alloc_core.proofs.EventKinds.{sized, marked, length-sized, length-marked, length-claimed, flags_loaded, free_loaded, free_kept, free_exchanged, size_stored, cookie_stored, type_stored, payload_stored}
+use Rattle.alloc_core.proofs.Owners.{among_put, among_last, has_else, has_longer}
 
 Behind-le : (m n : ℕ) → Behind m n → m ≤ n
 Behind-le m n b = ⊎_elim (λ (e : m ≡ n). let h : m ≤ n = omega arith in h) (λ (e : m + 5 ≤ n). let h : m ≤ n = omega arith in h) b
-
--- the first three words of zeros, one after the other
-first_zero : (n v : ℕ) → 0 < n → set (replicate n 0) 0 v ≡ v ∷ replicate (n - 1) 0
-first_zero zero v h = absurd (omega arith)
-first_zero (suc n) v h = ap (λ (m : ℕ). v ∷ replicate m 0) (omega arith)
-
-second_zero : (n v : ℕ) → 1 < n → set (n ∷ replicate (n - 1) 0) 1 v ≡ n ∷ v ∷ replicate (n - 2) 0
-second_zero n v h =
-    let less : n - 1 - 1 ≡ n - 2 = omega arith in
-    ap (λ (l : List ℕ). n ∷ l) (first_zero (n - 1) v (omega arith) ∙ ap (λ (m : ℕ). v ∷ replicate m 0) less)
-
-pub third_zero : (n c v : ℕ) → 2 < n → set (n ∷ c ∷ replicate (n - 2) 0) 2 v ≡ n ∷ c ∷ v ∷ replicate (n - 3) 0
-third_zero n c v h =
-    let less : n - 2 - 1 ≡ n - 3 = omega arith in
-    ap (λ (l : List ℕ). n ∷ c ∷ l) (first_zero (n - 2) v (omega arith) ∙ ap (λ (m : ℕ). v ∷ replicate m 0) less)
 
 module _ (shape : Dimensions) (words : List ℕ) (allocations : List Allocation) (owner : ℕ) (a : Allocation)
     (keeps : Keeps shape words allocations) (mine : get_elem? allocations owner ≡ some a) where
@@ -69,11 +54,9 @@ module _ (shape : Dimensions) (words : List ℕ) (allocations : List Allocation)
   }
 
   -- where no word changes
-  stays : (i : ℕ) (n : ℕ) (a' : Allocation) → n ≡ get_or words i 0 → Fits shape keeps.layout owner a' → Goes (set words i n) a'
-  stays i n a' same fits' =
-      goes (set words i n) keeps.layout a'
-      (subst (λ (ws : List ℕ). IsShown shape ws keeps.layout) (sym (ap (set words i) same ∙ set-get_or words i 0)) keeps.shown)
-      fits' (λ _ _ _ f. f)
+  stays : (words' : List ℕ) (a' : Allocation) → words' ≡ words → Fits shape keeps.layout owner a' → Goes words' a'
+  stays words' a' same fits' =
+      goes words' keeps.layout a' (subst (λ (ws : List ℕ). IsShown shape ws keeps.layout) (sym same) keeps.shown) fits' (λ _ _ _ f. f)
 
   -- what the allocation is after an event at a stage
   abbrev at_stage : ℕ → Stage → Allocation
@@ -95,7 +78,7 @@ module _ (shape : Dimensions) (words : List ℕ) (allocations : List Allocation)
   loads_flags : a.stage ≡ LoadFlags → Goes (after load_flags words) (at_stage (word_at words 6) LoadFlags)
   loads_flags e =
       let found : ℕ = word_at words 6 in
-      stays 6 found (at_stage found LoadFlags) refl record {
+      stays (after load_flags words) (at_stage found LoadFlags) (flags_loaded words) record {
         shaped = fits.shaped;
         lawful = lawful_at found LoadFlags e;
         behind = fits.behind;
@@ -111,7 +94,7 @@ module _ (shape : Dimensions) (words : List ℕ) (allocations : List Allocation)
   loads_free : a.stage ≡ LoadFree → Goes (after load_free words) (at_stage (word_at words 7) LoadFree)
   loads_free e =
       let found : ℕ = word_at words 7 in
-      stays 7 found (at_stage found LoadFree) refl record {
+      stays (after load_free words) (at_stage found LoadFree) (free_loaded words) record {
         shaped = fits.shaped;
         lawful = lawful_at found LoadFree e;
         behind = inl (free_word shape words keeps.layout keeps.shown);
@@ -119,74 +102,58 @@ module _ (shape : Dimensions) (words : List ℕ) (allocations : List Allocation)
       }
 
   -- an exchange that went through
-  hits : (next : ℕ) (purpose : Purpose) (found : ℕ) → found ≡ free_of keeps.layout → found ≡ a.seen → IsRise shape found next
+  hits : (next : ℕ) (purpose : Purpose) (found : ℕ) → found ≡ word_at words 7 → found ≡ a.seen → IsRise shape a.seen next
       → IsLawful (record a { stage = StoreSize found (next - found) purpose })
-      → Goes (set words 7 next) (record a { stage = StoreSize found (next - found) purpose })
-  hits next purpose found is same up lawful =
-      let free : ℕ = free_of keeps.layout in
-      let n : ℕ = next - free in
+      → Goes (after (exchange_free a.seen next) words) (record a { stage = StoreSize found (next - found) purpose })
+  hits next purpose found read same up lawful =
+      let n : ℕ = next - a.seen in
       let five = up.five in
-      let end : free_of (grown keeps.layout owner n) ≡ next = omega (arith, free_grown keeps.layout owner n, is, five) in
-      goes (set words 7 next) (grown keeps.layout owner n) (record a { stage = StoreSize found (next - found) purpose })
-      (shown_grown shape words keeps.layout owner next keeps.shown (subst (λ (m : ℕ). IsRise shape m next) is up))
+      let is : found ≡ free_of keeps.layout = read ∙ free_word shape words keeps.layout keeps.shown in
+      let end : free_of (grown keeps.layout owner n) ≡ next = omega (arith, free_grown keeps.layout owner n, is, same, five) in
+      goes (after (exchange_free a.seen next) words) (grown keeps.layout owner n) (record a { stage = StoreSize found (next - found) purpose })
+      (free_exchanged shape words keeps.layout owner a.seen next keeps.shown (sym read ∙ same) up)
       record {
         shaped = fits.shaped;
         lawful = lawful;
-        behind = inr (omega (arith, end, is, same, five));
-        has = subst (λ (m : ℕ). IsAmong (grown keeps.layout owner n).blocks (own owner m (replicate (next - m) 0))) (sym is)
-            (among_last keeps.layout.blocks (raw_block free owner n));
+        behind = inr (omega (arith, end, five));
+        has = subst (λ (m : ℕ × ℕ). IsAmong (grown keeps.layout owner n).blocks (own owner m.0 (replicate (next - m.1) 0))) (λ i. (sym is i, sym same i))
+            (among_last keeps.layout.blocks (raw_block (free_of keeps.layout) owner n));
       }
       (λ j x ne f. record {
         shaped = f.shaped;
         lawful = f.lawful;
-        behind = inr (omega (arith, Behind-le x.seen free f.behind, end, is, five));
-        has = has_longer keeps.layout.blocks (raw_block free owner n) j x.stage f.has;
+        behind = inr (omega (arith, Behind-le x.seen (free_of keeps.layout) f.behind, end, is, same, five));
+        has = has_longer keeps.layout.blocks (raw_block (free_of keeps.layout) owner n) j x.stage f.has;
       })
 
   exchanges : (next : ℕ) (purpose : Purpose) → a.stage ≡ ExchangeFree next purpose
       → Goes (after (exchange_free a.seen next) words) (at_stage (word_at words 7) (ExchangeFree next purpose))
   exchanges next purpose e =
       let found : ℕ = word_at words 7 in
-      let is = free_word shape words keeps.layout keeps.shown in
       let stage_by : Bool → Stage = λ b. if b then StoreSize found (next - found) purpose else LoadFlags in
       let law : IsLawful (record a { stage = stage_by (found == a.seen) }) = lawful_at found (ExchangeFree next purpose) e in
+      let up : IsRise shape a.seen next = subst (λ (s : Dimensions). IsRise s a.seen next) fits.shaped (aimed_at (ExchangeFree next purpose) e).1 in
+      let ends : Bool → Type 0 = λ b. Goes (after (exchange_free a.seen next) words) (record a { stage = stage_by b }) in
       dite (ℕ_discrete found a.seen)
       (λ same. let hit = eq-eqb found a.seen same in
-      subst (λ (b : Bool). Goes (set words 7 (if b then next else found)) (record a { stage = stage_by b })) (sym hit)
-      (hits next purpose found is same
-      (subst (λ (m : ℕ). IsRise shape m next) (sym same) (subst (λ (s : Dimensions). IsRise s a.seen next) fits.shaped (aimed_at (ExchangeFree next purpose) e).1))
-      (subst (λ (b : Bool). IsLawful (record a { stage = stage_by b })) hit law)))
+      subst ends (sym hit) (hits next purpose found refl same up (subst (λ (b : Bool). IsLawful (record a { stage = stage_by b })) hit law)))
       (λ other. let miss = ne_eqb found a.seen other in
-      subst (λ (b : Bool). Goes (set words 7 (if b then next else found)) (record a { stage = stage_by b })) (sym miss)
-      (stays 7 found (record a { stage = LoadFlags }) refl record {
+      subst ends (sym miss) (stays (after (exchange_free a.seen next) words) (record a { stage = LoadFlags }) (free_kept words a.seen next other) record {
         shaped = fits.shaped;
         lawful = subst (λ (b : Bool). IsLawful (record a { stage = stage_by b })) miss law;
         behind = fits.behind;
         has = tt;
       }))
 
-  -- the words after a store into the allocation's own block
-  pub own_shown : (at : ℕ) (ws ws' : List ℕ) (i j v k : ℕ) → get_elem? keeps.layout.blocks k ≡ some (own owner at ws) → i ≡ at + j
-      → j < length ws → ws' ≡ set ws j v → IsShown shape (set words i v) (put keeps.layout k (own owner at ws'))
-  own_shown at ws ws' i j v k there place lt is =
+  -- a store into the allocation's own block, from one list of words to another
+  own_store : (at k : ℕ) (ws ws' words' : List ℕ) (stage : Stage) → get_elem? keeps.layout.blocks k ≡ some (own owner at ws)
+      → length ws' ≡ length ws → IsShown shape words' (put keeps.layout k (own owner at ws')) → IsLawful (record a { stage = stage })
+      → ((blocks : List Block) → IsAmong blocks (own owner at ws') → Has blocks owner stage) → Goes words' (record a { stage = stage })
+  own_store at k ws ws' words' stage there long shown lawful has =
       let b : Block = own owner at ws in
       let b' : Block = own owner at ws' in
-      let other : k ≢ 0 = λ (z : k ≡ 0). absurd (some-ne-none owner (ap (λ (x : Block). x.owner)
-      (some-injective b _ (sym there ∙ (ap (get_elem? keeps.layout.blocks) z ∙ keeps.shown.sound.queue.1))))) in
-      subst (λ (m : ℕ). IsShown shape (set words m v) (put keeps.layout k b')) (sym place)
-      (shown_put shape words keeps.layout k b b' j v keeps.shown there other lt is refl)
-
-  -- a store into the allocation's own block
-  own_store : (at : ℕ) (ws ws' : List ℕ) (i j v : ℕ) (stage : Stage) → IsAmong keeps.layout.blocks (own owner at ws) → i ≡ at + j → j < length ws
-      → ws' ≡ set ws j v → IsLawful (record a { stage = stage })
-      → ((blocks : List Block) → IsAmong blocks (own owner at ws') → Has blocks owner stage) → Goes (set words i v) (record a { stage = stage })
-  own_store at ws ws' i j v stage (k, there) place lt is lawful has =
-      let b : Block = own owner at ws in
-      let b' : Block = own owner at ws' in
-      let ends : free_of (put keeps.layout k b') ≡ free_of keeps.layout =
-      free_put keeps.layout k b b' there (ap length is ∙ length-set ws j v) in
-      goes (set words i v) (put keeps.layout k b') (record a { stage = stage })
-      (own_shown at ws ws' i j v k there place lt is)
+      let ends : free_of (put keeps.layout k b') ≡ free_of keeps.layout = free_put keeps.layout k b b' there long in
+      goes words' (put keeps.layout k b') (record a { stage = stage }) shown
       record {
         shaped = fits.shaped;
         lawful = lawful;
@@ -203,33 +170,40 @@ module _ (shape : Dimensions) (words : List ℕ) (allocations : List Allocation)
   stores_size : (at size : ℕ) (purpose : Purpose) → a.stage ≡ StoreSize at size purpose
       → Goes (after (store_size at size) words) (at_stage (word_at words at) (StoreSize at size purpose))
   stores_size at size purpose e =
-      let five = (aimed_at (StoreSize at size purpose) e).1.five in
-      own_store at (replicate size 0) (size ∷ replicate (size - 1) 0) at 0 size (StoreCookie at size purpose)
-      (has_at (StoreSize at size purpose) e) (omega arith) (omega (arith, length-replicate {A = ℕ} size 0, five))
-      (sym (first_zero size size (omega (arith, five)))) (lawful_at 0 (StoreSize at size purpose) e) (λ blocks among. among)
+      let (k, there) = has_at (StoreSize at size purpose) e in
+      let five : 5 ≤ size = let h = (aimed_at (StoreSize at size purpose) e).1.five in omega (arith, h) in
+      own_store at k (replicate size 0) (sized size) (after (store_size at size) words) (StoreCookie at size purpose) there
+      (omega (arith, length-replicate {A = ℕ} size 0, length-sized size five))
+      (size_stored shape words keeps.layout owner at size k keeps.shown there five)
+      (lawful_at 0 (StoreSize at size purpose) e) (λ blocks among. among)
+
+  -- the stage behind the cookie of a claim has the block, and that behind a waste nothing
+  has_cookie : (at size : ℕ) (purpose : Purpose) (blocks : List Block) → IsAmong blocks (own owner at (marked size (cookie_of purpose)))
+      → Has blocks owner (stage_of_cookie at size purpose)
+  has_cookie at size purpose.Claim blocks among = among
+  has_cookie at size purpose.Waste blocks among = tt
 
   stores_cookie : (at size : ℕ) (purpose : Purpose) → a.stage ≡ StoreCookie at size purpose
       → Goes (after (store_cookie at (cookie_of purpose)) words) (at_stage (word_at words (at + 1)) (StoreCookie at size purpose))
-  stores_cookie at size purpose.Claim e =
-      let five = (aimed_at (StoreCookie at size purpose.Claim) e).1.five in
-      own_store at (size ∷ replicate (size - 1) 0) (size ∷ 0xC8799269 ∷ replicate (size - 2) 0) (at + 1) 1 0xC8799269 (StoreType at size)
-      (has_at (StoreCookie at size purpose.Claim) e) refl (omega (arith, length-replicate {A = ℕ} (size - 1) 0, five))
-      (sym (second_zero size 0xC8799269 (omega (arith, five)))) (lawful_at 0 (StoreCookie at size purpose.Claim) e) (λ blocks among. among)
-  stores_cookie at size purpose.Waste e =
-      let five = (aimed_at (StoreCookie at size purpose.Waste) e).1.five in
-      own_store at (size ∷ replicate (size - 1) 0) (size ∷ 0xFFFFFFFFFFFFFFFF ∷ replicate (size - 2) 0) (at + 1) 1 0xFFFFFFFFFFFFFFFF LoadFlags
-      (has_at (StoreCookie at size purpose.Waste) e) refl (omega (arith, length-replicate {A = ℕ} (size - 1) 0, five))
-      (sym (second_zero size 0xFFFFFFFFFFFFFFFF (omega (arith, five)))) (lawful_at 0 (StoreCookie at size purpose.Waste) e) (λ blocks among. tt)
+  stores_cookie at size purpose e =
+      let (k, there) = has_at (StoreCookie at size purpose) e in
+      let five : 5 ≤ size = let h = (aimed_at (StoreCookie at size purpose) e).1.five in omega (arith, h) in
+      let cookie : ℕ = cookie_of purpose in
+      own_store at k (sized size) (marked size cookie) (after (store_cookie at cookie) words) (stage_of_cookie at size purpose) there
+      (omega (arith, length-sized size five, length-marked size cookie five))
+      (cookie_stored shape words keeps.layout owner at size cookie k keeps.shown there five)
+      (lawful_at 0 (StoreCookie at size purpose) e) (has_cookie at size purpose)
 
   stores_type : (at size : ℕ) → a.stage ≡ StoreType at size
       → Goes (after (store_type at a.tag) words) (at_stage (word_at words (at + 2)) (StoreType at size))
   stores_type at size e =
-      let five = (aimed_at (StoreType at size) e).1.five in
-      let zeros = length-replicate {A = ℕ} (size - 3) 0 in
-      own_store at (size ∷ 0xC8799269 ∷ replicate (size - 2) 0) (claimed_words size a.tag) (at + 2) 2 a.tag (Claimed at size)
-      (has_at (StoreType at size) e) refl (omega (arith, length-replicate {A = ℕ} (size - 2) 0, five))
-      (sym (third_zero size 0xC8799269 a.tag (omega (arith, five)))) (lawful_at 0 (StoreType at size) e)
-      (λ blocks among. (a.tag ∷ replicate (size - 3) 0, omega (arith, zeros, five), among))
+      let (k, there) = has_at (StoreType at size) e in
+      let five : 5 ≤ size = let h = (aimed_at (StoreType at size) e).1.five in omega (arith, h) in
+      own_store at k (marked size 0xC8799269) (claimed_words size a.tag) (after (store_type at a.tag) words) (Claimed at size) there
+      (omega (arith, length-marked size 0xC8799269 five, length-claimed size a.tag five))
+      (type_stored shape words keeps.layout owner at size a.tag k keeps.shown there five)
+      (lawful_at 0 (StoreType at size) e)
+      (λ blocks among. (a.tag ∷ replicate (size - 3) 0, omega (arith, length-claimed size a.tag five), among))
 
   sets_full : a.stage ≡ SetFull → Goes (after (set_flag 2) words) (at_stage (word_at words 6) SetFull)
   sets_full e =
@@ -262,15 +236,16 @@ module _ (shape : Dimensions) (words : List ℕ) (allocations : List Allocation)
   -- a store into the payload of the allocation's claimed block
   pub fill_keeps : (at size index v : ℕ) → a.stage ≡ Claimed at size → 4 + index < size → Keeps shape (after (store_payload at index v) words) allocations
   fill_keeps at size index v e lt =
-      let (behind, long, among) = has_at (Claimed at size) e in
-      let index_is : suc (suc (suc (suc index))) ≡ 4 + index = omega arith in
+      let (behind, long, (k, there)) = has_at (Claimed at size) e in
+      let payload : List ℕ = set behind (2 + index) v in
       let same : set allocations owner (record a { stage = Claimed at size }) ≡ allocations =
       ap (λ (s : Stage). set allocations owner (record a { stage = s })) (sym e) ∙ set_again allocations owner a mine in
       subst (Keeps shape (after (store_payload at index v) words)) same
-      (own_store at (size ∷ 0xC8799269 ∷ behind) (size ∷ 0xC8799269 ∷ set behind (suc (suc index)) v) (at + (4 + index)) (4 + index) v (Claimed at size)
-      among refl (omega (arith, long, lt)) (ap (λ (j : ℕ). set (size ∷ 0xC8799269 ∷ behind) j v) index_is)
+      (own_store at k (size ∷ 0xC8799269 ∷ behind) (size ∷ 0xC8799269 ∷ payload) (after (store_payload at index v) words) (Claimed at size) there
+      (omega (arith, length-set behind (2 + index) v))
+      (payload_stored shape words keeps.layout owner at size 0xC8799269 index v behind k keeps.shown there (omega (arith, long, lt)))
       (subst (λ (s : Stage). IsLawful (record a { stage = s })) e fits.lawful)
-      (λ blocks has. (set behind (suc (suc index)) v, omega (arith, long, length-set behind (suc (suc index)) v), has)))
+      (λ blocks among. (payload, omega (arith, long, length-set behind (2 + index) v), among)))
 
 -- somebody sets the corrupt flag
 pub corrupt_keeps : (shape : Dimensions) (words : List ℕ) (allocations : List Allocation) → Keeps shape words allocations

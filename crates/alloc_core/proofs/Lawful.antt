@@ -1,5 +1,5 @@
 -- What an allocation aims at stays lawful, whatever it finds.
-use Rattle.std.proofs.Common.{◌≡◌, ℕ, ◌+◌, ◌-◌, ◌%◌, ◌<◌, ◌≤◌, ◌==◌, Bool, true, false, refl, sym, subst, arith, mod-lt}
+use Rattle.std.proofs.Common.{◌≡◌, ℕ, ◌+◌, ◌-◌, ◌%◌, ◌≤◌, ◌==◌, Bool, true, false, refl, sym, subst, arith}
 use Rattle.std.specs.Prelude.{nat_lt, nat_le, bit_and, ◌&&◌, if◌then◌else◌}
 use Rattle.std.specs.Cmp.{first_so, second_so}
 use Rattle.std.proofs.lemmas.Bool.{leb-true, ltb-true, ltb-false, eqb-true}
@@ -8,7 +8,6 @@ use Rattle.alloc_core.specs.declared.alloc.Purpose.{Purpose}
 use Rattle.alloc_core.specs.declared.alloc.Purpose.TheVariants as purpose
 use Rattle.alloc_core.specs.declared.alloc.Stage.{Stage}
 use Rattle.alloc_core.specs.declared.alloc.Stage.TheVariants.{LoadFlags, LoadFree, ExchangeFree, StoreSize, StoreCookie, StoreType, SetFull, Claimed, Full, Corrupt}
-use Rattle.alloc_core.specs.declared.planned.Planned.{Planned}
 use Rattle.alloc_core.specs.declared.planned.Planned.TheVariants as plan
 use Rattle.alloc_core.specs.Layout.{IsShape}
 use Rattle.alloc_core.specs.Planned.{room_at, planned, is_pointer}

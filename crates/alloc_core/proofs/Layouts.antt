@@ -1,15 +1,15 @@
 -- The words of a layout: a word of a block among all words, a block more, and the flags.
-use Rattle.std.proofs.Common.{◌≡◌, ◌≢◌, ◌⊎◌, ℕ, zero, suc, ◌+◌, ◌-◌, ◌%◌, ◌<◌, ◌≤◌, Bool, true, false, List, [], ◌∷◌, ◌++◌, length, replicate, get_or, set, inl, inr, sym, refl, ap, ap₂, ◌∙◌, subst, arith, length-set, length-append}
+use Rattle.std.proofs.Common.{◌≡◌, ◌≢◌, ℕ, zero, suc, ◌+◌, ◌-◌, ◌%◌, ◌<◌, ◌≤◌, Bool, true, false, List, [], ◌∷◌, ◌++◌, length, replicate, get_or, set, sym, refl, ap, ap₂, ◌∙◌, subst, arith, length-set, length-append}
 use Rattle.std.specs.Prelude.{bit_or}
 use Rattle.std.proofs.lemmas.List.{set-append_left, set-append_right, length-replicate, replicate-append-replicate}
 use Rattle.std.specs.Prelude.{take, drop}
 use Rattle.std.proofs.Math.Seq.{take-append_seam, drop-append-add}
-use mathlib.Core.Option.{Option, some, some-injective, some-ne-none}
+use mathlib.Core.Option.{some, some-injective, some-ne-none}
 use lib.ListN.{get_elem?}
 use Rattle.atomic_table.proofs.Lists.{at_longer, set_else}
 use Rattle.segment_image.specs.Shape.{Dimensions}
 use Rattle.segment_image.specs.Words.{word_at}
-use Rattle.alloc_core.specs.Layout.{Block, extent, Layout, spread, end_of, free_of, flags_of, head_words, render, IsLaid, queue_block, IsSound, IsShown, IsAmong, put, raw_block, grown}
+use Rattle.alloc_core.specs.Layout.{Block, extent, Layout, spread, end_of, free_of, flags_of, head_words, render, IsLaid, queue_block, IsShown, put, raw_block, grown}
 use Rattle.alloc_core.specs.Event.{set_flag, after}
 use Rattle.alloc_core.specs.Alloc.{IsRise}
 
@@ -97,9 +97,12 @@ laid-set : (page at : ℕ) (blocks : List Block) (k : ℕ) (b b' : Block) → ge
 laid-set page at [] k b b' e long place laid = laid
 laid-set page at (x ∷ xs) zero b b' e long place laid =
     let same : x ≡ b = some-injective x b e in
-    let len : extent b' ≡ extent x = long ∙ sym (ap extent same) in
-    (place ∙ (sym (ap (λ (z : Block). z.at) same) ∙ laid.0), subst (λ (n : ℕ). 0 < n) (sym len) laid.1,
-     subst (λ (n : ℕ). at % page + n ≤ page) (sym len) laid.2, subst (λ (n : ℕ). IsLaid page (at + n) xs) (sym len) laid.3)
+    let len : extent b' ≡ extent x = long ∙ sym (ap extent same) in (
+      place ∙ (sym (ap (λ (z : Block). z.at) same) ∙ laid.0),
+      subst (λ (n : ℕ). 0 < n) (sym len) laid.1,
+      subst (λ (n : ℕ). at % page + n ≤ page) (sym len) laid.2,
+      subst (λ (n : ℕ). IsLaid page (at + n) xs) (sym len) laid.3,
+    )
 laid-set page at (x ∷ xs) (suc k) b b' e long place laid =
     (laid.0, laid.1, laid.2, laid-set page (at + extent x) xs k b b' e long place laid.3)
 

@@ -1,7 +1,7 @@
 -- What those who own blocks have, beside a store and a block more.
-use Rattle.std.proofs.Common.{◌≡◌, ◌≢◌, ◌⊎◌, ℕ, zero, suc, ◌+◌, ◌<◌, List, [], ◌∷◌, ◌++◌, length, set, inl, inr, ⊎_elim, sym, refl, ap, ◌∙◌, subst}
+use Rattle.std.proofs.Common.{◌≡◌, ◌≢◌, ℕ, zero, suc, List, [], ◌∷◌, ◌++◌, length, set, sym, refl, ap, ◌∙◌}
 use mathlib.Core.Logic.{dite}
-use mathlib.Core.Option.{Option, some, none, some-injective, some-ne-none}
+use mathlib.Core.Option.{some, some-injective, some-ne-none}
 use native.Mathlib.Decide.{ℕ_discrete}
 use lib.ListN.{get_elem?}
 use Rattle.atomic_table.proofs.Lists.{set_else, at_longer, at_last}
@@ -22,9 +22,12 @@ among_put blocks k b b' here = (k, set_at blocks k b b' here)
 -- so is each block of another owner
 pub among_else : (blocks : List Block) (k : ℕ) (b b' c : Block) → get_elem? blocks k ≡ some b → c.owner ≢ b.owner → IsAmong blocks c
     → IsAmong (set blocks k b') c
-among_else blocks k b b' c here other (i, there) = (i, dite (ℕ_discrete i k)
-    (λ same. absurd (other (ap (λ (z : Block). z.owner) (some-injective c b (sym there ∙ (ap (get_elem? blocks) same ∙ here))))))
-    (λ ne. set_else blocks k i b' ne ∙ there))
+among_else blocks k b b' c here other (i, there) = (
+  i,
+  dite (ℕ_discrete i k)
+      (λ same. absurd (other (ap (λ (z : Block). z.owner) (some-injective c b (sym there ∙ (ap (get_elem? blocks) same ∙ here))))))
+      (λ ne. set_else blocks k i b' ne ∙ there),
+)
 
 -- each block is there when there is one more
 pub among_longer : (blocks : List Block) (b c : Block) → IsAmong blocks c → IsAmong (blocks ++ b ∷ []) c

@@ -1,9 +1,9 @@
 -- What a step says, and what the words are then.
-use Rattle.std.proofs.Common.{◌≡◌, ◌≢◌, ◌⊎◌, ℕ, zero, suc, ◌+◌, ◌-◌, ◌%◌, ◌<◌, ◌≤◌, ◌==◌, Bool, true, false, List, [], ◌∷◌, ◌++◌, length, replicate, get_or, set, take, drop, inl, inr, ⊎_elim, sym, refl, ap, ap₂, ◌∙◌, subst, arith, length-set}
+use Rattle.std.proofs.Common.{◌≡◌, ◌≢◌, ℕ, ◌+◌, ◌-◌, ◌%◌, ◌<◌, ◌≤◌, ◌==◌, Bool, true, false, List, ◌∷◌, length, replicate, set, take, drop, inl, inr, sym, refl, ap, ◌∙◌, subst, arith}
 use Rattle.std.specs.Prelude.{bit_and, if◌then◌else◌, Option, Some, None, is_some, IfSome}
 use Rattle.std.proofs.lemmas.List.{length-replicate}
-use Rattle.std.proofs.lemmas.Bool.{ne_eqb, eq-eqb}
-use mathlib.Core.Option.{some, some-injective, some-ne-none}
+use Rattle.std.proofs.lemmas.Bool.{eq-eqb}
+use mathlib.Core.Option.{some, some-injective}
 use lib.ListN.{get_elem?}
 use Rattle.segment_image.specs.Shape.{Dimensions}
 use Rattle.segment_image.specs.Words.{word_at}
@@ -15,16 +15,17 @@ use Rattle.alloc_core.specs.declared.alloc.Stage.{Stage}
 use Rattle.alloc_core.specs.declared.alloc.Stage.TheVariants.{LoadFlags, LoadFree, ExchangeFree, StoreSize, StoreCookie, StoreType, SetFull, Claimed, Full, Corrupt}
 use Rattle.alloc_core.specs.declared.planned.Planned.{Planned}
 use Rattle.alloc_core.specs.declared.planned.Planned.TheVariants as plan
-use Rattle.alloc_core.specs.Layout.{Block, extent, Layout, free_of, IsShown, IsAmong, put}
+use Rattle.alloc_core.specs.Layout.{Block, extent, Layout, IsAmong, put}
 use Rattle.alloc_core.specs.Planned.{planned, is_pointer}
 use Rattle.alloc_core.specs.Event.{Event, load_flags, load_free, store_type, spot, after}
 use Rattle.alloc_core.specs.Alloc.{Allocation, stage_of_plan, stage_of_cookie, stage_after, event_at, next_event, moved, answer, IsStep, IsCorruptBy, IsAimed, IsLawful}
-use Rattle.alloc_core.specs.Laws.{own, claimed_words, Has, Fits, Keeps, taken, Apart, IsNewBlock}
+use Rattle.alloc_core.specs.Laws.{own, claimed_words, Has, Keeps, taken, Apart, IsNewBlock}
 use Rattle.std.proofs.lemmas.Bool.{cases_order}
 use Rattle.alloc_core.specs.Layout.{IsLaid}
 use Rattle.alloc_core.proofs.Layouts.{apart, ends_within, free_word, slice_shown}
 use Rattle.alloc_core.proofs.Owners.{set_at}
-use Rattle.alloc_core.proofs.Keeping.{step_keeps, aimed_at, has_at, own_shown, third_zero}
+use Rattle.alloc_core.proofs.Keeping.{step_keeps, aimed_at, has_at}
+use Rattle.alloc_core.proofs.EventKinds.{marked, length-claimed, type_stored}
 
 -- what each answer says of the stage
 full_stage : (stage : Stage) → answer stage ≡ said.Full → stage ≡ Full
@@ -50,6 +51,22 @@ corrupt_stage SetFull e = absurd (cc e)
 corrupt_stage (Claimed at size) e = absurd (cc e)
 corrupt_stage Full e = absurd (cc e)
 corrupt_stage Corrupt e = refl
+
+-- an allocation that is to go on has a next event
+more_goes : (a : Allocation) (stage : Stage) → answer stage ≡ said.More → is_some (event_at a stage) ≡ true
+more_goes a LoadFlags e = refl
+more_goes a LoadFree e = refl
+more_goes a (ExchangeFree next purpose) e = refl
+more_goes a (StoreSize at size purpose) e = refl
+more_goes a (StoreCookie at size purpose) e = refl
+more_goes a (StoreType at size) e = refl
+more_goes a SetFull e = refl
+more_goes a (Claimed at size) e = absurd (cc e)
+more_goes a Full e = absurd (cc e)
+more_goes a Corrupt e = absurd (cc e)
+
+pub goes_on : (a : Allocation) (step : AllocStep) → step ≡ answer a.stage → step ≡ said.More → is_some (next_event a) ≡ true
+goes_on a step is more = more_goes a a.stage (sym is ∙ more)
 
 -- Full has its cause
 pub full_cause : (a : Allocation) (step : AllocStep) → IsLawful a → step ≡ answer a.stage → step ≡ said.Full → a.shape.size < a.seen + a.size
@@ -83,8 +100,11 @@ module _ (a : Allocation) (words : List ℕ) where
   corrupt_at LoadFree event e is to =
       let same : event ≡ load_free = cc is in
       let free : ℕ = word_at words 7 in
-      inr (e, tried_cause free (is_pointer a.shape free) (planned free a.size a.shape)
-      (ap (λ (v : Event). stage_after a (word_at words (spot v)) LoadFree) (sym same) ∙ to))
+      inr (
+        e,
+        tried_cause free (is_pointer a.shape free) (planned free a.size a.shape)
+            (ap (λ (v : Event). stage_after a (word_at words (spot v)) LoadFree) (sym same) ∙ to),
+      )
   corrupt_at (ExchangeFree next purpose) event e is to =
       let found : ℕ = word_at words (spot event) in absurd (exchange_goes found (next - found) purpose (found == a.seen) to)
   corrupt_at (StoreSize at size purpose) event e is to = absurd (cc to)
@@ -235,14 +255,12 @@ module _ (words : List ℕ) (allocations : List Allocation) (owner : ℕ) (a : A
       let aimed = aimed_at a.shape words allocations owner a keeps mine (StoreType reference size) e in
       let five = aimed.1.five in
       let one_page = aimed.1.one_page in
-      let old : List ℕ = size ∷ 0xC8799269 ∷ replicate (size - 2) 0 in
-      let long : length old ≡ size = omega (arith, length-replicate {A = ℕ} (size - 2) 0, five) in
-      let now : length (claimed_words size a.tag) ≡ size = omega (arith, length-replicate {A = ℕ} (size - 3) 0, five) in
+      let old : List ℕ = marked size 0xC8799269 in
+      let least : 5 ≤ size = omega (arith, five) in
+      let now : length (claimed_words size a.tag) ≡ size = length-claimed size a.tag least in
       let block : Block = own owner reference (claimed_words size a.tag) in
       let layout : Layout = put keeps.layout k block in
-      let shown : IsShown a.shape (set words (reference + 2) a.tag) layout =
-      own_shown a.shape words allocations owner a keeps mine reference old (claimed_words size a.tag) (reference + 2) 2 a.tag k there refl
-      (omega (arith, long, five)) (sym (third_zero size 0xC8799269 a.tag (omega (arith, five)))) in
+      let shown = type_stored a.shape words keeps.layout owner reference size a.tag k keeps.shown there least in
       let here : get_elem? layout.blocks k ≡ some block = set_at keeps.layout.blocks k (own owner reference old) block there in
       let ends = ends_within a.shape.page 12 layout.blocks k block shown.sound.laid here in
       let free = free_word a.shape (set words (reference + 2) a.tag) layout shown in

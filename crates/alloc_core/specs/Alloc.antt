@@ -1,5 +1,5 @@
 -- An allocation: what it does next, what becomes of it, and what holds of its block.
-use Rattle.std.specs.Prelude.{◌≡◌, ℕ, ◌+◌, ◌-◌, ◌%◌, ◌<◌, ◌≤◌, ◌==◌, ◌≢◌, ◌⊎◌, Bool, true, false, List, [], ◌∷◌, replicate, bit_and, if◌then◌else◌, Option, Some, None, Result, Ok, Err, max, nat_lt, ⊤}
+use Rattle.std.specs.Prelude.{◌≡◌, ℕ, ◌+◌, ◌-◌, ◌%◌, ◌<◌, ◌≤◌, ◌==◌, ◌≢◌, ◌⊎◌, false, List, bit_and, if◌then◌else◌, Option, Some, None, Result, Ok, Err, max, nat_lt, ⊤}
 use Rattle.alloc_core.specs.declared.alloc.TooLarge.{TooLarge}
 use Rattle.segment_image.specs.Shape.{Dimensions}
 use Rattle.segment_image.specs.Words.{word_at}

@@ -7,7 +7,7 @@ use Rattle.segment_image.specs.Words.{word_at}
 use Rattle.segment_image.specs.Image.{blank_words}
 use Rattle.alloc_core.specs.declared.alloc.Purpose.TheVariants as purpose
 use Rattle.alloc_core.specs.declared.alloc.Stage.{Stage}
-use Rattle.alloc_core.specs.declared.alloc.Stage.TheVariants.{LoadFlags, LoadFree, ExchangeFree, StoreSize, StoreCookie, StoreType, SetFull, Claimed, Full, Corrupt}
+use Rattle.alloc_core.specs.declared.alloc.Stage.TheVariants.{StoreSize, StoreCookie, StoreType, SetFull, Claimed}
 use Rattle.alloc_core.specs.Layout.{Block, Layout, free_of, IsShown, IsAmong}
 use Rattle.alloc_core.specs.Event.{Event, store_payload, set_flag, spot, after}
 use Rattle.alloc_core.specs.Alloc.{Allocation, next_event, moved, started, IsLawful}

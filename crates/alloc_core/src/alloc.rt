@@ -21,7 +21,7 @@ const HEADER: u64 = 4;
 
 /// What the words from a free pointer on are taken for.
 #[derive(Clone, Copy, Debug, PartialEq, Eq)]
-pub enum Purpose {
+pub(crate) enum Purpose {
     /// For a block.
     Claim,
     /// For nothing, since the page ends before a block would.
@@ -30,23 +30,40 @@ pub enum Purpose {
 
 /// What an allocation does next, or how it has ended.
 #[derive(Clone, Copy, Debug, PartialEq, Eq)]
-pub enum Stage {
+pub(crate) enum Stage {
     /// It loads the flags. Each try begins so.
     LoadFlags,
     /// It loads the free pointer.
     LoadFree,
     /// It exchanges the free pointer from the one that it loaded.
-    ExchangeFree { next: u64, purpose: Purpose },
+    ExchangeFree {
+        next: u64,
+        purpose: Purpose,
+    },
     /// It stores the size of the words that it took.
-    StoreSize { at: u64, size: u64, purpose: Purpose },
+    StoreSize {
+        at: u64,
+        size: u64,
+        purpose: Purpose,
+    },
     /// It stores their cookie.
-    StoreCookie { at: u64, size: u64, purpose: Purpose },
+    StoreCookie {
+        at: u64,
+        size: u64,
+        purpose: Purpose,
+    },
     /// It stores the type of its block.
-    StoreType { at: u64, size: u64 },
+    StoreType {
+        at: u64,
+        size: u64,
+    },
     /// It sets the full flag.
     SetFull,
     /// It has its block.
-    Claimed { at: u64, size: u64 },
+    Claimed {
+        at: u64,
+        size: u64,
+    },
     /// The segment has no room for it.
     Full,
     /// It found the segment corrupt.
@@ -158,6 +175,7 @@ impl Alloc {
         requires long { length words.old ≡ self.old.shape.size }
         requires running { is_some (next_event self.old) ≡ true }
         ensures step { IsStep self.old words.old self.new words.new result }
+        ensures more { result ≡ AllocStep.More → is_some (next_event self.new) ≡ true }
         ensures full { result ≡ AllocStep.Full → self.new.shape.size < self.new.seen + self.new.size }
         ensures corrupt { result ≡ AllocStep.Corrupt → IsCorruptBy self.old words.old }
         ensures keeps { (allocations : List Allocation) (owner : ℕ) → get_elem? allocations owner ≡ some self.old → Keeps self.old.shape words.old allocations → Keeps self.old.shape words.new (slice_set allocations owner self.new) }
@@ -180,7 +198,11 @@ impl Alloc {
             Stage::LoadFree => words[FREE],
             Stage::ExchangeFree { next, .. } => exchange(words, self.seen, next),
             Stage::StoreSize { at, size, .. } => store(words, at as usize, size),
-            Stage::StoreCookie { at, purpose, .. } => store(words, at as usize + 1, purpose.cookie()),
+            Stage::StoreCookie { at, purpose, .. } => store(
+                words,
+                at as usize + 1,
+                purpose.cookie(),
+            ),
             Stage::StoreType { at, .. } => store(words, at as usize + 2, self.tag),
             Stage::SetFull => set_full(words),
             Stage::Claimed { .. } | Stage::Full | Stage::Corrupt => 0,

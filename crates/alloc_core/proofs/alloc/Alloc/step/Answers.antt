@@ -1,7 +1,7 @@
 -- What a step answers has its cause, and it keeps what holds of all allocations.
 use Rattle.std.proofs.Common.{◌∙◌, ap, subst}
 use Rattle.alloc_core.specs.Alloc.{Allocation, answer, IsStep, IsLawful}
-use Rattle.alloc_core.proofs.Steps.{stepped, full_cause, corrupt_cause, steps_keep, done_block}
+use Rattle.alloc_core.proofs.Steps.{stepped, goes_on, full_cause, corrupt_cause, steps_keep, done_block}
 use Rattle.alloc_core.proofs.alloc.Alloc.step.Goals as goal
 
 -- what is known behind the last call
@@ -13,6 +13,9 @@ is_step c =
 
 pub returns-clause-step : goal.returns-clause-step
 returns-clause-step c = is_step c
+
+pub returns-clause-more : goal.returns-clause-more
+returns-clause-more c more = goes_on c.go_on.new.self c.answer.result (is_step c).answers more
 
 pub returns-clause-full : goal.returns-clause-full
 returns-clause-full c full =

@@ -2,39 +2,52 @@
 use Rattle.std.specs.Prelude.{ℕ, ◌+◌, ◌==◌, List, bit_or, slice_set, if◌then◌else◌}
 use Rattle.segment_image.specs.Words.{word_at}
 
--- one atomic operation on one word, with its operands
+-- One atomic operation on one word: to load it; to store a value; to exchange it where it is an old value; to set bits.
 pub data Event : Type 0 where
-  load_flags : Event
-  load_free : Event
-  exchange_free : (old new : ℕ) → Event
-  store_size : (at size : ℕ) → Event
-  store_cookie : (at cookie : ℕ) → Event
-  store_type : (at tag : ℕ) → Event
-  store_payload : (at index value : ℕ) → Event
-  set_flag : (flag : ℕ) → Event
+  load : (at : ℕ) → Event
+  store : (at value : ℕ) → Event
+  exchange : (at old new : ℕ) → Event
+  set_bits : (at bits : ℕ) → Event
 
 -- the word that it acts on
 abbrev pub spot : Event → ℕ
-spot load_flags = 6
-spot load_free = 7
-spot (exchange_free old new) = 7
-spot (store_size at size) = at
-spot (store_cookie at cookie) = at + 1
-spot (store_type at tag) = at + 2
-spot (store_payload at index value) = at + (4 + index)
-spot (set_flag flag) = 6
+spot (load at) = at
+spot (store at value) = at
+spot (exchange at old new) = at
+spot (set_bits at bits) = at
 
 -- what becomes of that word
 abbrev pub change : Event → ℕ → ℕ
-change load_flags found = found
-change load_free found = found
-change (exchange_free old new) found = if found == old then new else found
-change (store_size at size) found = size
-change (store_cookie at cookie) found = cookie
-change (store_type at tag) found = tag
-change (store_payload at index value) found = value
-change (set_flag flag) found = bit_or found flag
+change (load at) found = found
+change (store at value) found = value
+change (exchange at old new) found = if found == old then new else found
+change (set_bits at bits) found = bit_or found bits
 
 -- the words after an event: one word changes at most
 abbrev pub after : Event → List ℕ → List ℕ
 after event words = slice_set words (spot event) (change event (word_at words (spot event)))
+
+-- the events of an allocation, and those that store a payload and set a flag
+abbrev pub load_flags : Event
+load_flags = load 6
+
+abbrev pub load_free : Event
+load_free = load 7
+
+abbrev pub exchange_free : ℕ → ℕ → Event
+exchange_free old new = exchange 7 old new
+
+abbrev pub store_size : ℕ → ℕ → Event
+store_size at size = store at size
+
+abbrev pub store_cookie : ℕ → ℕ → Event
+store_cookie at cookie = store (at + 1) cookie
+
+abbrev pub store_type : ℕ → ℕ → Event
+store_type at tag = store (at + 2) tag
+
+abbrev pub store_payload : ℕ → ℕ → ℕ → Event
+store_payload at index value = store (at + (4 + index)) value
+
+abbrev pub set_flag : ℕ → Event
+set_flag flag = set_bits 6 flag

@@ -89,7 +89,7 @@ pub enum AllocStep {
 pub struct TooLarge;
 
 /// One allocation of a block. A clause sees the plain record of it, `Allocation` in `specs/Alloc.antt`.
-#[derive(Debug)]
+#[derive(Debug, Drop)]
 pub struct Alloc {
     shape: Shape,
     size: u64,

@@ -9,6 +9,8 @@
 mod alloc;
 pub mod laws;
 mod planned;
+#[cfg(test)]
+mod tests;
 
 pub use alloc::{Alloc, AllocStep, TooLarge};
 pub use planned::{Planned, plan};

@@ -97,10 +97,18 @@ module _ (shape : Dimensions) (words : List ℕ) (layout : Layout) (owner at siz
       (omega (arith, length-marked size 0xC8799269 five, five)) (sym (third_zero size 0xC8799269 tag (omega (arith, five))))
 
   -- behind the size and the cookie any words may stand
+  pub behind_stored : (cookie index v : ℕ) (behind : List ℕ) (k : ℕ) → IsShown shape words layout
+      → get_elem? layout.blocks k ≡ some (own owner at (size ∷ cookie ∷ behind)) → index < length behind
+      → IsShown shape (set words (at + (2 + index)) v) (put layout k (own owner at (size ∷ cookie ∷ set behind index v)))
+  behind_stored cookie index v behind k shown there lt =
+      let index_is : suc (suc index) ≡ 2 + index = omega arith in
+      own_put shape words layout owner at k (size ∷ cookie ∷ behind) (size ∷ cookie ∷ set behind index v) (at + (2 + index)) (2 + index) v
+      shown there refl (omega (arith, lt)) (ap (λ (j : ℕ). set (size ∷ cookie ∷ behind) j v) index_is)
+
   pub payload_stored : (cookie index v : ℕ) (behind : List ℕ) (k : ℕ) → IsShown shape words layout
       → get_elem? layout.blocks k ≡ some (own owner at (size ∷ cookie ∷ behind)) → 2 + index < length behind
       → IsShown shape (after (store_payload at index v) words) (put layout k (own owner at (size ∷ cookie ∷ set behind (2 + index) v)))
   payload_stored cookie index v behind k shown there lt =
-      let index_is : suc (suc (2 + index)) ≡ 4 + index = omega arith in
-      own_put shape words layout owner at k (size ∷ cookie ∷ behind) (size ∷ cookie ∷ set behind (2 + index) v) (at + (4 + index)) (4 + index) v
-      shown there refl (omega (arith, lt)) (ap (λ (j : ℕ). set (size ∷ cookie ∷ behind) j v) index_is)
+      let place : at + (2 + (2 + index)) ≡ at + (4 + index) = omega arith in
+      subst (λ (i : ℕ). IsShown shape (set words i v) (put layout k (own owner at (size ∷ cookie ∷ set behind (2 + index) v)))) place
+      (behind_stored cookie (2 + index) v behind k shown there lt)

@@ -16,18 +16,18 @@ use Rattle.alloc_core.specs.declared.alloc.Stage.TheVariants.{LoadFlags, LoadFre
 use Rattle.alloc_core.specs.declared.alloc.TooLarge.{TooLarge}
 use Rattle.alloc_core.specs.declared.planned.Planned.{Planned}
 use Rattle.alloc_core.specs.declared.planned.Planned.TheVariants as plan
-use Rattle.alloc_core.specs.Layout.{Block, Layout, free_of, IsShown, IsAmong, put, raw_block, grown}
+use Rattle.alloc_core.specs.Layout.{queue_block, Block, Layout, free_of, IsShown, IsAmong, put, raw_block, grown}
 use Rattle.alloc_core.specs.Planned.{planned, is_pointer}
 use Rattle.alloc_core.specs.Event.{Event, load_flags, load_free, exchange_free, store_size, store_cookie, store_type, store_payload, set_flag, spot, after}
 use Rattle.alloc_core.specs.Alloc.{Allocation, cookie_of, stage_of_plan, stage_of_cookie, stage_after, seen_after, event_at, first_of, started, IsRise, IsAimed, IsLawful}
-use Rattle.alloc_core.specs.Laws.{Behind, own, claimed_words, Has, Fits, Keeps}
+use Rattle.alloc_core.specs.Laws.{Behind, own, claimed_words, Has, Fits, Keeps, IsListWord}
 use Rattle.alloc_core.specs.Layout.{IsShape}
 use Rattle.std.proofs.Math.Nat.{le-max_right, max-le}
 use Rattle.std.proofs.lemmas.Bool.{ltb-false}
 use Rattle.alloc_core.proofs.Lawful.{moved_lawful}
-use Rattle.alloc_core.proofs.Layouts.{shown_corrupt, shown_full, free_word, free_from, free_grown, free_put}
-use Rattle.alloc_core.proofs.EventKinds.{sized, marked, length-sized, length-marked, length-claimed, flags_loaded, free_loaded, free_kept, free_exchanged, size_stored, cookie_stored, type_stored, payload_stored}
-use Rattle.alloc_core.proofs.Owners.{among_put, among_last, has_else, has_longer}
+use Rattle.alloc_core.proofs.Layouts.{shown_corrupt, shown_tail, shown_queue, shown_full, free_word, free_from, free_grown, free_put}
+use Rattle.alloc_core.proofs.EventKinds.{sized, marked, length-sized, length-marked, length-claimed, flags_loaded, free_loaded, free_kept, free_exchanged, size_stored, cookie_stored, type_stored, behind_stored}
+use Rattle.alloc_core.proofs.Owners.{among_put, among_last, has_else, has_longer, has_beside_queue}
 
 Behind-le : (m n : ℕ) → Behind m n → m ≤ n
 Behind-le m n b = ⊎_elim (λ (e : m ≡ n). let h : m ≤ n = omega arith in h) (λ (e : m + 5 ≤ n). let h : m ≤ n = omega arith in h) b
@@ -233,19 +233,25 @@ module _ (shape : Dimensions) (words : List ℕ) (allocations : List Allocation)
   step_keeps Full event e is = absurd (cc is)
   step_keeps Corrupt event e is = absurd (cc is)
 
-  -- a store into the payload of the allocation's claimed block
-  pub fill_keeps : (at size index v : ℕ) → a.stage ≡ Claimed at size → 4 + index < size → Keeps shape (after (store_payload at index v) words) allocations
-  fill_keeps at size index v e lt =
+  -- a store into the allocation's claimed block, behind its size and its cookie
+  pub behind_keeps : (at size index v : ℕ) → a.stage ≡ Claimed at size → 2 + index < size → Keeps shape (set words (at + (2 + index)) v) allocations
+  behind_keeps at size index v e lt =
       let (behind, long, (k, there)) = has_at (Claimed at size) e in
-      let payload : List ℕ = set behind (2 + index) v in
+      let stored : List ℕ = set behind index v in
       let same : set allocations owner (record a { stage = Claimed at size }) ≡ allocations =
       ap (λ (s : Stage). set allocations owner (record a { stage = s })) (sym e) ∙ set_again allocations owner a mine in
-      subst (Keeps shape (after (store_payload at index v) words)) same
-      (own_store at k (size ∷ 0xC8799269 ∷ behind) (size ∷ 0xC8799269 ∷ payload) (after (store_payload at index v) words) (Claimed at size) there
-      (omega (arith, length-set behind (2 + index) v))
-      (payload_stored shape words keeps.layout owner at size 0xC8799269 index v behind k keeps.shown there (omega (arith, long, lt)))
+      subst (Keeps shape (set words (at + (2 + index)) v)) same
+      (own_store at k (size ∷ 0xC8799269 ∷ behind) (size ∷ 0xC8799269 ∷ stored) (set words (at + (2 + index)) v) (Claimed at size) there
+      (omega (arith, length-set behind index v))
+      (behind_stored shape words keeps.layout owner at size 0xC8799269 index v behind k keeps.shown there (omega (arith, long, lt)))
       (subst (λ (s : Stage). IsLawful (record a { stage = s })) e fits.lawful)
-      (λ blocks among. (payload, omega (arith, long, length-set behind (2 + index) v), among)))
+      (λ blocks among. (stored, omega (arith, long, length-set behind index v), among)))
+
+  -- and into its payload
+  pub fill_keeps : (at size index v : ℕ) → a.stage ≡ Claimed at size → 4 + index < size → Keeps shape (after (store_payload at index v) words) allocations
+  fill_keeps at size index v e lt =
+      let place : at + (2 + (2 + index)) ≡ at + (4 + index) = omega arith in
+      subst (λ (i : ℕ). Keeps shape (set words i v) allocations) place (behind_keeps at size (2 + index) v e (omega (arith, lt)))
 
 -- somebody sets the corrupt flag
 pub corrupt_keeps : (shape : Dimensions) (words : List ℕ) (allocations : List Allocation) → Keeps shape words allocations
@@ -287,3 +293,31 @@ start_keeps shape words allocations payload tag a is keeps = record {
       (free_from shape words keeps.layout keeps.shown)))
       (at_snoc allocations a x owner there);
 }
+
+-- a word of the list is stored
+pub list_keeps : (shape : Dimensions) (words : List ℕ) (allocations : List Allocation) (at v : ℕ) → IsListWord allocations at
+    → Keeps shape words allocations → Keeps shape (set words at v) allocations
+list_keeps shape words allocations at v (inl tail) keeps = subst (λ (i : ℕ). Keeps shape (set words i v) allocations) (sym tail) record {
+  layout = record keeps.layout { tail = v };
+  shown = shown_tail shape words keeps.layout v keeps.shown;
+  each = λ owner a there. let f = keeps.each owner a there in record { shaped = f.shaped; lawful = f.lawful; behind = f.behind; has = f.has };
+}
+list_keeps shape words allocations at v (inr (inl queue)) keeps =
+    let old : Block = queue_block keeps.shown.sound.queue.0 in
+    let here = keeps.shown.sound.queue.1 in
+    let ends : free_of (put keeps.layout 0 (queue_block v)) ≡ free_of keeps.layout = free_put keeps.layout 0 old (queue_block v) here refl in
+    subst (λ (i : ℕ). Keeps shape (set words i v) allocations) (sym queue) record {
+      layout = put keeps.layout 0 (queue_block v);
+      shown = shown_queue shape words keeps.layout v keeps.shown;
+      each = λ owner a there. let f = keeps.each owner a there in record {
+        shaped = f.shaped;
+        lawful = f.lawful;
+        behind = subst (Behind a.seen) (sym ends) f.behind;
+        has = has_beside_queue keeps.layout.blocks keeps.shown.sound.queue.0 v owner here a.stage f.has;
+      };
+    }
+list_keeps shape words allocations at v (inr (inr (reference, (owner, a, size, mine, stage), place))) keeps =
+    let five = (subst (IsAimed a) stage (keeps.each owner a mine).lawful.aimed).1.five in
+    let there : at ≡ reference + (2 + 1) = omega arith in
+    subst (λ (i : ℕ). Keeps shape (set words i v) allocations) (sym there)
+    (behind_keeps shape words allocations owner a keeps mine reference size 1 v stage (omega (arith, five)))

@@ -122,11 +122,15 @@ set_render shape layout k b b' j v laid e lt is =
     ∙ ap (λ (n : ℕ). 0x408305DC ∷ layout.version ∷ shape.size ∷ shape.page ∷ layout.id ∷ 1 ∷ flags_of layout.corrupt layout.full ∷ n
     ∷ layout.tail ∷ 0 ∷ 0 ∷ 0 ∷ spread (replicate layout.spare 0) (set layout.blocks k b')) ends)
 
--- a store into a block, which can leave it to another owner
-pub shown_put : (shape : Dimensions) (words : List ℕ) (layout : Layout) (k : ℕ) (b b' : Block) (j v : ℕ) → IsShown shape words layout
-    → get_elem? layout.blocks k ≡ some b → k ≢ 0 → j < extent b → b'.words ≡ set b.words j v → b'.at ≡ b.at
-    → IsShown shape (set words (b.at + j) v) (put layout k b')
-shown_put shape words layout k b b' j v shown e other lt is place =
+set_first : (blocks : List Block) (a b : Block) → get_elem? blocks 0 ≡ some a → get_elem? (set blocks 0 b) 0 ≡ some b
+set_first [] a b e = absurd (some-ne-none a (sym e))
+set_first (x ∷ xs) a b e = refl
+
+-- a store into a block that leaves the queue block one
+shown_put_at : (shape : Dimensions) (words : List ℕ) (layout : Layout) (k : ℕ) (b b' : Block) (j v : ℕ) → IsShown shape words layout
+    → get_elem? layout.blocks k ≡ some b → (next : ℕ) × (get_elem? (set layout.blocks k b') 0 ≡ some (queue_block next))
+    → j < extent b → b'.words ≡ set b.words j v → b'.at ≡ b.at → IsShown shape (set words (b.at + j) v) (put layout k b')
+shown_put_at shape words layout k b b' j v shown e queue lt is place =
     let long : extent b' ≡ extent b = ap length is ∙ length-set b.words j v in
     let ends : free_of (put layout k b') ≡ free_of layout = end_of-set 12 layout.blocks k b b' e long in
     let sound = shown.sound in
@@ -134,12 +138,20 @@ shown_put shape words layout k b b' j v shown e other lt is place =
       shows = ap (λ (ws : List ℕ). set ws (b.at + j) v) shown.shows ∙ set_render shape layout k b b' j v sound.laid e lt is;
       sound = record {
         lawful = sound.lawful;
-        queue = (sound.queue.0, set_else layout.blocks k 0 b' (λ same. other (sym same)) ∙ sound.queue.1);
+        queue = queue;
         laid = laid-set shape.page 12 layout.blocks k b b' e long place sound.laid;
         ends = ap (λ (n : ℕ). n + layout.spare) ends ∙ sound.ends;
         leaves = subst (λ (n : ℕ). n % shape.page + 5 ≤ shape.page) (sym ends) sound.leaves;
       };
     }
+
+-- a store into another block, which can leave it to another owner
+pub shown_put : (shape : Dimensions) (words : List ℕ) (layout : Layout) (k : ℕ) (b b' : Block) (j v : ℕ) → IsShown shape words layout
+    → get_elem? layout.blocks k ≡ some b → k ≢ 0 → j < extent b → b'.words ≡ set b.words j v → b'.at ≡ b.at
+    → IsShown shape (set words (b.at + j) v) (put layout k b')
+shown_put shape words layout k b b' j v shown e other =
+    shown_put_at shape words layout k b b' j v shown e
+    (shown.sound.queue.0, set_else layout.blocks k 0 b' (λ same. other (sym same)) ∙ shown.sound.queue.1)
 
 end_of-snoc : (at : ℕ) (blocks : List Block) (b : Block) → end_of at (blocks ++ b ∷ []) ≡ end_of at blocks + extent b
 end_of-snoc at [] b = refl
@@ -236,6 +248,28 @@ shown_corrupt shape words layout shown = flagged shape words layout 1 true layou
 pub shown_full : (shape : Dimensions) (words : List ℕ) (layout : Layout) → IsShown shape words layout
     → IsShown shape (after (set_flag 2) words) (record layout { full = true })
 shown_full shape words layout shown = flagged shape words layout 2 layout.corrupt true shown (fills layout.corrupt layout.full)
+
+-- another tail
+pub shown_tail : (shape : Dimensions) (words : List ℕ) (layout : Layout) (v : ℕ) → IsShown shape words layout
+    → IsShown shape (set words 8 v) (record layout { tail = v })
+shown_tail shape words layout v shown = record {
+  shows = ap (λ (ws : List ℕ). set ws 8 v) shown.shows;
+  sound = record {
+    lawful = shown.sound.lawful;
+    queue = shown.sound.queue;
+    laid = shown.sound.laid;
+    ends = shown.sound.ends;
+    leaves = shown.sound.leaves;
+  };
+}
+
+-- another next of the queue block
+pub shown_queue : (shape : Dimensions) (words : List ℕ) (layout : Layout) (v : ℕ) → IsShown shape words layout
+    → IsShown shape (set words 15 v) (put layout 0 (queue_block v))
+shown_queue shape words layout v shown =
+    let old : Block = queue_block shown.sound.queue.0 in
+    shown_put_at shape words layout 0 old (queue_block v) 3 v shown shown.sound.queue.1
+    (v, set_first layout.blocks old (queue_block v) shown.sound.queue.1) (omega arith) refl refl
 
 -- the word of the free pointer
 pub free_word : (shape : Dimensions) (words : List ℕ) (layout : Layout) → IsShown shape words layout → word_at words 7 ≡ free_of layout

@@ -6,3 +6,4 @@ pub mod EventKinds
 pub mod Keeping
 pub mod Steps
 pub mod Runs
+pub mod Beside

@@ -7,7 +7,7 @@ use lib.ListN.{get_elem?}
 use Rattle.atomic_table.proofs.Lists.{set_else, at_longer, at_last}
 use Rattle.alloc_core.specs.declared.alloc.Stage.{Stage}
 use Rattle.alloc_core.specs.declared.alloc.Stage.TheVariants.{LoadFlags, LoadFree, ExchangeFree, StoreSize, StoreCookie, StoreType, SetFull, Claimed, Full, Corrupt}
-use Rattle.alloc_core.specs.Layout.{Block, IsAmong}
+use Rattle.alloc_core.specs.Layout.{Block, queue_block, IsAmong}
 use Rattle.alloc_core.specs.Laws.{own, Has}
 
 pub set_at : {A : Type 0} (l : List A) (k : ℕ) (a b : A) → get_elem? l k ≡ some a → get_elem? (set l k b) k ≡ some b
@@ -56,6 +56,13 @@ pub has_else : (blocks : List Block) (k : ℕ) (b b' : Block) (owner other : ℕ
 has_else blocks k b b' owner other here owned ne =
     has_along blocks (set blocks k b') other
     (λ at words. among_else blocks k b b' (own other at words) here (λ e. ne (some-injective other owner (e ∙ owned))))
+
+-- so does another next of the queue block, which nobody has
+pub has_beside_queue : (blocks : List Block) (old new owner : ℕ) → get_elem? blocks 0 ≡ some (queue_block old) → (stage : Stage)
+    → Has blocks owner stage → Has (set blocks 0 (queue_block new)) owner stage
+has_beside_queue blocks old new owner here =
+    has_along blocks (set blocks 0 (queue_block new)) owner
+    (λ at words. among_else blocks 0 (queue_block old) (queue_block new) (own owner at words) here (λ e. some-ne-none owner e))
 
 -- a block more leaves what all have
 pub has_longer : (blocks : List Block) (b : Block) (owner : ℕ) (stage : Stage) → Has blocks owner stage → Has (blocks ++ b ∷ []) owner stage

@@ -153,17 +153,15 @@ taken_among : (a : Allocation) (blocks : List Block) (owner : ℕ) (block : ℕ 
 taken_among a blocks owner block LoadFlags aimed has e = absurd (cc e)
 taken_among a blocks owner block LoadFree aimed has e = absurd (cc e)
 taken_among a blocks owner block (ExchangeFree next purpose) aimed has e = absurd (cc e)
-taken_among a blocks owner block (StoreSize at size purpose.Claim) aimed has e =
+taken_among a blocks owner block (StoreSize at size purpose) aimed has e =
     let same : (at, size) ≡ block = cc e in
     subst (λ (p : ℕ × ℕ). (ws : List ℕ) × (length ws ≡ p.1) × IsAmong blocks (own owner p.0 ws)) same
     (replicate size 0, length-replicate {A = ℕ} size 0, has)
-taken_among a blocks owner block (StoreSize at size purpose.Waste) aimed has e = absurd (cc e)
-taken_among a blocks owner block (StoreCookie at size purpose.Claim) aimed has e =
+taken_among a blocks owner block (StoreCookie at size purpose) aimed has e =
     let same : (at, size) ≡ block = cc e in
     let five = aimed.1.five in
     subst (λ (p : ℕ × ℕ). (ws : List ℕ) × (length ws ≡ p.1) × IsAmong blocks (own owner p.0 ws)) same
     (size ∷ replicate (size - 1) 0, omega (arith, length-replicate {A = ℕ} (size - 1) 0, five), has)
-taken_among a blocks owner block (StoreCookie at size purpose.Waste) aimed has e = absurd (cc e)
 taken_among a blocks owner block (StoreType at size) aimed has e =
     let same : (at, size) ≡ block = cc e in
     let five = aimed.1.five in

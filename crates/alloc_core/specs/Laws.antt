@@ -5,7 +5,6 @@ use lib.ListN.{get_elem?}
 use Rattle.segment_image.specs.Shape.{Dimensions}
 use Rattle.segment_image.specs.Words.{word_at}
 use Rattle.segment_image.specs.Image.{blank_words}
-use Rattle.alloc_core.specs.declared.alloc.Purpose.TheVariants as purpose
 use Rattle.alloc_core.specs.declared.alloc.Stage.{Stage}
 use Rattle.alloc_core.specs.declared.alloc.Stage.TheVariants.{StoreSize, StoreCookie, StoreType, SetFull, Claimed}
 use Rattle.alloc_core.specs.Layout.{Block, Layout, free_of, IsShown, IsAmong}
@@ -47,13 +46,22 @@ pub record Keeps (shape : Dimensions) (words : List ℕ) (allocations : List All
   pub shown : IsShown shape words layout
   pub each : (owner : ℕ) (allocation : Allocation) → get_elem? allocations owner ≡ some allocation → Fits shape layout owner allocation
 
--- the words that an allocation has taken and not wasted: where they begin, and how many they are
+-- the words that an allocation has taken, and has not wasted yet: where they begin, and how many they are
 abbrev pub taken : Stage → Option (ℕ × ℕ)
-taken (StoreSize at size purpose.Claim) = Some (at, size)
-taken (StoreCookie at size purpose.Claim) = Some (at, size)
+taken (StoreSize at size purpose) = Some (at, size)
+taken (StoreCookie at size purpose) = Some (at, size)
 taken (StoreType at size) = Some (at, size)
 taken (Claimed at size) = Some (at, size)
 taken _ = None
+
+-- an allocation has claimed a block at a reference
+abbrev pub IsRecord : List Allocation → ℕ → Type 0
+IsRecord allocations reference =
+    (owner : ℕ) × (a : Allocation) × (size : ℕ) × (get_elem? allocations owner ≡ some a) × (a.stage ≡ Claimed reference size)
+
+-- a word that only the list of records has a use for: the tail, the next of the queue block, or that of a claimed block
+abbrev pub IsListWord : List Allocation → ℕ → Type 0
+IsListWord allocations at = (at ≡ 8) ⊎ (at ≡ 15) ⊎ ((reference : ℕ) × IsRecord allocations reference × (at ≡ reference + 3))
 
 -- of two runs of words one ends before the other begins
 abbrev pub Apart : ℕ × ℕ → ℕ × ℕ → Type 0

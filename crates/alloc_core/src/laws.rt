@@ -4,7 +4,7 @@
 //! which the contract of `Alloc::step` cites too. A machine with more kinds of events has the lemmas in
 //! `proofs/Layouts.antt` and `proofs/Owners.antt` for those of allocation.
 
-ghost use Rattle.std.specs.Prelude.{◌≡◌, ◌≢◌, ℕ, List, [], true, Some};
+ghost use Rattle.std.specs.Prelude.{◌≡◌, ◌≢◌, ℕ, List, [], true, Some, slice_set};
 ghost use mathlib.Core.Option.{some};
 ghost use lib.ListN.{get_elem?};
 ghost use Rattle.segment_image.specs.Shape.{Dimensions};
@@ -12,7 +12,7 @@ ghost use Rattle.segment_image.specs.Words.{word_at};
 ghost use Rattle.alloc_core.specs.Layout.{IsShape};
 ghost use Rattle.alloc_core.specs.Planned.{is_pointer};
 ghost use Rattle.alloc_core.specs.Alloc.{Allocation};
-ghost use Rattle.alloc_core.specs.Laws.{Keeps, Behind, taken, Apart, State, Move, IsMove, IsRun, StateKeeps, opening, FlagsBy};
+ghost use Rattle.alloc_core.specs.Laws.{Keeps, Behind, taken, Apart, State, Move, IsMove, IsRun, StateKeeps, opening, FlagsBy, IsListWord};
 
 /// The words of a ready segment without blocks keep the allocation invariant.
 pub fn opening_words_keep()
@@ -48,4 +48,17 @@ pub fn free_pointer_rises()
 /// an allocation that has found no room.
 pub fn flags_have_setters()
     ensures { (shape : Dimensions) (move : Move) (old new : State) → StateKeeps shape old → IsMove shape move old new → FlagsBy move old new }
+{}
+
+/// A word of the list of records may become anything: the tail, the next of the queue block, the next of a claimed block.
+/// So the invariant holds beside the steps of any number of publishes.
+pub fn list_words_keep()
+    ensures { (shape : Dimensions) (state : State) (at value : ℕ) → StateKeeps shape state → IsListWord state.allocations at
+        → StateKeeps shape (record state { words = slice_set state.words at value }) }
+{}
+
+/// And whatever happens leaves the words of the list as they are.
+pub fn moves_leave_list_words()
+    ensures { (shape : Dimensions) (move : Move) (old new : State) (at : ℕ) → StateKeeps shape old → IsMove shape move old new
+        → IsListWord old.allocations at → (word_at new.words at ≡ word_at old.words at) × IsListWord new.allocations at }
 {}

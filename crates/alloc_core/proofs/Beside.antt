@@ -1,5 +1,5 @@
 -- What allocations leave as it is: the words of the list, and the blocks that were claimed.
-use Rattle.std.proofs.Common.{◌≡◌, ◌≢◌, ◌⊎◌, ℕ, ◌+◌, ◌<◌, ◌≤◌, inl, inr, ⊎_elim, sym, refl, ap, ◌∙◌, subst, arith}
+use Rattle.std.proofs.Common.{length, ◌≡◌, ◌≢◌, ◌⊎◌, ℕ, ◌+◌, ◌<◌, ◌≤◌, inl, inr, ⊎_elim, sym, refl, ap, ◌∙◌, subst, arith}
 use Rattle.std.specs.Prelude.{Some}
 use Rattle.std.proofs.lemmas.List.{get_or-set_other}
 use mathlib.Core.Logic.{dite}
@@ -14,6 +14,7 @@ use Rattle.alloc_core.specs.declared.alloc.Stage.TheVariants.{LoadFlags, LoadFre
 use Rattle.alloc_core.specs.Event.{Event, load_flags, load_free, exchange_free, store_size, store_cookie, store_type, set_flag, spot}
 use Rattle.alloc_core.specs.Alloc.{Allocation, cookie_of, event_at, next_event, IsAimed}
 use Rattle.alloc_core.specs.Laws.{taken, IsRecord, IsListWord, State, Move, starts, steps, fills, spoils, IsMove, StateKeeps}
+use Rattle.alloc_core.proofs.Layouts.{length_shown}
 use Rattle.alloc_core.proofs.Steps.{taken_apart}
 
 at_zero : (at : ℕ) → at ≡ at + 0
@@ -139,3 +140,22 @@ list_word_kept shape (fills who index value) old new at keeps (a, mine, block, c
 list_word_kept shape spoils old new at keeps same listed =
     let high = list_word_high shape old at keeps listed in
     ap (λ (s : State). word_at s.words at) same ∙ get_or-set_other old.words 6 at _ 0 (λ e. omega arith)
+
+-- a claimed block lies within the words, behind the header
+pub record_within : (shape : Dimensions) (state : State) (reference : ℕ) → StateKeeps shape state → IsRecord state.allocations reference
+    → (16 ≤ reference) × (reference + 5 ≤ length state.words)
+record_within shape state reference keeps (owner, a, size, mine, stage) =
+    let fits = keeps.each owner a mine in
+    let aimed : IsAimed a (Claimed reference size) = subst (IsAimed a) stage fits.lawful.aimed in
+    let five = aimed.1.five in
+    let within : reference + size ≤ shape.size = subst (λ (s : Dimensions). reference + size ≤ s.size) fits.shaped aimed.1.within in
+    let long = length_shown shape state.words keeps.layout keeps.shown in
+    (aimed.0, omega (arith, five, within, long))
+
+-- the words are at least a page
+pub words_long : (shape : Dimensions) (state : State) → StateKeeps shape state → 64 ≤ length state.words
+words_long shape state keeps =
+    let long = length_shown shape state.words keeps.layout keeps.shown in
+    let wide = keeps.shown.sound.lawful.wide in
+    let one = keeps.shown.sound.lawful.one in
+    omega (arith, long, wide, one)

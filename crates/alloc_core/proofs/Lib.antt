@@ -7,3 +7,4 @@ pub mod Keeping
 pub mod Steps
 pub mod Runs
 pub mod Beside
+pub mod ClaimedBlocks

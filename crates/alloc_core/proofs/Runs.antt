@@ -16,7 +16,8 @@ use Rattle.alloc_core.specs.Planned.{room_at, is_pointer}
 use Rattle.alloc_core.specs.Event.{Event, load_flags, load_free, exchange_free, store_size, store_cookie, store_type, set_flag, after}
 use Rattle.alloc_core.specs.Alloc.{Allocation, event_at, cookie_of, IsAimed}
 use Rattle.alloc_core.specs.Laws.{Behind, State, Move, starts, steps, fills, spoils, IsMove, IsRun, StateKeeps, opening, FlagsBy}
-use Rattle.alloc_core.proofs.Layouts.{free_word, free_from, length_shown}
+use Rattle.alloc_core.proofs.Layouts.{free_word, free_from}
+use Rattle.alloc_core.proofs.Beside.{words_long}
 use Rattle.alloc_core.proofs.Keeping.{step_keeps, fill_keeps, corrupt_keeps, start_keeps}
 
 -- the layout without blocks is one of a segment
@@ -109,11 +110,7 @@ step_flags words a Corrupt event lt is aimed = absurd (cc is)
 
 -- the words of a segment have a word of flags
 has_flags : (shape : Dimensions) (state : State) → StateKeeps shape state → 6 < length state.words
-has_flags shape state keeps =
-    let long = length_shown shape state.words keeps.layout keeps.shown in
-    let wide = keeps.shown.sound.lawful.wide in
-    let one = keeps.shown.sound.lawful.one in
-    omega (arith, long, wide, one)
+has_flags shape state keeps = omega (arith, words_long shape state keeps)
 
 pub flags_by : (shape : Dimensions) (move : Move) (old new : State) → StateKeeps shape old → IsMove shape move old new → FlagsBy move old new
 flags_by shape (starts payload tag) old new keeps (a, is, same) = inl (ap (λ (s : State). word_at s.words 6) same)

@@ -1,5 +1,7 @@
 pub use Rattle.segment_image.specs.Shape
 pub use Rattle.segment_image.specs.Words
+pub use Rattle.segment_image.specs.Head
+pub use Rattle.segment_image.specs.Blocks
 pub use Rattle.segment_image.specs.Image
 pub mod Layout
 pub mod Planned

@@ -9,10 +9,12 @@ ghost use mathlib.Core.Option.{some};
 ghost use lib.ListN.{get_elem?};
 ghost use Rattle.segment_image.specs.Shape.{Dimensions};
 ghost use Rattle.segment_image.specs.Words.{word_at};
+ghost use Rattle.segment_image.specs.Head.{head_of};
+ghost use Rattle.segment_image.specs.Blocks.{is_block};
 ghost use Rattle.alloc_core.specs.Layout.{IsShape};
 ghost use Rattle.alloc_core.specs.Planned.{is_pointer};
 ghost use Rattle.alloc_core.specs.Alloc.{Allocation};
-ghost use Rattle.alloc_core.specs.Laws.{Keeps, Behind, taken, Apart, State, Move, IsMove, IsRun, StateKeeps, opening, FlagsBy, IsListWord};
+ghost use Rattle.alloc_core.specs.Laws.{Keeps, Behind, taken, Apart, State, Move, IsMove, IsRun, StateKeeps, opening, FlagsBy, IsRecord, IsListWord};
 
 /// The words of a ready segment without blocks keep the allocation invariant.
 pub fn opening_words_keep()
@@ -35,6 +37,12 @@ pub fn blocks_are_apart()
     ensures { (shape : Dimensions) (state : State) (i j : ℕ) (a b : Allocation) (block other : ℕ × ℕ) → StateKeeps shape state → i ≢ j
         → get_elem? state.allocations i ≡ some a → get_elem? state.allocations j ≡ some b
         → taken a.stage ≡ Some block → taken b.stage ≡ Some other → Apart block other }
+{}
+
+/// A claimed block is one that a reader of images takes: below the free pointer, with its cookie, in one page.
+pub fn claimed_blocks_are_lawful()
+    ensures { (shape : Dimensions) (state : State) (reference : ℕ) → StateKeeps shape state → IsRecord state.allocations reference
+        → is_block state.words (head_of state.words) reference ≡ true }
 {}
 
 /// The free pointer is lawful, and it is the one that an allocation loaded last, or at least five above it. So an

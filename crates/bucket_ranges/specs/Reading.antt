@@ -6,6 +6,7 @@ use Rattle.std.specs.List.{range_with_len, slice_range, list_any, list_all, filt
 use Rattle.segment_image.specs.Checks.{first_fault}
 use Rattle.segment_image.specs.Words.{bytes_of_words}
 use Rattle.segment_image.specs.Blocks.{field_at, is_placed, is_claimed}
+pub use Rattle.segment_image.specs.Blocks.{is_block}
 use Rattle.segment_image.specs.declared.fault.ImageFault.{ImageFault}
 use Rattle.segment_image.specs.declared.fault.ImageFault.TheVariants.{BadRef, BadBlock, Loop}
 use Rattle.segment_image.specs.declared.head.SegmentHead.{SegmentHead}
@@ -27,10 +28,6 @@ before references i = slice_index (12 ∷ references) i
 -- the reference that a block's next word gives
 abbrev pub next_of : List ℕ → ℕ → ℕ
 next_of words reference = field_at words reference 3
-
--- a lawful block stands at a reference
-abbrev pub is_block : List ℕ → SegmentHead → ℕ → Bool
-is_block words head reference = is_placed head reference && is_claimed words head reference
 
 -- references that the nexts give from the queue block, each of a lawful block, and none twice
 pub record IsWalk (words : List ℕ) (head : SegmentHead) (references : List ℕ) : Type 0 where

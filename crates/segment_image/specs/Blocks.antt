@@ -39,3 +39,7 @@ block_head_of words reference = record {
 -- the first fault of the block at a reference, or what its header says
 abbrev pub block_of : List ℕ → SegmentHead → ℕ → Result BlockHead ImageFault
 block_of words head reference = checked (block_checks words head reference) (block_head_of words reference)
+
+-- a lawful block stands at a reference
+abbrev pub is_block : List ℕ → SegmentHead → ℕ → Bool
+is_block words head reference = is_placed head reference && is_claimed words head reference

@@ -1,0 +1,136 @@
+-- What a step of a publish says.
+use Rattle.std.proofs.Common.{◌≡◌, ◌≢◌, ℕ, ◌+◌, ◌==◌, Bool, true, false, List, length, set, inl, inr, sym, refl, ap, ◌∙◌, subst}
+use Rattle.std.specs.Prelude.{Option, Some, None, is_some, IfSome, if◌then◌else◌}
+use mathlib.Core.Option.{some}
+use lib.ListN.{get_elem?}
+use lib.Seq.{set-get_or}
+use Rattle.segment_image.specs.Shape.{Dimensions}
+use Rattle.segment_image.specs.Words.{word_at}
+use Rattle.alloc_core.specs.Event.{Event, spot, after}
+use Rattle.list_core.specs.declared.publish.PubStep.{PubStep}
+use Rattle.list_core.specs.declared.publish.PubStep.TheVariants as said
+use Rattle.list_core.specs.declared.publish.Stage.{Stage}
+use Rattle.list_core.specs.declared.publish.Stage.TheVariants.{StoreOwnNext, LoadTail, Link, MoveTail, Published, Strayed}
+use Rattle.list_core.specs.Chain.{is_reference}
+use Rattle.list_core.specs.Publish.{Publishing, load_tail, link, event_at, next_event, stage_after, stage_of_move, moved, answer, IsStep, IsStrayBy}
+use Rattle.list_core.specs.Laws.{IsStop, Stands, ListState, ListKeeps, stepped}
+use Rattle.alloc_core.proofs.Owners.{set_at}
+use Rattle.list_core.proofs.Keeping.{step_keeps}
+
+-- a step, from what its two halves say
+step_by : (old new : Publishing) (words new_words : List ℕ) (step : PubStep) (found : ℕ) (o : Option Event) → next_event old ≡ o → is_some o ≡ true
+    → IfSome o (λ event. new_words ≡ after event words) → IfSome o (λ event. found ≡ word_at words (spot event))
+    → new ≡ moved (length words) old found → step ≡ answer new.stage → IsStep old words new new_words step
+step_by old new words new_words step found None is running changed seen moves says = absurd (cc running)
+step_by old new words new_words step found (Some event) is running changed seen moves says = record {
+  event = event;
+  next = is;
+  words_are = changed;
+  new_is = moves ∙ ap (moved (length words) old) seen;
+  answers = says;
+}
+
+pub is_step : (old new : Publishing) (words new_words : List ℕ) (step : PubStep) (found : ℕ) → is_some (next_event old) ≡ true
+    → IfSome (next_event old) (λ event. new_words ≡ after event words) → IfSome (next_event old) (λ event. found ≡ word_at words (spot event))
+    → new ≡ moved (length words) old found → step ≡ answer new.stage → IsStep old words new new_words step
+is_step old new words new_words step found = step_by old new words new_words step found (next_event old) refl
+
+-- what each answer says of the stage
+more_goes : (reference : ℕ) (stage : Stage) → answer stage ≡ said.More → is_some (event_at reference stage) ≡ true
+more_goes reference StoreOwnNext e = refl
+more_goes reference LoadTail e = refl
+more_goes reference (Link tail) e = refl
+more_goes reference (MoveTail old new linked) e = refl
+more_goes reference Published e = absurd (cc e)
+more_goes reference Strayed e = absurd (cc e)
+
+done_stage : (stage : Stage) → answer stage ≡ said.Done → stage ≡ Published
+done_stage StoreOwnNext e = absurd (cc e)
+done_stage LoadTail e = absurd (cc e)
+done_stage (Link tail) e = absurd (cc e)
+done_stage (MoveTail old new linked) e = absurd (cc e)
+done_stage Published e = refl
+done_stage Strayed e = absurd (cc e)
+
+stray_stage : (stage : Stage) → answer stage ≡ said.Stray → stage ≡ Strayed
+stray_stage StoreOwnNext e = absurd (cc e)
+stray_stage LoadTail e = absurd (cc e)
+stray_stage (Link tail) e = absurd (cc e)
+stray_stage (MoveTail old new linked) e = absurd (cc e)
+stray_stage Published e = absurd (cc e)
+stray_stage Strayed e = refl
+
+pub goes_on : (p : Publishing) (step : PubStep) → step ≡ answer p.stage → step ≡ said.More → is_some (next_event p) ≡ true
+goes_on p step is more = more_goes p.reference p.stage (sym is ∙ more)
+
+-- a step keeps the list invariant
+pub step_keeps_list : (old new : Publishing) (words new_words : List ℕ) (step : PubStep) (shape : Dimensions) (state : ListState) (owner : ℕ)
+    → IsStep old words new new_words step → words ≡ state.segment.words → get_elem? state.publishes owner ≡ some old → ListKeeps shape state
+    → ListKeeps shape (stepped state owner old new_words new)
+step_keeps_list old new words new_words step shape state owner is same mine keeps =
+    let kept = step_keeps shape state owner old keeps mine old.stage is.event refl is.next in
+    let words_now : new_words ≡ after is.event state.segment.words = is.words_are ∙ ap (after is.event) same in
+    let new_now : new ≡ moved (length state.segment.words) old (word_at state.segment.words (spot is.event)) =
+    is.new_is ∙ ap (λ (ws : List ℕ). moved (length ws) old (word_at ws (spot is.event))) same in
+    subst (λ (x : List ℕ × Publishing). ListKeeps shape (stepped state owner old x.0 x.1)) (λ i. (sym words_now i, sym new_now i)) kept
+
+-- what is published is on the chain
+pub done_stop : (old new : Publishing) (words new_words : List ℕ) (step : PubStep) (shape : Dimensions) (state : ListState) (owner : ℕ)
+    → IsStep old words new new_words step → step ≡ said.Done → words ≡ state.segment.words → get_elem? state.publishes owner ≡ some old
+    → ListKeeps shape state → IsStop (stepped state owner old new_words new).chain new.reference
+done_stop old new words new_words step shape state owner is done same mine keeps =
+    let kept = step_keeps_list old new words new_words step shape state owner is same mine keeps in
+    let here : get_elem? (set state.publishes owner new) owner ≡ some new = set_at state.publishes owner old new mine in
+    subst (Stands new_words (stepped state owner old new_words new).chain new.reference) (done_stage new.stage (sym is.answers ∙ done)) (kept.each owner new here).stands
+
+-- a list that is kept never strays
+pub no_stray : (old new : Publishing) (words new_words : List ℕ) (step : PubStep) (shape : Dimensions) (state : ListState) (owner : ℕ)
+    → IsStep old words new new_words step → words ≡ state.segment.words → get_elem? state.publishes owner ≡ some old → ListKeeps shape state
+    → step ≢ said.Stray
+no_stray old new words new_words step shape state owner is same mine keeps stray =
+    let kept = step_keeps_list old new words new_words step shape state owner is same mine keeps in
+    let here : get_elem? (set state.publishes owner new) owner ≡ some new = set_at state.publishes owner old new mine in
+    subst (Stands new_words (stepped state owner old new_words new).chain new.reference) (stray_stage new.stage (sym is.answers ∙ stray)) (kept.each owner new here).stands
+
+tail_stray : (good : Bool) (found : ℕ) → (if good then Link found else Strayed) ≡ Strayed → good ≡ false
+tail_stray true found e = absurd (cc e)
+tail_stray false found e = refl
+
+link_stray : (hit good : Bool) (tail reference found : ℕ)
+    → (if hit then MoveTail tail reference true else if good then MoveTail tail found false else Strayed) ≡ Strayed → (hit ≡ false) × (good ≡ false)
+link_stray true good tail reference found e = absurd (cc e)
+link_stray false true tail reference found e = absurd (cc e)
+link_stray false false tail reference found e = (refl, refl)
+
+moved_else : (linked : Bool) → stage_of_move linked ≢ Strayed
+moved_else true e = absurd (cc e)
+moved_else false e = absurd (cc e)
+
+stray_at : (p : Publishing) (words : List ℕ) (stage : Stage) (event : Event) → p.stage ≡ stage → event_at p.reference stage ≡ Some event
+    → stage_after (length words) p.reference (word_at words (spot event)) stage ≡ Strayed → IsStrayBy p words × (after event words ≡ words)
+stray_at p words StoreOwnNext event e is to = absurd (cc to)
+stray_at p words LoadTail event e is to =
+    let same : event ≡ load_tail = cc is in
+    let bad = tail_stray (is_reference (length words) (word_at words 8)) (word_at words 8)
+    (ap (λ (v : Event). stage_after (length words) p.reference (word_at words (spot v)) LoadTail) (sym same) ∙ to) in
+    (inl (e, bad), ap (λ (v : Event). after v words) same ∙ set-get_or words 8 0)
+stray_at p words (Link tail) event e is to =
+    let same : event ≡ link tail p.reference = cc is in
+    let found : ℕ = word_at words (tail + 3) in
+    let (miss, bad) = link_stray (found == 12) (is_reference (length words) found) tail p.reference found
+    (ap (λ (v : Event). stage_after (length words) p.reference (word_at words (spot v)) (Link tail)) (sym same) ∙ to) in (
+      inr (tail, e, bad),
+      ap (λ (v : Event). after v words) same
+          ∙ (ap (λ (b : Bool). set words (tail + 3) (if b then p.reference else found)) miss ∙ set-get_or words (tail + 3) 0),
+    )
+stray_at p words (MoveTail old new linked) event e is to = absurd (moved_else linked to)
+stray_at p words Published event e is to = absurd (cc to)
+stray_at p words Strayed event e is to = absurd (cc is)
+
+-- Stray has its cause, and nothing has changed
+pub stray_cause : (old new : Publishing) (words new_words : List ℕ) (step : PubStep) → IsStep old words new new_words step → step ≡ said.Stray
+    → IsStrayBy old words × (new_words ≡ words)
+stray_cause old new words new_words step is stray =
+    let (cause, same) = stray_at old words old.stage is.event refl is.next
+    (sym (ap (λ (p : Publishing). p.stage) is.new_is) ∙ stray_stage new.stage (sym is.answers ∙ stray)) in
+    (cause, is.words_are ∙ same)

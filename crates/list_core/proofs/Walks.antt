@@ -1,0 +1,84 @@
+-- What a walk gives.
+use Rattle.std.proofs.Common.{◌≡◌, ◌≢◌, ℕ, suc, ◌+◌, ◌-◌, ◌<◌, ◌≤◌, ◌==◌, Bool, true, false, List, [], ◌∷◌, ◌++◌, length, get_or, inl, inr, eq-eqb, ne_eqb, sym, refl, ap, ◌∙◌, subst, arith, length-append, append_assoc}
+use Rattle.std.specs.Prelude.{slice_index, if◌then◌else◌}
+use Rattle.std.proofs.lemmas.List.{append-nil, get_or_append_left, get_or-append_right}
+use mathlib.Core.Logic.{dite}
+use native.Mathlib.Decide.{ℕ_discrete}
+use Rattle.segment_image.specs.Shape.{Dimensions}
+use Rattle.segment_image.specs.Words.{word_at}
+use Rattle.list_core.specs.declared.walk.WalkStep.{WalkStep}
+use Rattle.list_core.specs.declared.walk.WalkStep.TheVariants.{Record, End, Stray}
+use Rattle.list_core.specs.Chain.{is_reference, stops}
+use Rattle.list_core.specs.Walk.{said_of, stands_after, GivesNext, IsPrefix, IsGiven, stands_behind}
+use Rattle.list_core.specs.Laws.{ListState, ListKeeps}
+use Rattle.list_core.proofs.Chains.{no_queue, next_inside, next_last}
+use Rattle.list_core.proofs.Standing.{stop_reference}
+
+said_end : (n next : ℕ) → next ≡ 12 → said_of n next ≡ End
+said_end n next e = ap (λ (b : Bool). if b then End else if is_reference n next then Record next else Stray) (eq-eqb next 12 e)
+
+said_record : (n next : ℕ) → next ≢ 12 → is_reference n next ≡ true → said_of n next ≡ Record next
+said_record n next ne good =
+    ap (λ (b : Bool). if b then End else if is_reference n next then Record next else Stray) (ne_eqb next 12 ne)
+    ∙ ap (λ (b : Bool). if b then Record next else Stray) good
+
+-- a walk at a place of the chain
+pub gives_next : (shape : Dimensions) (state : ListState) (k at : ℕ) → ListKeeps shape state → k ≤ length state.chain
+    → slice_index (stops state.chain) k ≡ at → GivesNext state.chain k (said_of (length state.segment.words) (word_at state.segment.words (at + 3)))
+gives_next shape state k at keeps le is = dite (ℕ_discrete k (length state.chain))
+    (λ last. inr (
+      last,
+      said_end (length state.segment.words) (word_at state.segment.words (at + 3))
+          (ap (λ (n : ℕ). word_at state.segment.words (n + 3)) (sym is ∙ ap (slice_index (stops state.chain)) last)
+          ∙ next_last state.segment.words state.chain keeps.linked),
+    ))
+    (λ ne. let inside : k < length state.chain = omega arith in
+    let next : word_at state.segment.words (at + 3) ≡ slice_index state.chain k =
+    ap (λ (n : ℕ). word_at state.segment.words (n + 3)) (sym is) ∙ next_inside state.segment.words state.chain k keeps.linked inside in
+    inl (
+      inside,
+      ap (said_of (length state.segment.words)) next
+          ∙ said_record (length state.segment.words) (slice_index state.chain k) (no_queue state.segment.words state.chain k keeps.linked inside)
+          (stop_reference shape state (slice_index state.chain k) keeps (suc k, inside, refl)),
+    ))
+
+reach_by : (n next at : ℕ) (ends good : Bool) → is_reference n at ≡ true → is_reference n next ≡ good
+    → is_reference n (stands_after at (if ends then End else if good then Record next else Stray)) ≡ true
+reach_by n next at true good old is = old
+reach_by n next at false true old is = is
+reach_by n next at false false old is = old
+
+-- a walk stands where a list can have a record
+pub reaches : (n next at : ℕ) → is_reference n at ≡ true → is_reference n (stands_after at (said_of n next)) ≡ true
+reaches n next at old = reach_by n next at (next == 12) (is_reference n next) old refl
+
+-- the record behind a prefix, by what is behind it
+record_behind : (given rest chain : List ℕ) → chain ≡ given ++ rest → length given < length chain → IsPrefix (given ++ slice_index chain (length given) ∷ []) chain
+record_behind given [] chain is lt = absurd (omega (arith, ap length is, length-append given [], lt))
+record_behind given (r ∷ rs) chain is lt =
+    let none : length given - length given ≡ 0 = omega arith in
+    let here : slice_index chain (length given) ≡ r = ap (λ (l : List ℕ). get_or l (length given) 0) is ∙ (get_or-append_right given (r ∷ rs) (length given) (length given) 0 refl (omega arith)
+    ∙ ap (λ (i : ℕ). get_or (r ∷ rs) i 0) none) in
+    (rs, is ∙ (sym (append_assoc given (r ∷ []) rs) ∙ ap (λ (n : ℕ). (given ++ n ∷ []) ++ rs) (sym here)))
+
+-- nothing is behind a prefix as long as the whole
+nothing_behind : (given rest chain : List ℕ) → chain ≡ given ++ rest → length given ≡ length chain → given ≡ chain
+nothing_behind given [] chain is same = sym (is ∙ append-nil given)
+nothing_behind given (r ∷ rs) chain is same = absurd (omega (arith, ap length is, length-append given (r ∷ rs), same))
+
+-- a prefix of the chain with the record behind it, or all of the chain where the walk ends
+prefix_goes : (chain given : List ℕ) (said : WalkStep) → IsPrefix given chain → GivesNext chain (length given) said → IsGiven given chain said
+prefix_goes chain given said (rest, is) (inl (lt, says)) = subst (IsGiven given chain) (sym says) (record_behind given rest chain is lt)
+prefix_goes chain given said (rest, is) (inr (same, says)) = subst (IsGiven given chain) (sym says) (nothing_behind given rest chain is same)
+
+-- the place where a walk stands that gave a prefix
+place_of : (given rest chain : List ℕ) → chain ≡ given ++ rest → slice_index (stops chain) (length given) ≡ stands_behind given
+place_of [] rest chain is = refl
+place_of (x ∷ xs) rest chain is = ap (λ (l : List ℕ). get_or l (length xs) 0) is ∙ get_or_append_left (x ∷ xs) rest 0 (length xs) (omega arith)
+
+-- what a walk from the start gives is a prefix of the chain, and all of it at the end
+pub walk_goes : (shape : Dimensions) (state : ListState) (given : List ℕ) → ListKeeps shape state → IsPrefix given state.chain
+    → IsGiven given state.chain (said_of (length state.segment.words) (word_at state.segment.words (stands_behind given + 3)))
+walk_goes shape state given keeps (rest, is) =
+    let within : length given ≤ length state.chain = omega (arith, ap length is, length-append given rest) in
+    prefix_goes state.chain given _ (rest, is) (gives_next shape state (length given) (stands_behind given) keeps within (place_of given rest state.chain is))

@@ -1,0 +1,110 @@
+-- What holds of the words of a segment, of its allocations and of its publishes between any two events.
+use Rattle.std.specs.Prelude.{◌≡◌, ℕ, ◌+◌, ◌<◌, ◌≤◌, ◌==◌, true, false, List, [], ◌∷◌, ◌++◌, length, slice_index, slice_set, Some, if◌then◌else◌}
+use mathlib.Core.Option.{some}
+use lib.ListN.{get_elem?}
+use Rattle.segment_image.specs.Shape.{Dimensions}
+use Rattle.segment_image.specs.Words.{word_at}
+use Rattle.alloc_core.specs.Event.{Event, spot, after}
+use Rattle.alloc_core.specs.Alloc.{Allocation}
+use Rattle.alloc_core.specs.Laws.{State, Move, IsMove, StateKeeps, IsRecord, opening}
+use Rattle.list_core.specs.declared.publish.Stage.{Stage}
+use Rattle.list_core.specs.declared.publish.Stage.TheVariants.{StoreOwnNext, LoadTail, Link, MoveTail, Published, Strayed}
+use Rattle.list_core.specs.Chain.{stops, IsLinked}
+use Rattle.list_core.specs.Publish.{Publishing, next_event, moved, started}
+
+-- the queue block, or a record of the chain
+abbrev pub IsStop : List ℕ → ℕ → Type 0
+IsStop chain at = (k : ℕ) × (k ≤ length chain) × (slice_index (stops chain) k ≡ at)
+
+-- one stop and the next one
+abbrev pub AreNeighbours : List ℕ → ℕ → ℕ → Type 0
+AreNeighbours chain at next = (k : ℕ) × (k < length chain) × (slice_index (stops chain) k ≡ at) × (slice_index chain k ≡ next)
+
+-- a record that is not on the chain yet, and whose next is stored
+abbrev pub Waits : List ℕ → List ℕ → ℕ → Type 0
+Waits words chain reference = (¬ (IsStop chain reference)) × (word_at words (reference + 3) ≡ 12)
+
+-- where a publish stands, by its stage
+abbrev pub Stands : List ℕ → List ℕ → ℕ → Stage → Type 0
+Stands words chain reference StoreOwnNext = ¬ (IsStop chain reference)
+Stands words chain reference LoadTail = Waits words chain reference
+Stands words chain reference (Link tail) = Waits words chain reference × IsStop chain tail
+Stands words chain reference (MoveTail old new true) = AreNeighbours chain old new × (new ≡ reference)
+Stands words chain reference (MoveTail old new false) = AreNeighbours chain old new × Waits words chain reference
+Stands words chain reference Published = IsStop chain reference
+Stands words chain reference Strayed = ⊥
+
+-- what holds of one publish: its record was claimed, and it stands where its stage says
+pub record Fits (words chain : List ℕ) (allocations : List Allocation) (publish : Publishing) : Type 0 where
+  pub claimed : IsRecord allocations publish.reference
+  pub stands : Stands words chain publish.reference publish.stage
+
+-- a segment with its allocations, its publishes, and the records whose link has succeeded, in the order of these links
+pub record ListState : Type 0 where
+  pub segment : State
+  pub publishes : List Publishing
+  pub chain : List ℕ
+
+-- the list invariant: the allocation invariant holds; the nexts lead along the chain, whose records were claimed; the tail
+-- is the queue block or a record of the chain; and each publish fits and has a record of its own
+pub record ListKeeps (shape : Dimensions) (state : ListState) : Type 0 where
+  pub allocations : StateKeeps shape state.segment
+  pub linked : IsLinked state.segment.words state.chain
+  pub claimed : (i : ℕ) → i < length state.chain → IsRecord state.segment.allocations (slice_index state.chain i)
+  pub tail : IsStop state.chain (word_at state.segment.words 8)
+  pub each : (owner : ℕ) (publish : Publishing) → get_elem? state.publishes owner ≡ some publish
+      → Fits state.segment.words state.chain state.segment.allocations publish
+  pub own : (i j : ℕ) (a b : Publishing) → get_elem? state.publishes i ≡ some a → get_elem? state.publishes j ≡ some b
+      → a.reference ≡ b.reference → i ≡ j
+
+-- the chain after the next event of a publish: longer by its record, at its end, where the link succeeds
+abbrev pub chain_at : List ℕ → List ℕ → ℕ → Stage → List ℕ
+chain_at words chain reference (Link tail) = if word_at words (tail + 3) == 12 then chain ++ reference ∷ [] else chain
+chain_at words chain reference _ = chain
+
+abbrev pub chain_after : List ℕ → List ℕ → Publishing → List ℕ
+chain_after words chain publish = chain_at words chain publish.reference publish.stage
+
+-- what can happen: something happens to an allocation, a publish of a claimed block starts that is not published yet, or a
+-- publish goes on by its next event
+pub data ListMove : Type 0 where
+  allocates : Move → ListMove
+  publishes : (reference : ℕ) → ListMove
+  steps : (owner : ℕ) → ListMove
+
+abbrev pub IsListMove : Dimensions → ListMove → ListState → ListState → Type 0
+IsListMove shape (allocates move) old new = (next : State) × IsMove shape move old.segment next × (new ≡ record old { segment = next })
+IsListMove shape (publishes reference) old new =
+    IsRecord old.segment.allocations reference × (¬ (IsStop old.chain reference))
+    × ((owner : ℕ) (publish : Publishing) → get_elem? old.publishes owner ≡ some publish → ¬ (publish.reference ≡ reference))
+    × (new ≡ record old { publishes = old.publishes ++ started reference ∷ [] })
+IsListMove shape (steps owner) old new =
+    (publish : Publishing) × (get_elem? old.publishes owner ≡ some publish) × (event : Event) × (next_event publish ≡ Some event)
+    × (new ≡ record {
+      segment = record { words = after event old.segment.words; allocations = old.segment.allocations };
+      publishes = slice_set old.publishes owner (moved (length old.segment.words) publish (word_at old.segment.words (spot event)));
+      chain = chain_after old.segment.words old.chain publish;
+    })
+
+-- moves one after the other, whoever makes them
+abbrev pub IsListRun : Dimensions → List ListMove → ListState → ListState → Type 0
+IsListRun shape [] old new = new ≡ old
+IsListRun shape (move ∷ moves) old new = (next : ListState) × IsListMove shape move old next × IsListRun shape moves next new
+
+-- a segment without blocks, allocations and publishes
+abbrev pub opening_list : Dimensions → ℕ → ListState
+opening_list shape id = record { segment = opening shape id; publishes = []; chain = [] }
+
+-- the tail of a state, as a place of the chain, is not before that of an earlier state
+abbrev pub TailRises : ListState → ListState → Type 0
+TailRises old new =
+    (i j : ℕ) → i ≤ length old.chain → j ≤ length new.chain → slice_index (stops old.chain) i ≡ word_at old.segment.words 8
+    → slice_index (stops new.chain) j ≡ word_at new.segment.words 8 → i ≤ j
+
+-- a state after a step of one of its publishes, which led to these words and this publish
+abbrev pub stepped : ListState → ℕ → Publishing → List ℕ → Publishing → ListState
+stepped state owner old words new = record {
+  segment = record { words = words; allocations = state.segment.allocations };
+  publishes = slice_set state.publishes owner new;
+  chain = chain_after state.segment.words state.chain old;
+}

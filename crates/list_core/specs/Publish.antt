@@ -1,0 +1,96 @@
+-- A publish: what it does next, and what becomes of it.
+use Rattle.std.specs.Prelude.{◌≡◌, ℕ, ◌+◌, ◌≤◌, ◌==◌, ◌⊎◌, Bool, true, false, List, length, Option, Some, None, if◌then◌else◌, ⊤}
+use Rattle.segment_image.specs.Words.{word_at}
+use Rattle.alloc_core.specs.Event.{Event, load, store, exchange, spot, after}
+use Rattle.list_core.specs.declared.publish.Stage.{Stage}
+use Rattle.list_core.specs.declared.publish.Stage.TheVariants.{StoreOwnNext, LoadTail, Link, MoveTail, Published, Strayed}
+use Rattle.list_core.specs.declared.publish.PubStep.{PubStep}
+use Rattle.list_core.specs.declared.publish.PubStep.TheVariants as said
+use Rattle.list_core.specs.Chain.{is_reference}
+
+-- a plain record of a publish: the record that it publishes, and what it does next
+pub record Publishing : Type 0 where
+  pub reference : ℕ
+  pub stage : Stage
+
+-- the events of a publish
+abbrev pub store_own_next : ℕ → Event
+store_own_next reference = store (reference + 3) 12
+
+abbrev pub load_tail : Event
+load_tail = load 8
+
+abbrev pub link : ℕ → ℕ → Event
+link tail reference = exchange (tail + 3) 12 reference
+
+abbrev pub move_tail : ℕ → ℕ → Event
+move_tail old new = exchange 8 old new
+
+-- the event that is next at a stage, where the publish has not ended
+abbrev pub event_at : ℕ → Stage → Option Event
+event_at reference StoreOwnNext = Some (store_own_next reference)
+event_at reference LoadTail = Some load_tail
+event_at reference (Link tail) = Some (link tail reference)
+event_at reference (MoveTail old new linked) = Some (move_tail old new)
+event_at reference Published = None
+event_at reference Strayed = None
+
+abbrev pub next_event : Publishing → Option Event
+next_event publish = event_at publish.reference publish.stage
+
+-- the stage behind a tail that was moved: a record that is linked is published, and another tries again
+abbrev pub stage_of_move : Bool → Stage
+stage_of_move true = Published
+stage_of_move false = LoadTail
+
+-- the stage behind an event that found a number, in n words
+abbrev pub stage_after : ℕ → ℕ → ℕ → Stage → Stage
+stage_after n reference found StoreOwnNext = LoadTail
+stage_after n reference found LoadTail = if is_reference n found then Link found else Strayed
+stage_after n reference found (Link tail) =
+    if found == 12 then MoveTail tail reference true
+    else if is_reference n found then MoveTail tail found false
+    else Strayed
+stage_after n reference found (MoveTail old new linked) = stage_of_move linked
+stage_after n reference found Published = Published
+stage_after n reference found Strayed = Strayed
+
+-- a publish after its next event, which found a number in n words
+abbrev pub moved : ℕ → Publishing → ℕ → Publishing
+moved n publish found = record publish { stage = stage_after n publish.reference found publish.stage }
+
+-- what a step answers that leads to a stage
+abbrev pub answer : Stage → PubStep
+answer Published = said.Done
+answer Strayed = said.Stray
+answer _ = said.More
+
+-- one step: the next event happens, the publish is what that makes of it, and the answer says how it stands
+pub record IsStep (old : Publishing) (words : List ℕ) (new : Publishing) (new_words : List ℕ) (step : PubStep) : Type 0 where
+  pub event : Event
+  pub next : next_event old ≡ Some event
+  pub words_are : new_words ≡ after event words
+  pub new_is : new ≡ moved (length words) old (word_at words (spot event))
+  pub answers : step ≡ answer new.stage
+
+-- why a step strays: the tail that it loaded, or the next that it found, is no reference that a list can have
+abbrev pub IsStrayBy : Publishing → List ℕ → Type 0
+IsStrayBy old words =
+    ((old.stage ≡ LoadTail) × (is_reference (length words) (word_at words 8) ≡ false))
+    ⊎ ((tail : ℕ) × (old.stage ≡ Link tail) × (is_reference (length words) (word_at words (tail + 3)) ≡ false))
+
+-- what a publish stores into lies within n words
+abbrev pub IsWithin : ℕ → Stage → Type 0
+IsWithin n (Link tail) = is_reference n tail ≡ true
+IsWithin n _ = ⊤
+
+-- a publish of a record within n words, which are at least the words of a header
+pub record IsReach (n : ℕ) (publish : Publishing) : Type 0 where
+  pub headed : 16 ≤ n
+  pub from : 16 ≤ publish.reference
+  pub ends : publish.reference + 5 ≤ n
+  pub within : IsWithin n publish.stage
+
+-- a publish before its first event
+abbrev pub started : ℕ → Publishing
+started reference = record { reference = reference; stage = StoreOwnNext }

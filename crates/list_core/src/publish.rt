@@ -1,0 +1,183 @@
+//! One publish, an event at a time.
+
+use crate::reference::{NEXT, QUEUE, is_reference};
+use std::marker::Model;
+
+const TAIL: usize = 8;
+
+/// What a publish does next, or how it has ended.
+#[derive(Clone, Copy, Debug, PartialEq, Eq)]
+pub(crate) enum Stage {
+    /// It stores the end of the list in the next of its record.
+    StoreOwnNext,
+    /// It loads the tail.
+    LoadTail,
+    /// It exchanges the next of the tail, from the end of the list to its record.
+    Link { tail: u64 },
+    /// It exchanges the tail: to its record, which is linked, or to the record that it found behind the tail.
+    MoveTail { old: u64, new: u64, linked: bool },
+    /// The record is on the list.
+    Published,
+    /// It found a word that no list has.
+    Strayed,
+}
+
+/// What a step of a publish says.
+#[derive(Clone, Copy, Debug, PartialEq, Eq)]
+pub enum PubStep {
+    /// The publish goes on.
+    More,
+    /// The record is on the list.
+    Done,
+    /// A word that was loaded is no reference that a list can have. The step has changed nothing.
+    Stray,
+}
+
+/// One publish of a record (the iterable list of Chromium's persistent_memory_allocator). A clause sees the plain record
+/// of it, `Publishing` in `specs/Publish.antt`.
+#[derive(Debug, Drop)]
+pub struct Publish {
+    reference: u64,
+    stage: Stage,
+}
+
+impl Model for Publish {
+    ghost use Rattle.list_core.specs.Publish.{Publishing};
+
+    ghost Value = { Publishing };
+
+    ghost view = { λ p. record { reference = p.reference; stage = p.stage } };
+}
+
+impl Stage {
+    ghost use Rattle.std.specs.Prelude.{◌≡◌};
+    ghost use Rattle.list_core.specs.Publish.{answer};
+
+    // What a step says that led here.
+    fn answer(self) -> PubStep
+        ensures { result ≡ answer self }
+    {
+        match self {
+            Stage::Published => PubStep::Done,
+            Stage::Strayed => PubStep::Stray,
+            _ => PubStep::More,
+        }
+    }
+}
+
+impl Publish {
+    ghost use Rattle.std.specs.Prelude.{◌≡◌, ◌≢◌, ℕ, length, is_some, true, IfSome};
+    ghost use mathlib.Core.Option.{some};
+    ghost use lib.ListN.{get_elem?};
+    ghost use Rattle.segment_image.specs.Shape.{Dimensions};
+    ghost use Rattle.segment_image.specs.Words.{word_at};
+    ghost use Rattle.alloc_core.specs.Event.{spot, after};
+    ghost use Rattle.list_core.specs.Publish.{next_event, stage_after, started, moved, IsStep, IsStrayBy, IsReach};
+    ghost use Rattle.list_core.specs.Laws.{IsStop, ListState, ListKeeps, stepped};
+
+    /// A publish of the record at a reference, from 16 to five below the number of words.
+    pub fn start(reference: u64) -> Publish
+        ensures { result ≡ started reference }
+    {
+        Publish {
+            reference,
+            stage: Stage::StoreOwnNext,
+        }
+    }
+
+    /// Goes on by one event, which changes one word at most.
+    ///
+    /// `Done` and `Stray` end the publish; `More` says that it goes on.
+    pub fn step(&mut self, words: &mut [u64]) -> PubStep
+        requires reach { IsReach (length words.old) self.old }
+        requires running { is_some (next_event self.old) ≡ true }
+        ensures step { IsStep self.old words.old self.new words.new result }
+        ensures reach { IsReach (length words.new) self.new }
+        ensures more { result ≡ PubStep.More → is_some (next_event self.new) ≡ true }
+        ensures stray { result ≡ PubStep.Stray → IsStrayBy self.old words.old × (words.new ≡ words.old) }
+        ensures keeps { (shape : Dimensions) (state : ListState) (owner : ℕ) → words.old ≡ state.segment.words → get_elem? state.publishes owner ≡ some self.old → ListKeeps shape state → ListKeeps shape (stepped state owner self.old words.new self.new) }
+        ensures done { (shape : Dimensions) (state : ListState) (owner : ℕ) → words.old ≡ state.segment.words → get_elem? state.publishes owner ≡ some self.old → ListKeeps shape state → result ≡ PubStep.Done → IsStop (stepped state owner self.old words.new self.new).chain self.new.reference }
+        ensures lawful { (shape : Dimensions) (state : ListState) (owner : ℕ) → words.old ≡ state.segment.words → get_elem? state.publishes owner ≡ some self.old → ListKeeps shape state → result ≢ PubStep.Stray }
+    {
+        let count = words.len();
+        let found = self.act(words);
+        self.go_on(count, found);
+        self.stage.answer()
+    }
+
+    // The next event: what becomes of the words, and the number that it found.
+    fn act(&self, words: &mut [u64]) -> u64
+        requires reach { IsReach (length words.old) self.now }
+        requires running { is_some (next_event self.now) ≡ true }
+        ensures words { IfSome (next_event self.now) (λ event. words.new ≡ after event words.old) }
+        ensures found { IfSome (next_event self.now) (λ event. result ≡ word_at words.old (spot event)) }
+    {
+        match self.stage {
+            Stage::StoreOwnNext => store(words, self.reference as usize + NEXT, QUEUE),
+            Stage::LoadTail => words[TAIL],
+            Stage::Link { tail } => exchange(words, tail as usize + NEXT, QUEUE, self.reference),
+            Stage::MoveTail { old, new, .. } => exchange(words, TAIL, old, new),
+            Stage::Published | Stage::Strayed => 0,
+        }
+    }
+
+    // What becomes of the publish by the number that was found, in so many words.
+    fn go_on(&mut self, count: usize, found: u64)
+        ensures { self.new ≡ moved count self.old found }
+    {
+        self.stage = self.stage_after(count, found);
+    }
+
+    // The stage that comes next.
+    fn stage_after(&self, count: usize, found: u64) -> Stage
+        ensures { result ≡ stage_after count self.now.reference found self.now.stage }
+    {
+        match self.stage {
+            Stage::StoreOwnNext => Stage::LoadTail,
+            Stage::LoadTail if is_reference(found, count) => Stage::Link { tail: found },
+            Stage::LoadTail => Stage::Strayed,
+            Stage::Link { tail } if found == QUEUE => Stage::MoveTail {
+                old: tail,
+                new: self.reference,
+                linked: true,
+            },
+            Stage::Link { tail } if is_reference(found, count) => Stage::MoveTail {
+                old: tail,
+                new: found,
+                linked: false,
+            },
+            Stage::Link { .. } => Stage::Strayed,
+            Stage::MoveTail { linked: true, .. } => Stage::Published,
+            Stage::MoveTail { linked: false, .. } => Stage::LoadTail,
+            ended => ended,
+        }
+    }
+}
+
+ghost use Rattle.std.specs.Prelude.{◌≡◌, ◌<◌, length};
+ghost use Rattle.segment_image.specs.Words.{word_at};
+ghost use Rattle.alloc_core.specs.Event.{store as store_of, exchange as exchange_of, after};
+
+// Stores a word, and gives the one that was there.
+fn store(words: &mut [u64], at: usize, value: u64) -> u64
+    requires { at < length words.old }
+    ensures words { words.new ≡ after (store_of at value) words.old }
+    ensures found { result ≡ word_at words.old at }
+{
+    let found = words[at];
+    words[at] = value;
+    found
+}
+
+// Exchanges a word where it is the old one, and gives the one that was there.
+fn exchange(words: &mut [u64], at: usize, old: u64, new: u64) -> u64
+    requires { at < length words.old }
+    ensures words { words.new ≡ after (exchange_of at old new) words.old }
+    ensures found { result ≡ word_at words.old at }
+{
+    let found = words[at];
+    if found == old {
+        words[at] = new;
+    }
+    found
+}

@@ -1,0 +1,98 @@
+//! One walk along the list, an event at a time.
+
+use crate::reference::{NEXT, QUEUE, is_reference};
+use std::marker::Model;
+
+/// What a step of a walk says.
+#[derive(Clone, Copy, Debug, PartialEq, Eq)]
+pub enum WalkStep {
+    /// The next record of the list.
+    Record(u64),
+    /// The list ends here for now. The walk stands where it stood, and can be stepped again.
+    End,
+    /// The word that was loaded is no reference that a list can have. The walk stands where it stood.
+    Stray,
+}
+
+/// A walk along the list (Chromium's persistent_memory_allocator). A clause sees the block where it stands: 12, the queue
+/// block, or the record that it gave last.
+#[derive(Debug, Drop)]
+pub struct Walk {
+    at: u64,
+}
+
+impl Model for Walk {
+    ghost use Rattle.std.specs.Prelude.{ℕ};
+
+    ghost Value = { ℕ };
+
+    ghost view = { λ w. w.at };
+}
+
+impl WalkStep {
+    ghost use Rattle.std.specs.Prelude.{◌≡◌};
+    ghost use Rattle.list_core.specs.Walk.{stands_after};
+
+    // Where a walk stands that stood at a block and said this.
+    fn stands(self, at: u64) -> u64
+        ensures { result ≡ stands_after at self }
+    {
+        match self {
+            WalkStep::Record(reference) => reference,
+            WalkStep::End | WalkStep::Stray => at,
+        }
+    }
+}
+
+impl Walk {
+    ghost use Rattle.std.specs.Prelude.{◌≡◌, ℕ, ◌+◌, ◌≤◌, length, slice_index, true};
+    ghost use Rattle.segment_image.specs.Shape.{Dimensions};
+    ghost use Rattle.segment_image.specs.Words.{word_at};
+    ghost use Rattle.list_core.specs.Chain.{is_reference, stops};
+    ghost use Rattle.list_core.specs.Walk.{said_of, stands_after, GivesNext};
+    ghost use Rattle.list_core.specs.Laws.{ListState, ListKeeps};
+
+    /// A walk from the start of the list.
+    pub fn from_start() -> Walk
+        ensures { result ≡ 12 }
+    {
+        Walk { at: QUEUE }
+    }
+
+    /// A walk that goes on behind the record at a reference.
+    pub fn from(reference: u64) -> Walk
+        ensures { result ≡ reference }
+    {
+        Walk { at: reference }
+    }
+
+    /// Loads one next, and says what it names.
+    pub fn step(&mut self, words: &[u64]) -> WalkStep
+        requires headed { 16 ≤ length words.now }
+        requires reach { is_reference (length words.now) self.old ≡ true }
+        ensures says { result ≡ said_of (length words.now) (word_at words.now (self.old + 3)) }
+        ensures stands { self.new ≡ stands_after self.old result }
+        ensures reach { is_reference (length words.now) self.new ≡ true }
+        ensures chain { (shape : Dimensions) (state : ListState) (k : ℕ) → words.now ≡ state.segment.words → ListKeeps shape state → k ≤ length state.chain → slice_index (stops state.chain) k ≡ self.old → GivesNext state.chain k result }
+    {
+        let said = said_of(words[self.at as usize + NEXT], words.len());
+        self.at = said.stands(self.at);
+        said
+    }
+}
+
+ghost use Rattle.std.specs.Prelude.{◌≡◌};
+ghost use Rattle.list_core.specs.Walk.{said_of as said_of_next};
+
+// What a next says, in so many words.
+fn said_of(next: u64, count: usize) -> WalkStep
+    ensures { result ≡ said_of_next count next }
+{
+    if next == QUEUE {
+        WalkStep::End
+    } else if is_reference(next, count) {
+        WalkStep::Record(next)
+    } else {
+        WalkStep::Stray
+    }
+}

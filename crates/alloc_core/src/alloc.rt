@@ -1,5 +1,6 @@
 //! One allocation, an event at a time.
 
+use crate::event::{exchange, set_bits, store};
 use crate::planned::{FIRST, LEAST, Planned, is_pointer, plan};
 use segment_image::Shape;
 use std::marker::Model;
@@ -196,7 +197,7 @@ impl Alloc {
         match self.stage {
             Stage::LoadFlags => words[FLAGS],
             Stage::LoadFree => words[FREE],
-            Stage::ExchangeFree { next, .. } => exchange(words, self.seen, next),
+            Stage::ExchangeFree { next, .. } => exchange(words, FREE, self.seen, next),
             Stage::StoreSize { at, size, .. } => store(words, at as usize, size),
             Stage::StoreCookie { at, purpose, .. } => store(
                 words,
@@ -204,7 +205,7 @@ impl Alloc {
                 purpose.cookie(),
             ),
             Stage::StoreType { at, .. } => store(words, at as usize + 2, self.tag),
-            Stage::SetFull => set_full(words),
+            Stage::SetFull => set_bits(words, FLAGS, FULL),
             Stage::Claimed { .. } | Stage::Full | Stage::Corrupt => 0,
         }
     }
@@ -274,43 +275,4 @@ impl Alloc {
             Planned::Full => Stage::SetFull,
         }
     }
-}
-
-ghost use Rattle.std.specs.Prelude.{◌≡◌, ◌<◌, length, slice_set};
-ghost use Rattle.segment_image.specs.Words.{word_at};
-ghost use Rattle.alloc_core.specs.Event.{exchange_free, set_flag, after};
-
-// Stores a word, and gives the one that was there.
-fn store(words: &mut [u64], at: usize, value: u64) -> u64
-    requires { at < length words.old }
-    ensures words { words.new ≡ slice_set words.old at value }
-    ensures found { result ≡ word_at words.old at }
-{
-    let found = words[at];
-    words[at] = value;
-    found
-}
-
-// Exchanges the free pointer where it is the old one, and gives the one that was there.
-fn exchange(words: &mut [u64], old: u64, new: u64) -> u64
-    requires { 7 < length words.old }
-    ensures words { words.new ≡ after (exchange_free old new) words.old }
-    ensures found { result ≡ word_at words.old 7 }
-{
-    let found = words[FREE];
-    if found == old {
-        words[FREE] = new;
-    }
-    found
-}
-
-// Sets the full flag, and gives the flags that were there.
-fn set_full(words: &mut [u64]) -> u64
-    requires { 6 < length words.old }
-    ensures words { words.new ≡ after (set_flag 2) words.old }
-    ensures found { result ≡ word_at words.old 6 }
-{
-    let found = words[FLAGS];
-    words[FLAGS] = found | FULL;
-    found
 }

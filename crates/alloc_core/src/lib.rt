@@ -7,6 +7,7 @@
 #![tactic(auto)]
 
 mod alloc;
+pub mod event;
 pub mod laws;
 mod planned;
 #[cfg(test)]

@@ -1,6 +1,7 @@
 //! One publish, an event at a time.
 
 use crate::reference::{NEXT, QUEUE, is_reference};
+use alloc_core::event::{exchange, store};
 use std::marker::Model;
 
 const TAIL: usize = 8;
@@ -152,32 +153,4 @@ impl Publish {
             ended => ended,
         }
     }
-}
-
-ghost use Rattle.std.specs.Prelude.{◌≡◌, ◌<◌, length};
-ghost use Rattle.segment_image.specs.Words.{word_at};
-ghost use Rattle.alloc_core.specs.Event.{store as store_of, exchange as exchange_of, after};
-
-// Stores a word, and gives the one that was there.
-fn store(words: &mut [u64], at: usize, value: u64) -> u64
-    requires { at < length words.old }
-    ensures words { words.new ≡ after (store_of at value) words.old }
-    ensures found { result ≡ word_at words.old at }
-{
-    let found = words[at];
-    words[at] = value;
-    found
-}
-
-// Exchanges a word where it is the old one, and gives the one that was there.
-fn exchange(words: &mut [u64], at: usize, old: u64, new: u64) -> u64
-    requires { at < length words.old }
-    ensures words { words.new ≡ after (exchange_of at old new) words.old }
-    ensures found { result ≡ word_at words.old at }
-{
-    let found = words[at];
-    if found == old {
-        words[at] = new;
-    }
-    found
 }

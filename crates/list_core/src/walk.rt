@@ -75,9 +75,18 @@ impl Walk {
         ensures reach { is_reference (length words.now) self.new ≡ true }
         ensures chain { (shape : Dimensions) (state : ListState) (k : ℕ) → words.now ≡ state.segment.words → ListKeeps shape state → k ≤ length state.chain → slice_index (stops state.chain) k ≡ self.old → GivesNext state.chain k result }
     {
-        let said = said_of(words[self.at as usize + NEXT], words.len());
+        let said = said_of(self.next(words), words.len());
         self.at = said.stands(self.at);
         said
+    }
+
+    // The next of the block where the walk stands.
+    fn next(&self, words: &[u64]) -> u64
+        requires headed { 16 ≤ length words.now }
+        requires reach { is_reference (length words.now) self.now ≡ true }
+        ensures { result ≡ word_at words.now (self.now + 3) }
+    {
+        words[self.at as usize + NEXT]
     }
 }
 

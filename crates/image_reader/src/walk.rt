@@ -4,10 +4,8 @@ ghost use Rattle.std.specs.Prelude.{◌≡◌, Ok, IfOk};
 ghost use Rattle.segment_image.specs.Head.{header_of};
 ghost use Rattle.bucket_ranges.specs.Reading.{IsListed, stop_of};
 
-use segment_image::{ImageFault, SegmentHead, block};
+use segment_image::{ImageFault, QUEUE, SegmentHead, block};
 use std::alloc::{AllocError, Global};
-
-const QUEUE: u64 = 12;
 
 /// The records of a list in its order, and why it goes no further before its end.
 #[derive(Drop)]

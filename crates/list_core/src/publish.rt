@@ -1,7 +1,8 @@
 //! One publish, an event at a time.
 
-use crate::reference::{NEXT, QUEUE, is_reference};
+use crate::reference::{NEXT, is_reference};
 use alloc_core::event::{exchange, store};
+use segment_image::QUEUE;
 use std::marker::Model;
 
 const TAIL: usize = 8;

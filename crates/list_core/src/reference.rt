@@ -3,8 +3,7 @@
 ghost use Rattle.std.specs.Prelude.{◌≡◌};
 ghost use Rattle.list_core.specs.Chain.{is_reference as is_reference_of};
 
-/// The queue block, from which the list starts, and the next of the last record.
-pub(crate) const QUEUE: u64 = 12;
+use segment_image::QUEUE;
 
 /// Where a block has its next.
 pub(crate) const NEXT: usize = 3;

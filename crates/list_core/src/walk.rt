@@ -1,6 +1,7 @@
 //! One walk along the list, an event at a time.
 
-use crate::reference::{NEXT, QUEUE, is_reference};
+use crate::reference::{NEXT, is_reference};
+use segment_image::QUEUE;
 use std::marker::Model;
 
 /// What a step of a walk says.

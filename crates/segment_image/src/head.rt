@@ -26,6 +26,9 @@ ghost use Rattle.std.specs.Prelude.{◌≡◌, ◌==◌, ◌&&◌, not, [], ◌�
 ghost use Rattle.segment_image.specs.Checks.{first_fault};
 ghost use Rattle.segment_image.specs.Head.{header_of};
 
+/// Where the queue block stands, from which the list of records starts; and the next of the last record of the list.
+pub const QUEUE: u64 = 12;
+
 pub(crate) const SEGMENT_COOKIE: u64 = 0x4083_05DC;
 
 pub(crate) const HEADER_WORDS: usize = 16;

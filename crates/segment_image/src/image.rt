@@ -1,7 +1,7 @@
 //! An image that a process holds whole.
 
 use crate::fault::ImageFault;
-use crate::head::{HEADER_WORDS, READY, SEGMENT_COOKIE, VERSION};
+use crate::head::{HEADER_WORDS, QUEUE, READY, SEGMENT_COOKIE, VERSION};
 use crate::shape::Shape;
 use std::alloc::{AllocError, Global};
 use std::marker::Model;
@@ -64,8 +64,6 @@ impl Image {
 
 ghost use Rattle.std.specs.Prelude.{◌≡◌, IfOk};
 ghost use Rattle.segment_image.specs.Image.{blank_words};
-
-const QUEUE: u64 = 12;
 
 // The words of a ready segment without blocks.
 fn blank_of(alloc: Global, shape: Shape, id: u64) -> Result<Image, AllocError>

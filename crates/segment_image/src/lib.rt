@@ -20,7 +20,7 @@ mod watched;
 
 pub use blocks::{BlockHead, block};
 pub use fault::{ImageFault, ReadFault};
-pub use head::{SegmentHead, header};
+pub use head::{QUEUE, SegmentHead, header};
 pub use image::{Image, blank_is_ready};
 pub use shape::Shape;
 pub use transfer::read_words;

@@ -10,6 +10,8 @@
 pub mod laws;
 mod publish;
 mod reference;
+#[cfg(test)]
+mod tests;
 mod walk;
 
 pub use publish::{PubStep, Publish};

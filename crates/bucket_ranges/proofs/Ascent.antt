@@ -123,6 +123,15 @@ linear_boundaries-split min max n lawful = record {
   ascending = linear_boundaries-ascending min max n lawful;
 }
 
+-- from 0 to 2,147,483,647
+pub linear_boundaries-ends : (min max n : ℕ) → IsLinear min max n → 0 < length (linear_boundaries min max n)
+    → (slice_index (linear_boundaries min max n) 0 ≡ 0)
+    × (slice_index (linear_boundaries min max n) (length (linear_boundaries min max n) - 1) ≡ 2147483647)
+linear_boundaries-ends min max n lawful some =
+    let split = linear_boundaries-split min max n lawful in
+    let last : length (linear_boundaries min max n) - 1 ≡ n = omega (arith, split.count) in
+    (refl, ap (slice_index (linear_boundaries min max n)) last ∙ split.last)
+
 -- four checks without a fault
 no_fault : (a b c d : Bool)
     → first_fault ((a, BadMin) ∷ (b, BadMax) ∷ (c, TooFew) ∷ (d, TooMany) ∷ []) ≡ None

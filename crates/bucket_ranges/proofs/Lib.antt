@@ -2,3 +2,4 @@ pub mod Boundaries
 pub mod Walks
 pub mod Firsts
 pub mod Ascent
+pub mod Buckets

@@ -1,5 +1,5 @@
 -- The boundaries of buckets.
-use Rattle.std.specs.Prelude.{◌≡◌, ℕ, ◌+◌, ◌-◌, ◌*◌, ◌/◌, ◌<◌, ◌≤◌, List, [], ◌∷◌, ◌++◌, map, length, slice_index}
+use Rattle.std.specs.Prelude.{◌≡◌, ℕ, ◌+◌, ◌-◌, ◌*◌, ◌/◌, ◌<◌, ◌≤◌, min, ℤ, pos, negsuc, List, [], ◌∷◌, ◌++◌, map, length, slice_index}
 use Rattle.std.specs.List.{range_with_len}
 use Rattle.bucket_ranges.specs.declared.spec.Spec.{Spec}
 use Rattle.bucket_ranges.specs.declared.spec.Spec.TheVariants.{Linear, Boolean}
@@ -25,10 +25,23 @@ AreValues boundaries = (i : ℕ) → slice_index boundaries i ≤ 2147483647
 abbrev pub IsAscending : List ℕ → Type 0
 IsAscending boundaries = (i : ℕ) → i + 1 < length boundaries → slice_index boundaries i < slice_index boundaries (i + 1)
 
--- what every list of boundaries keeps
+-- what every list of boundaries keeps; where it is not empty it begins with 0 and ends with 2,147,483,647
 pub record AreBoundaries (boundaries : List ℕ) : Type 0 where
   pub small : AreValues boundaries
   pub ascending : IsAscending boundaries
+  pub ends : 0 < length boundaries
+      → (slice_index boundaries 0 ≡ 0) × (slice_index boundaries (length boundaries - 1) ≡ 2147483647)
+
+-- a value as it is counted: one below 0 as 0, one above 2,147,483,646 as that
+abbrev pub clamped : ℤ → ℕ
+clamped (pos value) = min value 2147483646
+clamped (negsuc value) = 0
+
+-- the bucket of a value: the one whose boundaries hold it
+pub record IsBucketOf (boundaries : List ℕ) (value bucket : ℕ) : Type 0 where
+  pub within : bucket + 1 < length boundaries
+  pub low : slice_index boundaries bucket ≤ value
+  pub high : value < slice_index boundaries (bucket + 1)
 
 -- boundaries that split the values below 2,147,483,647 among so many buckets, none of them empty
 pub record IsSplit (buckets : ℕ) (boundaries : List ℕ) : Type 0 where

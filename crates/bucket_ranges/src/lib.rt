@@ -12,6 +12,6 @@ mod spec;
 #[cfg(test)]
 mod tests;
 
-pub use ranges::{Ranges, buckets_split_values};
+pub use ranges::{Ranges, buckets_split_values, one_bucket_has_a_value};
 pub use single::SingleWord;
 pub use spec::{Spec, SpecFault};

@@ -25,7 +25,7 @@ impl Model for Ranges {
 impl Ranges {
     ghost use Rattle.std.specs.Prelude.{◌≡◌, ◌+◌, ◌-◌, ◌<◌, length, pos, slice_index, MatchResult, MatchOption, IfOk, Err};
     ghost use Rattle.bucket_ranges.specs.Spec.{spec_fault, buckets_of};
-    ghost use Rattle.bucket_ranges.specs.Ranges.{boundaries_of};
+    ghost use Rattle.bucket_ranges.specs.Ranges.{boundaries_of, clamped, IsBucketOf};
 
     /// The ranges of a spec.
     ///
@@ -66,13 +66,32 @@ impl Ranges {
     {
         self.boundaries[i + 1] as i32
     }
+
+    /// The bucket of a value, which is clamped first: a value below 0 counts as 0, and one above 2,147,483,646 as that
+    /// (Chromium's histograms). It is found by halving, without memory.
+    pub fn bucket(&self, value: i32) -> usize
+        requires { 1 < length self.now }
+        ensures { IsBucketOf self.now (clamped value) result }
+    {
+        let value = clamp(value);
+        let mut low = 0;
+        let mut count = self.len();
+        while count > 1 {
+            let half = count / 2;
+            if self.boundaries[low + half] <= value {
+                low += half;
+            }
+            count -= half;
+        }
+        low
+    }
 }
 
-ghost use Rattle.std.specs.Prelude.{◌≡◌, ◌+◌, ◌<◌, ◌≤◌, length, None, IfOk};
+ghost use Rattle.std.specs.Prelude.{◌≡◌, ◌+◌, ◌<◌, ◌≤◌, ℕ, List, length, None, IfOk};
 ghost use Rattle.segment_image.specs.Checks.{checked};
 ghost use Rattle.bucket_ranges.specs.declared.spec.Spec.{Spec};
 ghost use Rattle.bucket_ranges.specs.Spec.{linear_checks, IsLinear, spec_fault, buckets_of};
-ghost use Rattle.bucket_ranges.specs.Ranges.{inner_boundary as inner_boundary_of, linear_boundaries, boundaries_of, IsSplit};
+ghost use Rattle.bucket_ranges.specs.Ranges.{inner_boundary as inner_boundary_of, linear_boundaries, boundaries_of, clamped, IsSplit, IsAscending, IsBucketOf};
 
 /// The buckets of a spec without a fault split the values from 0 to 2,147,483,646, and none of them is empty.
 ///
@@ -81,9 +100,23 @@ pub fn buckets_split_values()
     ensures { (spec : Spec) → spec_fault spec ≡ None → IsSplit (buckets_of spec) (boundaries_of spec) }
 {}
 
+/// A value lies in one bucket alone.
+///
+/// It does nothing: what it promises is a law of the definitions.
+pub fn one_bucket_has_a_value()
+    ensures { (boundaries : List ℕ) (value i j : ℕ) → IsAscending boundaries → IsBucketOf boundaries value i → IsBucketOf boundaries value j → i ≡ j }
+{}
+
 const MAX_VALUE: u32 = 2_147_483_647;
 
 const MAX_BUCKETS: u32 = 1000;
+
+// A value as it is counted.
+fn clamp(value: i32) -> u32
+    ensures { result ≡ clamped value }
+{
+    u32::try_from(value).unwrap_or(0).min(MAX_VALUE - 1)
+}
 
 // The first fault of a linear spec.
 fn check_linear(min: u32, max: u32, n: u32) -> Result<(), SpecFault>

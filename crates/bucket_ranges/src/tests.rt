@@ -41,6 +41,57 @@ fn ranges_of_specs(rt: HostRuntime) -> Result<(), Fail> {
     expect_ranges(&rt, rt.alloc(), &Spec::Boolean, &[0, 1, 2, LAST])
 }
 
+// The bucket of a value, found from the first bucket on.
+fn slow_bucket(ranges: &Ranges, value: i32) -> Option<usize> {
+    let value = value.max(0).min(LAST - 1);
+    (0..ranges.len()).find(|i| ranges.low(*i) <= value && value < ranges.high(*i))
+}
+
+// That each of these values lies in the bucket of that number, in both searches.
+fn expect_buckets(
+    rt: &impl Abort,
+    alloc: Global,
+    spec: &Spec,
+    values: &[(i32, usize)],
+) -> Result<(), Fail> {
+    let ranges = Ranges::of(alloc, spec)?;
+    assert!(rt; ranges.len() > 0);
+    for (value, bucket) in values {
+        assert_eq!(rt; ranges.bucket(*value), *bucket, "{value} in {spec:?}");
+        assert_eq!(rt;
+            slow_bucket(&ranges, *value),
+            Some(*bucket),
+            "{value} in {spec:?}"
+        );
+    }
+    Ok(())
+}
+
+#[test]
+fn buckets_of_values(rt: HostRuntime) -> Result<(), Fail> {
+    let values = [(-3, 0), (0, 0), (1, 1), (5, 2), (LAST, 2)];
+    expect_buckets(&rt, rt.alloc(), &Spec::Boolean, &values)?;
+    let wide = Spec::Linear {
+        min: 1,
+        max: 10,
+        n: 5,
+    };
+    let values = [
+        (i32::MIN, 0),
+        (0, 0),
+        (1, 1),
+        (3, 1),
+        (4, 2),
+        (6, 2),
+        (7, 3),
+        (9, 3),
+        (10, 4),
+        (LAST - 1, 4),
+        (LAST, 4),
+    ];
+    expect_buckets(&rt, rt.alloc(), &wide, &values)
+}
+
 #[test]
 fn unlawful_specs(rt: HostRuntime) {
     for (min, max, n, want) in [

@@ -1,8 +1,8 @@
-use Rattle.std.proofs.Common.{ℕ, List, length, arith, ap, sym, subst, ◌∙◌}
+use Rattle.std.proofs.Common.{◌≡◌, ◌<◌, ◌-◌, slice_index, ℕ, List, length, arith, ap, sym, subst, ◌∙◌}
 use Rattle.std.proofs.lemmas.List.{length_push}
 use Rattle.bucket_ranges.specs.Ranges.{AreValues, IsAscending, inner_boundary}
 use Rattle.bucket_ranges.proofs.Boundaries.{values-push, so_far-push, so_far-last}
-use Rattle.bucket_ranges.proofs.Ascent.{linear_boundaries-ascending}
+use Rattle.bucket_ranges.proofs.Ascent.{linear_boundaries-ascending, linear_boundaries-ends}
 use Rattle.bucket_ranges.proofs.ranges.linear.Goals as goal
 
 -- The boundary of this turn goes behind those so far.
@@ -28,4 +28,6 @@ invariant_of-result c =
       small = subst AreValues (sym pushed) (values-push _ 2147483647 c.loop-i.invariant.small (omega arith));
       ascending = subst IsAscending (sym (◌∙◌ {A = List ℕ} pushed all))
           (linear_boundaries-ascending c.args.min c.args.max c.args.n c.requires);
+      ends = subst (λ (xs : List ℕ). 0 < length xs → (slice_index xs 0 ≡ 0) × (slice_index xs (length xs - 1) ≡ 2147483647))
+          (sym (◌∙◌ {A = List ℕ} pushed all)) (linear_boundaries-ends c.args.min c.args.max c.args.n c.requires);
     }

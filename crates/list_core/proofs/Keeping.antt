@@ -20,6 +20,8 @@ use Rattle.list_core.specs.declared.publish.Stage.TheVariants.{StoreOwnNext, Loa
 use Rattle.list_core.specs.Chain.{is_reference, stops, IsLinked}
 use Rattle.list_core.specs.Publish.{Publishing, store_own_next, load_tail, link, move_tail, event_at, stage_of_move, stage_after}
 use Rattle.list_core.specs.Laws.{IsStop, AreNeighbours, Stands, Fits, ListState, ListKeeps, chain_at}
+use Rattle.list_core.specs.Walk.{IsPrefix}
+use Rattle.list_core.proofs.Prefixes.{whole_prefix, prefix_of_prefix}
 use Rattle.list_core.proofs.Chains.{next_inside, last_stop, stop_stays, neighbours_stay, new_neighbours, old_or_new, linked_beside, links}
 use Rattle.list_core.proofs.Standing.{stands_along, stop_word, stop_within, stop_reference}
 
@@ -46,6 +48,7 @@ module _ (shape : Dimensions) (state : ListState) (owner : ℕ) (p : Publishing)
     segment = record { words = words'; allocations = state.segment.allocations };
     publishes = set state.publishes owner (record p { stage = stage });
     chain = chain';
+    walks = state.walks;
   }
 
   abbrev Goes : List ℕ → List ℕ → Stage → Type 0
@@ -64,11 +67,11 @@ module _ (shape : Dimensions) (state : ListState) (owner : ℕ) (p : Publishing)
   other_record j q ne there same = ne (keeps.own j owner q p there mine same)
 
   goes : (words' chain' : List ℕ) (stage : Stage) → StateKeeps shape (record { words = words'; allocations = state.segment.allocations })
-      → IsLinked words' chain' → ((i : ℕ) → i < length chain' → IsRecord state.segment.allocations (slice_index chain' i))
+      → IsPrefix state.chain chain' → IsLinked words' chain' → ((i : ℕ) → i < length chain' → IsRecord state.segment.allocations (slice_index chain' i))
       → IsStop chain' (word_at words' 8) → Stands words' chain' p.reference stage
       → ((j : ℕ) (q : Publishing) → j ≢ owner → get_elem? state.publishes j ≡ some q
       → Stands state.segment.words state.chain q.reference q.stage → Stands words' chain' q.reference q.stage) → Goes words' chain' stage
-  goes words' chain' stage kept linked claimed tail stands others = record {
+  goes words' chain' stage kept longer linked claimed tail stands others = record {
     allocations = kept;
     linked = linked;
     claimed = claimed;
@@ -83,13 +86,14 @@ module _ (shape : Dimensions) (state : ListState) (owner : ℕ) (p : Publishing)
         let (c, cx, ca) = old_publish stage i a x in
         let (d, dy, db) = old_publish stage j b y in
         keeps.own i j c d cx dy (ca ∙ (same ∙ sym db));
+    prefixes = λ j given there. prefix_of_prefix given state.chain chain' (keeps.prefixes j given there) longer;
   }
 
   -- where no word changes and the chain stays
   stays : (words' : List ℕ) (stage : Stage) → words' ≡ state.segment.words → Stands state.segment.words state.chain p.reference stage
       → Goes words' state.chain stage
   stays words' stage same stands = subst (λ (ws : List ℕ). Goes ws state.chain stage) (sym same)
-      (goes state.segment.words state.chain stage keeps.allocations keeps.linked keeps.claimed keeps.tail stands (λ j q ne there old. old))
+      (goes state.segment.words state.chain stage keeps.allocations (whole_prefix state.chain) keeps.linked keeps.claimed keeps.tail stands (λ j q ne there old. old))
 
   -- a store into a word that is no next of the chain, and that no other publish waits for
   beside : (at v : ℕ) (stage : Stage) → IsListWord state.segment.allocations at
@@ -98,7 +102,7 @@ module _ (shape : Dimensions) (state : ListState) (owner : ℕ) (p : Publishing)
       → ((j : ℕ) (q : Publishing) → j ≢ owner → get_elem? state.publishes j ≡ some q → q.reference + 3 ≢ at) → Goes (set state.segment.words at v) state.chain stage
   beside at v stage listed free tail stands others =
       goes (set state.segment.words at v) state.chain stage
-      (list_keeps shape state.segment.words state.segment.allocations at v listed keeps.allocations)
+      (list_keeps shape state.segment.words state.segment.allocations at v listed keeps.allocations) (whole_prefix state.chain)
       (linked_beside state.segment.words state.chain at v keeps.linked free) keeps.claimed tail stands
       (λ j q ne there. stands_along state.segment.words (set state.segment.words at v) state.chain state.chain q.reference (λ _ on. on) (λ _ _ near. near)
       (λ other. other) (λ _. get_or-set_other state.segment.words at (q.reference + 3) v 0 (others j q ne there)) q.stage)
@@ -138,6 +142,7 @@ module _ (shape : Dimensions) (state : ListState) (owner : ℕ) (p : Publishing)
       let words' : List ℕ = set state.segment.words (tail + 3) p.reference in
       goes words' chain' (MoveTail tail p.reference true)
       (list_keeps shape state.segment.words state.segment.allocations (tail + 3) p.reference (stop_word shape state tail keeps on) keeps.allocations)
+      (p.reference ∷ [], refl)
       (subst (λ (n : ℕ). IsLinked (set state.segment.words (n + 3) p.reference) chain') tail_is
       (links state.segment.words state.chain p.reference keeps.linked other own_end (subst (λ (n : ℕ). n + 3 < length state.segment.words) (sym tail_is) room.1)))
       (λ i lt. dite (ℕ_discrete i (length state.chain))

@@ -1,3 +1,4 @@
+pub mod Prefixes
 pub mod Chains
 pub mod Standing
 pub mod Keeping

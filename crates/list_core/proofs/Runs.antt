@@ -1,10 +1,10 @@
 -- The laws of lists over moves and runs.
-use Rattle.std.proofs.Common.{◌≡◌, ◌⊎◌, ℕ, zero, suc, ◌+◌, ◌==◌, Bool, true, false, List, [], ◌∷◌, ◌++◌, length, inl, inr, ⊎_elim, sym, refl, ap, ◌∙◌, subst, arith, append_assoc}
+use Rattle.std.proofs.Common.{set, ◌≡◌, ◌≢◌, ◌⊎◌, ℕ, zero, suc, ◌+◌, ◌==◌, Bool, true, false, List, [], ◌∷◌, ◌++◌, length, inl, inr, ⊎_elim, sym, refl, ap, ◌∙◌, subst, arith, append_assoc}
 use Rattle.std.specs.Prelude.{slice_index, if◌then◌else◌}
 use Rattle.std.proofs.lemmas.List.{append-nil}
 use mathlib.Core.Option.{some, some-injective, some-ne-none}
 use lib.ListN.{get_elem?}
-use Rattle.atomic_table.proofs.Lists.{at_snoc}
+use Rattle.atomic_table.proofs.Lists.{at_set, at_snoc}
 use Rattle.segment_image.specs.Shape.{Dimensions}
 use Rattle.segment_image.specs.Words.{word_at}
 use Rattle.segment_image.specs.Head.{head_of}
@@ -16,9 +16,11 @@ use Rattle.alloc_core.proofs.ClaimedBlocks.{block_lawful}
 use Rattle.list_core.specs.declared.publish.Stage.{Stage}
 use Rattle.list_core.specs.declared.publish.Stage.TheVariants.{StoreOwnNext, LoadTail, Link, MoveTail, Published, Strayed}
 use Rattle.list_core.specs.Chain.{stops, IsChain}
-use Rattle.list_core.specs.Walk.{IsPrefix}
+use Rattle.list_core.specs.Walk.{given_after, IsPrefix}
+use Rattle.list_core.proofs.Prefixes.{whole_prefix, prefix_of_prefix}
+use Rattle.list_core.proofs.Walks.{walk_prefix}
 use Rattle.list_core.specs.Publish.{Publishing, started}
-use Rattle.list_core.specs.Laws.{IsStop, Fits, ListState, ListKeeps, chain_at, ListMove, allocates, publishes, steps, IsListMove, IsListRun, opening_list}
+use Rattle.list_core.specs.Laws.{IsStop, Fits, ListState, ListKeeps, chain_at, ListMove, allocates, publishes, steps, begins, walks, next_said, IsListMove, IsListRun, opening_list}
 use Rattle.list_core.proofs.Chains.{next_inside, next_last, linked_same}
 use Rattle.list_core.proofs.Standing.{stands_along, stop_word}
 use Rattle.list_core.proofs.Keeping.{step_keeps}
@@ -35,6 +37,7 @@ opening_list_keeps shape id lawful = record {
   tail = (0, omega arith, refl);
   each = λ owner p there. absurd (some-ne-none p (sym there));
   own = λ i j a b there. absurd (some-ne-none a (sym there));
+  prefixes = λ owner given there. absurd (some-ne-none given (sym there));
 }
 
 -- what happens to an allocation leaves the list
@@ -55,6 +58,7 @@ allocates_keeps shape move state next keeps is =
             (λ _. kept (p.reference + 3) (inr (inr (p.reference, f.claimed, refl)))) p.stage f.stands;
       };
       own = keeps.own;
+      prefixes = keeps.prefixes;
     }
 
 -- an element of a list with one more is an old one, or the last
@@ -92,6 +96,38 @@ publishes_keeps shape state reference keeps claimed off others = record {
       | inr last ↦ new.0 ∙ sym last.0
     ]
   ];
+  prefixes = keeps.prefixes;
+}
+
+-- a walk begins
+begins_keeps : (shape : Dimensions) (state : ListState) → ListKeeps shape state → ListKeeps shape (record state { walks = state.walks ++ [] ∷ [] })
+begins_keeps shape state keeps = record {
+  allocations = keeps.allocations;
+  linked = keeps.linked;
+  claimed = keeps.claimed;
+  tail = keeps.tail;
+  each = keeps.each;
+  own = keeps.own;
+  prefixes = λ owner given there. ⊎_elim (keeps.prefixes owner given)
+      (λ (same : [] ≡ given). subst (λ (l : List ℕ). IsPrefix l state.chain) same (state.chain, refl))
+      (at_snoc state.walks [] given owner there);
+}
+
+-- a walk loads a next
+walks_keeps : (shape : Dimensions) (state : ListState) (owner : ℕ) (given : List ℕ) → ListKeeps shape state → get_elem? state.walks owner ≡ some given
+    → ListKeeps shape (record state { walks = set state.walks owner (given_after given (next_said state.segment.words given)) })
+walks_keeps shape state owner given keeps mine = record {
+  allocations = keeps.allocations;
+  linked = keeps.linked;
+  claimed = keeps.claimed;
+  tail = keeps.tail;
+  each = keeps.each;
+  own = keeps.own;
+  prefixes = λ j other there. ⊎_elim
+      (λ (t : (j ≡ owner) × (given_after given (next_said state.segment.words given) ≡ other)).
+      subst (λ (l : List ℕ). IsPrefix l state.chain) t.1 (walk_prefix shape state given keeps (keeps.prefixes owner given mine)))
+      (λ (t : (j ≢ owner) × (get_elem? state.walks j ≡ some other)). keeps.prefixes j other t.1)
+      (at_set state.walks owner j (given_after given (next_said state.segment.words given)) other there);
 }
 
 pub list_move_keeps : (shape : Dimensions) (move : ListMove) (old new : ListState) → ListKeeps shape old → IsListMove shape move old new → ListKeeps shape new
@@ -100,40 +136,39 @@ list_move_keeps shape (publishes reference) old new keeps (claimed, off, others,
     subst (ListKeeps shape) (sym same) (publishes_keeps shape old reference keeps claimed off others)
 list_move_keeps shape (steps owner) old new keeps (p, mine, event, next, same) =
     subst (ListKeeps shape) (sym same) (step_keeps shape old owner p keeps mine p.stage event refl next)
+list_move_keeps shape begins old new keeps same = subst (ListKeeps shape) (sym same) (begins_keeps shape old keeps)
+list_move_keeps shape (walks owner) old new keeps (given, mine, same) = subst (ListKeeps shape) (sym same) (walks_keeps shape old owner given keeps mine)
 
 pub list_run_keeps : (shape : Dimensions) (moves : List ListMove) (old new : ListState) → ListKeeps shape old → IsListRun shape moves old new → ListKeeps shape new
 list_run_keeps shape [] old new keeps same = subst (ListKeeps shape) (sym same) keeps
 list_run_keeps shape (move ∷ moves) old new keeps (next, first, rest) =
     list_run_keeps shape moves next new (list_move_keeps shape move old next keeps first) rest
 
-none_more : (chain : List ℕ) → IsPrefix chain chain
-none_more chain = ([], sym (append-nil chain))
-
 grown_by : (chain : List ℕ) (reference : ℕ) (linked : Bool) → IsPrefix chain (if linked then chain ++ reference ∷ [] else chain)
 grown_by chain reference true = (reference ∷ [], refl)
-grown_by chain reference false = none_more chain
+grown_by chain reference false = whole_prefix chain
 
 chain_grown : (words chain : List ℕ) (reference : ℕ) (stage : Stage) → IsPrefix chain (chain_at words chain reference stage)
-chain_grown words chain reference StoreOwnNext = none_more chain
-chain_grown words chain reference LoadTail = none_more chain
+chain_grown words chain reference StoreOwnNext = whole_prefix chain
+chain_grown words chain reference LoadTail = whole_prefix chain
 chain_grown words chain reference (Link tail) = grown_by chain reference (word_at words (tail + 3) == 12)
-chain_grown words chain reference (MoveTail old new linked) = none_more chain
-chain_grown words chain reference Published = none_more chain
-chain_grown words chain reference Strayed = none_more chain
+chain_grown words chain reference (MoveTail old new linked) = whole_prefix chain
+chain_grown words chain reference Published = whole_prefix chain
+chain_grown words chain reference Strayed = whole_prefix chain
 
 pub move_grows : (shape : Dimensions) (move : ListMove) (old new : ListState) → IsListMove shape move old new → IsPrefix old.chain new.chain
-move_grows shape (allocates move) old new (next, is, same) = subst (λ (s : ListState). IsPrefix old.chain s.chain) (sym same) (none_more old.chain)
+move_grows shape (allocates move) old new (next, is, same) = subst (λ (s : ListState). IsPrefix old.chain s.chain) (sym same) (whole_prefix old.chain)
 move_grows shape (publishes reference) old new (claimed, off, others, same) =
-    subst (λ (s : ListState). IsPrefix old.chain s.chain) (sym same) (none_more old.chain)
+    subst (λ (s : ListState). IsPrefix old.chain s.chain) (sym same) (whole_prefix old.chain)
 move_grows shape (steps owner) old new (p, mine, event, next, same) =
     subst (λ (s : ListState). IsPrefix old.chain s.chain) (sym same) (chain_grown old.segment.words old.chain p.reference p.stage)
+move_grows shape begins old new same = subst (λ (s : ListState). IsPrefix old.chain s.chain) (sym same) (whole_prefix old.chain)
+move_grows shape (walks owner) old new (given, mine, same) = subst (λ (s : ListState). IsPrefix old.chain s.chain) (sym same) (whole_prefix old.chain)
 
 pub run_grows : (shape : Dimensions) (moves : List ListMove) (old new : ListState) → IsListRun shape moves old new → IsPrefix old.chain new.chain
-run_grows shape [] old new same = subst (λ (s : ListState). IsPrefix old.chain s.chain) (sym same) (none_more old.chain)
+run_grows shape [] old new same = subst (λ (s : ListState). IsPrefix old.chain s.chain) (sym same) (whole_prefix old.chain)
 run_grows shape (move ∷ moves) old new (next, first, rest) =
-    let (more, is) = move_grows shape move old next first in
-    let (others, then_is) = run_grows shape moves next new rest in
-    (more ++ others, then_is ∙ (ap (λ (l : List ℕ). l ++ others) is ∙ append_assoc old.chain more others))
+    prefix_of_prefix old.chain next.chain new.chain (move_grows shape move old next first) (run_grows shape moves next new rest)
 
 -- the chain that is kept is the chain of the words
 pub is_chain : (shape : Dimensions) (state : ListState) → ListKeeps shape state → IsChain state.segment.words (head_of state.segment.words) state.chain
@@ -149,6 +184,4 @@ is_chain shape state keeps = record {
 -- a prefix of the chain stays one
 pub prefix_stays : (shape : Dimensions) (moves : List ListMove) (old new : ListState) (given : List ℕ) → IsPrefix given old.chain
     → IsListRun shape moves old new → IsPrefix given new.chain
-prefix_stays shape moves old new given (rest, is) run =
-    let (more, grown) = run_grows shape moves old new run in
-    (rest ++ more, grown ∙ (ap (λ (l : List ℕ). l ++ more) is ∙ append_assoc given rest more))
+prefix_stays shape moves old new given front run = prefix_of_prefix given old.chain new.chain front (run_grows shape moves old new run)

@@ -1,5 +1,5 @@
 -- The tail never goes back along the chain.
-use Rattle.std.proofs.Common.{◌≡◌, ◌⊎◌, ℕ, zero, suc, ◌+◌, ◌<◌, ◌≤◌, Bool, true, false, List, ◌++◌, length, get_or, set, inl, inr, eq-eqb, ne_eqb, sym, refl, ap, ◌∙◌, subst, arith, length-append}
+use Rattle.std.proofs.Common.{◌∷◌, [], ◌≡◌, ◌⊎◌, ℕ, zero, suc, ◌+◌, ◌<◌, ◌≤◌, Bool, true, false, List, ◌++◌, length, get_or, set, inl, inr, eq-eqb, ne_eqb, sym, refl, ap, ◌∙◌, subst, arith, length-append}
 use Rattle.std.specs.Prelude.{slice_index, Some, if◌then◌else◌}
 use Rattle.std.proofs.lemmas.List.{get_or_append_left, get_or-set_same, get_or-set_other}
 use mathlib.Core.Logic.{dite}
@@ -15,7 +15,7 @@ use Rattle.list_core.specs.declared.publish.Stage.{Stage}
 use Rattle.list_core.specs.declared.publish.Stage.TheVariants.{StoreOwnNext, LoadTail, Link, MoveTail, Published, Strayed}
 use Rattle.list_core.specs.Chain.{stops}
 use Rattle.list_core.specs.Publish.{Publishing, store_own_next, load_tail, link, move_tail, event_at}
-use Rattle.list_core.specs.Laws.{AreNeighbours, Stands, ListState, ListKeeps, ListMove, allocates, publishes, steps, IsListMove, TailRises}
+use Rattle.list_core.specs.Laws.{IsStop, AreNeighbours, Stands, ListState, ListKeeps, ListMove, allocates, publishes, steps, begins, walks, IsListMove, IsListRun, TailRises}
 use Rattle.list_core.proofs.Chains.{one_place}
 use Rattle.list_core.proofs.Standing.{stop_within}
 use Rattle.list_core.proofs.Runs.{list_move_keeps, move_grows}
@@ -104,3 +104,33 @@ tail_rises shape (steps owner) old new keeps (p, mine, event, next, same) =
     let (more, grown) = move_grows shape (steps owner) old new (p, mine, event, next, same) in
     advanced shape old new more keeps after_all grown
     (subst (λ (s : ListState). Advances old s.segment.words) (sym same) (advances shape old owner p keeps mine p.stage event refl next))
+tail_rises shape begins old new keeps same =
+    advanced shape old new (move_grows shape begins old new same).0 keeps (list_move_keeps shape begins old new keeps same)
+    (move_grows shape begins old new same).1 (inl (ap (λ (s : ListState). word_at s.segment.words 8) same))
+tail_rises shape (walks owner) old new keeps (given, mine, same) =
+    let grown = move_grows shape (walks owner) old new (given, mine, same) in
+    advanced shape old new grown.0 keeps (list_move_keeps shape (walks owner) old new keeps (given, mine, same)) grown.1
+    (inl (ap (λ (s : ListState). word_at s.segment.words 8) same))
+
+-- where nothing happened the tail is where it was
+same_tail : (shape : Dimensions) (old new : ListState) → ListKeeps shape old → new ≡ old → TailRises old new
+same_tail shape old new keeps same i j le le' at at' =
+    let back : slice_index (stops old.chain) j ≡ word_at old.segment.words 8 =
+    subst (λ (s : ListState). slice_index (stops s.chain) j ≡ word_at s.segment.words 8) same at' in
+    let long : j ≤ length old.chain = subst (λ (s : ListState). j ≤ length s.chain) same le' in
+    let one : i ≡ j = one_place old.segment.words old.chain i j keeps.linked le long (at ∙ sym back) in
+    omega arith
+
+-- a tail that rose twice has risen
+both_rise : (old next new : ListState) → IsStop next.chain (word_at next.segment.words 8) → TailRises old next → TailRises next new → TailRises old new
+both_rise old next new (k, le, is) first rest i j low high at at' =
+    let a = first i k low le at is in
+    let b = rest k j le high is at' in
+    omega (arith, a, b)
+
+-- the tail never goes back in a run
+pub run_tail_rises : (shape : Dimensions) (moves : List ListMove) (old new : ListState) → ListKeeps shape old → IsListRun shape moves old new → TailRises old new
+run_tail_rises shape [] old new keeps same = same_tail shape old new keeps same
+run_tail_rises shape (move ∷ moves) old new keeps (next, first, rest) =
+    let kept = list_move_keeps shape move old next keeps first in
+    both_rise old next new kept.tail (tail_rises shape move old next keeps first) (run_tail_rises shape moves next new kept rest)

@@ -1,7 +1,7 @@
 -- What a walk gives.
 use Rattle.std.proofs.Common.{◌≡◌, ◌≢◌, ℕ, suc, ◌+◌, ◌-◌, ◌<◌, ◌≤◌, ◌==◌, Bool, true, false, List, [], ◌∷◌, ◌++◌, length, get_or, inl, inr, eq-eqb, ne_eqb, sym, refl, ap, ◌∙◌, subst, arith, length-append, append_assoc}
 use Rattle.std.specs.Prelude.{slice_index, if◌then◌else◌}
-use Rattle.std.proofs.lemmas.List.{append-nil, get_or_append_left, get_or-append_right}
+use Rattle.std.proofs.lemmas.List.{append-nil, get_or_append_left, get_or_push, get_or-append_right}
 use mathlib.Core.Logic.{dite}
 use native.Mathlib.Decide.{ℕ_discrete}
 use Rattle.segment_image.specs.Shape.{Dimensions}
@@ -9,8 +9,8 @@ use Rattle.segment_image.specs.Words.{word_at}
 use Rattle.list_core.specs.declared.walk.WalkStep.{WalkStep}
 use Rattle.list_core.specs.declared.walk.WalkStep.TheVariants.{Record, End, Stray}
 use Rattle.list_core.specs.Chain.{is_reference, stops}
-use Rattle.list_core.specs.Walk.{said_of, stands_after, GivesNext, IsPrefix, IsGiven, stands_behind}
-use Rattle.list_core.specs.Laws.{ListState, ListKeeps}
+use Rattle.list_core.specs.Walk.{said_of, stands_after, GivesNext, IsPrefix, IsGiven, stands_behind, given_after}
+use Rattle.list_core.specs.Laws.{ListState, ListKeeps, next_said}
 use Rattle.list_core.proofs.Chains.{no_queue, next_inside, next_last}
 use Rattle.list_core.proofs.Standing.{stop_reference}
 
@@ -82,3 +82,22 @@ pub walk_goes : (shape : Dimensions) (state : ListState) (given : List ℕ) → 
 walk_goes shape state given keeps (rest, is) =
     let within : length given ≤ length state.chain = omega (arith, ap length is, length-append given rest) in
     prefix_goes state.chain given _ (rest, is) (gives_next shape state (length given) (stands_behind given) keeps within (place_of given rest state.chain is))
+
+given_by : (given chain : List ℕ) (said : WalkStep) → IsPrefix given chain → IsGiven given chain said → IsPrefix (given_after given said) chain
+given_by given chain (Record reference) front longer = longer
+given_by given chain End front same = front
+given_by given chain Stray front none = absurd none
+
+-- so what it has given stays a prefix
+pub walk_prefix : (shape : Dimensions) (state : ListState) (given : List ℕ) → ListKeeps shape state → IsPrefix given state.chain
+    → IsPrefix (given_after given (next_said state.segment.words given)) state.chain
+walk_prefix shape state given keeps front =
+    given_by given state.chain (next_said state.segment.words given) front (walk_goes shape state given keeps front)
+
+-- where a walk stands that has given one record more
+pub stands_given : (given : List ℕ) (said : WalkStep) → stands_after (stands_behind given) said ≡ stands_behind (given_after given said)
+stands_given given (Record reference) =
+    let long : length (given ++ reference ∷ []) ≡ suc (length given) = let h = length-append given (reference ∷ []) in omega arith in
+    sym (ap (slice_index (stops (given ++ reference ∷ []))) long ∙ get_or_push given reference 0 (length given) refl)
+stands_given given End = refl
+stands_given given Stray = refl

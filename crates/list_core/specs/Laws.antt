@@ -10,6 +10,8 @@ use Rattle.alloc_core.specs.Laws.{State, Move, IsMove, StateKeeps, IsRecord, ope
 use Rattle.list_core.specs.declared.publish.Stage.{Stage}
 use Rattle.list_core.specs.declared.publish.Stage.TheVariants.{StoreOwnNext, LoadTail, Link, MoveTail, Published, Strayed}
 use Rattle.list_core.specs.Chain.{stops, IsLinked}
+use Rattle.list_core.specs.declared.walk.WalkStep.{WalkStep}
+use Rattle.list_core.specs.Walk.{said_of, stands_behind, given_after, IsPrefix}
 use Rattle.list_core.specs.Publish.{Publishing, next_event, moved, started}
 
 -- the queue block, or a record of the chain
@@ -39,14 +41,17 @@ pub record Fits (words chain : List ℕ) (allocations : List Allocation) (publis
   pub claimed : IsRecord allocations publish.reference
   pub stands : Stands words chain publish.reference publish.stage
 
--- a segment with its allocations, its publishes, and the records whose link has succeeded, in the order of these links
+-- a segment with its allocations, its publishes, the records whose link has succeeded, in the order of these links, and
+-- what each walk from the start has given
 pub record ListState : Type 0 where
   pub segment : State
   pub publishes : List Publishing
   pub chain : List ℕ
+  pub walks : List (List ℕ)
 
 -- the list invariant: the allocation invariant holds; the nexts lead along the chain, whose records were claimed; the tail
--- is the queue block or a record of the chain; and each publish fits and has a record of its own
+-- is the queue block or a record of the chain; each publish fits and has a record of its own; and each walk has given a
+-- prefix of the chain
 pub record ListKeeps (shape : Dimensions) (state : ListState) : Type 0 where
   pub allocations : StateKeeps shape state.segment
   pub linked : IsLinked state.segment.words state.chain
@@ -56,6 +61,7 @@ pub record ListKeeps (shape : Dimensions) (state : ListState) : Type 0 where
       → Fits state.segment.words state.chain state.segment.allocations publish
   pub own : (i j : ℕ) (a b : Publishing) → get_elem? state.publishes i ≡ some a → get_elem? state.publishes j ≡ some b
       → a.reference ≡ b.reference → i ≡ j
+  pub prefixes : (owner : ℕ) (given : List ℕ) → get_elem? state.walks owner ≡ some given → IsPrefix given state.chain
 
 -- the chain after the next event of a publish: longer by its record, at its end, where the link succeeds
 abbrev pub chain_at : List ℕ → List ℕ → ℕ → Stage → List ℕ
@@ -65,12 +71,18 @@ chain_at words chain reference _ = chain
 abbrev pub chain_after : List ℕ → List ℕ → Publishing → List ℕ
 chain_after words chain publish = chain_at words chain publish.reference publish.stage
 
--- what can happen: something happens to an allocation, a publish of a claimed block starts that is not published yet, or a
--- publish goes on by its next event
+-- what a walk says next that has given these records
+abbrev pub next_said : List ℕ → List ℕ → WalkStep
+next_said words given = said_of (length words) (word_at words (stands_behind given + 3))
+
+-- what can happen: something happens to an allocation; a publish of a claimed block starts that is not published yet, or
+-- goes on by its next event; a walk from the start begins, or loads a next
 pub data ListMove : Type 0 where
   allocates : Move → ListMove
   publishes : (reference : ℕ) → ListMove
   steps : (owner : ℕ) → ListMove
+  begins : ListMove
+  walks : (owner : ℕ) → ListMove
 
 abbrev pub IsListMove : Dimensions → ListMove → ListState → ListState → Type 0
 IsListMove shape (allocates move) old new = (next : State) × IsMove shape move old.segment next × (new ≡ record old { segment = next })
@@ -84,7 +96,12 @@ IsListMove shape (steps owner) old new =
       segment = record { words = after event old.segment.words; allocations = old.segment.allocations };
       publishes = slice_set old.publishes owner (moved (length old.segment.words) publish (word_at old.segment.words (spot event)));
       chain = chain_after old.segment.words old.chain publish;
+      walks = old.walks;
     })
+IsListMove shape begins old new = new ≡ record old { walks = old.walks ++ [] ∷ [] }
+IsListMove shape (walks owner) old new =
+    (given : List ℕ) × (get_elem? old.walks owner ≡ some given)
+    × (new ≡ record old { walks = slice_set old.walks owner (given_after given (next_said old.segment.words given)) })
 
 -- moves one after the other, whoever makes them
 abbrev pub IsListRun : Dimensions → List ListMove → ListState → ListState → Type 0
@@ -93,7 +110,7 @@ IsListRun shape (move ∷ moves) old new = (next : ListState) × IsListMove shap
 
 -- a segment without blocks, allocations and publishes
 abbrev pub opening_list : Dimensions → ℕ → ListState
-opening_list shape id = record { segment = opening shape id; publishes = []; chain = [] }
+opening_list shape id = record { segment = opening shape id; publishes = []; chain = []; walks = [] }
 
 -- the tail of a state, as a place of the chain, is not before that of an earlier state
 abbrev pub TailRises : ListState → ListState → Type 0
@@ -107,4 +124,5 @@ stepped state owner old words new = record {
   segment = record { words = words; allocations = state.segment.allocations };
   publishes = slice_set state.publishes owner new;
   chain = chain_after state.segment.words state.chain old;
+  walks = state.walks;
 }

@@ -31,3 +31,9 @@ IsGiven given chain Stray = ⊥
 -- where a walk from the start stands that gave these records
 abbrev pub stands_behind : List ℕ → ℕ
 stands_behind given = slice_index (stops given) (length given)
+
+-- what a walk has given after it said this
+abbrev pub given_after : List ℕ → WalkStep → List ℕ
+given_after given (Record reference) = given ++ reference ∷ []
+given_after given End = given
+given_after given Stray = given

@@ -19,8 +19,9 @@ pub fn opening_words_keep()
     ensures { (shape : Dimensions) (id : ℕ) → IsShape shape → ListKeeps shape (opening_list shape id) }
 {}
 
-/// Whatever happens next keeps it: something happens to an allocation, a publish of a claimed block starts, or a publish
-/// goes on by its next event.
+/// Whatever happens next keeps it: something happens to an allocation; a publish of a claimed block starts, or goes on by
+/// its next event; a walk begins, or loads a next. So what each walk has given is a prefix of the chain, in any order of
+/// these.
 pub fn moves_keep()
     ensures { (shape : Dimensions) (move : ListMove) (old new : ListState) → ListKeeps shape old → IsListMove shape move old new → ListKeeps shape new }
 {}
@@ -42,9 +43,9 @@ pub fn chain_only_grows()
     ensures { (shape : Dimensions) (moves : List ListMove) (old new : ListState) → IsListRun shape moves old new → IsPrefix old.chain new.chain }
 {}
 
-/// The tail never goes back along the chain.
+/// The tail never goes back along the chain, whatever happens and however much of it.
 pub fn tail_never_goes_back()
-    ensures { (shape : Dimensions) (move : ListMove) (old new : ListState) → ListKeeps shape old → IsListMove shape move old new → TailRises old new }
+    ensures { (shape : Dimensions) (moves : List ListMove) (old new : ListState) → ListKeeps shape old → IsListRun shape moves old new → TailRises old new }
 {}
 
 /// A walk from the start gives a prefix of the chain, in order: a walk that has given one gives the record behind it, or

@@ -46,11 +46,11 @@ impl WalkStep {
 }
 
 impl Walk {
-    ghost use Rattle.std.specs.Prelude.{◌≡◌, ℕ, ◌+◌, ◌≤◌, length, slice_index, true};
+    ghost use Rattle.std.specs.Prelude.{◌≡◌, ℕ, List, ◌+◌, ◌≤◌, length, slice_index, true};
     ghost use Rattle.segment_image.specs.Shape.{Dimensions};
     ghost use Rattle.segment_image.specs.Words.{word_at};
     ghost use Rattle.list_core.specs.Chain.{is_reference, stops};
-    ghost use Rattle.list_core.specs.Walk.{said_of, stands_after, GivesNext};
+    ghost use Rattle.list_core.specs.Walk.{said_of, stands_after, stands_behind, given_after, GivesNext};
     ghost use Rattle.list_core.specs.Laws.{ListState, ListKeeps};
 
     /// A walk from the start of the list.
@@ -74,6 +74,7 @@ impl Walk {
         ensures says { result ≡ said_of (length words.now) (word_at words.now (self.old + 3)) }
         ensures stands { self.new ≡ stands_after self.old result }
         ensures reach { is_reference (length words.now) self.new ≡ true }
+        ensures given { (given : List ℕ) → self.old ≡ stands_behind given → self.new ≡ stands_behind (given_after given result) }
         ensures chain { (shape : Dimensions) (state : ListState) (k : ℕ) → words.now ≡ state.segment.words → ListKeeps shape state → k ≤ length state.chain → slice_index (stops state.chain) k ≡ self.old → GivesNext state.chain k result }
     {
         let said = said_of(self.next(words), words.len());

@@ -22,11 +22,11 @@ at_zero at = omega arith
 
 -- an event of an allocation acts on the flags, on the free pointer, or on the first words of its own block
 step_spot : (a : Allocation) (stage : Stage) (event : Event) → event_at a stage ≡ Some event
-    → (spot event ≤ 7) ⊎ ((block : ℕ × ℕ) × (j : ℕ) × (taken stage ≡ Some block) × (j < 3) × (spot event ≡ block.0 + j))
-step_spot a LoadFlags event is = let same : load_flags ≡ event = cc is in inl (subst (λ (v : Event). spot v ≤ 7) same (omega arith))
-step_spot a LoadFree event is = let same : load_free ≡ event = cc is in inl (subst (λ (v : Event). spot v ≤ 7) same (omega arith))
+    → ((6 ≤ spot event) × (spot event ≤ 7)) ⊎ ((block : ℕ × ℕ) × (j : ℕ) × (taken stage ≡ Some block) × (j < 3) × (spot event ≡ block.0 + j))
+step_spot a LoadFlags event is = let same : load_flags ≡ event = cc is in inl (subst (λ (v : Event). (6 ≤ spot v) × (spot v ≤ 7)) same (omega arith, omega arith))
+step_spot a LoadFree event is = let same : load_free ≡ event = cc is in inl (subst (λ (v : Event). (6 ≤ spot v) × (spot v ≤ 7)) same (omega arith, omega arith))
 step_spot a (ExchangeFree next purpose) event is =
-    let same : exchange_free a.seen next ≡ event = cc is in inl (subst (λ (v : Event). spot v ≤ 7) same (omega arith))
+    let same : exchange_free a.seen next ≡ event = cc is in inl (subst (λ (v : Event). (6 ≤ spot v) × (spot v ≤ 7)) same (omega arith, omega arith))
 step_spot a (StoreSize at size purpose) event is =
     let same : store_size at size ≡ event = cc is in
     inr ((at, size), 0, refl, omega arith, ap spot (sym same) ∙ at_zero at)
@@ -36,7 +36,7 @@ step_spot a (StoreCookie at size purpose) event is =
 step_spot a (StoreType at size) event is =
     let same : store_type at a.tag ≡ event = cc is in
     inr ((at, size), 2, refl, omega arith, ap spot (sym same) ∙ refl)
-step_spot a SetFull event is = let same : set_flag 2 ≡ event = cc is in inl (subst (λ (v : Event). spot v ≤ 7) same (omega arith))
+step_spot a SetFull event is = let same : set_flag 2 ≡ event = cc is in inl (subst (λ (v : Event). (6 ≤ spot v) × (spot v ≤ 7)) same (omega arith, omega arith))
 step_spot a (Claimed at size) event is = absurd (cc is)
 step_spot a Full event is = absurd (cc is)
 step_spot a Corrupt event is = absurd (cc is)
@@ -53,7 +53,9 @@ taken_from a (StoreSize at size purpose) block aimed e = from_aim at size block 
 taken_from a (StoreCookie at size purpose) block aimed e = from_aim at size block (cc e) aimed.0 aimed.1.five
 taken_from a (StoreType at size) block aimed e = from_aim at size block (cc e) aimed.0 aimed.1.five
 taken_from a SetFull block aimed e = absurd (cc e)
-taken_from a (Claimed at size) block aimed e = from_aim at size block (cc e) aimed.0 aimed.1.five
+taken_from a (Claimed at size) block aimed e =
+    let five = aimed.five in
+    from_aim at size block (cc e) aimed.from (omega (arith, five))
 taken_from a Full block aimed e = absurd (cc e)
 taken_from a Corrupt block aimed e = absurd (cc e)
 
@@ -125,7 +127,10 @@ pub list_word_kept : (shape : Dimensions) (move : Move) (old new : State) (at : 
 list_word_kept shape (starts payload tag) old new at keeps (a, is, same) listed = ap (λ (s : State). word_at s.words at) same
 list_word_kept shape (steps who) old new at keeps (a, mine, event, next, same) listed =
     let apart : at ≢ spot event = ⊎_elim
-    (λ (low : spot event ≤ 7) e. let high = list_word_high shape old at keeps listed in absurd (omega arith))
+    (λ (low : (6 ≤ spot event) × (spot event ≤ 7)) e.
+    let high = list_word_high shape old at keeps listed in
+    let most = low.1 in
+    absurd (omega arith))
     (λ (own : (block : ℕ × ℕ) × (j : ℕ) × (taken a.stage ≡ Some block) × (j < 3) × (spot event ≡ block.0 + j)) e.
     let five = (taken_from a a.stage own.0 (keeps.each who a mine).lawful.aimed own.2).1 in
     let few = own.3 in
@@ -147,10 +152,10 @@ pub record_within : (shape : Dimensions) (state : State) (reference : ℕ) → S
 record_within shape state reference keeps (owner, a, size, mine, stage) =
     let fits = keeps.each owner a mine in
     let aimed : IsAimed a (Claimed reference size) = subst (IsAimed a) stage fits.lawful.aimed in
-    let five = aimed.1.five in
-    let within : reference + size ≤ shape.size = subst (λ (s : Dimensions). reference + size ≤ s.size) fits.shaped aimed.1.within in
+    let five = aimed.five in
+    let within : reference + size ≤ shape.size = subst (λ (s : Dimensions). reference + size ≤ s.size) fits.shaped aimed.within in
     let long = length_shown shape state.words keeps.layout keeps.shown in
-    (aimed.0, omega (arith, five, within, long))
+    (aimed.from, omega (arith, five, within, long))
 
 -- the words are at least a page
 pub words_long : (shape : Dimensions) (state : State) → StateKeeps shape state → 64 ≤ length state.words
@@ -159,3 +164,25 @@ words_long shape state keeps =
     let wide = keeps.shown.sound.lawful.wide in
     let one = keeps.shown.sound.lawful.one in
     omega (arith, long, wide, one)
+
+-- whatever happens leaves the words of the header but the flags and the free pointer
+pub header_word_kept : (shape : Dimensions) (move : Move) (old new : State) (at : ℕ) → StateKeeps shape old → IsMove shape move old new
+    → at < 16 → at ≢ 6 → at ≢ 7 → word_at new.words at ≡ word_at old.words at
+header_word_kept shape (starts payload tag) old new at keeps (a, is, same) low flags free = ap (λ (s : State). word_at s.words at) same
+header_word_kept shape (steps who) old new at keeps (a, mine, event, next, same) low flags free =
+    let apart : at ≢ spot event = ⊎_elim
+        (λ (first : (6 ≤ spot event) × (spot event ≤ 7)) e.
+        let least = first.0 in
+        let most = first.1 in
+        flags (let other : at ≢ 7 = free in omega (arith, e, least, most, other)))
+        (λ (own : (block : ℕ × ℕ) × (j : ℕ) × (taken a.stage ≡ Some block) × (j < 3) × (spot event ≡ block.0 + j)) e.
+        let from = (taken_from a a.stage own.0 (keeps.each who a mine).lawful.aimed own.2).0 in
+        let place = own.4 in
+        absurd (omega arith))
+        (step_spot a a.stage event next) in
+    ap (λ (s : State). word_at s.words at) same ∙ get_or-set_other old.words (spot event) at _ 0 apart
+header_word_kept shape (fills who index value) old new at keeps (a, mine, block, claimed, lt, same) low flags free =
+    let from = (taken_from a a.stage block (keeps.each who a mine).lawful.aimed (claimed_taken a block.0 block.1 claimed)).0 in
+    ap (λ (s : State). word_at s.words at) same ∙ get_or-set_other old.words (block.0 + (4 + index)) at value 0 (λ e. omega arith)
+header_word_kept shape spoils old new at keeps same low flags free =
+    ap (λ (s : State). word_at s.words at) same ∙ get_or-set_other old.words 6 at _ 0 flags

@@ -41,9 +41,9 @@ block_lawful shape state reference keeps (owner, a, size, mine, stage) =
     let ends = ends_within shape.page 12 keeps.layout.blocks k block keeps.shown.sound.laid there in
     let free = free_word shape state.words keeps.layout keeps.shown in
     let page : word_at state.words 3 ≡ shape.page = ap (λ (ws : List ℕ). get_or ws 3 0) keeps.shown.shows in
-    let five = aimed.1.five in
-    let in_page : reference % shape.page + (reference + size - reference) ≤ shape.page =
-    subst (λ (s : Dimensions). reference % s.page + (reference + size - reference) ≤ s.page) fits.shaped aimed.1.one_page in
+    let five = aimed.five in
+    let in_page : reference % shape.page + size ≤ shape.page =
+    subst (λ (s : Dimensions). reference % s.page + size ≤ s.page) fits.shaped aimed.one_page in
     let size_word : field_at state.words reference 0 ≡ size = word_of state.words reference size 0 (size ∷ 0xC8799269 ∷ behind) slice (omega (arith, five)) in
     let cookie_word : field_at state.words reference 1 ≡ 0xC8799269 =
     word_of state.words reference size 1 (size ∷ 0xC8799269 ∷ behind) slice (omega (arith, five)) in
@@ -51,7 +51,7 @@ block_lawful shape state reference keeps (owner, a, size, mine, stage) =
     let same : reference / word_at state.words 3 ≡ (reference + field_at state.words reference 0 - 1) / word_at state.words 3 =
     rw (page, size_word) (one_page reference (size - 1) shape.page (omega (arith, five, in_page)) ∙ ap (λ (n : ℕ). n / shape.page) last) in
     and_from (is_placed (head_of state.words) reference) _
-    (and_from (nat_le 16 reference) _ (le-leb 16 reference aimed.0) (le-leb (reference + 5) (word_at state.words 7) (omega (arith, ends, free, whole, five))))
+    (and_from (nat_le 16 reference) _ (le-leb 16 reference aimed.from) (le-leb (reference + 5) (word_at state.words 7) (omega (arith, ends, free, whole, five))))
     (and_from _ _ (and_from _ _ (and_from _ _ (eq-eqb (field_at state.words reference 1) 0xC8799269 cookie_word)
     (le-leb 5 (field_at state.words reference 0) (omega (arith, size_word, five))))
     (le-leb (reference + field_at state.words reference 0) (word_at state.words 7) (omega (arith, size_word, ends, free, whole))))

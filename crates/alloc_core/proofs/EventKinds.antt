@@ -1,5 +1,5 @@
 -- What each kind of event of an allocation does to a layout. A machine with more kinds of events cites these.
-use Rattle.std.proofs.Common.{◌≡◌, ◌≢◌, ℕ, zero, suc, ◌+◌, ◌-◌, ◌<◌, ◌≤◌, Bool, eq-eqb, ne_eqb, List, ◌∷◌, length, replicate, set, sym, refl, ap, ◌∙◌, subst, arith}
+use Rattle.std.proofs.Common.{◌≡◌, ◌≢◌, ℕ, zero, suc, ◌+◌, ◌-◌, ◌<◌, ◌≤◌, Bool, true, eq-eqb, ne_eqb, List, ◌∷◌, length, replicate, set, sym, refl, ap, ◌∙◌, subst, arith}
 use Rattle.std.specs.Prelude.{if◌then◌else◌}
 use Rattle.std.proofs.lemmas.List.{length-replicate}
 use mathlib.Core.Option.{some, some-injective, some-ne-none}
@@ -8,10 +8,10 @@ use lib.Seq.{set-get_or}
 use Rattle.segment_image.specs.Shape.{Dimensions}
 use Rattle.segment_image.specs.Words.{word_at}
 use Rattle.alloc_core.specs.Layout.{Block, Layout, free_of, IsShown, put, grown}
-use Rattle.alloc_core.specs.Event.{load_flags, load_free, exchange_free, store_size, store_cookie, store_type, store_payload, after}
+use Rattle.alloc_core.specs.Event.{load_flags, load_free, exchange_free, store_size, store_cookie, store_type, store_payload, set_flag, after}
 use Rattle.alloc_core.specs.Alloc.{IsRise}
 use Rattle.alloc_core.specs.Laws.{own, claimed_words}
-use Rattle.alloc_core.proofs.Layouts.{shown_put, shown_grown, free_word}
+use Rattle.alloc_core.proofs.Layouts.{shown_put, shown_grown, shown_corrupt, shown_full, free_word}
 
 -- a raw block behind its size, and behind its cookie
 abbrev pub sized : ℕ → List ℕ
@@ -65,6 +65,15 @@ free_exchanged shape words layout owner old new shown hit up =
     let through : set words 7 new ≡ after (exchange_free old new) words =
     ap (λ (b : Bool). set words 7 (if b then new else word_at words 7)) (sym (eq-eqb (word_at words 7) old hit)) in
     subst (λ (p : List ℕ × ℕ). IsShown shape p.0 (grown layout owner (new - p.1))) (λ i. (through i, sym is i)) made
+
+-- a flag that is set: corrupt, and full
+pub corrupt_set : (shape : Dimensions) (words : List ℕ) (layout : Layout) → IsShown shape words layout
+    → IsShown shape (after (set_flag 1) words) (record layout { corrupt = true })
+corrupt_set = shown_corrupt
+
+pub full_set : (shape : Dimensions) (words : List ℕ) (layout : Layout) → IsShown shape words layout
+    → IsShown shape (after (set_flag 2) words) (record layout { full = true })
+full_set = shown_full
 
 -- a word of somebody's own block is stored
 own_put : (shape : Dimensions) (words : List ℕ) (layout : Layout) (owner at k : ℕ) (ws ws' : List ℕ) (i j v : ℕ) → IsShown shape words layout

@@ -25,8 +25,8 @@ use Rattle.alloc_core.specs.Layout.{IsShape}
 use Rattle.std.proofs.Math.Nat.{le-max_right, max-le}
 use Rattle.std.proofs.lemmas.Bool.{ltb-false}
 use Rattle.alloc_core.proofs.Lawful.{moved_lawful}
-use Rattle.alloc_core.proofs.Layouts.{shown_corrupt, shown_tail, shown_queue, shown_full, free_word, free_from, free_grown, free_put}
-use Rattle.alloc_core.proofs.EventKinds.{sized, marked, length-sized, length-marked, length-claimed, flags_loaded, free_loaded, free_kept, free_exchanged, size_stored, cookie_stored, type_stored, behind_stored}
+use Rattle.alloc_core.proofs.Layouts.{shown_tail, shown_queue, free_word, free_from, free_grown, free_put}
+use Rattle.alloc_core.proofs.EventKinds.{corrupt_set, full_set, sized, marked, length-sized, length-marked, length-claimed, flags_loaded, free_loaded, free_kept, free_exchanged, size_stored, cookie_stored, type_stored, behind_stored}
 use Rattle.alloc_core.proofs.Owners.{among_put, among_last, has_else, has_longer, has_beside_queue}
 
 Behind-le : (m n : ℕ) → Behind m n → m ≤ n
@@ -208,7 +208,7 @@ module _ (shape : Dimensions) (words : List ℕ) (allocations : List Allocation)
   sets_full : a.stage ≡ SetFull → Goes (after (set_flag 2) words) (at_stage (word_at words 6) SetFull)
   sets_full e =
       goes (after (set_flag 2) words) (record keeps.layout { full = true }) (at_stage (word_at words 6) SetFull)
-      (shown_full shape words keeps.layout keeps.shown)
+      (full_set shape words keeps.layout keeps.shown)
       record { shaped = fits.shaped; lawful = lawful_at (word_at words 6) SetFull e; behind = fits.behind; has = tt }
       (λ _ _ _ f. record { shaped = f.shaped; lawful = f.lawful; behind = f.behind; has = f.has })
 
@@ -258,7 +258,7 @@ pub corrupt_keeps : (shape : Dimensions) (words : List ℕ) (allocations : List 
     → Keeps shape (after (set_flag 1) words) allocations
 corrupt_keeps shape words allocations keeps = record {
   layout = record keeps.layout { corrupt = true };
-  shown = shown_corrupt shape words keeps.layout keeps.shown;
+  shown = corrupt_set shape words keeps.layout keeps.shown;
   each = λ owner a there. let f = keeps.each owner a there in record { shaped = f.shaped; lawful = f.lawful; behind = f.behind; has = f.has };
 }
 
@@ -317,7 +317,7 @@ list_keeps shape words allocations at v (inr (inl queue)) keeps =
       };
     }
 list_keeps shape words allocations at v (inr (inr (reference, (owner, a, size, mine, stage), place))) keeps =
-    let five = (subst (IsAimed a) stage (keeps.each owner a mine).lawful.aimed).1.five in
+    let five = (subst (IsAimed a) stage (keeps.each owner a mine).lawful.aimed).five in
     let there : at ≡ reference + (2 + 1) = omega arith in
     subst (λ (i : ℕ). Keeps shape (set words i v) allocations) (sym there)
     (behind_keeps shape words allocations owner a keeps mine reference size 1 v stage (omega (arith, five)))

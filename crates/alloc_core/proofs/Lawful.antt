@@ -80,13 +80,20 @@ module _ (a : Allocation) (lawful : IsShape a.shape) (least : 5 ≤ a.size) (mos
   aimed_cookie at size purpose.Claim aimed = aimed
   aimed_cookie at size purpose.Waste aimed = tt
 
+  aimed_type : (at size : ℕ) → IsAimed a (StoreType at size) → IsAimed a (Claimed at size)
+  aimed_type at size aimed =
+      let up = aimed.1 in
+      let five = up.five in
+      let one_page = up.one_page in
+      record { from = aimed.0; five = omega (arith, five); within = up.within; one_page = omega (arith, one_page) }
+
   pub aimed_after : (stage : Stage) → IsAimed a stage → IsAimed (record a { seen = seen_after a found stage }) (stage_after a found stage)
   aimed_after LoadFlags aimed = aimed_flags (bit_and found 1 == 0)
   aimed_after LoadFree aimed = aimed_free (is_pointer a.shape found) refl
   aimed_after (ExchangeFree next purpose) aimed = aimed_exchange next purpose (found == a.seen) refl aimed
   aimed_after (StoreSize at size purpose) aimed = aimed
   aimed_after (StoreCookie at size purpose) aimed = aimed_cookie at size purpose aimed
-  aimed_after (StoreType at size) aimed = aimed
+  aimed_after (StoreType at size) aimed = aimed_type at size aimed
   aimed_after SetFull aimed = aimed
   aimed_after (Claimed at size) aimed = aimed
   aimed_after Full aimed = aimed

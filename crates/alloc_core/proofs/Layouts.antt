@@ -1,7 +1,7 @@
 -- The words of a layout: a word of a block among all words, a block more, and the flags.
 use Rattle.std.proofs.Common.{◌≡◌, ◌≢◌, ℕ, zero, suc, ◌+◌, ◌-◌, ◌%◌, ◌<◌, ◌≤◌, Bool, true, false, List, [], ◌∷◌, ◌++◌, length, replicate, get_or, set, sym, refl, ap, ap₂, ◌∙◌, subst, arith, length-set, length-append}
 use Rattle.std.specs.Prelude.{bit_or}
-use Rattle.std.proofs.lemmas.List.{set-append_left, set-append_right, length-replicate, replicate-append-replicate}
+use Rattle.std.proofs.lemmas.List.{set-append_left, set-append_right, length-replicate, replicate-append-replicate, get_or-append_right}
 use Rattle.std.specs.Prelude.{take, drop}
 use Rattle.std.proofs.Math.Seq.{take-append_seam, drop-append-add}
 use mathlib.Core.Option.{some, some-injective, some-ne-none}
@@ -332,3 +332,27 @@ slice_shown shape words layout k b shown e =
     ∙ (ap (λ (m : ℕ). take (extent b) (drop m (head_words shape layout ++ body))) step
     ∙ (ap (take (extent b)) (drop-append-add (head_words shape layout) body (b.at - 12))
     ∙ slice_spread shape.page 12 (replicate layout.spare 0) layout.blocks k b (b.at - 12) shown.sound.laid e (omega arith)))
+
+zero_at : (n i : ℕ) → get_or (replicate {A = ℕ} n 0) i 0 ≡ 0
+zero_at zero i = refl
+zero_at (suc n) zero = refl
+zero_at (suc n) (suc i) = zero_at n i
+
+behind_spread : (at n : ℕ) (blocks : List Block) (i : ℕ) → end_of at blocks ≤ at + i → get_or (spread (replicate n 0) blocks) i 0 ≡ 0
+behind_spread at n [] i le = zero_at n i
+behind_spread at n (x ∷ xs) i le =
+    let end = from_end (at + extent x) xs in
+    let step : at + extent x + (i - extent x) ≡ at + i = omega (arith, end, le) in
+    get_or-append_right x.words (spread (replicate n 0) xs) (extent x) i 0 refl (omega (arith, end, le))
+    ∙ behind_spread (at + extent x) n xs (i - extent x) (omega (arith, le, step))
+
+-- the words from the free pointer on are 0
+pub behind_shown : (shape : Dimensions) (words : List ℕ) (layout : Layout) (at : ℕ) → IsShown shape words layout → free_of layout ≤ at
+    → word_at words at ≡ 0
+behind_shown shape words layout at shown le =
+    let from = from_end 12 layout.blocks in
+    let body : List ℕ = spread (replicate layout.spare 0) layout.blocks in
+    let step : 12 + (at - 12) ≡ at = omega (arith, from, le) in
+    ap (λ (ws : List ℕ). get_or ws at 0) shown.shows
+    ∙ (get_or-append_right (head_words shape layout) body 12 at 0 refl (omega (arith, from, le))
+    ∙ behind_spread 12 layout.spare layout.blocks (at - 12) (omega (arith, le, step)))

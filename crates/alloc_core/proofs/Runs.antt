@@ -16,7 +16,7 @@ use Rattle.alloc_core.specs.Planned.{room_at, is_pointer}
 use Rattle.alloc_core.specs.Event.{Event, load_flags, load_free, exchange_free, store_size, store_cookie, store_type, set_flag, after}
 use Rattle.alloc_core.specs.Alloc.{Allocation, event_at, cookie_of, IsAimed}
 use Rattle.alloc_core.specs.Laws.{Behind, State, Move, starts, steps, fills, spoils, IsMove, IsRun, StateKeeps, opening, FlagsBy}
-use Rattle.alloc_core.proofs.Layouts.{free_word, free_from}
+use Rattle.alloc_core.proofs.Layouts.{free_word, free_from, behind_shown}
 use Rattle.alloc_core.proofs.Beside.{words_long}
 use Rattle.alloc_core.proofs.Keeping.{step_keeps, fill_keeps, corrupt_keeps, start_keeps}
 
@@ -122,7 +122,13 @@ flags_by shape (steps owner) old new keeps (a, mine, event, next, same) =
     ]
 flags_by shape (fills owner index value) old new keeps (a, mine, block, stage, lt, same) =
     let aimed : IsAimed a (Claimed block.0 block.1) = subst (IsAimed a) stage (keeps.each owner a mine).lawful.aimed in
-    let from = aimed.0 in
+    let from = aimed.from in
     inl (ap (λ (s : State). word_at s.words 6) same ∙ beside old.words (block.0 + (4 + index)) value (λ e. omega arith))
 flags_by shape spoils old new keeps same =
     inr (inl (refl, ap (λ (s : State). word_at s.words 6) same ∙ flagged old.words (bit_or (word_at old.words 6) 1) (has_flags shape old keeps)))
+
+-- the words from the free pointer on
+pub behind_free : (shape : Dimensions) (state : State) (at : ℕ) → StateKeeps shape state → word_at state.words 7 ≤ at → word_at state.words at ≡ 0
+behind_free shape state at keeps le =
+    let is = free_word shape state.words keeps.layout keeps.shown in
+    behind_shown shape state.words keeps.layout at keeps.shown (omega (arith, is, le))

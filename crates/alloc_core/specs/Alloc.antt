@@ -109,6 +109,13 @@ pub record IsRise (shape : Dimensions) (old new : ℕ) : Type 0 where
   pub one_page : old % shape.page + (new - old) ≤ shape.page
   pub leaves : new % shape.page + 5 ≤ shape.page
 
+-- a block of five words or more lies behind the queue block, within the segment, and in one page
+pub record IsPlace (shape : Dimensions) (at size : ℕ) : Type 0 where
+  pub from : 16 ≤ at
+  pub five : 5 ≤ size
+  pub within : at + size ≤ shape.size
+  pub one_page : at % shape.page + size ≤ shape.page
+
 -- a block of so many words is what an allocation wants: no fewer, and not five more
 abbrev pub Suits : Allocation → Purpose → ℕ → Type 0
 Suits allocation purpose.Claim size = (allocation.size ≤ size) × (size < allocation.size + 5)
@@ -125,8 +132,7 @@ IsAimed allocation (StoreCookie at size purpose) =
     (16 ≤ at) × IsRise allocation.shape at (at + size) × Suits allocation purpose size
 IsAimed allocation (StoreType at size) =
     (16 ≤ at) × IsRise allocation.shape at (at + size) × Suits allocation purpose.Claim size
-IsAimed allocation (Claimed at size) =
-    (16 ≤ at) × IsRise allocation.shape at (at + size) × Suits allocation purpose.Claim size
+IsAimed allocation (Claimed at size) = IsPlace allocation.shape at size
 IsAimed allocation SetFull = allocation.shape.size < allocation.seen + allocation.size
 IsAimed allocation Full = allocation.shape.size < allocation.seen + allocation.size
 IsAimed allocation _ = ⊤

@@ -2,9 +2,9 @@
 //!
 //! The functions do nothing. What each promises is a law of the definitions in `specs/Laws.antt` and `specs/Event.antt`,
 //! which the contract of `Alloc::step` cites too. A machine with more kinds of events has the lemmas in
-//! `proofs/Layouts.antt` and `proofs/Owners.antt` for those of allocation.
+//! `proofs/EventKinds.antt` for those of allocation, over what `proofs/Layouts.antt` and `proofs/Owners.antt` say.
 
-ghost use Rattle.std.specs.Prelude.{◌≡◌, ◌≢◌, ℕ, List, [], true, Some, slice_set};
+ghost use Rattle.std.specs.Prelude.{◌≡◌, ◌≢◌, ℕ, ◌<◌, ◌≤◌, List, [], true, Some, slice_set};
 ghost use mathlib.Core.Option.{some};
 ghost use lib.ListN.{get_elem?};
 ghost use Rattle.segment_image.specs.Shape.{Dimensions};
@@ -69,4 +69,16 @@ pub fn list_words_keep()
 pub fn moves_leave_list_words()
     ensures { (shape : Dimensions) (move : Move) (old new : State) (at : ℕ) → StateKeeps shape old → IsMove shape move old new
         → IsListWord old.allocations at → (word_at new.words at ≡ word_at old.words at) × IsListWord new.allocations at }
+{}
+
+/// Whatever happens leaves the words of the header but the flags and the free pointer; the list beside allocations may
+/// store in the tail and in the next of the queue block.
+pub fn header_words_stay()
+    ensures { (shape : Dimensions) (move : Move) (old new : State) (at : ℕ) → StateKeeps shape old → IsMove shape move old new
+        → at < 16 → at ≢ 6 → at ≢ 7 → word_at new.words at ≡ word_at old.words at }
+{}
+
+/// The words from the free pointer on are 0.
+pub fn words_behind_are_zeros()
+    ensures { (shape : Dimensions) (state : State) (at : ℕ) → StateKeeps shape state → word_at state.words 7 ≤ at → word_at state.words at ≡ 0 }
 {}

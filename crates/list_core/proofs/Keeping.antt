@@ -22,7 +22,8 @@ use Rattle.list_core.specs.Publish.{Publishing, store_own_next, load_tail, link,
 use Rattle.list_core.specs.Laws.{IsStop, AreNeighbours, Stands, Fits, ListState, ListKeeps, chain_at}
 use Rattle.list_core.specs.Walk.{IsPrefix}
 use Rattle.list_core.proofs.Prefixes.{whole_prefix, prefix_of_prefix}
-use Rattle.list_core.proofs.Chains.{next_inside, last_stop, stop_stays, neighbours_stay, new_neighbours, old_or_new, linked_beside, links}
+use Rattle.list_core.proofs.Chains.{stop_stays, neighbours_stay, old_or_new}
+use Rattle.list_core.proofs.EventKinds.{own_next_stored, tail_loaded, link_through, link_missed, behind_stop, tail_moved}
 use Rattle.list_core.proofs.Standing.{stands_along, stop_word, stop_within, stop_reference}
 
 module _ (shape : Dimensions) (state : ListState) (owner : ℕ) (p : Publishing) (keeps : ListKeeps shape state)
@@ -97,13 +98,13 @@ module _ (shape : Dimensions) (state : ListState) (owner : ℕ) (p : Publishing)
 
   -- a store into a word that is no next of the chain, and that no other publish waits for
   beside : (at v : ℕ) (stage : Stage) → IsListWord state.segment.allocations at
-      → ((i : ℕ) → i ≤ length state.chain → slice_index (stops state.chain) i + 3 ≢ at) → IsStop state.chain (word_at (set state.segment.words at v) 8)
+      → IsLinked (set state.segment.words at v) state.chain → IsStop state.chain (word_at (set state.segment.words at v) 8)
       → Stands (set state.segment.words at v) state.chain p.reference stage
       → ((j : ℕ) (q : Publishing) → j ≢ owner → get_elem? state.publishes j ≡ some q → q.reference + 3 ≢ at) → Goes (set state.segment.words at v) state.chain stage
-  beside at v stage listed free tail stands others =
+  beside at v stage listed linked tail stands others =
       goes (set state.segment.words at v) state.chain stage
       (list_keeps shape state.segment.words state.segment.allocations at v listed keeps.allocations) (whole_prefix state.chain)
-      (linked_beside state.segment.words state.chain at v keeps.linked free) keeps.claimed tail stands
+      linked keeps.claimed tail stands
       (λ j q ne there. stands_along state.segment.words (set state.segment.words at v) state.chain state.chain q.reference (λ _ on. on) (λ _ _ near. near)
       (λ other. other) (λ _. get_or-set_other state.segment.words at (q.reference + 3) v 0 (others j q ne there)) q.stage)
 
@@ -112,12 +113,11 @@ module _ (shape : Dimensions) (state : ListState) (owner : ℕ) (p : Publishing)
 
   stores_own : p.stage ≡ StoreOwnNext → Goes (after (store_own_next p.reference) state.segment.words) state.chain LoadTail
   stores_own e =
-      let other = at_stage StoreOwnNext e in
       let within = record_at in
-      beside (p.reference + 3) 12 LoadTail (inr (inr (p.reference, fits.claimed, refl)))
-      (λ i le same. other (i, le, omega (arith, same)))
+      let (linked, waits) = own_next_stored state.segment.words state.chain p.reference keeps.linked (at_stage StoreOwnNext e) (omega (arith, within.1)) in
+      beside (p.reference + 3) 12 LoadTail (inr (inr (p.reference, fits.claimed, refl))) linked
       (subst (IsStop state.chain) (sym (get_or-set_other state.segment.words (p.reference + 3) 8 12 0 (λ (same : 8 ≡ p.reference + 3). omega (arith, within.0)))) keeps.tail)
-      (other, get_or-set_same state.segment.words (p.reference + 3) 12 0 (omega (arith, within.1)))
+      waits
       (λ j q ne there same. other_record j q ne there (omega (arith, same)))
 
   loads_tail : p.stage ≡ LoadTail → Goes (after load_tail state.segment.words) state.chain
@@ -126,57 +126,35 @@ module _ (shape : Dimensions) (state : ListState) (owner : ℕ) (p : Publishing)
       let tail : ℕ = word_at state.segment.words 8 in
       subst (λ (good : Bool). Goes (after load_tail state.segment.words) state.chain (if good then Link tail else Strayed))
       (sym (stop_reference shape state tail keeps keeps.tail))
-      (stays (after load_tail state.segment.words) (Link tail) (set-get_or state.segment.words 8 0) (at_stage LoadTail e, keeps.tail))
+      (stays (after load_tail state.segment.words) (Link tail) (tail_loaded state.segment.words) (at_stage LoadTail e, keeps.tail))
 
   -- a link that went through
   links_through : (tail : ℕ) → p.stage ≡ Link tail → word_at state.segment.words (tail + 3) ≡ 12
       → Goes (set state.segment.words (tail + 3) p.reference) (state.chain ++ p.reference ∷ []) (MoveTail tail p.reference true)
   links_through tail e ends =
-      let ((other, own_end), on) = at_stage (Link tail) e in
-      let (k, le, is) = on in
-      let last : k ≡ length state.chain = last_stop state.segment.words state.chain k keeps.linked le (ap (λ (n : ℕ). word_at state.segment.words (n + 3)) is ∙ ends) in
-      let tail_is : slice_index (stops state.chain) (length state.chain) ≡ tail = ap (slice_index (stops state.chain)) (sym last) ∙ is in
+      let (waits, on) = at_stage (Link tail) e in
       let room = stop_within shape state tail keeps on in
+      let (linked, near) = link_through state.segment.words state.chain tail p.reference keeps.linked waits on ends room.1 in
       let chain' : List ℕ = state.chain ++ p.reference ∷ [] in
       let long : length chain' ≡ suc (length state.chain) = let h = length-append state.chain (p.reference ∷ []) in omega arith in
       let words' : List ℕ = set state.segment.words (tail + 3) p.reference in
       goes words' chain' (MoveTail tail p.reference true)
       (list_keeps shape state.segment.words state.segment.allocations (tail + 3) p.reference (stop_word shape state tail keeps on) keeps.allocations)
       (p.reference ∷ [], refl)
-      (subst (λ (n : ℕ). IsLinked (set state.segment.words (n + 3) p.reference) chain') tail_is
-      (links state.segment.words state.chain p.reference keeps.linked other own_end (subst (λ (n : ℕ). n + 3 < length state.segment.words) (sym tail_is) room.1)))
+      linked
       (λ i lt. dite (ℕ_discrete i (length state.chain))
       (λ same. subst (IsRecord state.segment.allocations) (sym (get_or_push state.chain p.reference 0 i (sym same))) fits.claimed)
       (λ ne. let inside : i < length state.chain = omega (arith, long, lt) in
       subst (IsRecord state.segment.allocations) (sym (get_or_append_left state.chain (p.reference ∷ []) 0 i inside)) (keeps.claimed i inside)))
       (subst (IsStop chain') (sym (get_or-set_other state.segment.words (tail + 3) 8 p.reference 0 (λ (same : 8 ≡ tail + 3). omega (arith, room.0))))
       (stop_stays state.chain p.reference (word_at state.segment.words 8) keeps.tail))
-      (new_neighbours state.chain p.reference tail tail_is, refl)
+      (near, refl)
       (λ j q ne there. stands_along state.segment.words words' state.chain chain' q.reference (stop_stays state.chain p.reference)
       (neighbours_stay state.chain p.reference)
       (λ off now. ⊎_elim off (λ (same : q.reference ≡ p.reference). other_record j q ne there same) (old_or_new state.chain p.reference q.reference now))
       (λ off. get_or-set_other state.segment.words (tail + 3) (q.reference + 3) p.reference 0
       (λ same. let one : tail ≡ q.reference = omega (arith, same) in off (subst (IsStop state.chain) one on)))
       q.stage)
-
-  -- a link that found another record
-  links_behind : (tail : ℕ) → p.stage ≡ Link tail → word_at state.segment.words (tail + 3) ≢ 12
-      → AreNeighbours state.chain tail (word_at state.segment.words (tail + 3))
-  links_behind tail e ne =
-      let ((other, own_end), (k, le, is)) = at_stage (Link tail) e in
-      dite (ℕ_discrete k (length state.chain))
-      (λ last. absurd (ne (ap (λ (n : ℕ). word_at state.segment.words (n + 3)) (sym is)
-      ∙ (keeps.linked.linked k le ∙ get_or_push state.chain 12 0 k (sym last)))))
-      (λ inside. (
-        k,
-        omega (arith, inside, le),
-        is,
-        sym (next_inside state.segment.words state.chain k keeps.linked (omega (arith, inside, le)))
-            ∙ ap (λ (n : ℕ). word_at state.segment.words (n + 3)) is,
-      ))
-
-  behind_stop : (at next : ℕ) → AreNeighbours state.chain at next → IsStop state.chain next
-  behind_stop at next (k, lt, is, next_is) = (suc k, omega (arith, lt), next_is)
 
   links_to : (tail : ℕ) → p.stage ≡ Link tail
       → Goes (after (link tail p.reference) state.segment.words) (chain_at state.segment.words state.chain p.reference (Link tail))
@@ -189,10 +167,10 @@ module _ (shape : Dimensions) (state : ListState) (owner : ℕ) (p : Publishing)
       dite (ℕ_discrete found 12)
       (λ hit. subst ends (sym (eq-eqb found 12 hit)) (links_through tail e hit))
       (λ miss.
-      let near = links_behind tail e miss in
+      let near = link_missed state.segment.words state.chain tail keeps.linked (at_stage (Link tail) e).1 miss in
       subst ends (sym (ne_eqb found 12 miss))
       (subst (λ (good : Bool). Goes (set state.segment.words (tail + 3) found) state.chain (if good then MoveTail tail found false else Strayed))
-      (sym (stop_reference shape state found keeps (behind_stop tail found near)))
+      (sym (stop_reference shape state found keeps (behind_stop state.chain tail found near)))
       (stays (set state.segment.words (tail + 3) found) (MoveTail tail found false) (set-get_or state.segment.words (tail + 3) 0)
       (near, (at_stage (Link tail) e).0))))
 
@@ -203,7 +181,8 @@ module _ (shape : Dimensions) (state : ListState) (owner : ℕ) (p : Publishing)
       let long = words_long shape state.segment keeps.allocations in
       let within = record_at in
       beside 8 v stage (inl refl)
-      (λ i le same. let room = (stop_within shape state (slice_index (stops state.chain) i) keeps (i, le, refl)).0 in omega (arith, room, same))
+      (tail_moved state.segment.words state.chain v keeps.linked
+      (λ i le. (stop_within shape state (slice_index (stops state.chain) i) keeps (i, le, refl)).0))
       (subst (IsStop state.chain) (sym (get_or-set_same state.segment.words 8 v 0 (omega (arith, long)))) on)
       (stands_along state.segment.words (set state.segment.words 8 v) state.chain state.chain p.reference (λ _ on. on) (λ _ _ near. near) (λ other. other)
       (λ _. get_or-set_other state.segment.words 8 (p.reference + 3) v 0 (λ same. omega (arith, within.0, same))) stage stands)
@@ -219,11 +198,11 @@ module _ (shape : Dimensions) (state : ListState) (owner : ℕ) (p : Publishing)
       → Goes (after (move_tail old new) state.segment.words) state.chain (stage_of_move linked)
   moved_by old new true (near, is) =
       let found : ℕ = word_at state.segment.words 8 in
-      let on = behind_stop old new near in
+      let on = behind_stop state.chain old new near in
       other_tail (if found == old then new else found) Published (either_stop (found == old) new found on keeps.tail) (subst (IsStop state.chain) is on)
   moved_by old new false (near, waits) =
       let found : ℕ = word_at state.segment.words 8 in
-      other_tail (if found == old then new else found) LoadTail (either_stop (found == old) new found (behind_stop old new near) keeps.tail) waits
+      other_tail (if found == old then new else found) LoadTail (either_stop (found == old) new found (behind_stop state.chain old new near) keeps.tail) waits
 
   by : (stage : Stage) (event other : Event) → event ≡ other
       → Goes (after event state.segment.words) (chain_at state.segment.words state.chain p.reference stage)

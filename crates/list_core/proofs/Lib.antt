@@ -1,5 +1,6 @@
 pub mod Prefixes
 pub mod Chains
+pub mod EventKinds
 pub mod Standing
 pub mod Keeping
 pub mod Runs

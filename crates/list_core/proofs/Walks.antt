@@ -11,36 +11,15 @@ use Rattle.list_core.specs.declared.walk.WalkStep.TheVariants.{Record, End, Stra
 use Rattle.list_core.specs.Chain.{is_reference, stops}
 use Rattle.list_core.specs.Walk.{said_of, stands_after, GivesNext, IsPrefix, IsGiven, stands_behind, given_after}
 use Rattle.list_core.specs.Laws.{ListState, ListKeeps, next_said}
-use Rattle.list_core.proofs.Chains.{no_queue, next_inside, next_last}
+use Rattle.list_core.proofs.EventKinds.{next_loaded}
 use Rattle.list_core.proofs.Standing.{stop_reference}
-
-said_end : (n next : ℕ) → next ≡ 12 → said_of n next ≡ End
-said_end n next e = ap (λ (b : Bool). if b then End else if is_reference n next then Record next else Stray) (eq-eqb next 12 e)
-
-said_record : (n next : ℕ) → next ≢ 12 → is_reference n next ≡ true → said_of n next ≡ Record next
-said_record n next ne good =
-    ap (λ (b : Bool). if b then End else if is_reference n next then Record next else Stray) (ne_eqb next 12 ne)
-    ∙ ap (λ (b : Bool). if b then Record next else Stray) good
 
 -- a walk at a place of the chain
 pub gives_next : (shape : Dimensions) (state : ListState) (k at : ℕ) → ListKeeps shape state → k ≤ length state.chain
     → slice_index (stops state.chain) k ≡ at → GivesNext state.chain k (said_of (length state.segment.words) (word_at state.segment.words (at + 3)))
-gives_next shape state k at keeps le is = dite (ℕ_discrete k (length state.chain))
-    (λ last. inr (
-      last,
-      said_end (length state.segment.words) (word_at state.segment.words (at + 3))
-          (ap (λ (n : ℕ). word_at state.segment.words (n + 3)) (sym is ∙ ap (slice_index (stops state.chain)) last)
-          ∙ next_last state.segment.words state.chain keeps.linked),
-    ))
-    (λ ne. let inside : k < length state.chain = omega arith in
-    let next : word_at state.segment.words (at + 3) ≡ slice_index state.chain k =
-    ap (λ (n : ℕ). word_at state.segment.words (n + 3)) (sym is) ∙ next_inside state.segment.words state.chain k keeps.linked inside in
-    inl (
-      inside,
-      ap (said_of (length state.segment.words)) next
-          ∙ said_record (length state.segment.words) (slice_index state.chain k) (no_queue state.segment.words state.chain k keeps.linked inside)
-          (stop_reference shape state (slice_index state.chain k) keeps (suc k, inside, refl)),
-    ))
+gives_next shape state k at keeps le is =
+    next_loaded state.segment.words state.chain k at keeps.linked le is
+    (λ inside. stop_reference shape state (slice_index state.chain k) keeps (suc k, inside, refl))
 
 reach_by : (n next at : ℕ) (ends good : Bool) → is_reference n at ≡ true → is_reference n next ≡ good
     → is_reference n (stands_after at (if ends then End else if good then Record next else Stray)) ≡ true

@@ -171,15 +171,15 @@ pub header_word_kept : (shape : Dimensions) (move : Move) (old new : State) (at 
 header_word_kept shape (starts payload tag) old new at keeps (a, is, same) low flags free = ap (λ (s : State). word_at s.words at) same
 header_word_kept shape (steps who) old new at keeps (a, mine, event, next, same) low flags free =
     let apart : at ≢ spot event = ⊎_elim
-        (λ (first : (6 ≤ spot event) × (spot event ≤ 7)) e.
-        let least = first.0 in
-        let most = first.1 in
-        flags (let other : at ≢ 7 = free in omega (arith, e, least, most, other)))
-        (λ (own : (block : ℕ × ℕ) × (j : ℕ) × (taken a.stage ≡ Some block) × (j < 3) × (spot event ≡ block.0 + j)) e.
-        let from = (taken_from a a.stage own.0 (keeps.each who a mine).lawful.aimed own.2).0 in
-        let place = own.4 in
-        absurd (omega arith))
-        (step_spot a a.stage event next) in
+    (λ (first : (6 ≤ spot event) × (spot event ≤ 7)) e.
+    let least = first.0 in
+    let most = first.1 in
+    flags (let other : at ≢ 7 = free in omega (arith, e, least, most, other)))
+    (λ (own : (block : ℕ × ℕ) × (j : ℕ) × (taken a.stage ≡ Some block) × (j < 3) × (spot event ≡ block.0 + j)) e.
+    let from = (taken_from a a.stage own.0 (keeps.each who a mine).lawful.aimed own.2).0 in
+    let place = own.4 in
+    absurd (omega arith))
+    (step_spot a a.stage event next) in
     ap (λ (s : State). word_at s.words at) same ∙ get_or-set_other old.words (spot event) at _ 0 apart
 header_word_kept shape (fills who index value) old new at keeps (a, mine, block, claimed, lt, same) low flags free =
     let from = (taken_from a a.stage block (keeps.each who a mine).lawful.aimed (claimed_taken a block.0 block.1 claimed)).0 in

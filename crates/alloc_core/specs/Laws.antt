@@ -15,7 +15,7 @@ use Rattle.alloc_core.specs.Alloc.{Allocation, next_event, moved, started, IsLaw
 abbrev pub Behind : ℕ → ℕ → Type 0
 Behind seen free = (seen ≡ free) ⊎ (seen + 5 ≤ free)
 
--- the block that someone alone may store in, with these words
+-- the block of someone, with these words
 abbrev pub own : ℕ → ℕ → List ℕ → Block
 own owner at words = record { at = at; owner = some owner; words = words }
 
@@ -23,8 +23,8 @@ own owner at words = record { at = at; owner = some owner; words = words }
 abbrev pub claimed_words : ℕ → ℕ → List ℕ
 claimed_words size tag = size ∷ 0xC8799269 ∷ tag ∷ replicate (size - 3) 0
 
--- what an allocation has at a stage: it alone may store in its block, which holds just what it stored; once it is
--- claimed, its size and its cookie stay
+-- what an allocation has at a stage: until its block is claimed nobody else stores in it, and it holds just what was
+-- stored; once it is claimed, its size and its cookie stay, and its next belongs to the list
 abbrev pub Has : List Block → ℕ → Stage → Type 0
 Has blocks owner (StoreSize at size purpose) = IsAmong blocks (own owner at (replicate size 0))
 Has blocks owner (StoreCookie at size purpose) = IsAmong blocks (own owner at (size ∷ replicate (size - 1) 0))

@@ -4,8 +4,8 @@ use mathlib.Core.Option.{Option, some, none}
 use lib.ListN.{get_elem?}
 use Rattle.segment_image.specs.Shape.{Dimensions}
 
--- A piece of a segment: the word where it begins, the one who alone may store in it, where there is one, and its
--- words. The queue block is the first piece; the others are blocks that were claimed, wasted rests of pages, and gaps.
+-- A piece of a segment: the word where it begins, the one whose it is, where there is one, and its words. The queue block
+-- is the first piece; the others are blocks that were claimed, wasted rests of pages, and gaps.
 pub record Block : Type 0 where
   pub at : ℕ
   pub owner : Option ℕ

@@ -169,9 +169,12 @@ impl Alloc {
         })
     }
 
-    /// Goes on by one event, which changes one word at most.
+    /// Goes on by one event, which changes one word at most. The words are as many as the shape says, and the step
+    /// before, if there was one, said `More`.
     ///
-    /// `Done` with the reference of the block, `Full` and `Corrupt` end the allocation; `More` says that it goes on.
+    /// `Done` with the reference of the block comes where its type was stored, the last of its header. `Full` comes where
+    /// the words that are wanted pass the end of the segment, once the full flag is set. `Corrupt` comes where the corrupt
+    /// flag was loaded, or a free pointer that no segment has. These three end the allocation; `More` says that it goes on.
     pub fn step(&mut self, words: &mut [u64]) -> AllocStep
         requires long { length words.old ≡ self.old.shape.size }
         requires running { is_some (next_event self.old) ≡ true }

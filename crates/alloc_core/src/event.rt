@@ -4,7 +4,7 @@ ghost use Rattle.std.specs.Prelude.{◌≡◌, ◌<◌, length};
 ghost use Rattle.segment_image.specs.Words.{word_at};
 ghost use Rattle.alloc_core.specs.Event.{store as store_of, exchange as exchange_of, set_bits as set_bits_of, after};
 
-/// Stores a value in a word.
+/// Stores a value in the word `at`, which is one of the words. It gives the value that was there.
 pub fn store(words: &mut [u64], at: usize, value: u64) -> u64
     requires { at < length words.old }
     ensures words { words.new ≡ after (store_of at value) words.old }
@@ -15,7 +15,8 @@ pub fn store(words: &mut [u64], at: usize, value: u64) -> u64
     found
 }
 
-/// Exchanges a word for a new value where it is an old one.
+/// Exchanges the word `at` for a new value where it is the old one. It gives the value that was there, so the exchange
+/// went through where this is the old one.
 pub fn exchange(words: &mut [u64], at: usize, old: u64, new: u64) -> u64
     requires { at < length words.old }
     ensures words { words.new ≡ after (exchange_of at old new) words.old }
@@ -28,7 +29,7 @@ pub fn exchange(words: &mut [u64], at: usize, old: u64, new: u64) -> u64
     found
 }
 
-/// Sets bits of a word.
+/// Sets bits of the word `at`, and leaves its others. It gives the value that was there.
 pub fn set_bits(words: &mut [u64], at: usize, bits: u64) -> u64
     requires { at < length words.old }
     ensures words { words.new ≡ after (set_bits_of at bits) words.old }

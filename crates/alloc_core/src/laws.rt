@@ -46,7 +46,7 @@ pub fn claimed_blocks_are_lawful()
 {}
 
 /// The free pointer is lawful, and it is the one that an allocation loaded last, or at least five above it. So an
-/// exchange that fails finds it at least five higher, and no allocation tries for ever.
+/// exchange that fails finds it at least five higher.
 pub fn free_pointer_rises()
     ensures { (shape : Dimensions) (state : State) (owner : ℕ) (a : Allocation) → StateKeeps shape state → get_elem? state.allocations owner ≡ some a
         → Behind a.seen (word_at state.words 7) × (is_pointer shape (word_at state.words 7) ≡ true) }

@@ -15,7 +15,7 @@ pub(crate) const LEAST: u64 = 5;
 #[derive(Clone, Copy, Debug, PartialEq, Eq)]
 pub enum Planned {
     /// It claims `size` words from the free pointer on, which then goes to `next`. The size is more than what was
-    /// asked for where fewer than five words of the page would be left.
+    /// asked for where one to four words of the page would be left: these are part of the block.
     Claim { size: u64, next: u64 },
     /// The page ends before: its last `room` words are wasted.
     Waste { room: u64 },

@@ -1,6 +1,6 @@
 -- What each kind of event of a publish or a walk does to the chain, over the words alone. A machine with more kinds of
 -- events cites these.
-use Rattle.std.proofs.Common.{◌≡◌, ◌≢◌, ◌⊎◌, ℕ, suc, ◌+◌, ◌<◌, ◌≤◌, ◌==◌, Bool, true, List, [], ◌∷◌, ◌++◌, length, set, inl, inr, eq-eqb, ne_eqb, sym, refl, ap, ◌∙◌, subst, arith}
+use Rattle.std.proofs.Common.{◌≡◌, ◌≢◌, ℕ, suc, ◌+◌, ◌<◌, ◌≤◌, Bool, true, List, [], ◌∷◌, ◌++◌, length, set, inl, inr, eq-eqb, ne_eqb, sym, ap, ◌∙◌, subst, arith}
 use Rattle.std.specs.Prelude.{slice_index, if◌then◌else◌}
 use Rattle.std.proofs.lemmas.List.{get_or_push, get_or-set_same}
 use mathlib.Core.Logic.{dite}
@@ -10,7 +10,7 @@ use Rattle.segment_image.specs.Words.{word_at}
 use Rattle.alloc_core.specs.Event.{after}
 use Rattle.list_core.specs.declared.walk.WalkStep.TheVariants.{Record, End, Stray}
 use Rattle.list_core.specs.Chain.{is_reference, stops, IsLinked}
-use Rattle.list_core.specs.Publish.{store_own_next, load_tail, link, move_tail}
+use Rattle.list_core.specs.Publish.{store_own_next, load_tail}
 use Rattle.list_core.specs.Walk.{said_of, GivesNext}
 use Rattle.list_core.specs.Laws.{IsStop, AreNeighbours, Waits}
 use Rattle.list_core.proofs.Chains.{no_queue, next_inside, next_last, last_stop, new_neighbours, linked_beside, links}
@@ -33,18 +33,24 @@ pub link_through : (words chain : List ℕ) (tail reference : ℕ) → IsLinked 
     → IsLinked (set words (tail + 3) reference) (chain ++ reference ∷ []) × AreNeighbours (chain ++ reference ∷ []) tail reference
 link_through words chain tail reference linked (other, own_end) (k, le, is) ends within =
     let last : k ≡ length chain = last_stop words chain k linked le (ap (λ (n : ℕ). word_at words (n + 3)) is ∙ ends) in
-    let tail_is : slice_index (stops chain) (length chain) ≡ tail = ap (slice_index (stops chain)) (sym last) ∙ is in
-    (subst (λ (n : ℕ). IsLinked (set words (n + 3) reference) (chain ++ reference ∷ [])) tail_is
-     (links words chain reference linked other own_end (subst (λ (n : ℕ). n + 3 < length words) (sym tail_is) within)),
-     new_neighbours chain reference tail tail_is)
+    let tail_is : slice_index (stops chain) (length chain) ≡ tail = ap (slice_index (stops chain)) (sym last) ∙ is in (
+      subst (λ (n : ℕ). IsLinked (set words (n + 3) reference) (chain ++ reference ∷ [])) tail_is
+          (links words chain reference linked other own_end (subst (λ (n : ℕ). n + 3 < length words) (sym tail_is) within)),
+      new_neighbours chain reference tail tail_is,
+    )
 
 -- a link that finds another record changes no word, and the record is the one behind the tail
 pub link_missed : (words chain : List ℕ) (tail : ℕ) → IsLinked words chain → IsStop chain tail → word_at words (tail + 3) ≢ 12
     → AreNeighbours chain tail (word_at words (tail + 3))
 link_missed words chain tail linked (k, le, is) ne = dite (ℕ_discrete k (length chain))
     (λ last. absurd (ne (ap (λ (n : ℕ). word_at words (n + 3)) (sym is) ∙ (linked.linked k le ∙ get_or_push chain 12 0 k (sym last)))))
-    (λ inside. (k, omega (arith, inside, le), is, sym (next_inside words chain k linked (omega (arith, inside, le)))
-    ∙ ap (λ (n : ℕ). word_at words (n + 3)) is))
+    (λ inside. (
+      k,
+      omega (arith, inside, le),
+      is,
+      sym (next_inside words chain k linked (omega (arith, inside, le)))
+          ∙ ap (λ (n : ℕ). word_at words (n + 3)) is,
+    ))
 
 -- what is behind a stop is one
 pub behind_stop : (chain : List ℕ) (at next : ℕ) → AreNeighbours chain at next → IsStop chain next
@@ -69,9 +75,15 @@ pub next_loaded : (words chain : List ℕ) (k at : ℕ) → IsLinked words chain
     → (k < length chain → is_reference (length words) (slice_index chain k) ≡ true)
     → GivesNext chain k (said_of (length words) (word_at words (at + 3)))
 next_loaded words chain k at linked le is good = dite (ℕ_discrete k (length chain))
-    (λ last. inr (last, said_end (length words) (word_at words (at + 3))
-    (ap (λ (n : ℕ). word_at words (n + 3)) (sym is ∙ ap (slice_index (stops chain)) last) ∙ next_last words chain linked)))
+    (λ last. inr (
+      last,
+      said_end (length words) (word_at words (at + 3))
+          (ap (λ (n : ℕ). word_at words (n + 3)) (sym is ∙ ap (slice_index (stops chain)) last) ∙ next_last words chain linked),
+    ))
     (λ ne. let inside : k < length chain = omega arith in
     let next : word_at words (at + 3) ≡ slice_index chain k = ap (λ (n : ℕ). word_at words (n + 3)) (sym is) ∙ next_inside words chain k linked inside in
-    inl (inside, ap (said_of (length words)) next
-    ∙ said_record (length words) (slice_index chain k) (no_queue words chain k linked inside) (good inside)))
+    inl (
+      inside,
+      ap (said_of (length words)) next
+          ∙ said_record (length words) (slice_index chain k) (no_queue words chain k linked inside) (good inside),
+    ))

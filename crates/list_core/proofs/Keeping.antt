@@ -19,7 +19,7 @@ use Rattle.list_core.specs.declared.publish.Stage.{Stage}
 use Rattle.list_core.specs.declared.publish.Stage.TheVariants.{StoreOwnNext, LoadTail, Link, MoveTail, Published, Strayed}
 use Rattle.list_core.specs.Chain.{is_reference, stops, IsLinked}
 use Rattle.list_core.specs.Publish.{Publishing, store_own_next, load_tail, link, move_tail, event_at, stage_of_move, stage_after}
-use Rattle.list_core.specs.Laws.{IsStop, AreNeighbours, Stands, Fits, ListState, ListKeeps, chain_at}
+use Rattle.list_core.specs.Laws.{IsStop, Stands, Fits, ListState, ListKeeps, chain_at}
 use Rattle.list_core.specs.Walk.{IsPrefix}
 use Rattle.list_core.proofs.Prefixes.{whole_prefix, prefix_of_prefix}
 use Rattle.list_core.proofs.Chains.{stop_stays, neighbours_stay, old_or_new}

@@ -1,9 +1,7 @@
 -- What a walk gives.
-use Rattle.std.proofs.Common.{◌≡◌, ◌≢◌, ℕ, suc, ◌+◌, ◌-◌, ◌<◌, ◌≤◌, ◌==◌, Bool, true, false, List, [], ◌∷◌, ◌++◌, length, get_or, inl, inr, eq-eqb, ne_eqb, sym, refl, ap, ◌∙◌, subst, arith, length-append, append_assoc}
+use Rattle.std.proofs.Common.{◌≡◌, ℕ, suc, ◌+◌, ◌-◌, ◌<◌, ◌≤◌, ◌==◌, Bool, true, false, List, [], ◌∷◌, ◌++◌, length, get_or, inl, inr, sym, refl, ap, ◌∙◌, subst, arith, length-append, append_assoc}
 use Rattle.std.specs.Prelude.{slice_index, if◌then◌else◌}
-use Rattle.std.proofs.lemmas.List.{append-nil, get_or_append_left, get_or_push, get_or-append_right}
-use mathlib.Core.Logic.{dite}
-use native.Mathlib.Decide.{ℕ_discrete}
+use Rattle.std.proofs.lemmas.List.{append-nil, get_or_append_left, get_or-append_right}
 use Rattle.segment_image.specs.Shape.{Dimensions}
 use Rattle.segment_image.specs.Words.{word_at}
 use Rattle.list_core.specs.declared.walk.WalkStep.{WalkStep}
@@ -72,11 +70,3 @@ pub walk_prefix : (shape : Dimensions) (state : ListState) (given : List ℕ) �
     → IsPrefix (given_after given (next_said state.segment.words given)) state.chain
 walk_prefix shape state given keeps front =
     given_by given state.chain (next_said state.segment.words given) front (walk_goes shape state given keeps front)
-
--- where a walk stands that has given one record more
-pub stands_given : (given : List ℕ) (said : WalkStep) → stands_after (stands_behind given) said ≡ stands_behind (given_after given said)
-stands_given given (Record reference) =
-    let long : length (given ++ reference ∷ []) ≡ suc (length given) = let h = length-append given (reference ∷ []) in omega arith in
-    sym (ap (slice_index (stops (given ++ reference ∷ []))) long ∙ get_or_push given reference 0 (length given) refl)
-stands_given given End = refl
-stands_given given Stray = refl

@@ -2,8 +2,8 @@
 //! order.
 //!
 //! The functions do nothing. What each promises is a law of the definitions in `specs/Laws.antt`, which the contracts of
-//! `Publish::step` and `Walk::step` cite too. A machine with more kinds of events has the lemmas in `proofs/Chains.antt`,
-//! which speak of the words and the chain alone.
+//! `Publish::step` and `Walk::step` cite too. A machine with more kinds of events has the lemmas in
+//! `proofs/EventKinds.antt`, which speak of the words and the chain alone.
 
 ghost use Rattle.std.specs.Prelude.{◌≡◌, ◌++◌, ℕ, List, ◌+◌, length};
 ghost use Rattle.segment_image.specs.Shape.{Dimensions};

@@ -87,9 +87,12 @@ impl Publish {
         }
     }
 
-    /// Goes on by one event, which changes one word at most.
+    /// Goes on by one event, which changes one word at most. The words are at least 16, and as many at each step; the record
+    /// begins five words or more before their end; and the step before, if there was one, said `More`.
     ///
-    /// `Done` and `Stray` end the publish; `More` says that it goes on.
+    /// `Done` comes where the tail was exchanged, or could not be, after the record was linked. `Stray` comes where a tail was
+    /// loaded, or a next was found, that is neither 12 nor from 16 to five below the number of words; this step has then
+    /// changed nothing. Both end the publish; `More` says that it goes on.
     pub fn step(&mut self, words: &mut [u64]) -> PubStep
         requires reach { IsReach (length words.old) self.old }
         requires running { is_some (next_event self.old) ≡ true }

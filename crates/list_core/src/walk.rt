@@ -60,14 +60,19 @@ impl Walk {
         Walk { at: QUEUE }
     }
 
-    /// A walk that goes on behind the record at a reference.
+    /// A walk that goes on behind the record at a reference, which is from 16 to five below the number of words, or 12 for the
+    /// queue block.
     pub fn from(reference: u64) -> Walk
         ensures { result ≡ reference }
     {
         Walk { at: reference }
     }
 
-    /// Loads one next, and says what it names.
+    /// Loads one next, and says what it names. The words are at least 16, and as many at each step.
+    ///
+    /// `Record` with a reference, where the walk then stands; `End` where the next is 12, and `Stray` where it is neither 12
+    /// nor from 16 to five below the number of words. After these two the walk stands where it stood, and can be stepped
+    /// again.
     pub fn step(&mut self, words: &[u64]) -> WalkStep
         requires headed { 16 ≤ length words.now }
         requires reach { is_reference (length words.now) self.old ≡ true }

@@ -26,6 +26,9 @@ const MOST_DRAWS: usize = 20_000;
 
 const HEADER: u64 = 4;
 
+// The events of sixteen claims and of five wasted rests, more than which their words can have, where no exchange is lost.
+const MOST_WITHOUT_LOSS: u64 = 16 * 6 + 5 * 5;
+
 // One of the allocations: what it asks for, and what it is or how it has ended.
 #[derive(Drop)]
 struct Party {
@@ -89,21 +92,41 @@ fn parties(alloc: Global, generator: &mut Generator) -> Result<Vec<Party>, Fail>
     Ok(parties)
 }
 
-// Lets parties that are drawn go on, until all have ended.
+// Lets parties that are drawn go on, until all have ended. It answers how many events that took.
 fn interleave(
     rt: &impl Abort,
     generator: &mut Generator,
     parties: &mut [Party],
     words: &mut [u64],
-) {
+) -> u64 {
+    let mut events = 0u64;
     for _ in 0..MOST_DRAWS {
         if parties.iter().all(|party| party.ended.is_some()) {
-            return;
+            break;
         }
         let drawn = generator.below(PARTIES) as usize;
         if let Some(party) = parties.get_mut(drawn) {
+            if party.running.is_some() {
+                events = events.saturating_add(1);
+            }
             party.step(rt, words);
         }
+    }
+    events
+}
+
+// That only zeros lie behind the free pointer, and that the header is as it was but for the free pointer.
+fn expect_rest(rt: &impl Abort, words: &[u64], blank: &[u64], seed: u64) {
+    let free = words.get(FREE).copied().expect(rt, "a free pointer") as usize;
+    assert!(rt;
+        words.iter().skip(free).all(|word| *word == 0),
+        "of seed {seed}"
+    );
+    for (at, word) in blank.iter().enumerate().take(FIRST as usize) {
+        assert!(rt;
+            at == FREE || words.get(at) == Some(word),
+            "word {at} of seed {seed}"
+        );
     }
 }
 
@@ -151,14 +174,18 @@ fn claims(
 #[test]
 fn sixteen_allocations(rt: HostRuntime) -> Result<(), Fail> {
     let blank = Image::blank(rt.alloc(), SIZE, PAGE, ID)?;
+    let mut lost = 0u64;
     for seed in 1..=INTERLEAVINGS {
         let mut words = blank.words().to_vec(rt.alloc())?;
         let mut generator = Generator::new(seed);
         let mut parties = parties(rt.alloc(), &mut generator)?;
-        interleave(&rt, &mut generator, &mut parties, &mut words);
+        let events = interleave(&rt, &mut generator, &mut parties, &mut words);
+        lost = lost.saturating_add(events.saturating_sub(MOST_WITHOUT_LOSS));
         let claimed = claims(&rt, rt.alloc(), &parties, &words, seed)?;
         let found = references(&rt, rt.alloc(), &words, seed)?;
         assert_eq!(rt; found.as_slice(), claimed.as_slice(), "of seed {seed}");
+        expect_rest(&rt, &words, blank.words(), seed);
     }
+    assert!(rt; lost > 0);
     Ok(())
 }

@@ -6,5 +6,6 @@ pub mod EventKinds
 pub mod Keeping
 pub mod Steps
 pub mod Runs
+pub mod Sums
 pub mod Beside
 pub mod ClaimedBlocks

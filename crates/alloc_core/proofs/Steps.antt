@@ -148,7 +148,7 @@ pub stepped : (old new : Allocation) (words new_words : List ℕ) (step : AllocS
 stepped old new words new_words step found = stepped_by old new words new_words step found (next_event old) refl
 
 -- the words that a stage has taken are a block of its owner
-taken_among : (a : Allocation) (blocks : List Block) (owner : ℕ) (block : ℕ × ℕ) (stage : Stage) → IsAimed a stage → Has blocks owner stage
+pub taken_among : (a : Allocation) (blocks : List Block) (owner : ℕ) (block : ℕ × ℕ) (stage : Stage) → IsAimed a stage → Has blocks owner stage
     → taken stage ≡ Some block → (ws : List ℕ) × (length ws ≡ block.1) × IsAmong blocks (own owner block.0 ws)
 taken_among a blocks owner block LoadFlags aimed has e = absurd (cc e)
 taken_among a blocks owner block LoadFree aimed has e = absurd (cc e)

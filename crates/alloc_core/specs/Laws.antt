@@ -54,6 +54,11 @@ taken (StoreType at size) = Some (at, size)
 taken (Claimed at size) = Some (at, size)
 taken _ = None
 
+-- how many these are
+abbrev pub words_taken : Option (ℕ × ℕ) → ℕ
+words_taken None = 0
+words_taken (Some block) = block.1
+
 -- an allocation has claimed a block at a reference
 abbrev pub IsRecord : List Allocation → ℕ → Type 0
 IsRecord allocations reference =

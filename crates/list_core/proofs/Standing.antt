@@ -1,7 +1,7 @@
 -- Where publishes stand, beside what others do.
-use Rattle.std.proofs.Common.{◌≡◌, ◌⊎◌, ℕ, zero, suc, ◌+◌, ◌<◌, ◌≤◌, ◌==◌, Bool, true, false, List, length, inl, inr, sym, refl, ap, ◌∙◌, subst, arith}
-use Rattle.std.specs.Prelude.{◌||◌, nat_le}
-use Rattle.std.proofs.lemmas.Bool.{eq-eqb, le-leb, and_from}
+use Rattle.std.proofs.Common.{◌≡◌, ◌⊎◌, ℕ, zero, suc, ◌+◌, ◌<◌, ◌≤◌, ◌==◌, true, false, List, length, inl, inr, sym, refl, ◌∙◌, subst, arith}
+use Rattle.std.specs.Prelude.{nat_le}
+use Rattle.std.proofs.lemmas.Bool.{eq-eqb, le-leb, and_from, or_left, or_right}
 use Rattle.segment_image.specs.Shape.{Dimensions}
 use Rattle.segment_image.specs.Words.{word_at}
 use Rattle.alloc_core.specs.Laws.{IsRecord, IsListWord}
@@ -47,13 +47,6 @@ stop_within shape state at keeps on = elim (stop_is shape state at keeps on) [
   | inl queue ↦ let long = words_long shape state.segment keeps.allocations in (omega arith, omega arith)
   | inr claimed ↦ let within = record_within shape state.segment at keeps.allocations claimed in (omega (arith, within.0), omega (arith, within.1))
 ]
-
-or_left : (a b : Bool) → a ≡ true → (a || b) ≡ true
-or_left a b e = ap (λ (x : Bool). x || b) e
-
-or_right : (a b : Bool) → b ≡ true → (a || b) ≡ true
-or_right true b e = refl
-or_right false b e = e
 
 -- and is a reference that a list can have
 pub stop_reference : (shape : Dimensions) (state : ListState) (at : ℕ) → ListKeeps shape state → IsStop state.chain at

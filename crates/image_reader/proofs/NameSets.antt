@@ -1,7 +1,6 @@
 -- Keys in an ordered set, looked for by their names.
-use Rattle.std.proofs.Common.{◌≡◌, Bool, true, false, ◌||◌, ◌&&◌, ℕ, List, [], ◌∷◌, ◌++◌, refl, ap, sym, ◌∙◌, drop, Vec, Global}
-use Rattle.std.specs.Prelude.{nat_lt}
-use Rattle.std.specs.List.{list_any, list_all, filter, AllByRecursion}
+use Rattle.std.proofs.Common.{◌≡◌, ◌≢◌, Bool, true, false, ◌||◌, ◌&&◌, ℕ, ◌<◌, ◌≤◌, List, [], ◌∷◌, ◌++◌, refl, ap, sym, subst, ◌∙◌, drop, length, length-drop, arith, Vec, Global}
+use Rattle.std.specs.List.{list_any, list_all, AllByRecursion}
 use Rattle.std.specs.Str.{bytes_eq}
 use Rattle.std.specs.declared.cmp.Ordering.{Ordering}
 use Rattle.std.specs.declared.cmp.Ordering.TheVariants.{Less, Equal, Greater}
@@ -13,14 +12,15 @@ use Rattle.std.specs.BTreeSet.{insert_key}
 use Rattle.std.proofs.lemmas.Cmp.{ranked}
 use Rattle.std.specs.Bool.{Decides}
 use Rattle.std.proofs.lemmas.Bool.Decides.{same_from_decides}
+use Rattle.std.proofs.lemmas.Bool.{false_from_ne_true}
 use Rattle.std.proofs.lemmas.Map.Text.{is_eq-slice_cmp}
 use Rattle.std.proofs.lemmas.Slice.Eq.{bytes_eq-Decides}
 use Rattle.std.proofs.Math.Bool.{or_comm, or_assoc}
-use Rattle.image_reader.specs.Prefix.{prefix_of, prefix_bytes}
+use Rattle.image_reader.specs.Prefix.{prefix_of}
 use Rattle.bucket_ranges.specs.Reading.{is_name_byte}
-use Rattle.image_reader.specs.Names.{key_name, IsKey}
+use Rattle.image_reader.specs.Names.{short_name, long_name, IsShort, IsLong}
 use Rattle.image_reader.proofs.Prefixes.{prefix_bytes-number}
-use Rattle.std.proofs.lemmas.List.{take-append-drop}
+use Rattle.std.proofs.lemmas.List.{take-append-drop, take_all}
 
 -- an order of keys that ties only keys of the same bytes
 abbrev pub TiesSame : {K : Type 0} → (K → List ℕ) → (K → K → Ordering) → Type 0
@@ -73,45 +73,83 @@ then_ties Less a b e = absurd (cc)
 then_ties Equal a b e = slice_ties a b e
 then_ties Greater a b e = absurd (cc)
 
+-- keys of one name are tied
+abbrev pub SameTied : {K : Type 0} → (K → List ℕ) → (K → Type 0) → (K → K → Ordering) → Type 0
+SameTied {K} items IsIts cmp = (a b : K) → IsIts a → IsIts b → items a ≡ items b → is_eq (cmp a b) ≡ true
+
+-- a look-up of a key is one of its name
+pub look_up-is : {K : Type 0} (items : K → List ℕ) (IsIts : K → Type 0) (cmp : K → K → Ordering)
+    → TiesSame items cmp → SameTied items IsIts cmp → (key : K) (keys : List K) → IsIts key → AllByRecursion IsIts keys
+    → list_any (is_at (cmp key)) keys ≡ list_any (λ x. bytes_eq (items key) (items x)) keys
+look_up-is items IsIts cmp ties same key [] own all = refl
+look_up-is items IsIts cmp ties same key (x ∷ xs) own all =
+    let tied : Decides (is_eq (cmp key x)) (items key ≡ items x) =
+    (λ e. ties key x (sym ((Equal-is (cmp key x)).0 e)), same key x own all.0) in
+    let here : is_eq (cmp key x) ≡ bytes_eq (items key) (items x) =
+    same_from_decides (is_eq (cmp key x)) _ tied (bytes_eq-Decides (items key) (items x)) in
+    λ i. here i || look_up-is items IsIts cmp ties same key xs own all.1 i
+
+-- a name that no key is of is not found
+pub look_up-none : {K : Type 0} (items : K → List ℕ) (IsIts : K → Type 0) (name : List ℕ)
+    → ((key : K) → IsIts key → name ≢ items key) → (keys : List K) → AllByRecursion IsIts keys
+    → list_any (λ x. bytes_eq name (items x)) keys ≡ false
+look_up-none items IsIts name apart [] all = refl
+look_up-none items IsIts name apart (x ∷ xs) all =
+    let other : bytes_eq name (items x) ≡ false =
+    false_from_ne_true (bytes_eq name (items x)) (λ e. apart x all.0 ((bytes_eq-Decides name (items x)).0 e)) in
+    ap (λ b. b || list_any (λ y. bytes_eq name (items y)) xs) other ∙ look_up-none items IsIts name apart xs all.1
+
+-- prefixes that the order ties are of one name
+pub prefix-ties : TiesSame short_name nat_cmp
+prefix-ties a b e = ap short_name (ranked a b Equal e)
+
+pub prefix-same : SameTied short_name IsShort nat_cmp
+prefix-same a b p q e =
+    ap is_eq (sym (nat_cmp_is a b Equal (p.prefix ∙ (ap prefix_of e ∙ sym q.prefix))))
+
 -- the order of keys: their prefixes, then what stands behind them
 abbrev pub by_key : ℕ × Vec ℕ Global → ℕ × Vec ℕ Global → Ordering
 by_key a b = ordering_then (nat_cmp a.0 b.0) (slice_cmp nat_cmp a.1.items b.1.items)
 
--- keys that the order ties have one name
-pub by_key-ties : TiesSame key_name by_key
+pub by_key-ties : TiesSame long_name by_key
 by_key-ties a b e =
     let prefixes : a.0 ≡ b.0 = ranked a.0 b.0 Equal (then_first (nat_cmp a.0 b.0) _ e) in
     let rests : a.1.items ≡ b.1.items = then_ties (nat_cmp a.0 b.0) a.1.items b.1.items e in
-    λ i. filter (nat_lt 0) (prefix_bytes 8 (prefixes i)) ++ rests i
+    λ i. short_name (prefixes i) ++ rests i
 
--- keys of one name are tied
-same_key : (a b : ℕ × Vec ℕ Global) → IsKey a → IsKey b → key_name a ≡ key_name b → is_eq (by_key a b) ≡ true
-same_key a b p q e =
+pub by_key-same : SameTied long_name IsLong by_key
+by_key-same a b p q e =
     let prefixes : a.0 ≡ b.0 = p.prefix ∙ (ap prefix_of e ∙ sym q.prefix) in
     let rests : a.1.items ≡ b.1.items = p.rest ∙ (ap (drop 8) e ∙ sym q.rest) in
     sym (tied_then (nat_cmp a.0 b.0) (slice_cmp nat_cmp a.1.items b.1.items))
     ∙ (ap (λ o. is_eq o && is_eq (slice_cmp nat_cmp a.1.items b.1.items)) (sym (nat_cmp_is a.0 b.0 Equal prefixes))
     ∙ (is_eq-slice_cmp a.1.items b.1.items ∙ (bytes_eq-Decides a.1.items b.1.items).1 rests))
 
--- a look-up of a key is one of its name
-pub by_key-is_at : (key : ℕ × Vec ℕ Global) (keys : List (ℕ × Vec ℕ Global)) → IsKey key → AllByRecursion IsKey keys
-    → list_any (is_at (by_key key)) keys ≡ list_any (λ x. bytes_eq (key_name key) (key_name x)) keys
-by_key-is_at key [] own all = refl
-by_key-is_at key (x ∷ xs) own all =
-    let tied : Decides (is_eq (by_key key x)) (key_name key ≡ key_name x) =
-    (λ e. by_key-ties key x (sym ((Equal-is (by_key key x)).0 e)), same_key key x own all.0) in
-    let here : is_eq (by_key key x) ≡ bytes_eq (key_name key) (key_name x) =
-    same_from_decides (is_eq (by_key key x)) _ tied (bytes_eq-Decides (key_name key) (key_name x)) in
-    λ i. here i || by_key-is_at key xs own all.1 i
+-- a name of up to eight bytes is that of its prefix
+pub short_name-of : (name : List ℕ) → list_all is_name_byte name ≡ true → length name ≤ 8 → short_name (prefix_of name) ≡ name
+short_name-of name lawful few = prefix_bytes-number 8 name lawful ∙ take_all 8 name few
 
--- the key of a name is of it
-pub key_name-of : (prefix : ℕ) (rest : Vec ℕ Global) (name : List ℕ) → list_all is_name_byte name ≡ true
-    → prefix ≡ prefix_of name → rest.items ≡ drop 8 name → key_name (prefix, rest) ≡ name
-key_name-of prefix rest name lawful p q =
+pub IsShort-of : (name : List ℕ) → list_all is_name_byte name ≡ true → length name ≤ 8 → IsShort (prefix_of name)
+IsShort-of name lawful few =
+    let same : short_name (prefix_of name) ≡ name = short_name-of name lawful few in
+    record { prefix = ap prefix_of (sym same); few = subst (λ n. length n ≤ 8) (sym same) few }
+
+-- a longer one is that of its prefix and what stands behind its first eight bytes
+pub long_name-of : (prefix : ℕ) (rest : Vec ℕ Global) (name : List ℕ) → list_all is_name_byte name ≡ true
+    → prefix ≡ prefix_of name → rest.items ≡ drop 8 name → long_name (prefix, rest) ≡ name
+long_name-of prefix rest name lawful p q =
     rw (p, q, prefix_bytes-number 8 name lawful) (take-append-drop 8 name)
 
-pub IsKey-of : (prefix : ℕ) (rest : Vec ℕ Global) (name : List ℕ) → list_all is_name_byte name ≡ true
-    → prefix ≡ prefix_of name → rest.items ≡ drop 8 name → IsKey (prefix, rest)
-IsKey-of prefix rest name lawful p q =
-    let same : key_name (prefix, rest) ≡ name = key_name-of prefix rest name lawful p q in
-    record { prefix = p ∙ ap prefix_of (sym same); rest = q ∙ ap (drop 8) (sym same) }
+pub IsLong-of : (prefix : ℕ) (rest : Vec ℕ Global) (name : List ℕ) → list_all is_name_byte name ≡ true
+    → prefix ≡ prefix_of name → rest.items ≡ drop 8 name → 8 < length name → IsLong (prefix, rest)
+IsLong-of prefix rest name lawful p q many =
+    let same : long_name (prefix, rest) ≡ name = long_name-of prefix rest name lawful p q in
+    record {
+      prefix = p ∙ ap prefix_of (sym same);
+      rest = q ∙ ap (drop 8) (sym same);
+      more = omega (arith, ap length q, length-drop 8 name);
+    }
+
+-- a key of a longer name has more than eight bytes
+pub IsLong-many : (key : ℕ × Vec ℕ Global) → IsLong key → 8 < length (long_name key)
+IsLong-many key p = omega (arith, p.more, ap length p.rest, length-drop 8 (long_name key))

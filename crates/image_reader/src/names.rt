@@ -22,11 +22,14 @@ pub fn name_prefix(name: &[u8]) -> u64
     prefix
 }
 
-/// Names in an ordered set, each as its prefix and the bytes behind its first eight. No byte of a name is 0, so the
-/// two tell the name, and a name of up to eight bytes takes no memory of its own.
+/// Names in ordered sets. No byte of a name is 0, so the prefix of a name of up to eight bytes tells the name: such a
+/// name is one number, and so the set of them stays small enough for a core's cache.
 #[derive(Drop)]
 pub(crate) struct Names {
-    set: BTreeSet<(u64, Vec<u8>)>,
+    // The names of up to eight bytes, as their prefixes.
+    short: BTreeSet<u64>,
+    // The longer ones, each as its prefix and the bytes behind its first eight.
+    long: BTreeSet<(u64, Vec<u8>)>,
 }
 
 impl Names {
@@ -38,7 +41,8 @@ impl Names {
         ensures keys { AreKeys result }
     {
         Names {
-            set: BTreeSet::new(alloc),
+            short: BTreeSet::new(alloc),
+            long: BTreeSet::new(alloc),
         }
     }
 
@@ -50,7 +54,11 @@ impl Names {
         ensures holds { OnOk result ((other : List ℕ) → holds self.new other ≡ (holds self.old other || bytes_eq other name.now)) }
         ensures keys { OnOk result (AreKeys self.new) }
     {
-        let rest = Vec::from_slice(alloc, &name[name.len().min(8)..])?;
-        Ok(self.set.insert((name_prefix(name), rest))?)
+        let prefix = name_prefix(name);
+        if name.len() <= 8 {
+            return Ok(self.short.insert(prefix)?);
+        }
+        let rest = Vec::from_slice(alloc, &name[8..])?;
+        Ok(self.long.insert((prefix, rest))?)
     }
 }

@@ -14,7 +14,7 @@ use Rattle.alloc_core.specs.declared.alloc.Stage.TheVariants.{LoadFlags, LoadFre
 use Rattle.alloc_core.specs.Event.{Event, load_flags, load_free, exchange_free, store_size, store_cookie, store_type, set_flag, spot}
 use Rattle.alloc_core.specs.Alloc.{Allocation, cookie_of, event_at, next_event, IsAimed}
 use Rattle.alloc_core.specs.Laws.{taken, IsRecord, IsListWord, State, Move, starts, steps, fills, spoils, IsMove, StateKeeps}
-use Rattle.alloc_core.proofs.Layouts.{length_shown}
+use Rattle.alloc_core.proofs.Layouts.{length_shown, free_word}
 use Rattle.alloc_core.proofs.Steps.{taken_apart}
 
 at_zero : (at : ℕ) → at ≡ at + 0
@@ -164,6 +164,14 @@ words_long shape state keeps =
     let wide = keeps.shown.sound.lawful.wide in
     let one = keeps.shown.sound.lawful.one in
     omega (arith, long, wide, one)
+
+-- the free pointer lies within the words
+pub free_within : (shape : Dimensions) (state : State) → StateKeeps shape state → word_at state.words 7 ≤ length state.words
+free_within shape state keeps =
+    let long = length_shown shape state.words keeps.layout keeps.shown in
+    let free = free_word shape state.words keeps.layout keeps.shown in
+    let ends = keeps.shown.sound.ends in
+    omega (arith, long, free, ends)
 
 -- whatever happens leaves the words of the header but the flags and the free pointer
 pub header_word_kept : (shape : Dimensions) (move : Move) (old new : State) (at : ℕ) → StateKeeps shape old → IsMove shape move old new

@@ -1,18 +1,21 @@
 -- A claimed block is lawful, as a reader of images sees it.
-use Rattle.std.proofs.Common.{◌≡◌, ℕ, ◌+◌, ◌-◌, ◌*◌, ◌/◌, ◌%◌, ◌<◌, ◌≤◌, true, List, ◌∷◌, get_or, take, drop, sym, ap, ◌∙◌, subst, arith, div-add-mod'}
+use Rattle.std.proofs.Common.{◌≡◌, ◌≢◌, ℕ, ◌+◌, ◌-◌, ◌*◌, ◌/◌, ◌%◌, ◌<◌, ◌≤◌, true, List, ◌∷◌, get_or, take, drop, sym, ap, ◌∙◌, subst, arith, div-add-mod'}
 use Rattle.std.specs.Prelude.{◌&&◌, nat_le}
 use Rattle.std.proofs.lemmas.Bool.{and_from, le-leb, eq-eqb}
 use Rattle.std.proofs.lemmas.Nat.{div-mul-add}
 use Rattle.std.proofs.lemmas.List.{get_or-take, get_or-drop}
+use mathlib.Core.Option.{some, some-injective}
+use lib.ListN.{get_elem?}
 use Rattle.segment_image.specs.Shape.{Dimensions}
 use Rattle.segment_image.specs.Words.{word_at}
 use Rattle.segment_image.specs.Head.{head_of}
 use Rattle.segment_image.specs.Blocks.{is_placed, is_claimed, field_at}
 use Rattle.alloc_core.specs.Layout.{Block, extent}
-use Rattle.alloc_core.specs.Laws.{own, State, StateKeeps, IsRecord, Has}
+use Rattle.alloc_core.specs.Laws.{own, taken, Apart, State, StateKeeps, IsRecord, Has}
 use Rattle.alloc_core.specs.declared.alloc.Stage.TheVariants.{Claimed}
-use Rattle.alloc_core.specs.Alloc.{IsAimed}
+use Rattle.alloc_core.specs.Alloc.{Allocation, IsAimed}
 use Rattle.alloc_core.proofs.Layouts.{slice_shown, free_word, ends_within}
+use Rattle.alloc_core.proofs.Steps.{taken_apart}
 
 -- two places in one page
 one_page : (a b page : ℕ) → a % page + b < page → a / page ≡ (a + b) / page
@@ -28,9 +31,19 @@ word_of : (words : List ℕ) (at n j : ℕ) (ws : List ℕ) → take n (drop at 
 word_of words at n j ws is lt =
     sym (get_or-drop at words j 0) ∙ (sym (get_or-take n (drop at words) j 0 lt) ∙ ap (λ (l : List ℕ). get_or l j 0) is)
 
-pub block_lawful : (shape : Dimensions) (state : State) (reference : ℕ) → StateKeeps shape state → IsRecord state.allocations reference
-    → (is_placed (head_of state.words) reference && is_claimed state.words (head_of state.words) reference) ≡ true
-block_lawful shape state reference keeps (owner, a, size, mine, stage) =
+-- what is known of a claimed block: its first words, where it lies, and its page
+record IsClaimedAt (shape : Dimensions) (words : List ℕ) (reference size : ℕ) : Type 0 where
+  size_word : field_at words reference 0 ≡ size
+  cookie_word : field_at words reference 1 ≡ 0xC8799269
+  from : 16 ≤ reference
+  five : 5 ≤ size
+  below : reference + size ≤ word_at words 7
+  page : word_at words 3 ≡ shape.page
+  in_page : reference % shape.page + size ≤ shape.page
+
+claimed_at : (shape : Dimensions) (state : State) (owner : ℕ) (a : Allocation) (reference size : ℕ) → StateKeeps shape state
+    → get_elem? state.allocations owner ≡ some a → a.stage ≡ Claimed reference size → IsClaimedAt shape state.words reference size
+claimed_at shape state owner a reference size keeps mine stage =
     let fits = keeps.each owner a mine in
     let aimed : IsAimed a (Claimed reference size) = subst (IsAimed a) stage fits.lawful.aimed in
     let (behind, long, (k, there)) = subst (Has keeps.layout.blocks owner) stage fits.has in
@@ -40,19 +53,43 @@ block_lawful shape state reference keeps (owner, a, size, mine, stage) =
     subst (λ (n : ℕ). take n (drop reference state.words) ≡ size ∷ 0xC8799269 ∷ behind) whole (slice_shown shape state.words keeps.layout k block keeps.shown there) in
     let ends = ends_within shape.page 12 keeps.layout.blocks k block keeps.shown.sound.laid there in
     let free = free_word shape state.words keeps.layout keeps.shown in
-    let page : word_at state.words 3 ≡ shape.page = ap (λ (ws : List ℕ). get_or ws 3 0) keeps.shown.shows in
     let five = aimed.five in
-    let in_page : reference % shape.page + size ≤ shape.page =
-    subst (λ (s : Dimensions). reference % s.page + size ≤ s.page) fits.shaped aimed.one_page in
-    let size_word : field_at state.words reference 0 ≡ size = word_of state.words reference size 0 (size ∷ 0xC8799269 ∷ behind) slice (omega (arith, five)) in
-    let cookie_word : field_at state.words reference 1 ≡ 0xC8799269 =
-    word_of state.words reference size 1 (size ∷ 0xC8799269 ∷ behind) slice (omega (arith, five)) in
+    record {
+      size_word = word_of state.words reference size 0 (size ∷ 0xC8799269 ∷ behind) slice (omega (arith, five));
+      cookie_word = word_of state.words reference size 1 (size ∷ 0xC8799269 ∷ behind) slice (omega (arith, five));
+      from = aimed.from;
+      five = five;
+      below = omega (arith, ends, free, whole);
+      page = ap (λ (ws : List ℕ). get_or ws 3 0) keeps.shown.shows;
+      in_page = subst (λ (s : Dimensions). reference % s.page + size ≤ s.page) fits.shaped aimed.one_page;
+    }
+
+pub block_lawful : (shape : Dimensions) (state : State) (reference : ℕ) → StateKeeps shape state → IsRecord state.allocations reference
+    → (is_placed (head_of state.words) reference && is_claimed state.words (head_of state.words) reference) ≡ true
+block_lawful shape state reference keeps (owner, a, size, mine, stage) =
+    let is = claimed_at shape state owner a reference size keeps mine stage in
+    let five = is.five in
+    let below = is.below in
+    let size_word = is.size_word in
+    let in_page = is.in_page in
     let last : reference + (size - 1) ≡ reference + size - 1 = omega (arith, five) in
     let same : reference / word_at state.words 3 ≡ (reference + field_at state.words reference 0 - 1) / word_at state.words 3 =
-    rw (page, size_word) (one_page reference (size - 1) shape.page (omega (arith, five, in_page)) ∙ ap (λ (n : ℕ). n / shape.page) last) in
+    rw (is.page, size_word) (one_page reference (size - 1) shape.page (omega (arith, five, in_page)) ∙ ap (λ (n : ℕ). n / shape.page) last) in
     and_from (is_placed (head_of state.words) reference) _
-    (and_from (nat_le 16 reference) _ (le-leb 16 reference aimed.from) (le-leb (reference + 5) (word_at state.words 7) (omega (arith, ends, free, whole, five))))
-    (and_from _ _ (and_from _ _ (and_from _ _ (eq-eqb (field_at state.words reference 1) 0xC8799269 cookie_word)
+    (and_from (nat_le 16 reference) _ (le-leb 16 reference is.from) (le-leb (reference + 5) (word_at state.words 7) (omega (arith, below, five))))
+    (and_from _ _ (and_from _ _ (and_from _ _ (eq-eqb (field_at state.words reference 1) 0xC8799269 is.cookie_word)
     (le-leb 5 (field_at state.words reference 0) (omega (arith, size_word, five))))
-    (le-leb (reference + field_at state.words reference 0) (word_at state.words 7) (omega (arith, size_word, ends, free, whole))))
+    (le-leb (reference + field_at state.words reference 0) (word_at state.words 7) (omega (arith, size_word, below))))
     (eq-eqb _ _ same))
+
+-- two claimed blocks do not overlap, by the sizes that their first words say
+pub records_apart : (shape : Dimensions) (state : State) (one other : ℕ) → StateKeeps shape state → IsRecord state.allocations one
+    → IsRecord state.allocations other → one ≢ other → Apart (one, field_at state.words one 0) (other, field_at state.words other 0)
+records_apart shape state one other keeps (i, a, size, mine, stage) (j, b, size', yours, stage') ne =
+    let two : i ≢ j = λ same.
+    let is : a ≡ b = some-injective a b (sym mine ∙ (ap (get_elem? state.allocations) same ∙ yours)) in
+    ne (cc (sym stage ∙ (ap (λ (x : Allocation). x.stage) is ∙ stage'))) in
+    let first = (claimed_at shape state i a one size keeps mine stage).size_word in
+    let second = (claimed_at shape state j b other size' keeps yours stage').size_word in
+    subst (λ (t : ℕ × ℕ). Apart (one, t.0) (other, t.1)) (λ k. (sym first k, sym second k))
+    (taken_apart shape state.words state.allocations i j a b (one, size) (other, size') keeps two mine yours (ap taken stage) (ap taken stage'))

@@ -1,13 +1,34 @@
 -- The chain beside a store, and with one record more.
-use Rattle.std.proofs.Common.{◌≡◌, ◌≢◌, ◌⊎◌, ℕ, zero, suc, ◌+◌, ◌<◌, ◌≤◌, List, [], ◌∷◌, ◌++◌, length, set, inl, inr, sym, refl, ap, ◌∙◌, subst, arith, length-append}
+use Rattle.std.proofs.Common.{◌≡◌, ◌≢◌, ◌⊎◌, ℕ, zero, suc, ◌+◌, ◌<◌, ◌≤◌, true, List, [], ◌∷◌, ◌++◌, length, set, inl, inr, sym, refl, ap, ◌∙◌, subst, arith, length-append}
 use Rattle.std.specs.Prelude.{slice_index}
 use Rattle.std.proofs.lemmas.List.{get_or_append_left, get_or_push, get_or-set_same, get_or-set_other}
 use Rattle.std.proofs.lemmas.Bool.{cases_order}
 use mathlib.Core.Logic.{dite}
 use native.Mathlib.Decide.{ℕ_discrete}
 use Rattle.segment_image.specs.Words.{word_at}
-use Rattle.list_core.specs.Chain.{stops, IsLinked}
+use Rattle.segment_image.specs.Blocks.{is_block}
+use Rattle.segment_image.specs.declared.head.SegmentHead.{SegmentHead}
+use Rattle.bucket_ranges.specs.Reading.{IsWalk}
+use Rattle.list_core.specs.Chain.{stops, IsLinked, IsChain}
 use Rattle.list_core.specs.Laws.{IsStop, AreNeighbours}
+use Rattle.list_core.proofs.Blocks.{block_within}
+
+-- the stops of a chain are distinct, and no record is the queue block
+distinct_stops : (words chain : List ℕ) (head : SegmentHead) → IsWalk words head chain → (i j : ℕ) → i < j → j ≤ length chain
+    → slice_index (stops chain) i ≢ slice_index (stops chain) j
+distinct_stops words chain head walk i zero lt within = absurd (omega arith)
+distinct_stops words chain head walk zero (suc j) lt within = λ same.
+    let from = (block_within words head (slice_index chain j) (walk.lawful j (omega arith))).0 in omega (arith, from, same)
+distinct_stops words chain head walk (suc i) (suc j) lt within = walk.distinct i j (omega arith) (omega arith)
+
+-- so a chain is linked
+pub linked_of : (words chain : List ℕ) (head : SegmentHead) → IsChain words head chain → IsLinked words chain
+linked_of words chain head is = record {
+  linked = λ i le. dite (ℕ_discrete i (length chain))
+      (λ last. ap (λ (k : ℕ). word_at words (slice_index (stops chain) k + 3)) last ∙ (is.ended ∙ sym (get_or_push chain 12 0 i (sym last))))
+      (λ ne. let inside : i < length chain = omega arith in is.walk.linked i inside ∙ sym (get_or_append_left chain (12 ∷ []) 0 i inside));
+  distinct = distinct_stops words chain head is.walk;
+}
 
 -- two places of one stop are one
 pub one_place : (words chain : List ℕ) (i j : ℕ) → IsLinked words chain → i ≤ length chain → j ≤ length chain
@@ -39,6 +60,18 @@ pub last_stop : (words chain : List ℕ) (k : ℕ) → IsLinked words chain → 
 last_stop words chain k linked le e = dite (ℕ_discrete k (length chain))
     (λ same. same)
     (λ ne. absurd (no_queue words chain k linked (omega arith) (sym (next_inside words chain k linked (omega arith)) ∙ e)))
+
+-- linked lawful blocks are a chain
+pub chain_of : (words chain : List ℕ) (head : SegmentHead) → IsLinked words chain
+    → ((k : ℕ) → k < length chain → is_block words head (slice_index chain k) ≡ true) → IsChain words head chain
+chain_of words chain head linked lawful = record {
+  walk = record {
+    linked = λ i lt. next_inside words chain i linked lt;
+    lawful = lawful;
+    distinct = λ i j before within. linked.distinct (suc i) (suc j) (omega (arith, before)) (omega (arith, within));
+  };
+  ended = next_last words chain linked;
+}
 
 -- the stops of a longer chain
 stops_left : (chain : List ℕ) (reference i : ℕ) → i ≤ length chain → slice_index (stops (chain ++ reference ∷ [])) i ≡ slice_index (stops chain) i

@@ -1,4 +1,5 @@
 pub mod Prefixes
+pub mod Blocks
 pub mod Chains
 pub mod EventKinds
 pub mod Standing

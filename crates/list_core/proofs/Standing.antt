@@ -1,15 +1,15 @@
--- Where publishes stand, beside what others do.
-use Rattle.std.proofs.Common.{◌≡◌, ◌⊎◌, ℕ, zero, suc, ◌+◌, ◌<◌, ◌≤◌, ◌==◌, true, false, List, length, inl, inr, sym, refl, ◌∙◌, subst, arith}
-use Rattle.std.specs.Prelude.{nat_le}
-use Rattle.std.proofs.lemmas.Bool.{eq-eqb, le-leb, and_from, or_left, or_right}
-use Rattle.segment_image.specs.Shape.{Dimensions}
+-- Where publishings stand, beside what others do.
+use Rattle.std.proofs.Common.{◌≡◌, ◌⊎◌, ℕ, zero, suc, ◌+◌, ◌<◌, ◌≤◌, ◌==◌, true, false, List, length, inl, inr, sym, refl, ◌∙◌, arith}
+use Rattle.std.proofs.lemmas.Bool.{eq-eqb, or_left}
 use Rattle.segment_image.specs.Words.{word_at}
-use Rattle.alloc_core.specs.Laws.{IsRecord, IsListWord}
-use Rattle.alloc_core.proofs.Beside.{record_within, words_long}
+use Rattle.segment_image.specs.Head.{head_of}
+use Rattle.list_core.specs.Publish.{Publishing}
 use Rattle.list_core.specs.declared.publish.Stage.{Stage}
 use Rattle.list_core.specs.declared.publish.Stage.TheVariants.{StoreOwnNext, LoadTail, Link, MoveTail, Published, Strayed}
-use Rattle.list_core.specs.Chain.{is_reference}
-use Rattle.list_core.specs.Laws.{IsStop, AreNeighbours, Stands, ListState, ListKeeps}
+use Rattle.list_core.specs.Chain.{is_reference, IsLinked}
+use Rattle.list_core.specs.Laws.{IsStop, AreNeighbours, Stands, IsHeld, IsList}
+use Rattle.list_core.proofs.Blocks.{block_reference, held_lawful, held_within, IsListPlace}
+use Rattle.list_core.proofs.Chains.{linked_of}
 
 -- where a publish stands stays, whatever changes the chain and the words and leaves it
 pub stands_along : (words words' chain chain' : List ℕ) (reference : ℕ) → ((at : ℕ) → IsStop chain at → IsStop chain' at)
@@ -26,34 +26,39 @@ stands_along words words' chain chain' reference stop near off same (MoveTail ol
 stands_along words words' chain chain' reference stop near off same Published on = stop reference on
 stands_along words words' chain chain' reference stop near off same Strayed none = none
 
--- a stop is the queue block or a claimed block
-pub stop_is : (shape : Dimensions) (state : ListState) (at : ℕ) → ListKeeps shape state → IsStop state.chain at
-    → (at ≡ 12) ⊎ IsRecord state.segment.allocations at
-stop_is shape state at keeps (zero, le, is) = inl (sym is)
-stop_is shape state at keeps (suc k, le, is) = inr (subst (IsRecord state.segment.allocations) is (keeps.claimed k (omega arith)))
+module _ (words chain : List ℕ) (publishings : List Publishing) (is : IsList words chain publishings) where
+  pub list_linked : IsLinked words chain
+  list_linked = linked_of words chain (head_of words) is.chained
 
--- so its next is a word of the list
-pub stop_word : (shape : Dimensions) (state : ListState) (at : ℕ) → ListKeeps shape state → IsStop state.chain at
-    → IsListWord state.segment.allocations (at + 3)
-stop_word shape state at keeps on = elim (stop_is shape state at keeps on) [
-  | inl queue ↦ inr (inl (omega arith))
-  | inr claimed ↦ inr (inr (at, claimed, refl))
-]
+  -- a stop is the queue block or a record
+  stop_is : (at : ℕ) → IsStop chain at → (at ≡ 12) ⊎ IsHeld chain publishings at
+  stop_is at (zero, le, same) = inl (sym same)
+  stop_is at (suc k, le, same) = inr (inl (k, omega arith, same))
 
--- a stop lies within the words
-pub stop_within : (shape : Dimensions) (state : ListState) (at : ℕ) → ListKeeps shape state → IsStop state.chain at
-    → (12 ≤ at) × (at + 3 < length state.segment.words)
-stop_within shape state at keeps on = elim (stop_is shape state at keeps on) [
-  | inl queue ↦ let long = words_long shape state.segment keeps.allocations in (omega arith, omega arith)
-  | inr claimed ↦ let within = record_within shape state.segment at keeps.allocations claimed in (omega (arith, within.0), omega (arith, within.1))
-]
+  -- so its next is a word of the list
+  pub stop_place : (at : ℕ) → IsStop chain at → IsListPlace chain publishings (at + 3)
+  stop_place at on = elim (stop_is at on) [
+    | inl queue ↦ inr (inl (omega arith))
+    | inr held ↦ inr (inr (at, held, refl))
+  ]
 
--- and is a reference that a list can have
-pub stop_reference : (shape : Dimensions) (state : ListState) (at : ℕ) → ListKeeps shape state → IsStop state.chain at
-    → is_reference (length state.segment.words) at ≡ true
-stop_reference shape state at keeps on = elim (stop_is shape state at keeps on) [
-  | inl queue ↦ or_left (at == 12) _ (eq-eqb at 12 queue)
-  | inr claimed ↦
-      let within = record_within shape state.segment at keeps.allocations claimed in
-      or_right (at == 12) _ (and_from (nat_le 16 at) _ (le-leb 16 at within.0) (le-leb (at + 5) (length state.segment.words) within.1))
-]
+  -- a stop lies behind the words of the header
+  pub stop_from : (at : ℕ) → IsStop chain at → 12 ≤ at
+  stop_from at on = elim (stop_is at on) [
+    | inl queue ↦ omega arith
+    | inr held ↦ let from = (held_within words chain publishings is at held).0 in omega (arith, from)
+  ]
+
+  -- its next lies within the words, where there is a record
+  pub stop_next_within : (at : ℕ) → IsStop chain at → {most : ℕ} → most + 5 ≤ length words → 16 ≤ most → at + 3 < length words
+  stop_next_within at on long from = elim (stop_is at on) [
+    | inl queue ↦ omega (arith, queue, long, from)
+    | inr held ↦ let (_, five, within) = held_within words chain publishings is at held in omega (arith, five, within)
+  ]
+
+  -- and it is a reference that a list can have
+  pub stop_reference : (at : ℕ) → IsStop chain at → is_reference (length words) at ≡ true
+  stop_reference at on = elim (stop_is at on) [
+    | inl queue ↦ or_left (at == 12) _ (eq-eqb at 12 queue)
+    | inr held ↦ block_reference words (head_of words) at (held_lawful words chain publishings is at held) is.free
+  ]

@@ -13,9 +13,10 @@ use Rattle.list_core.specs.declared.publish.Stage.{Stage}
 use Rattle.list_core.specs.declared.publish.Stage.TheVariants.{StoreOwnNext, LoadTail, Link, MoveTail, Published, Strayed}
 use Rattle.list_core.specs.Chain.{is_reference}
 use Rattle.list_core.specs.Publish.{Publishing, load_tail, link, event_at, next_event, stage_after, stage_of_move, moved, answer, IsStep, IsStrayBy}
-use Rattle.list_core.specs.Laws.{IsStop, Stands, ListState, ListKeeps, stepped}
+use Rattle.list_core.specs.Laws.{IsStop, Stands, IsList, chain_after, ListState, ListKeeps, stepped}
 use Rattle.alloc_core.proofs.Owners.{set_at}
-use Rattle.list_core.proofs.Keeping.{step_keeps}
+use Rattle.list_core.proofs.Keeping.{step_lists}
+use Rattle.list_core.proofs.Runs.{steps_keeps}
 
 -- a step, from what its two halves say
 step_by : (old new : Publishing) (words new_words : List ℕ) (step : PubStep) (found : ℕ) (o : Option Event) → next_event old ≡ o → is_some o ≡ true
@@ -63,34 +64,41 @@ stray_stage Strayed e = refl
 pub goes_on : (p : Publishing) (step : PubStep) → step ≡ answer p.stage → step ≡ said.More → is_some (next_event p) ≡ true
 goes_on p step is more = more_goes p.reference p.stage (sym is ∙ more)
 
--- a step keeps the list invariant
-pub step_keeps_list : (old new : Publishing) (words new_words : List ℕ) (step : PubStep) (shape : Dimensions) (state : ListState) (owner : ℕ)
+-- a step of a publish among others keeps what holds of a list
+pub step_keeps_list : (old new : Publishing) (words new_words chain : List ℕ) (publishings : List Publishing) (step : PubStep) (owner : ℕ)
+    → IsStep old words new new_words step → get_elem? publishings owner ≡ some old → IsList words chain publishings
+    → IsList new_words (chain_after words chain old) (set publishings owner new)
+step_keeps_list old new words new_words chain publishings step owner is mine list =
+    let kept = step_lists words chain publishings owner old list mine old.stage is.event refl is.next in
+    subst (λ (x : List ℕ × Publishing). IsList x.0 (chain_after words chain old) (set publishings owner x.1)) (λ i. (sym is.words_are i, sym is.new_is i)) kept
+
+-- what is published is on the chain
+pub done_stop : (old new : Publishing) (words new_words chain : List ℕ) (publishings : List Publishing) (step : PubStep) (owner : ℕ)
+    → IsStep old words new new_words step → get_elem? publishings owner ≡ some old → IsList words chain publishings → step ≡ said.Done
+    → IsStop (chain_after words chain old) new.reference
+done_stop old new words new_words chain publishings step owner is mine list done =
+    let kept = step_keeps_list old new words new_words chain publishings step owner is mine list in
+    subst (Stands new_words (chain_after words chain old) new.reference) (done_stage new.stage (sym is.answers ∙ done))
+    (kept.stands owner new (set_at publishings owner old new mine))
+
+-- a list never lets a publish stray
+pub no_stray : (old new : Publishing) (words new_words chain : List ℕ) (publishings : List Publishing) (step : PubStep) (owner : ℕ)
+    → IsStep old words new new_words step → get_elem? publishings owner ≡ some old → IsList words chain publishings → step ≢ said.Stray
+no_stray old new words new_words chain publishings step owner is mine list stray =
+    let kept = step_keeps_list old new words new_words chain publishings step owner is mine list in
+    subst (Stands new_words (chain_after words chain old) new.reference) (stray_stage new.stage (sym is.answers ∙ stray))
+    (kept.stands owner new (set_at publishings owner old new mine))
+
+-- and beside allocations the list invariant
+pub step_keeps : (old new : Publishing) (words new_words : List ℕ) (step : PubStep) (shape : Dimensions) (state : ListState) (owner : ℕ)
     → IsStep old words new new_words step → words ≡ state.segment.words → get_elem? state.publishes owner ≡ some old → ListKeeps shape state
     → ListKeeps shape (stepped state owner old new_words new)
-step_keeps_list old new words new_words step shape state owner is same mine keeps =
-    let kept = step_keeps shape state owner old keeps mine old.stage is.event refl is.next in
+step_keeps old new words new_words step shape state owner is same mine keeps =
+    let kept = steps_keeps shape state owner old keeps mine is.event is.next in
     let words_now : new_words ≡ after is.event state.segment.words = is.words_are ∙ ap (after is.event) same in
     let new_now : new ≡ moved (length state.segment.words) old (word_at state.segment.words (spot is.event)) =
     is.new_is ∙ ap (λ (ws : List ℕ). moved (length ws) old (word_at ws (spot is.event))) same in
     subst (λ (x : List ℕ × Publishing). ListKeeps shape (stepped state owner old x.0 x.1)) (λ i. (sym words_now i, sym new_now i)) kept
-
--- what is published is on the chain
-pub done_stop : (old new : Publishing) (words new_words : List ℕ) (step : PubStep) (shape : Dimensions) (state : ListState) (owner : ℕ)
-    → IsStep old words new new_words step → step ≡ said.Done → words ≡ state.segment.words → get_elem? state.publishes owner ≡ some old
-    → ListKeeps shape state → IsStop (stepped state owner old new_words new).chain new.reference
-done_stop old new words new_words step shape state owner is done same mine keeps =
-    let kept = step_keeps_list old new words new_words step shape state owner is same mine keeps in
-    let here : get_elem? (set state.publishes owner new) owner ≡ some new = set_at state.publishes owner old new mine in
-    subst (Stands new_words (stepped state owner old new_words new).chain new.reference) (done_stage new.stage (sym is.answers ∙ done)) (kept.each owner new here).stands
-
--- a list that is kept never strays
-pub no_stray : (old new : Publishing) (words new_words : List ℕ) (step : PubStep) (shape : Dimensions) (state : ListState) (owner : ℕ)
-    → IsStep old words new new_words step → words ≡ state.segment.words → get_elem? state.publishes owner ≡ some old → ListKeeps shape state
-    → step ≢ said.Stray
-no_stray old new words new_words step shape state owner is same mine keeps stray =
-    let kept = step_keeps_list old new words new_words step shape state owner is same mine keeps in
-    let here : get_elem? (set state.publishes owner new) owner ≡ some new = set_at state.publishes owner old new mine in
-    subst (Stands new_words (stepped state owner old new_words new).chain new.reference) (stray_stage new.stage (sym is.answers ∙ stray)) (kept.each owner new here).stands
 
 tail_stray : (good : Bool) (found : ℕ) → (if good then Link found else Strayed) ≡ Strayed → good ≡ false
 tail_stray true found e = absurd (cc e)

@@ -10,14 +10,15 @@ use lib.Seq.{set-get_or}
 use Rattle.segment_image.specs.Shape.{Dimensions}
 use Rattle.segment_image.specs.Words.{word_at}
 use Rattle.alloc_core.specs.Event.{Event, after}
-use Rattle.alloc_core.proofs.Beside.{record_within, words_long, list_word_kept}
+use Rattle.alloc_core.proofs.Beside.{words_long, list_word_kept}
 use Rattle.list_core.specs.declared.publish.Stage.{Stage}
 use Rattle.list_core.specs.declared.publish.Stage.TheVariants.{StoreOwnNext, LoadTail, Link, MoveTail, Published, Strayed}
-use Rattle.list_core.specs.Chain.{stops}
+use Rattle.list_core.specs.Chain.{stops, IsLinked}
 use Rattle.list_core.specs.Publish.{Publishing, store_own_next, load_tail, link, move_tail, event_at}
 use Rattle.list_core.specs.Laws.{IsStop, AreNeighbours, Stands, ListState, ListKeeps, ListMove, allocates, publishes, steps, begins, walks, IsListMove, IsListRun, TailRises}
 use Rattle.list_core.proofs.Chains.{one_place}
-use Rattle.list_core.proofs.Standing.{stop_within}
+use Rattle.list_core.proofs.Blocks.{held_within}
+use Rattle.list_core.proofs.Standing.{list_linked, stop_from}
 use Rattle.list_core.proofs.Runs.{list_move_keeps, move_grows}
 
 -- a place of the old chain is that place of the new one
@@ -25,11 +26,15 @@ same_place : (old new more : List ℕ) (i : ℕ) → new ≡ old ++ more → i �
 same_place old new more zero is le = refl
 same_place old new more (suc i) is le = ap (λ (l : List ℕ). get_or l i 0) is ∙ get_or_append_left old more 0 i (omega arith)
 
+-- the chain of a state is linked
+linked_in : {shape : Dimensions} (state : ListState) → ListKeeps shape state → IsLinked state.segment.words state.chain
+linked_in state keeps = list_linked state.segment.words state.chain state.publishes keeps.list
+
 -- where the tail stays, its place stays
 stays : (shape : Dimensions) (old new : ListState) (more : List ℕ) → ListKeeps shape new → new.chain ≡ old.chain ++ more → length old.chain ≤ length new.chain
     → word_at new.segment.words 8 ≡ word_at old.segment.words 8 → TailRises old new
 stays shape old new more keeps is longer same i j le le' at at' =
-    let one : i ≡ j = one_place new.segment.words new.chain i j keeps.linked (omega (arith, le, longer)) le'
+    let one : i ≡ j = one_place new.segment.words new.chain i j (linked_in new keeps) (omega (arith, le, longer)) le'
     (same_place old.chain new.chain more i is le ∙ (at ∙ (sym same ∙ sym at'))) in
     omega arith
 
@@ -58,20 +63,20 @@ module _ (shape : Dimensions) (state : ListState) (owner : ℕ) (p : Publishing)
   advances : (stage : Stage) (event : Event) → p.stage ≡ stage → event_at p.reference stage ≡ Some event → Advances state (after event state.segment.words)
   advances StoreOwnNext event e is =
       let same : store_own_next p.reference ≡ event = cc is in
-      let from = (record_within shape state.segment p.reference keeps.allocations (keeps.each owner p mine).claimed).0 in
+      let from = (held_within state.segment.words state.chain state.publishes keeps.list p.reference (inr (owner, p, mine, refl))).0 in
       subst (λ (v : Event). Advances state (after v state.segment.words)) same (other_word (p.reference + 3) 12 (omega (arith, from)))
   advances LoadTail event e is =
       let same : load_tail ≡ event = cc is in
       subst (λ (v : Event). Advances state (after v state.segment.words)) same (inl (ap (λ (ws : List ℕ). word_at ws 8) (set-get_or state.segment.words 8 0)))
   advances (Link tail) event e is =
       let same : link tail p.reference ≡ event = cc is in
-      let on = (subst (Stands state.segment.words state.chain p.reference) e (keeps.each owner p mine).stands).1 in
-      let room = (stop_within shape state tail keeps on).0 in
+      let on = (subst (Stands state.segment.words state.chain p.reference) e (keeps.list.stands owner p mine)).1 in
+      let room = stop_from state.segment.words state.chain state.publishes keeps.list tail on in
       subst (λ (v : Event). Advances state (after v state.segment.words)) same (other_word (tail + 3) _ (omega (arith, room)))
   advances (MoveTail old new linked) event e is =
       let same : move_tail old new ≡ event = cc is in
       subst (λ (v : Event). Advances state (after v state.segment.words)) same
-      (moved_by old new (moves_near old new linked (subst (Stands state.segment.words state.chain p.reference) e (keeps.each owner p mine).stands)))
+      (moved_by old new (moves_near old new linked (subst (Stands state.segment.words state.chain p.reference) e (keeps.list.stands owner p mine))))
   advances Published event e is = absurd (cc is)
   advances Strayed event e is = absurd (cc is)
 
@@ -83,9 +88,9 @@ advanced : (shape : Dimensions) (old new : ListState) (more : List ℕ) → List
     → Advances old new.segment.words → TailRises old new
 advanced shape old new more before keeps is (inl same) i j = stays shape old new more keeps is (longer old.chain new.chain more is) same i j
 advanced shape old new more before keeps is (inr (k, lt, here, next)) i j = λ le le' at at'.
-    let one : i ≡ k = one_place old.segment.words old.chain i k before.linked le (omega (arith, lt)) (at ∙ sym here) in
+    let one : i ≡ k = one_place old.segment.words old.chain i k (linked_in old before) le (omega (arith, lt)) (at ∙ sym here) in
     let long = longer old.chain new.chain more is in
-    let two : j ≡ suc k = one_place new.segment.words new.chain j (suc k) keeps.linked le' (omega (arith, lt, long))
+    let two : j ≡ suc k = one_place new.segment.words new.chain j (suc k) (linked_in new keeps) le' (omega (arith, lt, long))
     (at' ∙ (sym next ∙ sym (same_place old.chain new.chain more (suc k) is (omega (arith, lt))))) in
     omega (arith, one, two)
 
@@ -118,7 +123,7 @@ same_tail shape old new keeps same i j le le' at at' =
     let back : slice_index (stops old.chain) j ≡ word_at old.segment.words 8 =
     subst (λ (s : ListState). slice_index (stops s.chain) j ≡ word_at s.segment.words 8) same at' in
     let long : j ≤ length old.chain = subst (λ (s : ListState). j ≤ length s.chain) same le' in
-    let one : i ≡ j = one_place old.segment.words old.chain i j keeps.linked le long (at ∙ sym back) in
+    let one : i ≡ j = one_place old.segment.words old.chain i j (linked_in old keeps) le long (at ∙ sym back) in
     omega arith
 
 -- a tail that rose twice has risen
@@ -133,4 +138,4 @@ pub run_tail_rises : (shape : Dimensions) (moves : List ListMove) (old new : Lis
 run_tail_rises shape [] old new keeps same = same_tail shape old new keeps same
 run_tail_rises shape (move ∷ moves) old new keeps (next, first, rest) =
     let kept = list_move_keeps shape move old next keeps first in
-    both_rise old next new kept.tail (tail_rises shape move old next keeps first) (run_tail_rises shape moves next new kept rest)
+    both_rise old next new kept.list.tail (tail_rises shape move old next keeps first) (run_tail_rises shape moves next new kept rest)

@@ -1,23 +1,26 @@
 -- What a walk gives.
-use Rattle.std.proofs.Common.{◌≡◌, ℕ, suc, ◌+◌, ◌-◌, ◌<◌, ◌≤◌, ◌==◌, Bool, true, false, List, [], ◌∷◌, ◌++◌, length, get_or, inl, inr, sym, refl, ap, ◌∙◌, subst, arith, length-append, append_assoc}
+use Rattle.std.proofs.Common.{◌≡◌, ℕ, ◌+◌, ◌-◌, ◌<◌, ◌≤◌, ◌==◌, Bool, true, false, List, [], ◌∷◌, ◌++◌, length, get_or, inl, inr, sym, refl, ap, ◌∙◌, subst, arith, length-append, append_assoc}
 use Rattle.std.specs.Prelude.{slice_index, if◌then◌else◌}
 use Rattle.std.proofs.lemmas.List.{append-nil, get_or_append_left, get_or-append_right}
 use Rattle.segment_image.specs.Shape.{Dimensions}
 use Rattle.segment_image.specs.Words.{word_at}
 use Rattle.list_core.specs.declared.walk.WalkStep.{WalkStep}
 use Rattle.list_core.specs.declared.walk.WalkStep.TheVariants.{Record, End, Stray}
-use Rattle.list_core.specs.Chain.{is_reference, stops}
+use Rattle.segment_image.specs.Head.{head_of}
+use Rattle.segment_image.specs.declared.head.SegmentHead.{SegmentHead}
+use Rattle.list_core.specs.Chain.{is_reference, stops, IsChain}
 use Rattle.list_core.specs.Walk.{said_of, stands_after, GivesNext, IsPrefix, IsGiven, stands_behind, given_after}
 use Rattle.list_core.specs.Laws.{ListState, ListKeeps, next_said}
 use Rattle.list_core.proofs.EventKinds.{next_loaded}
-use Rattle.list_core.proofs.Standing.{stop_reference}
+use Rattle.list_core.proofs.Blocks.{block_reference}
+use Rattle.list_core.proofs.Chains.{linked_of}
 
 -- a walk at a place of the chain
-pub gives_next : (shape : Dimensions) (state : ListState) (k at : ℕ) → ListKeeps shape state → k ≤ length state.chain
-    → slice_index (stops state.chain) k ≡ at → GivesNext state.chain k (said_of (length state.segment.words) (word_at state.segment.words (at + 3)))
-gives_next shape state k at keeps le is =
-    next_loaded state.segment.words state.chain k at keeps.linked le is
-    (λ inside. stop_reference shape state (slice_index state.chain k) keeps (suc k, inside, refl))
+pub gives_next : (words chain : List ℕ) (head : SegmentHead) (k at : ℕ) → head.free ≤ length words → IsChain words head chain → k ≤ length chain
+    → slice_index (stops chain) k ≡ at → GivesNext chain k (said_of (length words) (word_at words (at + 3)))
+gives_next words chain head k at free is le place =
+    next_loaded words chain k at (linked_of words chain head is) le place
+    (λ inside. block_reference words head (slice_index chain k) (is.walk.lawful k inside) free)
 
 reach_by : (n next at : ℕ) (ends good : Bool) → is_reference n at ≡ true → is_reference n next ≡ good
     → is_reference n (stands_after at (if ends then End else if good then Record next else Stray)) ≡ true
@@ -58,7 +61,9 @@ pub walk_goes : (shape : Dimensions) (state : ListState) (given : List ℕ) → 
     → IsGiven given state.chain (said_of (length state.segment.words) (word_at state.segment.words (stands_behind given + 3)))
 walk_goes shape state given keeps (rest, is) =
     let within : length given ≤ length state.chain = omega (arith, ap length is, length-append given rest) in
-    prefix_goes state.chain given _ (rest, is) (gives_next shape state (length given) (stands_behind given) keeps within (place_of given rest state.chain is))
+    prefix_goes state.chain given _ (rest, is)
+    (gives_next state.segment.words state.chain (head_of state.segment.words) (length given) (stands_behind given) keeps.list.free keeps.list.chained within
+    (place_of given rest state.chain is))
 
 given_by : (given chain : List ℕ) (said : WalkStep) → IsPrefix given chain → IsGiven given chain said → IsPrefix (given_after given said) chain
 given_by given chain (Record reference) front longer = longer

@@ -1,15 +1,16 @@
 -- What holds of the words of a segment, of its allocations and of its publishes between any two events.
-use Rattle.std.specs.Prelude.{◌≡◌, ℕ, ◌+◌, ◌<◌, ◌≤◌, ◌==◌, true, false, List, [], ◌∷◌, ◌++◌, length, slice_index, slice_set, Some, if◌then◌else◌}
+use Rattle.std.specs.Prelude.{◌≡◌, ◌≢◌, ◌⊎◌, ℕ, ◌+◌, ◌<◌, ◌≤◌, ◌==◌, true, false, List, [], ◌∷◌, ◌++◌, length, slice_index, slice_set, Some, if◌then◌else◌}
 use mathlib.Core.Option.{some}
 use lib.ListN.{get_elem?}
 use Rattle.segment_image.specs.Shape.{Dimensions}
 use Rattle.segment_image.specs.Words.{word_at}
+use Rattle.segment_image.specs.Head.{head_of}
+use Rattle.segment_image.specs.Blocks.{field_at, is_block}
 use Rattle.alloc_core.specs.Event.{Event, spot, after}
-use Rattle.alloc_core.specs.Alloc.{Allocation}
-use Rattle.alloc_core.specs.Laws.{State, Move, IsMove, StateKeeps, IsRecord, opening}
+use Rattle.alloc_core.specs.Laws.{State, Move, IsMove, StateKeeps, IsRecord, Apart, opening}
 use Rattle.list_core.specs.declared.publish.Stage.{Stage}
 use Rattle.list_core.specs.declared.publish.Stage.TheVariants.{StoreOwnNext, LoadTail, Link, MoveTail, Published, Strayed}
-use Rattle.list_core.specs.Chain.{stops, IsLinked}
+use Rattle.list_core.specs.Chain.{stops, IsChain}
 use Rattle.list_core.specs.declared.walk.WalkStep.{WalkStep}
 use Rattle.list_core.specs.Walk.{said_of, stands_behind, given_after, IsPrefix}
 use Rattle.list_core.specs.Publish.{Publishing, next_event, moved, started}
@@ -36,10 +37,35 @@ Stands words chain reference (MoveTail old new false) = AreNeighbours chain old 
 Stands words chain reference Published = IsStop chain reference
 Stands words chain reference Strayed = ⊥
 
--- what holds of one publish: its record was claimed, and it stands where its stage says
-pub record Fits (words chain : List ℕ) (allocations : List Allocation) (publish : Publishing) : Type 0 where
-  pub claimed : IsRecord allocations publish.reference
-  pub stands : Stands words chain publish.reference publish.stage
+-- a record of the chain, or one that a publish was started for
+abbrev pub IsHeld : List ℕ → List Publishing → ℕ → Type 0
+IsHeld chain publishings at =
+    ((k : ℕ) × (k < length chain) × (slice_index chain k ≡ at))
+    ⊎ ((owner : ℕ) × (publish : Publishing) × (get_elem? publishings owner ≡ some publish) × (publish.reference ≡ at))
+
+-- the words of a block: where it begins, and the size that it says
+abbrev pub block_words : List ℕ → ℕ → ℕ × ℕ
+block_words words at = (at, field_at words at 0)
+
+-- What holds of any words with a list, and of the publishes of records. The free pointer lies within the words. There is a
+-- chain, and the tail is the queue block or a record of it. Each publish has a lawful block of its own as its record, and
+-- stands where its stage says: off the chain until it is linked. And no two different blocks among all these overlap.
+pub record IsList (words chain : List ℕ) (publishings : List Publishing) : Type 0 where
+  pub free : word_at words 7 ≤ length words
+  pub chained : IsChain words (head_of words) chain
+  pub tail : IsStop chain (word_at words 8)
+  pub lawful : (owner : ℕ) (publish : Publishing) → get_elem? publishings owner ≡ some publish → is_block words (head_of words) publish.reference ≡ true
+  pub stands : (owner : ℕ) (publish : Publishing) → get_elem? publishings owner ≡ some publish → Stands words chain publish.reference publish.stage
+  pub own : (i j : ℕ) (a b : Publishing) → get_elem? publishings i ≡ some a → get_elem? publishings j ≡ some b → a.reference ≡ b.reference → i ≡ j
+  pub apart : (a b : ℕ) → IsHeld chain publishings a → IsHeld chain publishings b → a ≢ b → Apart (block_words words a) (block_words words b)
+
+-- what has to hold of a record before its publish starts: it is a lawful block, off the chain, that no publish was started
+-- for, and it overlaps no other record
+pub record MayStart (words chain : List ℕ) (publishings : List Publishing) (reference : ℕ) : Type 0 where
+  pub lawful : is_block words (head_of words) reference ≡ true
+  pub off : ¬ (IsStop chain reference)
+  pub first : (owner : ℕ) (publish : Publishing) → get_elem? publishings owner ≡ some publish → ¬ (publish.reference ≡ reference)
+  pub apart : (other : ℕ) → IsHeld chain publishings other → Apart (block_words words reference) (block_words words other)
 
 -- a segment with its allocations, its publishes, the records whose link has succeeded, in the order of these links, and
 -- what each walk from the start has given
@@ -49,18 +75,12 @@ pub record ListState : Type 0 where
   pub chain : List ℕ
   pub walks : List (List ℕ)
 
--- the list invariant: the allocation invariant holds; the nexts lead along the chain, whose records were claimed; the tail
--- is the queue block or a record of the chain; each publish fits and has a record of its own; and each walk has given a
--- prefix of the chain
+-- the list invariant beside allocations: the allocation invariant holds, the words have a list, each of its records was
+-- claimed, and each walk has given a prefix of the chain
 pub record ListKeeps (shape : Dimensions) (state : ListState) : Type 0 where
   pub allocations : StateKeeps shape state.segment
-  pub linked : IsLinked state.segment.words state.chain
-  pub claimed : (i : ℕ) → i < length state.chain → IsRecord state.segment.allocations (slice_index state.chain i)
-  pub tail : IsStop state.chain (word_at state.segment.words 8)
-  pub each : (owner : ℕ) (publish : Publishing) → get_elem? state.publishes owner ≡ some publish
-      → Fits state.segment.words state.chain state.segment.allocations publish
-  pub own : (i j : ℕ) (a b : Publishing) → get_elem? state.publishes i ≡ some a → get_elem? state.publishes j ≡ some b
-      → a.reference ≡ b.reference → i ≡ j
+  pub list : IsList state.segment.words state.chain state.publishes
+  pub claimed : (at : ℕ) → IsHeld state.chain state.publishes at → IsRecord state.segment.allocations at
   pub prefixes : (owner : ℕ) (given : List ℕ) → get_elem? state.walks owner ≡ some given → IsPrefix given state.chain
 
 -- the chain after the next event of a publish: longer by its record, at its end, where the link succeeds

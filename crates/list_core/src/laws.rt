@@ -5,14 +5,15 @@
 //! `Publish::step` and `Walk::step` cite too. A machine with more kinds of events has the lemmas in
 //! `proofs/EventKinds.antt`, which speak of the words and the chain alone.
 
-ghost use Rattle.std.specs.Prelude.{◌≡◌, ◌++◌, ℕ, List, ◌+◌, length};
+ghost use Rattle.std.specs.Prelude.{◌≡◌, ◌++◌, ◌∷◌, [], ℕ, List, ◌+◌, length};
 ghost use Rattle.segment_image.specs.Shape.{Dimensions};
 ghost use Rattle.segment_image.specs.Words.{word_at};
 ghost use Rattle.segment_image.specs.Head.{head_of};
 ghost use Rattle.alloc_core.specs.Layout.{IsShape};
 ghost use Rattle.list_core.specs.Chain.{IsChain};
 ghost use Rattle.list_core.specs.Walk.{said_of, stands_behind, IsPrefix, IsGiven};
-ghost use Rattle.list_core.specs.Laws.{ListState, ListMove, ListKeeps, IsListMove, IsListRun, TailRises, opening_list};
+ghost use Rattle.list_core.specs.Publish.{Publishing, started};
+ghost use Rattle.list_core.specs.Laws.{IsList, MayStart, ListState, ListMove, ListKeeps, IsListMove, IsListRun, TailRises, opening_list};
 
 /// A segment without blocks keeps the list invariant.
 pub fn opening_words_keep()
@@ -29,6 +30,14 @@ pub fn moves_keep()
 /// So do any moves, one after the other, in whatever order.
 pub fn runs_keep()
     ensures { (shape : Dimensions) (moves : List ListMove) (old new : ListState) → ListKeeps shape old → IsListRun shape moves old new → ListKeeps shape new }
+{}
+
+/// In words with a list a publish may start of any lawful block that is off the chain, that no publish was started for, and
+/// that overlaps none of the list's records: the words have the list then too. The steps of these publishes keep it, by the
+/// clause `list` of `Publish::step`; where the records were claimed by allocations, the laws here say more.
+pub fn lawful_blocks_may_start()
+    ensures { (words chain : List ℕ) (publishings : List Publishing) (reference : ℕ) → IsList words chain publishings
+        → MayStart words chain publishings reference → IsList words chain (publishings ++ started reference ∷ []) }
 {}
 
 /// The records whose link has succeeded, in the order of these links, are the chain of the words: distinct lawful blocks

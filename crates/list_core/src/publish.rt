@@ -68,14 +68,14 @@ impl Stage {
 }
 
 impl Publish {
-    ghost use Rattle.std.specs.Prelude.{◌≡◌, ◌≢◌, ℕ, length, is_some, true, IfSome};
+    ghost use Rattle.std.specs.Prelude.{◌≡◌, ◌≢◌, ℕ, List, length, is_some, true, slice_set, IfSome};
     ghost use mathlib.Core.Option.{some};
     ghost use lib.ListN.{get_elem?};
     ghost use Rattle.segment_image.specs.Shape.{Dimensions};
     ghost use Rattle.segment_image.specs.Words.{word_at};
     ghost use Rattle.alloc_core.specs.Event.{spot, after};
-    ghost use Rattle.list_core.specs.Publish.{next_event, stage_after, started, moved, IsStep, IsStrayBy, IsReach};
-    ghost use Rattle.list_core.specs.Laws.{IsStop, ListState, ListKeeps, stepped};
+    ghost use Rattle.list_core.specs.Publish.{Publishing, next_event, stage_after, started, moved, IsStep, IsStrayBy, IsReach};
+    ghost use Rattle.list_core.specs.Laws.{IsStop, IsList, chain_after, ListState, ListKeeps, stepped};
 
     /// A publish of the record at a reference, from 16 to five below the number of words.
     pub fn start(reference: u64) -> Publish
@@ -93,6 +93,11 @@ impl Publish {
     /// `Done` comes where the tail was exchanged, or could not be, after the record was linked. `Stray` comes where a tail was
     /// loaded, or a next was found, that is neither 12 nor from 16 to five below the number of words; this step has then
     /// changed nothing. Both end the publish; `More` says that it goes on.
+    ///
+    /// In words with a list (`IsList` in `specs/Laws.antt`: a chain, the tail on it, and records that are lawful blocks, no two
+    /// of which overlap) the step keeps that, with the record at the end of the chain where it is linked; `Done` comes only
+    /// where the record is on the chain, and `Stray` never. Nothing is asked of allocations for this; where the records were
+    /// claimed by some, it keeps the invariant of these too.
     pub fn step(&mut self, words: &mut [u64]) -> PubStep
         requires reach { IsReach (length words.old) self.old }
         requires running { is_some (next_event self.old) ≡ true }
@@ -100,9 +105,10 @@ impl Publish {
         ensures reach { IsReach (length words.new) self.new }
         ensures more { result ≡ PubStep.More → is_some (next_event self.new) ≡ true }
         ensures stray { result ≡ PubStep.Stray → IsStrayBy self.old words.old × (words.new ≡ words.old) }
+        ensures list { (chain : List ℕ) (publishings : List Publishing) (owner : ℕ) → get_elem? publishings owner ≡ some self.old → IsList words.old chain publishings → IsList words.new (chain_after words.old chain self.old) (slice_set publishings owner self.new) }
+        ensures done { (chain : List ℕ) (publishings : List Publishing) (owner : ℕ) → get_elem? publishings owner ≡ some self.old → IsList words.old chain publishings → result ≡ PubStep.Done → IsStop (chain_after words.old chain self.old) self.new.reference }
+        ensures lawful { (chain : List ℕ) (publishings : List Publishing) (owner : ℕ) → get_elem? publishings owner ≡ some self.old → IsList words.old chain publishings → result ≢ PubStep.Stray }
         ensures keeps { (shape : Dimensions) (state : ListState) (owner : ℕ) → words.old ≡ state.segment.words → get_elem? state.publishes owner ≡ some self.old → ListKeeps shape state → ListKeeps shape (stepped state owner self.old words.new self.new) }
-        ensures done { (shape : Dimensions) (state : ListState) (owner : ℕ) → words.old ≡ state.segment.words → get_elem? state.publishes owner ≡ some self.old → ListKeeps shape state → result ≡ PubStep.Done → IsStop (stepped state owner self.old words.new self.new).chain self.new.reference }
-        ensures lawful { (shape : Dimensions) (state : ListState) (owner : ℕ) → words.old ≡ state.segment.words → get_elem? state.publishes owner ≡ some self.old → ListKeeps shape state → result ≢ PubStep.Stray }
     {
         let count = words.len();
         let found = self.act(words);

@@ -47,11 +47,10 @@ impl WalkStep {
 
 impl Walk {
     ghost use Rattle.std.specs.Prelude.{◌≡◌, ℕ, List, ◌+◌, ◌≤◌, length, slice_index, true};
-    ghost use Rattle.segment_image.specs.Shape.{Dimensions};
+    ghost use Rattle.segment_image.specs.declared.head.SegmentHead.{SegmentHead};
     ghost use Rattle.segment_image.specs.Words.{word_at};
-    ghost use Rattle.list_core.specs.Chain.{is_reference, stops};
+    ghost use Rattle.list_core.specs.Chain.{is_reference, stops, IsChain};
     ghost use Rattle.list_core.specs.Walk.{said_of, stands_after, stands_behind, given_after, GivesNext};
-    ghost use Rattle.list_core.specs.Laws.{ListState, ListKeeps};
 
     /// A walk from the start of the list.
     pub fn from_start() -> Walk
@@ -72,7 +71,7 @@ impl Walk {
     ///
     /// `Record` with a reference, where the walk then stands; `End` where the next is 12, and `Stray` where it is neither 12
     /// nor from 16 to five below the number of words. After these two the walk stands where it stood, and can be stepped
-    /// again.
+    /// again. In any words with a chain, a walk at a place of it gives the record behind that place, or `End` at its end.
     pub fn step(&mut self, words: &[u64]) -> WalkStep
         requires headed { 16 ≤ length words.now }
         requires reach { is_reference (length words.now) self.old ≡ true }
@@ -80,7 +79,7 @@ impl Walk {
         ensures stands { self.new ≡ stands_after self.old result }
         ensures reach { is_reference (length words.now) self.new ≡ true }
         ensures given { (given : List ℕ) → self.old ≡ stands_behind given → self.new ≡ stands_behind (given_after given result) }
-        ensures chain { (shape : Dimensions) (state : ListState) (k : ℕ) → words.now ≡ state.segment.words → ListKeeps shape state → k ≤ length state.chain → slice_index (stops state.chain) k ≡ self.old → GivesNext state.chain k result }
+        ensures chain { (head : SegmentHead) (chain : List ℕ) (k : ℕ) → head.free ≤ length words.now → IsChain words.now head chain → k ≤ length chain → slice_index (stops chain) k ≡ self.old → GivesNext chain k result }
     {
         let said = said_of(self.next(words), words.len());
         self.at = said.stands(self.at);

@@ -1,5 +1,4 @@
-use Rattle.list_core.proofs.Runs.{is_chain}
 use Rattle.list_core.proofs.laws.published_records_are_the_chain.Goals as goal
 
 pub returns : goal.returns
-returns c shape state keeps = is_chain shape state keeps
+returns c shape state keeps = keeps.list.chained

@@ -1,7 +1,7 @@
 -- What a step answers has its cause, and it keeps what holds of the list.
 use Rattle.std.proofs.Common.{◌∙◌, ap}
 use Rattle.list_core.specs.Publish.{Publishing, answer, IsStep}
-use Rattle.list_core.proofs.Steps.{is_step, goes_on, stray_cause, step_keeps_list, done_stop, no_stray}
+use Rattle.list_core.proofs.Steps.{is_step, goes_on, stray_cause, step_keeps_list, done_stop, no_stray, step_keeps}
 use Rattle.list_core.proofs.publish.Publish.step.Goals as goal
 
 -- what is known behind the last call
@@ -21,14 +21,18 @@ pub returns-clause-stray : goal.returns-clause-stray
 returns-clause-stray c stray =
     stray_cause c.args.self.now c.go_on.new.self c.args.words.now c.act-found.new.words c.answer.result (stepped c) stray
 
-pub returns-clause-keeps : goal.returns-clause-keeps
-returns-clause-keeps c shape state owner same mine keeps =
-    step_keeps_list c.args.self.now c.go_on.new.self c.args.words.now c.act-found.new.words c.answer.result shape state owner (stepped c) same mine keeps
+pub returns-clause-list : goal.returns-clause-list
+returns-clause-list c chain publishings owner mine list =
+    step_keeps_list c.args.self.now c.go_on.new.self c.args.words.now c.act-found.new.words chain publishings c.answer.result owner (stepped c) mine list
 
 pub returns-clause-done : goal.returns-clause-done
-returns-clause-done c shape state owner same mine keeps done =
-    done_stop c.args.self.now c.go_on.new.self c.args.words.now c.act-found.new.words c.answer.result shape state owner (stepped c) done same mine keeps
+returns-clause-done c chain publishings owner mine list done =
+    done_stop c.args.self.now c.go_on.new.self c.args.words.now c.act-found.new.words chain publishings c.answer.result owner (stepped c) mine list done
 
 pub returns-clause-lawful : goal.returns-clause-lawful
-returns-clause-lawful c shape state owner same mine keeps =
-    no_stray c.args.self.now c.go_on.new.self c.args.words.now c.act-found.new.words c.answer.result shape state owner (stepped c) same mine keeps
+returns-clause-lawful c chain publishings owner mine list =
+    no_stray c.args.self.now c.go_on.new.self c.args.words.now c.act-found.new.words chain publishings c.answer.result owner (stepped c) mine list
+
+pub returns-clause-keeps : goal.returns-clause-keeps
+returns-clause-keeps c shape state owner same mine keeps =
+    step_keeps c.args.self.now c.go_on.new.self c.args.words.now c.act-found.new.words c.answer.result shape state owner (stepped c) same mine keeps

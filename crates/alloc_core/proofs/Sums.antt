@@ -1,8 +1,11 @@
 -- The words that allocations have taken, all together.
-use Rattle.std.proofs.Common.{◌≡◌, ℕ, zero, suc, ◌+◌, ◌≤◌, ◌==◌, Bool, List, [], ◌∷◌, length, refl, sym, ap, subst, inl, inr, eq-eqb, ne_eqb, arith}
+use Rattle.std.proofs.Common.{◌≡◌, ℕ, zero, suc, ◌+◌, ◌*◌, ◌≤◌, ◌==◌, Bool, cond, List, [], ◌∷◌, length, refl, sym, ap, subst, inl, inr, eq-eqb, ne_eqb, arith}
 use Rattle.std.specs.Prelude.{nat_le, if◌then◌else◌, sum_by, Some, None}
 use Rattle.std.specs.Prelude.{Option as Option'}
+use Rattle.std.specs.List.{count_by}
 use Rattle.std.proofs.lemmas.List.Sums.{sum_by-cons}
+use Rattle.alloc_core.specs.declared.alloc.Stage.{Stage}
+use Rattle.alloc_core.specs.declared.alloc.Stage.TheVariants.{LoadFlags, LoadFree, ExchangeFree, StoreSize, StoreCookie, StoreType, SetFull, Claimed, Full, Corrupt}
 use Rattle.std.proofs.lemmas.Bool.{cases_order, le-leb, lt-leb}
 use mathlib.Core.Option.{Option, some, none, some-injective, some-ne-none}
 use lib.ListN.{get_elem?}
@@ -10,7 +13,7 @@ use Rattle.segment_image.specs.Shape.{Dimensions}
 use Rattle.segment_image.specs.Words.{word_at}
 use Rattle.alloc_core.specs.Layout.{Block, extent, end_of, queue_block}
 use Rattle.alloc_core.specs.Alloc.{Allocation, IsAimed}
-use Rattle.alloc_core.specs.Laws.{own, taken, words_taken, Has, State, StateKeeps}
+use Rattle.alloc_core.specs.Laws.{own, taken, words_taken, has_claimed, Has, State, StateKeeps}
 use Rattle.alloc_core.proofs.Layouts.{free_word}
 use Rattle.alloc_core.proofs.Steps.{taken_among}
 
@@ -114,3 +117,37 @@ taken_fit shape state keeps =
     let place : k ≡ 0 + k = omega arith in
     subst (λ (n : ℕ). words_taken (taken a.stage) ≤ sum_by (at_weight n) blocks) place (one_taken blocks k a (taken a.stage) refl f.lawful.aimed f.has)) in
     omega (arith, all, is, behind_queue blocks queue.0 queue.1)
+
+-- a claimed block is five words or more
+five_taken : (a : Allocation) (stage : Stage) → IsAimed a stage → 5 * cond (has_claimed stage) 1 0 ≤ words_taken (taken stage)
+five_taken a LoadFlags aimed = omega arith
+five_taken a LoadFree aimed = omega arith
+five_taken a (ExchangeFree next purpose) aimed = omega arith
+five_taken a (StoreSize at size purpose) aimed = omega arith
+five_taken a (StoreCookie at size purpose) aimed = omega arith
+five_taken a (StoreType at size) aimed = omega arith
+five_taken a SetFull aimed = omega arith
+five_taken a (Claimed at size) aimed = let five = aimed.five in omega (arith, five)
+five_taken a Full aimed = omega arith
+five_taken a Corrupt aimed = omega arith
+
+fives_taken : (allocations : List Allocation) → ((k : ℕ) (a : Allocation) → get_elem? allocations k ≡ some a → IsAimed a a.stage)
+    → 5 * count_by (λ a. has_claimed a.stage) allocations ≤ sum_by (λ a. words_taken (taken a.stage)) allocations
+fives_taken [] aimed = omega arith
+fives_taken (a ∷ rest_of) aimed =
+    let here = five_taken a a.stage (aimed 0 a refl) in
+    let rest = fives_taken rest_of (λ k x there. aimed (suc k) x there) in
+    omega (
+      arith,
+      here,
+      rest,
+      sum_by-cons (λ (x : Allocation). words_taken (taken x.stage)) a rest_of,
+      sum_by-cons (λ (x : Allocation). cond (has_claimed x.stage) 1 0) a rest_of,
+    )
+
+-- so five times the number of claimed blocks fits there
+pub claimed_fit : (shape : Dimensions) (state : State) → StateKeeps shape state
+    → 16 + 5 * count_by (λ a. has_claimed a.stage) state.allocations ≤ word_at state.words 7
+claimed_fit shape state keeps =
+    let fives = fives_taken state.allocations (λ k a there. (keeps.each k a there).lawful.aimed) in
+    omega (arith, fives, taken_fit shape state keeps)

@@ -1,5 +1,5 @@
 -- What holds of the words of a segment and of all its allocations between any two events.
-use Rattle.std.specs.Prelude.{◌≡◌, ◌≢◌, ◌⊎◌, ℕ, ◌+◌, ◌-◌, ◌%◌, ◌<◌, ◌≤◌, List, [], ◌∷◌, ◌++◌, length, take, drop, replicate, slice_set, bit_or, Option, Some, None, Ok, ⊤}
+use Rattle.std.specs.Prelude.{◌≡◌, ◌≢◌, ◌⊎◌, Bool, true, false, ℕ, ◌+◌, ◌-◌, ◌%◌, ◌<◌, ◌≤◌, List, [], ◌∷◌, ◌++◌, length, take, drop, replicate, slice_set, bit_or, Option, Some, None, Ok, ⊤}
 use mathlib.Core.Option.{some}
 use lib.ListN.{get_elem?}
 use Rattle.segment_image.specs.Shape.{Dimensions}
@@ -58,6 +58,11 @@ taken _ = None
 abbrev pub words_taken : Option (ℕ × ℕ) → ℕ
 words_taken None = 0
 words_taken (Some block) = block.1
+
+-- whether it has claimed its block
+abbrev pub has_claimed : Stage → Bool
+has_claimed (Claimed at size) = true
+has_claimed _ = false
 
 -- an allocation has claimed a block at a reference
 abbrev pub IsRecord : List Allocation → ℕ → Type 0

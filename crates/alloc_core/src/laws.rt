@@ -4,7 +4,8 @@
 //! which the contract of `Alloc::step` cites too. A machine with more kinds of events has the lemmas in
 //! `proofs/EventKinds.antt` for those of allocation, over what `proofs/Layouts.antt` and `proofs/Owners.antt` say.
 
-ghost use Rattle.std.specs.Prelude.{◌≡◌, ◌≢◌, ℕ, ◌+◌, ◌<◌, ◌≤◌, sum_by, List, [], true, Some, slice_set};
+ghost use Rattle.std.specs.Prelude.{◌≡◌, ◌≢◌, ℕ, ◌+◌, ◌*◌, ◌<◌, ◌≤◌, sum_by, List, [], true, Some, slice_set};
+ghost use Rattle.std.specs.List.{count_by};
 ghost use mathlib.Core.Option.{some};
 ghost use lib.ListN.{get_elem?};
 ghost use Rattle.segment_image.specs.Shape.{Dimensions};
@@ -14,7 +15,7 @@ ghost use Rattle.segment_image.specs.Blocks.{is_block};
 ghost use Rattle.alloc_core.specs.Layout.{IsShape};
 ghost use Rattle.alloc_core.specs.Planned.{is_pointer};
 ghost use Rattle.alloc_core.specs.Alloc.{Allocation};
-ghost use Rattle.alloc_core.specs.Laws.{Keeps, Behind, taken, words_taken, Apart, State, Move, IsMove, IsRun, StateKeeps, opening, FlagsBy, IsRecord, IsListWord};
+ghost use Rattle.alloc_core.specs.Laws.{Keeps, Behind, taken, words_taken, Apart, State, Move, IsMove, IsRun, StateKeeps, opening, FlagsBy, IsRecord, IsListWord, has_claimed};
 
 /// The words of a ready segment without blocks keep the allocation invariant.
 pub fn opening_words_keep()
@@ -86,6 +87,8 @@ pub fn words_behind_are_zeros()
 /// All words that allocations have taken and not wasted lie between the queue block and the free pointer. A claimed block is
 /// five of them or more, so five times the number of claimed blocks is at most the free pointer less 16.
 pub fn taken_words_fit()
-    ensures { (shape : Dimensions) (state : State) → StateKeeps shape state
+    ensures claimed { (shape : Dimensions) (state : State) → StateKeeps shape state
+        → 16 + 5 * count_by (λ a. has_claimed a.stage) state.allocations ≤ word_at state.words 7 }
+    ensures taken { (shape : Dimensions) (state : State) → StateKeeps shape state
         → 16 + sum_by (λ a. words_taken (taken a.stage)) state.allocations ≤ word_at state.words 7 }
 {}

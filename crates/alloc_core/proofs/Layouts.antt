@@ -12,6 +12,7 @@ use Rattle.segment_image.specs.Words.{word_at}
 use Rattle.alloc_core.specs.Layout.{Block, extent, Layout, spread, end_of, free_of, flags_of, head_words, render, IsLaid, queue_block, IsShown, put, raw_block, grown}
 use Rattle.alloc_core.specs.Event.{set_flag, after}
 use Rattle.alloc_core.specs.Alloc.{IsRise}
+use Rattle.alloc_core.proofs.Owners.{set_at}
 
 -- a block begins at the first place or behind it
 at_from : (page at : ℕ) (blocks : List Block) (k : ℕ) (b : Block) → IsLaid page at blocks → get_elem? blocks k ≡ some b → at ≤ b.at
@@ -121,10 +122,6 @@ set_render shape layout k b b' j v laid e lt is =
     ∙ set_spread shape.page 12 (replicate layout.spare 0) layout.blocks k b b' (b.at - 12) j v laid e (omega arith) lt is)
     ∙ ap (λ (n : ℕ). 0x408305DC ∷ layout.version ∷ shape.size ∷ shape.page ∷ layout.id ∷ 1 ∷ flags_of layout.corrupt layout.full ∷ n
     ∷ layout.tail ∷ 0 ∷ 0 ∷ 0 ∷ spread (replicate layout.spare 0) (set layout.blocks k b')) ends)
-
-set_first : (blocks : List Block) (a b : Block) → get_elem? blocks 0 ≡ some a → get_elem? (set blocks 0 b) 0 ≡ some b
-set_first [] a b e = absurd (some-ne-none a (sym e))
-set_first (x ∷ xs) a b e = refl
 
 -- a store into a block that leaves the queue block one
 shown_put_at : (shape : Dimensions) (words : List ℕ) (layout : Layout) (k : ℕ) (b b' : Block) (j v : ℕ) → IsShown shape words layout
@@ -269,7 +266,7 @@ pub shown_queue : (shape : Dimensions) (words : List ℕ) (layout : Layout) (v :
 shown_queue shape words layout v shown =
     let old : Block = queue_block shown.sound.queue.0 in
     shown_put_at shape words layout 0 old (queue_block v) 3 v shown shown.sound.queue.1
-    (v, set_first layout.blocks old (queue_block v) shown.sound.queue.1) (omega arith) refl refl
+    (v, set_at layout.blocks 0 old (queue_block v) shown.sound.queue.1) (omega arith) refl refl
 
 -- the word of the free pointer
 pub free_word : (shape : Dimensions) (words : List ℕ) (layout : Layout) → IsShown shape words layout → word_at words 7 ≡ free_of layout

@@ -129,23 +129,26 @@ steps_keep old new words new_words step allocations owner is mine keeps =
     subst (λ (s : List ℕ × Allocation). Keeps old.shape s.0 (set allocations owner s.1)) (λ i. (sym is.words_are i, sym is.new_is i))
     (step_keeps old.shape words allocations owner old keeps mine old.stage is.event refl is.next)
 
--- a step, from what its two halves say
-stepped_by : (old new : Allocation) (words new_words : List ℕ) (step : AllocStep) (found : ℕ) (o : Option Event) → next_event old ≡ o → is_some o ≡ true
-    → IfSome o (λ event. new_words ≡ after event words) → IfSome o (λ event. found ≡ word_at words (spot event))
-    → new ≡ moved old found → step ≡ answer new.stage → IsStep old words new new_words step
-stepped_by old new words new_words step found None is running changed seen moves says = absurd (cc running)
-stepped_by old new words new_words step found (Some event) is running changed seen moves says = record {
-  event = event;
-  next = is;
-  words_are = changed;
-  new_is = moves ∙ ap (moved old) seen;
-  answers = says;
-}
+-- what both halves of a step say of the event that was next
+pub record Happened (next : Option Event) (words new_words : List ℕ) (found : ℕ) : Type 0 where
+  pub event : Event
+  pub next_is : next ≡ Some event
+  pub changed : new_words ≡ after event words
+  pub seen : found ≡ word_at words (spot event)
 
+pub happened : (next : Option Event) (words new_words : List ℕ) (found : ℕ) → is_some next ≡ true
+    → IfSome next (λ event. new_words ≡ after event words) → IfSome next (λ event. found ≡ word_at words (spot event))
+    → Happened next words new_words found
+happened None words new_words found running changed seen = absurd (cc running)
+happened (Some event) words new_words found running changed seen = record { event = event; next_is = refl; changed = changed; seen = seen }
+
+-- so they are a step
 pub stepped : (old new : Allocation) (words new_words : List ℕ) (step : AllocStep) (found : ℕ) → is_some (next_event old) ≡ true
     → IfSome (next_event old) (λ event. new_words ≡ after event words) → IfSome (next_event old) (λ event. found ≡ word_at words (spot event))
     → new ≡ moved old found → step ≡ answer new.stage → IsStep old words new new_words step
-stepped old new words new_words step found = stepped_by old new words new_words step found (next_event old) refl
+stepped old new words new_words step found running changed seen moves says =
+    let one = happened (next_event old) words new_words found running changed seen in
+    record { event = one.event; next = one.next_is; words_are = one.changed; new_is = moves ∙ ap (moved old) one.seen; answers = says }
 
 -- the words that a stage has taken are a block of its owner
 pub taken_among : (a : Allocation) (blocks : List Block) (owner : ℕ) (block : ℕ × ℕ) (stage : Stage) → IsAimed a stage → Has blocks owner stage

@@ -1,6 +1,6 @@
 -- What a step of a publish says.
 use Rattle.std.proofs.Common.{◌≡◌, ◌≢◌, ℕ, ◌+◌, ◌==◌, Bool, true, false, List, length, set, inl, inr, sym, refl, ap, ◌∙◌, subst}
-use Rattle.std.specs.Prelude.{Option, Some, None, is_some, IfSome, if◌then◌else◌}
+use Rattle.std.specs.Prelude.{Some, is_some, IfSome, if◌then◌else◌}
 use mathlib.Core.Option.{some}
 use lib.ListN.{get_elem?}
 use lib.Seq.{set-get_or}
@@ -15,26 +15,23 @@ use Rattle.list_core.specs.Chain.{is_reference}
 use Rattle.list_core.specs.Publish.{Publishing, load_tail, link, event_at, next_event, stage_after, stage_of_move, moved, answer, IsStep, IsStrayBy}
 use Rattle.list_core.specs.Laws.{IsStop, Stands, IsList, chain_after, ListState, ListKeeps, stepped}
 use Rattle.alloc_core.proofs.Owners.{set_at}
+use Rattle.alloc_core.proofs.Steps.{happened}
 use Rattle.list_core.proofs.Keeping.{step_lists}
 use Rattle.list_core.proofs.Runs.{steps_keeps}
 
 -- a step, from what its two halves say
-step_by : (old new : Publishing) (words new_words : List ℕ) (step : PubStep) (found : ℕ) (o : Option Event) → next_event old ≡ o → is_some o ≡ true
-    → IfSome o (λ event. new_words ≡ after event words) → IfSome o (λ event. found ≡ word_at words (spot event))
-    → new ≡ moved (length words) old found → step ≡ answer new.stage → IsStep old words new new_words step
-step_by old new words new_words step found None is running changed seen moves says = absurd (cc running)
-step_by old new words new_words step found (Some event) is running changed seen moves says = record {
-  event = event;
-  next = is;
-  words_are = changed;
-  new_is = moves ∙ ap (moved (length words) old) seen;
-  answers = says;
-}
-
 pub is_step : (old new : Publishing) (words new_words : List ℕ) (step : PubStep) (found : ℕ) → is_some (next_event old) ≡ true
     → IfSome (next_event old) (λ event. new_words ≡ after event words) → IfSome (next_event old) (λ event. found ≡ word_at words (spot event))
     → new ≡ moved (length words) old found → step ≡ answer new.stage → IsStep old words new new_words step
-is_step old new words new_words step found = step_by old new words new_words step found (next_event old) refl
+is_step old new words new_words step found running changed seen moves says =
+    let one = happened (next_event old) words new_words found running changed seen in
+    record {
+      event = one.event;
+      next = one.next_is;
+      words_are = one.changed;
+      new_is = moves ∙ ap (moved (length words) old) one.seen;
+      answers = says;
+    }
 
 -- what each answer says of the stage
 more_goes : (reference : ℕ) (stage : Stage) → answer stage ≡ said.More → is_some (event_at reference stage) ≡ true

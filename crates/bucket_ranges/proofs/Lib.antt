@@ -3,3 +3,5 @@ pub mod Walks
 pub mod Firsts
 pub mod Ascent
 pub mod Buckets
+pub mod Distinct
+pub mod Customs

@@ -5,6 +5,7 @@
 //! its definitions, `specs/Reading.antt`, are what every reader and every writer of segments is held to.
 #![tactic(auto)]
 
+mod custom;
 mod ranges;
 pub mod reading;
 mod single;
@@ -12,6 +13,7 @@ mod spec;
 #[cfg(test)]
 mod tests;
 
+pub use custom::CustomValues;
 pub use ranges::{Ranges, buckets_split_values, one_bucket_has_a_value};
 pub use single::SingleWord;
 pub use spec::{Spec, SpecFault};

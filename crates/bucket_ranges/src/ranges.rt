@@ -29,17 +29,26 @@ impl Ranges {
 
     /// The ranges of a spec.
     ///
-    /// The first fault is answered: `BadMin`, `BadMax`, `TooFew`, `TooMany`; then `NoMemory` where there is none.
+    /// The first fault is answered: `BadMin`, `BadMax`, `TooFew`, `TooMany`, `BadRange`, `Empty`; then `NoMemory` where
+    /// there is none. The ranges of a sparse spec have no buckets.
     pub fn of(alloc: Global, spec: &Spec) -> Result<Ranges, SpecFault>
         ensures boundaries { MatchOption (spec_fault spec.now) (MatchResult result (λ ranges. ranges ≡ boundaries_of spec.now) (λ fault. fault ≡ SpecFault.NoMemory)) (λ fault. result ≡ Err fault) }
-        ensures buckets { IfOk result (λ ranges. length ranges ≡ buckets_of spec.now + 1) }
+        ensures buckets { IfOk result (λ ranges. length ranges - 1 ≡ buckets_of spec.now) }
     {
-        match *spec {
+        match spec {
             Spec::Linear { min, max, n } => {
-                check_linear(min, max, n)?;
-                linear(alloc, min, max, n).map_err(|_| SpecFault::NoMemory)
+                check_linear(*min, *max, *n)?;
+                linear(alloc, *min, *max, *n).map_err(|_| SpecFault::NoMemory)
             }
             Spec::Boolean => linear(alloc, 1, 2, 3).map_err(|_| SpecFault::NoMemory),
+            Spec::Custom(values) => {
+                let values = values.as_slice();
+                check_custom(values)?;
+                custom(alloc, values).map_err(|_| SpecFault::NoMemory)
+            }
+            Spec::Sparse => Ok(Ranges {
+                boundaries: Vec::new(alloc),
+            }),
         }
     }
 
@@ -87,17 +96,20 @@ impl Ranges {
     }
 }
 
-ghost use Rattle.std.specs.Prelude.{◌≡◌, ◌+◌, ◌<◌, ◌≤◌, ℕ, List, length, None, IfOk};
+ghost use Rattle.std.specs.Prelude.{◌≡◌, ◌≢◌, ◌+◌, ◌<◌, ◌≤◌, nat_lt, ℕ, List, length, None, IfOk};
+ghost use Rattle.std.specs.List.{list_any};
 ghost use Rattle.segment_image.specs.Checks.{checked};
 ghost use Rattle.bucket_ranges.specs.declared.spec.Spec.{Spec};
-ghost use Rattle.bucket_ranges.specs.Spec.{linear_checks, IsLinear, spec_fault, buckets_of};
-ghost use Rattle.bucket_ranges.specs.Ranges.{inner_boundary as inner_boundary_of, linear_boundaries, boundaries_of, clamped, IsSplit, IsAscending, IsBucketOf};
+ghost use Rattle.bucket_ranges.specs.declared.spec.Spec.TheVariants.{Sparse};
+ghost use Rattle.bucket_ranges.specs.Spec.{linear_checks, custom_checks, IsLinear, IsCustom, spec_fault, buckets_of};
+ghost use Rattle.bucket_ranges.specs.Ranges.{inner_boundary as inner_boundary_of, linear_boundaries, custom_boundaries, boundaries_of, clamped, IsSplit, IsAscending, IsBucketOf};
 
-/// The buckets of a spec without a fault split the values from 0 to 2,147,483,646, and none of them is empty.
+/// The buckets of a spec without a fault, other than a sparse one, split the values from 0 to 2,147,483,646, and none of
+/// them is empty.
 ///
 /// It does nothing: what it promises is a law of the definitions.
 pub fn buckets_split_values()
-    ensures { (spec : Spec) → spec_fault spec ≡ None → IsSplit (buckets_of spec) (boundaries_of spec) }
+    ensures { (spec : Spec) → spec_fault spec ≡ None → spec ≢ Sparse → IsSplit (buckets_of spec) (boundaries_of spec) }
 {}
 
 /// A value lies in one bucket alone.
@@ -110,6 +122,8 @@ pub fn one_bucket_has_a_value()
 const MAX_VALUE: u32 = 2_147_483_647;
 
 const MAX_BUCKETS: u32 = 1000;
+
+const MAX_CUSTOM_VALUES: usize = 999;
 
 // A value as it is counted.
 fn clamp(value: i32) -> u32
@@ -133,6 +147,29 @@ fn check_linear(min: u32, max: u32, n: u32) -> Result<(), SpecFault>
     }
     if n > MAX_BUCKETS || n > max - min + 2 {
         return Err(SpecFault::TooMany);
+    }
+    Ok(())
+}
+
+// Whether one of the values is above a limit.
+fn has_above(values: &[u32], limit: u32) -> bool
+    ensures { result ≡ list_any (λ value. nat_lt limit value) values.now }
+{
+    values.iter().any(|value| *value > limit)
+}
+
+// The first fault of the values of a custom spec.
+fn check_custom(values: &[u32]) -> Result<(), SpecFault>
+    ensures { result ≡ checked (custom_checks values.now) tt }
+{
+    if values.len() > MAX_CUSTOM_VALUES {
+        return Err(SpecFault::TooMany);
+    }
+    if has_above(values, MAX_VALUE - 1) {
+        return Err(SpecFault::BadRange);
+    }
+    if !has_above(values, 0) {
+        return Err(SpecFault::Empty);
     }
     Ok(())
 }
@@ -162,5 +199,19 @@ fn linear(alloc: Global, min: u32, max: u32, n: u32) -> Result<Ranges, AllocErro
         boundaries.push(inner_boundary(min, max, n, i))?;
     }
     boundaries.push(MAX_VALUE)?;
+    Ok(Ranges { boundaries })
+}
+
+// The boundaries of a lawful custom spec: sorted with both ends, and each value once.
+fn custom(alloc: Global, values: &[u32]) -> Result<Ranges, AllocError>
+    requires { IsCustom values.now }
+    ensures boundaries { IfOk result (λ ranges. ranges ≡ custom_boundaries values.now) }
+{
+    let mut boundaries = Vec::with_capacity(alloc, values.len() + 2)?;
+    boundaries.push(0)?;
+    boundaries.extend_from_slice(values)?;
+    boundaries.push(MAX_VALUE)?;
+    boundaries.sort_unstable();
+    boundaries.dedup();
     Ok(Ranges { boundaries })
 }

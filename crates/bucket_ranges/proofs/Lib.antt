@@ -5,3 +5,5 @@ pub mod Ascent
 pub mod Buckets
 pub mod Distinct
 pub mod Customs
+pub mod Sums
+pub mod Values

@@ -23,7 +23,7 @@ impl Model for Ranges {
 }
 
 impl Ranges {
-    ghost use Rattle.std.specs.Prelude.{◌≡◌, ◌+◌, ◌-◌, ◌<◌, length, pos, slice_index, MatchResult, MatchOption, IfOk, Err};
+    ghost use Rattle.std.specs.Prelude.{◌≡◌, ℕ, ◌+◌, ◌-◌, ◌<◌, length, pos, slice_index, MatchResult, MatchOption, IfOk, Err};
     ghost use Rattle.bucket_ranges.specs.Spec.{spec_fault, buckets_of};
     ghost use Rattle.bucket_ranges.specs.Ranges.{boundaries_of, clamped, IsBucketOf};
 
@@ -80,7 +80,8 @@ impl Ranges {
     /// (Chromium's histograms). It is found by halving, without memory.
     pub fn bucket(&self, value: i32) -> usize
         requires { 1 < length self.now }
-        ensures { IsBucketOf self.now (clamped value) result }
+        ensures found { IsBucketOf self.now (clamped value) result }
+        ensures only { (other : ℕ) → IsBucketOf self.now (clamped value) other → other ≡ result }
     {
         let value = clamp(value);
         let mut low = 0;
@@ -126,7 +127,7 @@ const MAX_BUCKETS: u32 = 1000;
 const MAX_CUSTOM_VALUES: usize = 999;
 
 // A value as it is counted.
-fn clamp(value: i32) -> u32
+pub(crate) fn clamp(value: i32) -> u32
     ensures { result ≡ clamped value }
 {
     u32::try_from(value).unwrap_or(0).min(MAX_VALUE - 1)

@@ -169,6 +169,7 @@ boundary-small values lawful y (inr m) = elim (member-push y 2147483647 (distinc
 -- what every list of boundaries keeps
 pub custom_boundaries-are : (values : List ℕ) → IsCustom values → AreBoundaries (custom_boundaries values)
 custom_boundaries-are values lawful = record {
+  few = omega (arith, length-custom_boundaries values, length-distinct values, lawful.few);
   small = λ i. elim (cases_order i (length (custom_boundaries values))) [
     | inl e ↦ omega (arith, get_or_past (custom_boundaries values) i 0 (omega arith))
     | inr o ↦ elim o [

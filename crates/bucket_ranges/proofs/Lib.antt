@@ -7,3 +7,4 @@ pub mod Distinct
 pub mod Customs
 pub mod Sums
 pub mod Values
+pub mod Masks

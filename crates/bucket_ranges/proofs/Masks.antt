@@ -1,5 +1,5 @@
 -- The upper half of a difference of 64 bits.
-use Rattle.std.proofs.Common.{◌≡◌, Bool, true, false, nat_le, ℕ, ◌+◌, ◌-◌, ◌*◌, ◌/◌, ◌%◌, ◌^◌, ◌<◌, ◌≤◌, if◌then◌else◌, refl, ◌∙◌, ap, arith, bit_and}
+use Rattle.std.proofs.Common.{◌≡◌, Bool, true, false, nat_le, ℕ, ◌+◌, ◌-◌, ◌/◌, ◌%◌, ◌<◌, ◌≤◌, if◌then◌else◌, refl, ◌∙◌, arith, bit_and}
 use Rattle.std.proofs.lemmas.Nat.{and_mask}
 use Rattle.std.proofs.lemmas.Bool.{leb-true, leb-false}
 use Rattle.std.specs.Int.Bits.{and_zero_r}

@@ -219,10 +219,14 @@ sorted_once values sorted once lawful moved up kept =
 
 -- ---- values that stand in order
 
--- values above 0 that ascend are the boundaries themselves, between the ends
+-- values above 0 that ascend are their own distinct values
+pub distinct_values-of_ascending : (values : List ℕ) → IsStrictlyIncreasing values → All (λ value. 0 < value) values
+    → distinct_values values ≡ values
+distinct_values-of_ascending values up above = distinct-of_ascending values (ascends-from values up)
+    (λ y m. All-contains (λ value. 0 < value) values y above (contains-from values y m))
+
+-- so they are the boundaries themselves, between the ends
 pub custom_boundaries-of_ascending : (values : List ℕ) → IsStrictlyIncreasing values → All (λ value. 0 < value) values
     → custom_boundaries values ≡ 0 ∷ (values ++ 2147483647 ∷ [])
 custom_boundaries-of_ascending values up above =
-    let same : distinct_values values ≡ values = distinct-of_ascending values (ascends-from values up)
-    (λ y m. All-contains (λ value. 0 < value) values y above (contains-from values y m)) in
-    ap (λ ds. 0 ∷ (ds ++ 2147483647 ∷ [])) same
+    ap (λ ds. 0 ∷ (ds ++ 2147483647 ∷ [])) (distinct_values-of_ascending values up above)

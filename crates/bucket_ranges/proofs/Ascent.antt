@@ -1,5 +1,5 @@
 -- The boundaries of a lawful spec ascend, and there is one more of them than of buckets.
-use Rattle.std.proofs.Common.{◌≡◌, Bool, true, false, ◌||◌, ◌==◌, nat_lt, nat_le, ℕ, zero, suc, ◌+◌, ◌-◌, ◌*◌, ◌/◌, ◌<◌, ◌≤◌, [], ◌∷◌, length, map, slice_index, None, inl, inr, refl, ap, ◌∙◌, arith}
+use Rattle.std.proofs.Common.{◌≡◌, ◌≢◌, Bool, true, false, ◌||◌, ◌==◌, nat_lt, nat_le, ℕ, zero, suc, ◌+◌, ◌-◌, ◌*◌, ◌/◌, ◌<◌, ◌≤◌, [], ◌∷◌, length, map, slice_index, None, inl, inr, refl, ap, ◌∙◌, arith}
 use Rattle.std.proofs.Math.Nat.{div-mul-le_self, div-lt_iff_lt-mul, mul-le-mul_right}
 use Rattle.std.proofs.lemmas.Nat.{le-div}
 use Rattle.std.proofs.lemmas.List.{get_or_push, get_or_append_left, length_push}
@@ -9,7 +9,8 @@ use Rattle.std.specs.List.{range_with_len}
 use Rattle.bucket_ranges.specs.Spec.{IsLinear, linear_checks, spec_fault, buckets_of}
 use Rattle.bucket_ranges.specs.Ranges.{IsAscending, IsSplit, inner_boundary, linear_boundaries, boundaries_of}
 use Rattle.bucket_ranges.specs.declared.spec.Spec.{Spec}
-use Rattle.bucket_ranges.specs.declared.spec.Spec.TheVariants.{Linear, Boolean}
+use Rattle.bucket_ranges.specs.declared.spec.Spec.TheVariants.{Linear, Boolean, Custom, Sparse}
+use Rattle.bucket_ranges.proofs.Customs.{is_custom-from_checks, custom_boundaries-split}
 use Rattle.bucket_ranges.specs.declared.spec.SpecFault.TheVariants.{BadMin, BadMax, TooFew, TooMany}
 use Rattle.segment_image.specs.Checks.{first_fault}
 
@@ -158,11 +159,11 @@ is_linear-from_checks min max n none =
       room = ltb-false (max - min + 2) n buckets.1;
     }
 
--- a spec without a fault splits the values
-pub boundaries_of-split : (spec : Spec) → spec_fault spec ≡ None → IsSplit (buckets_of spec) (boundaries_of spec)
-boundaries_of-split (Linear min max n) none =
+-- a spec without a fault splits the values, unless it is sparse
+pub boundaries_of-split : (spec : Spec) → spec_fault spec ≡ None → spec ≢ Sparse → IsSplit (buckets_of spec) (boundaries_of spec)
+boundaries_of-split (Linear min max n) none split =
     linear_boundaries-split min max n (is_linear-from_checks min max n none)
-boundaries_of-split Boolean none = linear_boundaries-split 1 2 3 (record {
+boundaries_of-split Boolean none split = linear_boundaries-split 1 2 3 (record {
   min_above = omega arith;
   max_above = omega arith;
   max_below = omega arith;
@@ -170,3 +171,5 @@ boundaries_of-split Boolean none = linear_boundaries-split 1 2 3 (record {
   many = omega arith;
   room = omega arith;
 })
+boundaries_of-split (Custom values) none split = custom_boundaries-split values (is_custom-from_checks values none)
+boundaries_of-split Sparse none split = absurd (split refl)

@@ -3,3 +3,8 @@ pub mod Walks
 pub mod Firsts
 pub mod Ascent
 pub mod Buckets
+pub mod Distinct
+pub mod Customs
+pub mod Sums
+pub mod Values
+pub mod Masks

@@ -11,6 +11,8 @@ spec_fault_number spec.BadMin = 1
 spec_fault_number spec.BadMax = 2
 spec_fault_number spec.TooFew = 3
 spec_fault_number spec.TooMany = 4
+spec_fault_number spec.BadRange = 5
+spec_fault_number spec.Empty = 6
 spec_fault_number spec.NoMemory = 7
 
 -- the number of why a record is not read

@@ -2,7 +2,8 @@
 use Rattle.std.specs.Prelude.{◌≡◌, ℕ, ◌+◌, ◌-◌, ◌*◌, ◌/◌, ◌<◌, ◌≤◌, min, ℤ, pos, negsuc, List, [], ◌∷◌, ◌++◌, map, length, slice_index}
 use Rattle.std.specs.List.{range_with_len}
 use Rattle.bucket_ranges.specs.declared.spec.Spec.{Spec}
-use Rattle.bucket_ranges.specs.declared.spec.Spec.TheVariants.{Linear, Boolean}
+use Rattle.bucket_ranges.specs.declared.spec.Spec.TheVariants.{Linear, Boolean, Custom, Sparse}
+use Rattle.bucket_ranges.specs.Spec.{distinct_values}
 
 -- boundary i of a linear spec, for i from 1 to n - 1: as far from `min` to `max` as i is from 1 to n - 1, rounded
 abbrev pub inner_boundary : ℕ → ℕ → ℕ → ℕ → ℕ
@@ -12,10 +13,16 @@ inner_boundary min max n i = (2 * (min * (n - 1 - i) + max * (i - 1)) + (n - 2))
 abbrev pub linear_boundaries : ℕ → ℕ → ℕ → List ℕ
 linear_boundaries min max n = 0 ∷ (map (inner_boundary min max n) (range_with_len 1 (n - 1)) ++ 2147483647 ∷ [])
 
--- the boundaries of a spec
+-- all boundaries of a custom spec: the distinct values above 0, ascending, between 0 and 2,147,483,647
+abbrev pub custom_boundaries : List ℕ → List ℕ
+custom_boundaries values = 0 ∷ (distinct_values values ++ 2147483647 ∷ [])
+
+-- the boundaries of a spec; a sparse one has none
 abbrev pub boundaries_of : Spec → List ℕ
 boundaries_of (Linear min max n) = linear_boundaries min max n
 boundaries_of Boolean = linear_boundaries 1 2 3
+boundaries_of (Custom values) = custom_boundaries values
+boundaries_of Sparse = []
 
 -- each is at most 2,147,483,647
 abbrev pub AreValues : List ℕ → Type 0
@@ -27,6 +34,7 @@ IsAscending boundaries = (i : ℕ) → i + 1 < length boundaries → slice_index
 
 -- what every list of boundaries keeps; where it is not empty it begins with 0 and ends with 2,147,483,647
 pub record AreBoundaries (boundaries : List ℕ) : Type 0 where
+  pub few : length boundaries ≤ 1001
   pub small : AreValues boundaries
   pub ascending : IsAscending boundaries
   pub ends : 0 < length boundaries

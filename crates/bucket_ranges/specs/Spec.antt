@@ -1,10 +1,12 @@
 -- Which specs are lawful.
-use Rattle.std.specs.Prelude.{Bool, ◌||◌, ◌==◌, nat_lt, nat_le, ℕ, ◌+◌, ◌-◌, ◌<◌, ◌≤◌, List, [], ◌∷◌, Option}
+use Rattle.std.specs.Prelude.{◌↔◌, Bool, not, ◌||◌, ◌==◌, nat_lt, nat_le, if◌then◌else◌, ℕ, ◌+◌, ◌-◌, ◌<◌, ◌≤◌, List, [], ◌∷◌, length, Option}
+use Rattle.std.specs.List.{All, Any, Contains, list_any}
+use Rattle.std.specs.List.Sorted.{IsStrictlyIncreasing}
 use Rattle.segment_image.specs.Checks.{first_fault}
 use Rattle.bucket_ranges.specs.declared.spec.Spec.{Spec}
-use Rattle.bucket_ranges.specs.declared.spec.Spec.TheVariants.{Linear, Boolean}
+use Rattle.bucket_ranges.specs.declared.spec.Spec.TheVariants.{Linear, Boolean, Custom, Sparse}
 use Rattle.bucket_ranges.specs.declared.spec.SpecFault.{SpecFault}
-use Rattle.bucket_ranges.specs.declared.spec.SpecFault.TheVariants.{BadMin, BadMax, TooFew, TooMany}
+use Rattle.bucket_ranges.specs.declared.spec.SpecFault.TheVariants.{BadMin, BadMax, TooFew, TooMany, BadRange, Empty}
 
 -- what can be wrong with a linear spec, in order
 abbrev pub linear_checks : ℕ → ℕ → ℕ → List (Bool × SpecFault)
@@ -15,19 +17,49 @@ linear_checks min max n =
     ∷ (nat_lt 1000 n || nat_lt (max - min + 2) n, TooMany)
     ∷ []
 
+-- what can be wrong with the values of a custom spec, in order
+abbrev pub custom_checks : List ℕ → List (Bool × SpecFault)
+custom_checks values =
+    (nat_lt 999 (length values), TooMany)
+    ∷ (list_any (λ value. nat_lt 2147483646 value) values, BadRange)
+    ∷ (not (list_any (λ value. nat_lt 0 value) values), Empty)
+    ∷ []
+
 -- what can be wrong with a spec, in order
 abbrev pub spec_checks : Spec → List (Bool × SpecFault)
 spec_checks (Linear min max n) = linear_checks min max n
 spec_checks Boolean = []
+spec_checks (Custom values) = custom_checks values
+spec_checks Sparse = []
 
 -- the first fault of a spec
 abbrev pub spec_fault : Spec → Option SpecFault
 spec_fault spec = first_fault (spec_checks spec)
 
--- the number of its buckets
+-- an ascending list with one more value in its place; a value that it has already is not put in again
+abbrev pub put_in_order : ℕ → List ℕ → List ℕ
+put_in_order value [] = value ∷ []
+put_in_order value (least ∷ rest) =
+    if nat_lt value least then value ∷ least ∷ rest
+    else (if value == least then least ∷ rest else least ∷ put_in_order value rest)
+
+-- the distinct values above 0, ascending
+abbrev pub distinct_values : List ℕ → List ℕ
+distinct_values [] = []
+distinct_values (value ∷ rest) = if value == 0 then distinct_values rest else put_in_order value (distinct_values rest)
+
+-- a list that has exactly those of the values that are above 0, each once and below the next
+pub record AreDistinctValues (values distinct : List ℕ) : Type 0 where
+  pub ascending : IsStrictlyIncreasing distinct
+  pub members : (value : ℕ) → Contains distinct value ↔ (Contains values value × (0 < value))
+
+-- the number of its buckets: a custom spec has one below the least of its values above 0, and one from each of them
+-- on; a sparse one has none
 abbrev pub buckets_of : Spec → ℕ
 buckets_of (Linear min max n) = n
 buckets_of Boolean = 3
+buckets_of (Custom values) = length (distinct_values values) + 1
+buckets_of Sparse = 0
 
 -- a linear spec that has no fault
 pub record IsLinear (min max n : ℕ) : Type 0 where
@@ -37,3 +69,9 @@ pub record IsLinear (min max n : ℕ) : Type 0 where
   pub few : 3 ≤ n
   pub many : n ≤ 1000
   pub room : n ≤ max - min + 2
+
+-- the values of a custom spec that has no fault
+pub record IsCustom (values : List ℕ) : Type 0 where
+  pub few : length values ≤ 999
+  pub below : All (λ value. value ≤ 2147483646) values
+  pub some : Any (λ value. 0 < value) values

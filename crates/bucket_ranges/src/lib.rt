@@ -5,13 +5,17 @@
 //! its definitions, `specs/Reading.antt`, are what every reader and every writer of segments is held to.
 #![tactic(auto)]
 
+mod custom;
 mod ranges;
 pub mod reading;
+mod samples;
 mod single;
 mod spec;
 #[cfg(test)]
 mod tests;
 
+pub use custom::{CustomValues, distinct_values_stand_once};
 pub use ranges::{Ranges, buckets_split_values, one_bucket_has_a_value};
+pub use samples::{Plain, tally};
 pub use single::SingleWord;
 pub use spec::{Spec, SpecFault};

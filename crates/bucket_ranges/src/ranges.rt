@@ -23,23 +23,32 @@ impl Model for Ranges {
 }
 
 impl Ranges {
-    ghost use Rattle.std.specs.Prelude.{◌≡◌, ◌+◌, ◌-◌, ◌<◌, length, pos, slice_index, MatchResult, MatchOption, IfOk, Err};
+    ghost use Rattle.std.specs.Prelude.{◌≡◌, ℕ, ◌+◌, ◌-◌, ◌<◌, length, pos, slice_index, MatchResult, MatchOption, IfOk, Err};
     ghost use Rattle.bucket_ranges.specs.Spec.{spec_fault, buckets_of};
     ghost use Rattle.bucket_ranges.specs.Ranges.{boundaries_of, clamped, IsBucketOf};
 
     /// The ranges of a spec.
     ///
-    /// The first fault is answered: `BadMin`, `BadMax`, `TooFew`, `TooMany`; then `NoMemory` where there is none.
+    /// The first fault is answered: `BadMin`, `BadMax`, `TooFew`, `TooMany`, `BadRange`, `Empty`; then `NoMemory` where
+    /// there is none. The ranges of a sparse spec have no buckets.
     pub fn of(alloc: Global, spec: &Spec) -> Result<Ranges, SpecFault>
         ensures boundaries { MatchOption (spec_fault spec.now) (MatchResult result (λ ranges. ranges ≡ boundaries_of spec.now) (λ fault. fault ≡ SpecFault.NoMemory)) (λ fault. result ≡ Err fault) }
-        ensures buckets { IfOk result (λ ranges. length ranges ≡ buckets_of spec.now + 1) }
+        ensures buckets { IfOk result (λ ranges. length ranges - 1 ≡ buckets_of spec.now) }
     {
-        match *spec {
+        match spec {
             Spec::Linear { min, max, n } => {
-                check_linear(min, max, n)?;
-                linear(alloc, min, max, n).map_err(|_| SpecFault::NoMemory)
+                check_linear(*min, *max, *n)?;
+                linear(alloc, *min, *max, *n).map_err(|_| SpecFault::NoMemory)
             }
             Spec::Boolean => linear(alloc, 1, 2, 3).map_err(|_| SpecFault::NoMemory),
+            Spec::Custom(values) => {
+                let values = values.as_slice();
+                check_custom(values)?;
+                custom(alloc, values).map_err(|_| SpecFault::NoMemory)
+            }
+            Spec::Sparse => Ok(Ranges {
+                boundaries: Vec::new(alloc),
+            }),
         }
     }
 
@@ -68,36 +77,38 @@ impl Ranges {
     }
 
     /// The bucket of a value, which is clamped first: a value below 0 counts as 0, and one above 2,147,483,646 as that
-    /// (Chromium's histograms). It is found by halving, without memory.
+    /// (Chromium's histograms). It is found by halving, without memory and without a branch on the value.
     pub fn bucket(&self, value: i32) -> usize
         requires { 1 < length self.now }
-        ensures { IsBucketOf self.now (clamped value) result }
+        ensures found { IsBucketOf self.now (clamped value) result }
+        ensures only { (other : ℕ) → IsBucketOf self.now (clamped value) other → other ≡ result }
     {
         let value = clamp(value);
         let mut low = 0;
         let mut count = self.len();
         while count > 1 {
             let half = count / 2;
-            if self.boundaries[low + half] <= value {
-                low += half;
-            }
+            low += half_where_reached(half, self.boundaries[low + half], value);
             count -= half;
         }
         low
     }
 }
 
-ghost use Rattle.std.specs.Prelude.{◌≡◌, ◌+◌, ◌<◌, ◌≤◌, ℕ, List, length, None, IfOk};
+ghost use Rattle.std.specs.Prelude.{◌≡◌, ◌≢◌, if◌then◌else◌, ◌+◌, ◌<◌, ◌≤◌, nat_lt, nat_le, ℕ, List, length, None, IfOk};
+ghost use Rattle.std.specs.List.{list_any};
 ghost use Rattle.segment_image.specs.Checks.{checked};
 ghost use Rattle.bucket_ranges.specs.declared.spec.Spec.{Spec};
-ghost use Rattle.bucket_ranges.specs.Spec.{linear_checks, IsLinear, spec_fault, buckets_of};
-ghost use Rattle.bucket_ranges.specs.Ranges.{inner_boundary as inner_boundary_of, linear_boundaries, boundaries_of, clamped, IsSplit, IsAscending, IsBucketOf};
+ghost use Rattle.bucket_ranges.specs.declared.spec.Spec.TheVariants.{Sparse};
+ghost use Rattle.bucket_ranges.specs.Spec.{linear_checks, custom_checks, IsLinear, IsCustom, spec_fault, buckets_of};
+ghost use Rattle.bucket_ranges.specs.Ranges.{inner_boundary as inner_boundary_of, linear_boundaries, custom_boundaries, boundaries_of, clamped, IsSplit, IsAscending, IsBucketOf};
 
-/// The buckets of a spec without a fault split the values from 0 to 2,147,483,646, and none of them is empty.
+/// The buckets of a spec without a fault, other than a sparse one, split the values from 0 to 2,147,483,646, and none of
+/// them is empty.
 ///
 /// It does nothing: what it promises is a law of the definitions.
 pub fn buckets_split_values()
-    ensures { (spec : Spec) → spec_fault spec ≡ None → IsSplit (buckets_of spec) (boundaries_of spec) }
+    ensures { (spec : Spec) → spec_fault spec ≡ None → spec ≢ Sparse → IsSplit (buckets_of spec) (boundaries_of spec) }
 {}
 
 /// A value lies in one bucket alone.
@@ -111,8 +122,20 @@ const MAX_VALUE: u32 = 2_147_483_647;
 
 const MAX_BUCKETS: u32 = 1000;
 
+const MAX_CUSTOM_VALUES: usize = 999;
+
+// `half` where a value reaches a boundary, and 0 where it does not. No branch hangs on the value: the difference is
+// taken in 64 bits, so its upper half is all ones where it would be below 0, and 0 elsewhere.
+fn half_where_reached(half: usize, boundary: u32, value: u32) -> usize
+    requires { half < 4294967296 }
+    ensures { result ≡ (if nat_le boundary value then half else 0) }
+{
+    let difference = u64::from(boundary).wrapping_sub(u64::from(value) + 1);
+    half & (difference >> 32) as usize
+}
+
 // A value as it is counted.
-fn clamp(value: i32) -> u32
+pub(crate) fn clamp(value: i32) -> u32
     ensures { result ≡ clamped value }
 {
     u32::try_from(value).unwrap_or(0).min(MAX_VALUE - 1)
@@ -133,6 +156,29 @@ fn check_linear(min: u32, max: u32, n: u32) -> Result<(), SpecFault>
     }
     if n > MAX_BUCKETS || n > max - min + 2 {
         return Err(SpecFault::TooMany);
+    }
+    Ok(())
+}
+
+// Whether one of the values is above a limit.
+fn has_above(values: &[u32], limit: u32) -> bool
+    ensures { result ≡ list_any (λ value. nat_lt limit value) values.now }
+{
+    values.iter().any(|value| *value > limit)
+}
+
+// The first fault of the values of a custom spec.
+fn check_custom(values: &[u32]) -> Result<(), SpecFault>
+    ensures { result ≡ checked (custom_checks values.now) tt }
+{
+    if values.len() > MAX_CUSTOM_VALUES {
+        return Err(SpecFault::TooMany);
+    }
+    if has_above(values, MAX_VALUE - 1) {
+        return Err(SpecFault::BadRange);
+    }
+    if !has_above(values, 0) {
+        return Err(SpecFault::Empty);
     }
     Ok(())
 }
@@ -162,5 +208,19 @@ fn linear(alloc: Global, min: u32, max: u32, n: u32) -> Result<Ranges, AllocErro
         boundaries.push(inner_boundary(min, max, n, i))?;
     }
     boundaries.push(MAX_VALUE)?;
+    Ok(Ranges { boundaries })
+}
+
+// The boundaries of a lawful custom spec: sorted with both ends, and each value once.
+fn custom(alloc: Global, values: &[u32]) -> Result<Ranges, AllocError>
+    requires { IsCustom values.now }
+    ensures boundaries { IfOk result (λ ranges. ranges ≡ custom_boundaries values.now) }
+{
+    let mut boundaries = Vec::with_capacity(alloc, values.len() + 2)?;
+    boundaries.push(0)?;
+    boundaries.extend_from_slice(values)?;
+    boundaries.push(MAX_VALUE)?;
+    boundaries.sort_unstable();
+    boundaries.dedup();
     Ok(Ranges { boundaries })
 }

@@ -1,15 +1,21 @@
 //! How a histogram splits the values into buckets.
 
+use crate::custom::CustomValues;
 use thiserror::Error;
 
 /// How a histogram splits the values from 0 to 2,147,483,646 into buckets (Chromium's `base::Histogram`; exponential
-/// ranges are left out).
+/// ranges are left out), or that it does not split them.
 #[derive(Debug, Drop, PartialEq, Eq)]
 pub enum Spec {
     /// `n` buckets: one below `min`, one from `max` on, and the others between them as even as whole numbers allow.
     Linear { min: u32, max: u32, n: u32 },
     /// The values 0, 1, and 2 and above: a linear histogram from 1 to 2 with three buckets.
     Boolean,
+    /// A bucket from 0 on, and one from each of the values on. They may come in any order and repeat, and one of 0
+    /// adds no bucket.
+    Custom(CustomValues),
+    /// No buckets: each value of an `i32` is counted for itself.
+    Sparse,
 }
 
 /// What is wrong with a spec: the first of these that holds.
@@ -24,9 +30,15 @@ pub enum SpecFault {
     /// There are fewer than three buckets.
     #[error("TooFew")]
     TooFew = 3,
-    /// There are over 1,000 buckets, or more than the values from minimum to maximum give.
+    /// There are over 1,000 buckets, or more than the values from minimum to maximum give; or over 999 custom values.
     #[error("TooMany")]
     TooMany = 4,
+    /// A custom value is above 2,147,483,646.
+    #[error("BadRange")]
+    BadRange = 5,
+    /// No custom value is above 0.
+    #[error("Empty")]
+    Empty = 6,
     /// There was no memory for the ranges.
     #[error("NoMemory")]
     NoMemory = 7,

@@ -9,7 +9,7 @@ use Rattle.segment_image.specs.declared.fault.ImageFault.TheVariants as image
 use Rattle.bucket_ranges.specs.declared.reading.RecordFault.{RecordFault}
 use Rattle.bucket_ranges.specs.declared.reading.RecordFault.TheVariants as records
 use Rattle.bucket_ranges.specs.declared.spec.Spec.{Spec}
-use Rattle.bucket_ranges.specs.declared.spec.Spec.TheVariants.{Linear, Boolean}
+use Rattle.bucket_ranges.specs.declared.spec.Spec.TheVariants.{Linear, Boolean, Custom, Sparse}
 use Rattle.bucket_ranges.specs.Ranges.{boundaries_of}
 use Rattle.bucket_ranges.specs.Reading.{Histogram, Reading}
 
@@ -21,6 +21,8 @@ line fields = join_with_byte 44 fields ++ 10 ∷ []
 abbrev pub kind_word : Spec → List ℕ
 kind_word (Linear min max n) = codes "linear"
 kind_word Boolean = codes "boolean"
+kind_word (Custom values) = codes "custom"
+kind_word Sparse = codes "sparse"
 
 -- the line of a bucket that has units: its least value, the least value behind it, and its units
 abbrev pub bucket_text : Histogram → (ℤ × ℕ) × ℕ → List ℕ

@@ -14,6 +14,8 @@ pub(crate) fn kind_word(spec: &Spec) -> &[u8]
     match spec {
         Spec::Linear { .. } => b"linear",
         Spec::Boolean => b"boolean",
+        Spec::Custom(_) => b"custom",
+        Spec::Sparse => b"sparse",
     }
 }
 

@@ -5,21 +5,34 @@ use thiserror::Error;
 /// Why a record is not read: the first of these that holds.
 #[derive(Clone, Copy, Debug, PartialEq, Eq, Error)]
 pub enum RecordFault {
-    /// The block is shorter than a record's fields, or the kind is none that is read.
+    /// The block is shorter than a record's fields, or the kind is none that there is.
     #[error("BadKind")]
     BadKind = 1,
     /// The name is unlawful, or its words do not fit in the block.
     #[error("BadName")]
     BadName = 2,
-    /// The words of the spec are those of no lawful spec, or its counts do not fit in a page.
+    /// The words of the spec are those of no lawful spec or do not fit in the block, or its counts do not fit in a
+    /// page.
     #[error("BadSpec")]
     BadSpec = 3,
-    /// The counts reference names no block of counts of that size, or a bucket's total passes 2^32 - 1.
+    /// The counts reference names no block of counts of that size, or a bucket's total passes 2^32 - 1; or a sparse
+    /// histogram has a counts reference, a single word or a single mark.
     #[error("BadCounts")]
     BadCounts = 4,
     /// The single word has no lawful form, or it is disabled while there are no counts.
     #[error("BadSingle")]
     BadSingle = 5,
+    /// There is a single mark while no bucket is or was packed, or a bucket's mark is above its total, in the packed
+    /// bucket also above 65,535.
+    #[error("BadMark")]
+    BadMark = 6,
+    /// The sum, the sum mark or their difference is beyond 2^31 * (2^32 - 1) in size.
+    #[error("BadSum")]
+    BadSum = 7,
+    /// A record of a sample is too short, its value is no `i32`, its count is above 2^32 - 1, its mark is above its
+    /// count, or it names no sparse histogram that is read before it.
+    #[error("BadSample")]
+    BadSample = 8,
 }
 
 impl RecordFault {

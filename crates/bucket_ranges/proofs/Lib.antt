@@ -5,3 +5,4 @@ pub mod Ascent
 pub mod Buckets
 pub mod Distinct
 pub mod Customs
+pub mod Named

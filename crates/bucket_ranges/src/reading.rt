@@ -47,9 +47,12 @@ impl RecordFault {
     }
 }
 
-ghost use Rattle.std.specs.Prelude.{◌≡◌, ℕ, List};
+ghost use Rattle.std.specs.Prelude.{◌≡◌, true, ℕ, List, [], ◌∷◌, ◌++◌, None};
 ghost use Rattle.segment_image.specs.declared.head.SegmentHead.{SegmentHead};
-ghost use Rattle.bucket_ranges.specs.Reading.{IsListed, IsReading, Reading};
+ghost use Rattle.bucket_ranges.specs.declared.spec.Spec.TheVariants.{Custom};
+ghost use Rattle.bucket_ranges.specs.Spec.{spec_fault, buckets_of};
+ghost use Rattle.bucket_ranges.specs.Ranges.{boundaries_of};
+ghost use Rattle.bucket_ranges.specs.Reading.{IsListed, IsReading, Reading, is_custom_named, is_spec_named, spec_named};
 
 /// What a segment's list of records is, is settled by its words: any two lists of the same words are one.
 ///
@@ -64,4 +67,20 @@ pub fn one_list()
 /// It does nothing: what it promises is a law of the definitions.
 pub fn one_reading()
     ensures { (words : List ℕ) (head : SegmentHead) (a b : Reading) → IsReading words head a → IsReading words head b → a ≡ b }
+{}
+
+/// The words of a record that are those of a lawful spec name a spec without a fault, which has the number of buckets
+/// that they say.
+///
+/// It does nothing: what it promises is a law of the definitions.
+pub fn named_specs_are_lawful()
+    ensures lawful { (kind min max n : ℕ) (inner : List ℕ) → is_spec_named kind min max n inner ≡ true → spec_fault (spec_named kind min max n inner) ≡ None }
+    ensures buckets { (kind min max n : ℕ) (inner : List ℕ) → is_spec_named kind min max n inner ≡ true → buckets_of (spec_named kind min max n inner) ≡ n }
+{}
+
+/// The inner ranges that a custom record names lawfully are the boundaries of its spec between 0 and 2,147,483,647.
+///
+/// It does nothing: what it promises is a law of the definitions.
+pub fn inner_ranges_are_boundaries()
+    ensures { (min max n : ℕ) (inner : List ℕ) → is_custom_named min max n inner ≡ true → boundaries_of (Custom inner) ≡ 0 ∷ (inner ++ 2147483647 ∷ []) }
 {}

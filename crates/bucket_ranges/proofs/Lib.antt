@@ -6,3 +6,4 @@ pub mod Buckets
 pub mod Distinct
 pub mod Customs
 pub mod Named
+pub mod Earlier

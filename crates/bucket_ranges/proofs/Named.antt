@@ -14,7 +14,7 @@ use Rattle.bucket_ranges.specs.Reading.{ascends_above, is_custom_named, spec_nam
 use Rattle.bucket_ranges.proofs.Distinct.{Member, Ascends, distinct-of_ascending}
 
 -- where numbers ascend from above another up to the end, that one is below the end
-inner-last : (low : ℕ) (xs : List ℕ) → ascends_above low (xs ++ 2147483647 ∷ []) ≡ true → low < 2147483647
+pub inner-last : (low : ℕ) (xs : List ℕ) → ascends_above low (xs ++ 2147483647 ∷ []) ≡ true → low < 2147483647
 inner-last low [] up = ltb-true low 2147483647 (and_parts (nat_lt low 2147483647) true up).0
 inner-last low (x ∷ xs) up =
     let parts = and_parts (nat_lt low x) (ascends_above x (xs ++ 2147483647 ∷ [])) up in

@@ -8,3 +8,5 @@ pub mod Customs
 pub mod Sums
 pub mod Values
 pub mod Masks
+pub mod Named
+pub mod Earlier

@@ -22,3 +22,6 @@ record_fault_number records.BadName = 2
 record_fault_number records.BadSpec = 3
 record_fault_number records.BadCounts = 4
 record_fault_number records.BadSingle = 5
+record_fault_number records.BadMark = 6
+record_fault_number records.BadSum = 7
+record_fault_number records.BadSample = 8

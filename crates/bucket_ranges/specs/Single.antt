@@ -1,5 +1,5 @@
 -- The forms of the single word.
-use Rattle.std.specs.Prelude.{Bool, true, false, ◌&&◌, ◌==◌, nat_lt, nat_le, if◌then◌else◌, ℕ, ◌+◌, ◌-◌, ◌*◌, ◌/◌, ◌%◌, ◌^◌, ◌<◌, ◌≤◌, Option, Some, None}
+use Rattle.std.specs.Prelude.{Bool, true, false, ◌&&◌, ◌==◌, nat_lt, nat_le, if◌then◌else◌, ℕ, ◌+◌, ◌-◌, ◌*◌, ◌/◌, ◌%◌, ◌^◌, ◌<◌, ◌≤◌, Option, Some, None, unwrap_or, option_map}
 use Rattle.bucket_ranges.specs.declared.single.SingleWord.{SingleWord}
 use Rattle.bucket_ranges.specs.declared.single.SingleWord.TheVariants.{Empty, Packed, Disabled}
 
@@ -49,3 +49,14 @@ is_disabled (Some (Disabled packed)) = true
 is_disabled (Some Empty) = false
 is_disabled (Some (Packed bucket units)) = false
 is_disabled None = false
+
+-- the bucket whose units are or were packed, if there is one: it stays the packed bucket once the counts are in use
+abbrev pub packed_bucket : Option SingleWord → Option ℕ
+packed_bucket (Some (Packed bucket units)) = Some bucket
+packed_bucket (Some (Disabled packed)) = packed
+packed_bucket (Some Empty) = None
+packed_bucket None = None
+
+-- whether bucket i is that bucket
+abbrev pub is_packed_bucket : Option SingleWord → ℕ → Bool
+is_packed_bucket single i = unwrap_or (option_map (λ bucket. bucket == i) (packed_bucket single)) false

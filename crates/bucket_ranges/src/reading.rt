@@ -5,21 +5,34 @@ use thiserror::Error;
 /// Why a record is not read: the first of these that holds.
 #[derive(Clone, Copy, Debug, PartialEq, Eq, Error)]
 pub enum RecordFault {
-    /// The block is shorter than a record's fields, or the kind is none that is read.
+    /// The block is shorter than a record's fields, or the kind is none that there is.
     #[error("BadKind")]
     BadKind = 1,
     /// The name is unlawful, or its words do not fit in the block.
     #[error("BadName")]
     BadName = 2,
-    /// The words of the spec are those of no lawful spec, or its counts do not fit in a page.
+    /// The words of the spec are those of no lawful spec or do not fit in the block, or its counts do not fit in a
+    /// page.
     #[error("BadSpec")]
     BadSpec = 3,
-    /// The counts reference names no block of counts of that size, or a bucket's total passes 2^32 - 1.
+    /// The counts reference names no block of counts of that size, or a bucket's total passes 2^32 - 1; or a sparse
+    /// histogram has a counts reference, a single word or a single mark.
     #[error("BadCounts")]
     BadCounts = 4,
     /// The single word has no lawful form, or it is disabled while there are no counts.
     #[error("BadSingle")]
     BadSingle = 5,
+    /// There is a single mark while no bucket is or was packed, or a bucket's mark is above its total, in the packed
+    /// bucket also above 65,535.
+    #[error("BadMark")]
+    BadMark = 6,
+    /// The sum, the sum mark or their difference is beyond 2^31 * (2^32 - 1) in size.
+    #[error("BadSum")]
+    BadSum = 7,
+    /// A record of a sample is too short, its value is no `i32`, its count is above 2^32 - 1, its mark is above its
+    /// count, or it names no sparse histogram that is read before it.
+    #[error("BadSample")]
+    BadSample = 8,
 }
 
 impl RecordFault {
@@ -34,9 +47,12 @@ impl RecordFault {
     }
 }
 
-ghost use Rattle.std.specs.Prelude.{◌≡◌, ℕ, List};
+ghost use Rattle.std.specs.Prelude.{◌≡◌, true, ℕ, List, [], ◌∷◌, ◌++◌, None};
 ghost use Rattle.segment_image.specs.declared.head.SegmentHead.{SegmentHead};
-ghost use Rattle.bucket_ranges.specs.Reading.{IsListed, IsReading, Reading};
+ghost use Rattle.bucket_ranges.specs.declared.spec.Spec.TheVariants.{Custom};
+ghost use Rattle.bucket_ranges.specs.Spec.{spec_fault, buckets_of};
+ghost use Rattle.bucket_ranges.specs.Ranges.{boundaries_of};
+ghost use Rattle.bucket_ranges.specs.Reading.{IsListed, IsReading, Reading, is_custom_named, is_spec_named, spec_named};
 
 /// What a segment's list of records is, is settled by its words: any two lists of the same words are one.
 ///
@@ -51,4 +67,20 @@ pub fn one_list()
 /// It does nothing: what it promises is a law of the definitions.
 pub fn one_reading()
     ensures { (words : List ℕ) (head : SegmentHead) (a b : Reading) → IsReading words head a → IsReading words head b → a ≡ b }
+{}
+
+/// The words of a record that are those of a lawful spec name a spec without a fault, which has the number of buckets
+/// that they say.
+///
+/// It does nothing: what it promises is a law of the definitions.
+pub fn named_specs_are_lawful()
+    ensures lawful { (kind min max n : ℕ) (inner : List ℕ) → is_spec_named kind min max n inner ≡ true → spec_fault (spec_named kind min max n inner) ≡ None }
+    ensures buckets { (kind min max n : ℕ) (inner : List ℕ) → is_spec_named kind min max n inner ≡ true → buckets_of (spec_named kind min max n inner) ≡ n }
+{}
+
+/// The inner ranges that a custom record names lawfully are the boundaries of its spec between 0 and 2,147,483,647.
+///
+/// It does nothing: what it promises is a law of the definitions.
+pub fn inner_ranges_are_boundaries()
+    ensures { (min max n : ℕ) (inner : List ℕ) → is_custom_named min max n inner ≡ true → boundaries_of (Custom inner) ≡ 0 ∷ (inner ++ 2147483647 ∷ []) }
 {}

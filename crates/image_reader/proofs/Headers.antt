@@ -156,3 +156,15 @@ stop_of-end words head references next is end =
     ∷ (not (is_claimed words head last), BadBlock)
     ∷ (list_any (λ (x : ℕ). x == last) references, Loop)
     ∷ [])) (eq-eqb last 12 (sym is ∙ end))
+
+no_block : (placed claimed : Bool) (found : BlockHead) (fault : ImageFault)
+    → checked ((not placed, BadRef) ∷ (not claimed, BadBlock) ∷ []) found ≡ Err fault → (placed && claimed) ≡ false
+no_block false claimed found fault e = refl
+no_block true false found fault e = refl
+no_block true true found fault e = absurd (cc)
+
+-- where a block has a fault, there is no lawful one
+pub is_block-from_fault : (words : List ℕ) (head : SegmentHead) (reference : ℕ) (fault : ImageFault)
+    → block_of words head reference ≡ Err fault → is_block words head reference ≡ false
+is_block-from_fault words head reference fault e =
+    no_block (is_placed head reference) (is_claimed words head reference) (block_head_of words reference) fault e

@@ -1,7 +1,13 @@
 pub mod Headers
 pub mod Marks
 pub mod Records
+pub mod ReadRecords
+pub mod Sound
+pub mod SampleMaps
+pub mod SpecWords
+pub mod BucketChecks
 pub mod NameLengths
 pub mod NameSets
 pub mod Gathered
+pub mod Gathers
 pub mod Prefixes

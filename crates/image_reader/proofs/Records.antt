@@ -1,23 +1,21 @@
 -- The first fault of a record, from what its checks found.
-use Rattle.std.proofs.Common.{◌≡◌, Bool, true, false, not, ◌||◌, ℕ, ◌+◌, ◌<◌, ◌≤◌, List, [], ◌∷◌, ◌++◌, map, Some, None, Err, Option, refl, ap, sym, ◌∙◌, arith}
-use Rattle.std.specs.List.{range_with_len}
-use Rattle.std.proofs.lemmas.List.FromFn.{get_or-map-range_with_len, length-map-range_with_len, map-range_with_len_more}
-use Rattle.std.specs.Prelude.{nat_lt, pos, slice_index}
+use Rattle.std.proofs.Common.{◌≡◌, Bool, true, false, not, ℕ, ◌+◌, ◌<◌, ◌≤◌, List, [], ◌∷◌, ◌++◌, map, Some, None, Err, get_or, inl, inr, refl, ap, sym, ◌∙◌, arith}
+use Rattle.std.specs.List.{range_with_len, list_any}
+use Rattle.std.proofs.lemmas.List.{map-id}
+use Rattle.std.proofs.lemmas.List.FromFn.{get_or-range_with_len, length-range_with_len, get_or-map-range_with_len, length-map-range_with_len, map-range_with_len_more}
+use Rattle.std.specs.Prelude.{nat_lt}
 use Rattle.std.proofs.lemmas.List.Folds.{list_any_at}
-use Rattle.std.proofs.lemmas.Bool.{lt-ltb, le-ltb, or_from}
+use Rattle.std.proofs.lemmas.Bool.{lt-ltb, le-ltb, or_from, cases_lt, both_ways}
 use Rattle.segment_image.specs.Checks.{first_fault}
 use Rattle.segment_image.specs.Blocks.{field_at}
-use Rattle.bucket_ranges.specs.declared.single.SingleWord.{SingleWord}
-use Rattle.bucket_ranges.specs.Single.{single_of}
-use Rattle.bucket_ranges.specs.Ranges.{boundaries_of}
 use Rattle.segment_image.specs.declared.head.SegmentHead.{SegmentHead}
 use Rattle.bucket_ranges.specs.declared.reading.RecordFault.{RecordFault}
-use Rattle.bucket_ranges.specs.declared.reading.RecordFault.TheVariants.{BadKind, BadName, BadSpec, BadCounts, BadSingle}
-use Rattle.bucket_ranges.specs.Reading.{Histogram, histogram_of, spec_of, record_fault, is_bad_kind, has_name, is_bad_spec, has_counts, has_large, is_bad_single, record_buckets, record_single, total_at, totals_of}
+use Rattle.bucket_ranges.specs.declared.reading.RecordFault.TheVariants.{BadKind, BadName, BadSpec, BadCounts, BadSingle, BadMark, BadSum}
+use Rattle.bucket_ranges.specs.Reading.{Histogram, record_fault, record_single, is_bad_kind, has_name, is_bad_spec, is_bad_counts, has_large, is_bad_single, is_bad_mark, is_bad_sum, sum_of, sum_mark_of}
 use Rattle.image_reader.proofs.Marks.{list_any-push}
 use Rattle.image_reader.specs.declared.record.Refusal.{Refusal}
 use Rattle.image_reader.specs.declared.record.Refusal.TheVariants.{Memory, Fault}
-use Rattle.image_reader.specs.Records.{IsRefusedBy, RefusedOnly}
+use Rattle.image_reader.specs.Records.{IsRefusedBy, RefusedOnly, checks_behind_name}
 
 -- where a call of one check is refused, the record is, as far as that check gives the first fault
 pub IsRefusedBy-from_only : (words : List ℕ) (head : SegmentHead) (at : ℕ) (fault : RecordFault) (cause : Type 0)
@@ -25,6 +23,77 @@ pub IsRefusedBy-from_only : (words : List ℕ) (head : SegmentHead) (at : ℕ) (
     → (cause → record_fault words head at ≡ Some fault) → IsRefusedBy words head at refusal
 IsRefusedBy-from_only words head at fault cause Memory only first = tt
 IsRefusedBy-from_only words head at fault cause (Fault other) only first = first only.1 ∙ ap (λ f. Some f) (sym only.0)
+
+-- the first two checks before others
+two-first : (kind name : Bool) (rest : List (Bool × RecordFault)) → kind ≡ true
+    → first_fault ((kind, BadKind) ∷ (not name, BadName) ∷ rest) ≡ Some BadKind
+two-first kind name rest k = rw k refl
+
+two-second : (kind name : Bool) (rest : List (Bool × RecordFault)) → kind ≡ false → name ≡ false
+    → first_fault ((kind, BadKind) ∷ (not name, BadName) ∷ rest) ≡ Some BadName
+two-second kind name rest k n = rw (k, n) refl
+
+two-rest : (kind name : Bool) (rest : List (Bool × RecordFault)) → kind ≡ false → name ≡ true
+    → first_fault ((kind, BadKind) ∷ (not name, BadName) ∷ rest) ≡ first_fault rest
+two-rest kind name rest k n = rw (k, n) refl
+
+pub record_fault-kind : (words : List ℕ) (head : SegmentHead) (at : ℕ) → is_bad_kind words at ≡ true
+    → record_fault words head at ≡ Some BadKind
+record_fault-kind words head at k = two-first (is_bad_kind words at) (has_name words at) (checks_behind_name words head at) k
+
+pub record_fault-name : (words : List ℕ) (head : SegmentHead) (at : ℕ) → is_bad_kind words at ≡ false
+    → has_name words at ≡ false → record_fault words head at ≡ Some BadName
+record_fault-name words head at k n =
+    two-second (is_bad_kind words at) (has_name words at) (checks_behind_name words head at) k n
+
+pub record_fault-behind : (words : List ℕ) (head : SegmentHead) (at : ℕ) → is_bad_kind words at ≡ false
+    → has_name words at ≡ true → record_fault words head at ≡ first_fault (checks_behind_name words head at)
+record_fault-behind words head at k n =
+    two-rest (is_bad_kind words at) (has_name words at) (checks_behind_name words head at) k n
+
+-- what is known of a record without a fault
+pub record IsSound (words : List ℕ) (head : SegmentHead) (at : ℕ) : Type 0 where
+  pub kind : is_bad_kind words at ≡ false
+  pub name : has_name words at ≡ true
+  pub spec : is_bad_spec words head.shape.page at ≡ false
+  pub counts : is_bad_counts words head at ≡ false
+
+sound-name : (kind name spec counts single mark sum : Bool)
+    → first_fault ((kind, BadKind) ∷ (not name, BadName) ∷ (spec, BadSpec) ∷ (counts, BadCounts) ∷ (single, BadSingle)
+    ∷ (mark, BadMark) ∷ (sum, BadSum) ∷ []) ≡ None
+    → (kind ≡ false) × (name ≡ true) × (spec ≡ false) × (counts ≡ false)
+sound-name true name spec counts single mark sum e = absurd (cc)
+sound-name false false spec counts single mark sum e = absurd (cc)
+sound-name false true true counts single mark sum e = absurd (cc)
+sound-name false true false true single mark sum e = absurd (cc)
+sound-name false true false false single mark sum e = (refl, refl, refl, refl)
+
+pub IsSound-from_none : (words : List ℕ) (head : SegmentHead) (at : ℕ) → record_fault words head at ≡ None
+    → IsSound words head at
+IsSound-from_none words head at none =
+    let p = sound-name (is_bad_kind words at) (has_name words at) (is_bad_spec words head.shape.page at)
+    (is_bad_counts words head at) (is_bad_single (record_single words at) (field_at words at 8)) (is_bad_mark words at)
+    (is_bad_sum (sum_of words at) (sum_mark_of words at)) none in
+    record { kind = p.0; name = p.1; spec = p.2; counts = p.3 }
+
+-- ---- loops over buckets
+
+-- an index that passes a test
+pub any-at : (p : ℕ → Bool) (n i : ℕ) → i < n → p i ≡ true → list_any p (range_with_len 0 n) ≡ true
+any-at p n i within passes =
+    list_any_at p (range_with_len 0 n) i 0 (omega (arith, length-range_with_len 0 n))
+    (let here : get_or (range_with_len 0 n) i 0 ≡ i = omega (arith, get_or-range_with_len 0 n i 0 within) in ap p here ∙ passes)
+
+-- the indexes before a next one, and that one
+pub range-more : (i : ℕ) → range_with_len 0 (i + 1) ≡ range_with_len 0 i ++ i ∷ []
+range-more i =
+    sym (map-id (range_with_len 0 (i + 1)))
+    ∙ (map-range_with_len_more (λ k. k) 0 i i (omega arith) ∙ ap (λ xs. xs ++ i ∷ []) (map-id (range_with_len 0 i)))
+
+-- one more index that does not
+pub none-more : (p : ℕ → Bool) (i : ℕ) → list_any p (range_with_len 0 i) ≡ false → p i ≡ false
+    → list_any p (range_with_len 0 (i + 1)) ≡ false
+none-more p i none fails = rw (range-more i, list_any-push) (or_from _ _ none fails)
 
 -- a total that is too large is one of the totals
 pub has_large-at : (f : ℕ → ℕ) (n i : ℕ) → i < n → 4294967295 < f i → has_large (map f (range_with_len 0 n)) ≡ true
@@ -39,29 +108,24 @@ pub has_large-more : (f : ℕ → ℕ) (i : ℕ) → has_large (map f (range_wit
 has_large-more f i none small =
     rw (map-range_with_len_more f 0 i i (omega arith), list_any-push) (or_from _ _ none (le-ltb 4294967295 (f i) small))
 
--- the totals that a reader finds are those of the record
-pub totals_of-found : (words : List ℕ) (at counts n : ℕ) (single : Option SingleWord)
-    → counts ≡ field_at words at 8 → single ≡ single_of n (field_at words at 9) → n ≡ record_buckets words at
-    → map (total_at words counts single) (range_with_len 0 n) ≡ totals_of words at
-totals_of-found words at counts n single c s e = rw (c, s, e) refl
-
--- and so are the counts under their least values
-pub counts-found : (words : List ℕ) (at counts n : ℕ) (single : Option SingleWord) (ranges : List ℕ)
-    → counts ≡ field_at words at 8 → single ≡ single_of n (field_at words at 9) → n ≡ record_buckets words at
-    → ranges ≡ boundaries_of (spec_of words at)
-    → map (λ i. (pos (slice_index ranges i), total_at words counts single i)) (range_with_len 0 n)
-    ≡ (histogram_of words at).counts
-counts-found words at counts n single ranges c s e r = rw (r, c, s, e) refl
+-- where none is too large, none is
+pub small-at : (f : ℕ → ℕ) (n i : ℕ) → has_large (map f (range_with_len 0 n)) ≡ false → i < n → f i ≤ 4294967295
+small-at f n i none within = elim (cases_lt 4294967295 (f i)) [
+  | inl large ↦ absurd (both_ways _ none (has_large-at f n i within large))
+  | inr small ↦ small
+]
 
 -- two histograms are the same where their fields are
 pub same_histogram : (a b : Histogram) → a.reference ≡ b.reference → a.name ≡ b.name → a.spec ≡ b.spec
-    → a.counts ≡ b.counts → a.sum ≡ b.sum → a.redundant ≡ b.redundant → a ≡ b
-same_histogram a b r n s c t d = λ i. record {
+    → a.counts ≡ b.counts → a.marks ≡ b.marks → a.sum ≡ b.sum → a.sum_mark ≡ b.sum_mark → a.redundant ≡ b.redundant → a ≡ b
+same_histogram a b r n s c m t u d = λ i. record {
   reference = r i;
   name = n i;
   spec = s i;
   counts = c i;
+  marks = m i;
   sum = t i;
+  sum_mark = u i;
   redundant = d i;
 }
 
@@ -71,53 +135,3 @@ pub map-range-push : {X : Type 0} (f : ℕ → X) (i : ℕ) (old new : List X) (
 map-range-push f i old new x before pushed value =
     pushed ∙ (ap (λ xs. xs ++ x ∷ []) before ∙ (ap (λ y. map f (range_with_len 0 i) ++ y ∷ []) value
     ∙ sym (map-range_with_len_more f 0 i i (omega arith))))
-
--- five checks of which the fourth is the first that fails
-five-fourth : (kind name spec counts single : Bool) → kind ≡ false → name ≡ true → spec ≡ false → counts ≡ true
-    → first_fault ((kind, BadKind) ∷ (not name, BadName) ∷ (spec, BadSpec) ∷ (counts, BadCounts) ∷ (single, BadSingle) ∷ [])
-    ≡ Some BadCounts
-five-fourth kind name spec counts single k n s c = rw (k, n, s, c) refl
-
--- five checks of which the fifth is the first that fails
-five-fifth : (kind name spec counts single : Bool) → kind ≡ false → name ≡ true → spec ≡ false → counts ≡ false → single ≡ true
-    → first_fault ((kind, BadKind) ∷ (not name, BadName) ∷ (spec, BadSpec) ∷ (counts, BadCounts) ∷ (single, BadSingle) ∷ [])
-    ≡ Some BadSingle
-five-fifth kind name spec counts single k n s c e = rw (k, n, s, c, e) refl
-
--- five checks of which none fails
-five-none : (kind name spec counts single : Bool) → kind ≡ false → name ≡ true → spec ≡ false → counts ≡ false → single ≡ false
-    → first_fault ((kind, BadKind) ∷ (not name, BadName) ∷ (spec, BadSpec) ∷ (counts, BadCounts) ∷ (single, BadSingle) ∷ [])
-    ≡ None
-five-none kind name spec counts single k n s c e = rw (k, n, s, c, e) refl
-
--- what the first three checks of a record found
-pub record PassesThree (words : List ℕ) (head : SegmentHead) (at : ℕ) : Type 0 where
-  pub kind : is_bad_kind words at ≡ false
-  pub name : has_name words at ≡ true
-  pub spec : is_bad_spec words head.shape.page at ≡ false
-
--- whether the counts of a record are bad
-abbrev pub is_bad_counts : List ℕ → SegmentHead → ℕ → Bool
-is_bad_counts words head at = not (has_counts words head at) || has_large (totals_of words at)
-
--- whether its single word is bad
-abbrev pub is_bad_word : List ℕ → ℕ → Bool
-is_bad_word words at = is_bad_single (record_single words at) (field_at words at 8)
-
-pub record_fault-counts : (words : List ℕ) (head : SegmentHead) (at : ℕ) → PassesThree words head at
-    → is_bad_counts words head at ≡ true → record_fault words head at ≡ Some BadCounts
-record_fault-counts words head at three counts =
-    five-fourth (is_bad_kind words at) (has_name words at) (is_bad_spec words head.shape.page at)
-    (is_bad_counts words head at) (is_bad_word words at) three.kind three.name three.spec counts
-
-pub record_fault-single : (words : List ℕ) (head : SegmentHead) (at : ℕ) → PassesThree words head at
-    → is_bad_counts words head at ≡ false → is_bad_word words at ≡ true → record_fault words head at ≡ Some BadSingle
-record_fault-single words head at three counts single =
-    five-fifth (is_bad_kind words at) (has_name words at) (is_bad_spec words head.shape.page at)
-    (is_bad_counts words head at) (is_bad_word words at) three.kind three.name three.spec counts single
-
-pub record_fault-none : (words : List ℕ) (head : SegmentHead) (at : ℕ) → PassesThree words head at
-    → is_bad_counts words head at ≡ false → is_bad_word words at ≡ false → record_fault words head at ≡ None
-record_fault-none words head at three counts single =
-    five-none (is_bad_kind words at) (has_name words at) (is_bad_spec words head.shape.page at)
-    (is_bad_counts words head at) (is_bad_word words at) three.kind three.name three.spec counts single

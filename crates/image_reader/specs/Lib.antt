@@ -8,5 +8,8 @@ pub use Rattle.bucket_ranges.specs.Single
 pub use Rattle.bucket_ranges.specs.Reading
 pub mod Views
 pub mod Records
+pub mod Buckets
+pub mod Samples
 pub mod Prefix
 pub mod Names
+pub mod Gathering

@@ -12,7 +12,9 @@ histogram_view hist = record {
   name = hist.name.items;
   spec = hist.spec;
   counts = hist.counts.items;
+  marks = hist.marks.items;
   sum = hist.sum;
+  sum_mark = hist.sum_mark;
   redundant = hist.redundant;
 }
 

@@ -1,15 +1,23 @@
 //! Reads the words of a segment, whatever they are.
 //!
 //! A reading is exactly what the definition in `bucket_ranges`, `specs/Reading.antt`, gives of the words: of each
-//! name the first lawful histogram of the list, each record that has a fault, and why the list goes no further.
-//! The reader takes time that is linear in the words and in what it answers, up to a logarithm for names: a reference
-//! that was met is marked in one truth value a word, and names are kept in an ordered set.
+//! name the first lawful histogram of the list, with the samples of those that are sparse, each record that has a
+//! fault, and why the list goes no further. The reader takes time that is linear in the words and in the buckets that
+//! it reads, up to a logarithm for names and samples: a reference that was met and a sparse histogram that is read
+//! are marked in one truth value a word each, names are kept in an ordered set, and samples in an ordered map. A list
+//! of buckets is made only of a record without a fault, and only of the first of its name.
 #![tactic(auto)]
 
+mod buckets;
+mod gathering;
+mod histogram;
+mod name;
 mod names;
 mod reader;
 mod reading;
 mod record;
+mod sample;
+mod spec;
 #[cfg(test)]
 mod tests;
 mod walk;

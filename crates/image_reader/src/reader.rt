@@ -1,28 +1,19 @@
 //! The reading of a segment.
 
-ghost use Rattle.std.specs.Prelude.{◌≡◌, ◌<◌, ◌++◌, [], ◌∷◌, ℕ, Ok, Err, true, length, map, slice_index, IfOk, OnOk, MatchResult, if◌then◌else◌, ◌||◌};
-ghost use Rattle.std.specs.List.{filter_map, list_all};
-ghost use Rattle.std.specs.Str.{bytes_eq};
+ghost use Rattle.std.specs.Prelude.{◌≡◌, ◌<◌, [], ◌++◌, ℕ, List, None, Ok, Err, true, length, map, slice_index, IfOk, MatchResult};
 ghost use Rattle.segment_image.specs.Head.{header_of};
-ghost use Rattle.bucket_ranges.specs.Reading.{IsReading, is_block, histogram_of, histogram_records, lawful_records, first_of_each, same_name, bad_record, is_name_byte};
-ghost use Rattle.image_reader.specs.Views.{histogram_view, bad_view, reading_view};
-ghost use Rattle.image_reader.specs.Names.{holds, AreKeys};
+ghost use Rattle.bucket_ranges.specs.Reading.{IsReading, is_block, record_fault, histogram_of};
+ghost use Rattle.image_reader.specs.Views.{histogram_view, reading_view};
+ghost use Rattle.image_reader.specs.Samples.{AreSamples, HoldsSamples};
+ghost use Rattle.image_reader.specs.Gathering.{IsGathered, IsReady};
 
-use crate::names::Names;
-use crate::reading::{BadRecord, HistReading, Reading};
-use crate::record::{Refusal, histogram};
+use crate::gathering::Gathering;
+use crate::histogram::histogram;
+use crate::reading::{HistReading, Reading};
+use crate::sample::Samples;
 use crate::walk::{Listed, walk};
 use segment_image::{ImageFault, SegmentHead, header};
 use std::alloc::{AllocError, Global};
-
-const HISTOGRAM_TAG: u64 = 1;
-
-/// The histograms and the bad records of a list.
-#[derive(Drop)]
-struct Records {
-    hists: Vec<HistReading>,
-    bad: Vec<BadRecord>,
-}
 
 /// What the words of a segment read as.
 ///
@@ -47,65 +38,54 @@ fn read_list(alloc: Global, words: &[u64], head: &SegmentHead) -> Result<Reading
         references,
         stopped,
     } = walk(alloc, words, head)?;
-    let Records { hists, bad } = read_records(alloc, words, head, &references)?;
+    let gathered = gather(alloc, words, head, &references)?;
+    let hists = histograms(alloc, words, head, &gathered.read, &gathered.samples)?;
     Ok(Reading {
         id: head.id,
         full: head.full,
         corrupt: head.corrupt,
         hists,
-        bad,
+        bad: gathered.bad,
         stopped,
     })
 }
 
-// What the records at these references read as.
-fn read_records(
+// What the records at these references say.
+fn gather(
     alloc: Global,
     words: &[u64],
     head: &SegmentHead,
     references: &[u64],
-) -> Result<Records, AllocError>
+) -> Result<Gathering, AllocError>
     requires header { header_of words.now ≡ Ok head.now }
     requires lawful { (i : ℕ) → i < length references.now → is_block words.now head.now (slice_index references.now i) ≡ true }
-    ensures hists { IfOk result (λ records. map histogram_view records.hists.items
-        ≡ map (histogram_of words.now) (first_of_each (same_name words.now) (lawful_records words.now head.now references.now))) }
-    ensures bad { IfOk result (λ records. map bad_view records.bad.items
-        ≡ filter_map (bad_record words.now head.now) (histogram_records words.now references.now)) }
+    ensures gathered { IfOk result (IsGathered words.now head.now references.now) }
+    ensures ready { IfOk result (IsReady words.now) }
 {
-    let mut names = Names::new(alloc);
-    let mut hists = Vec::new(alloc);
-    let mut bad = Vec::new(alloc);
+    let mut gathering = Gathering::new(alloc, words, head)?;
     for reference in references {
-        let at = *reference as usize;
-        if words[at + 2] == HISTOGRAM_TAG {
-            match histogram(alloc, words, head, at) {
-                Ok(hist) => keep(alloc, &mut names, &mut hists, hist)?,
-                Err(Refusal::Fault(fault)) => bad.push(BadRecord {
-                    reference: *reference,
-                    fault,
-                })?,
-                Err(Refusal::Memory) => return Err(AllocError),
-            }
-        }
+        gathering.add(alloc, words, head, *reference)?;
     }
-    Ok(Records { hists, bad })
+    Ok(gathering)
 }
 
-// Adds a histogram, unless one of its name is there.
-fn keep(
+// The histograms at these references, whose records have no fault.
+fn histograms(
     alloc: Global,
-    names: &mut Names,
-    hists: &mut Vec<HistReading>,
-    hist: HistReading,
-) -> Result<(), AllocError>
-    requires keys { AreKeys names.old }
-    requires lawful { list_all is_name_byte hist.name.items ≡ true }
-    ensures hists { OnOk result (hists.new.items ≡ hists.old.items ++ (if holds names.old hist.name.items then [] else hist ∷ [])) }
-    ensures names { OnOk result ((other : _) → holds names.new other ≡ (holds names.old other || bytes_eq other hist.name.items)) }
-    ensures keys { OnOk result (AreKeys names.new) }
+    words: &[u64],
+    head: &SegmentHead,
+    read: &[u64],
+    samples: &Samples,
+) -> Result<Vec<HistReading>, AllocError>
+    requires header { header_of words.now ≡ Ok head.now }
+    requires lawful { (i : ℕ) → i < length read.now → record_fault words.now head.now (slice_index read.now i) ≡ None }
+    requires blocks { (i : ℕ) → i < length read.now → is_block words.now head.now (slice_index read.now i) ≡ true }
+    requires samples { AreSamples samples.now }
+    ensures { IfOk result (λ hists. (listed : List ℕ) → HoldsSamples words.now listed samples.now → map histogram_view hists.items ≡ map (histogram_of words.now listed) read.now) }
 {
-    if names.insert(alloc, &hist.name)? {
-        hists.push(hist)?;
+    let mut hists = Vec::with_capacity(alloc, read.len())?;
+    for reference in read {
+        hists.push(histogram(alloc, words, head, *reference as usize, samples)?)?;
     }
-    Ok(())
+    Ok(hists)
 }

@@ -13,10 +13,15 @@ pub struct HistReading {
     pub name: Vec<u8>,
     /// How it splits the values into buckets.
     pub spec: Spec,
-    /// The least value of each bucket and its units, all buckets in order.
+    /// The least value of each bucket and its units, all buckets in order; or of a sparse histogram each value that
+    /// has a record and its units, ascending.
     pub counts: Vec<(i32, u64)>,
+    /// Beside each of these the units that deltas have taken.
+    pub marks: Vec<u64>,
     /// The sum of the samples.
     pub sum: i64,
+    /// The part of the sum that deltas have taken.
+    pub sum_mark: i64,
     /// The units that were counted a second time, apart from the buckets.
     pub redundant: u64,
 }
@@ -41,7 +46,7 @@ pub struct Reading {
     pub corrupt: bool,
     /// Of each name the first lawful histogram, in the order of the list.
     pub hists: Vec<HistReading>,
-    /// Each record of a histogram that has a fault, in the order of the list.
+    /// Each record of a histogram or of a sample that has a fault, in the order of the list.
     pub bad: Vec<BadRecord>,
     /// Why the list goes no further before its end: `BadRef`, `BadBlock` or `Loop`. What was read before stays.
     pub stopped: Option<ImageFault>,

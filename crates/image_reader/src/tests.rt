@@ -18,11 +18,9 @@ use std::process::Abort;
 use std::test::Fail;
 
 // The changes of one word of `one_counted` that leave no histogram and one bad record, and its fault.
-const BAD_RECORDS: [(usize, u64, RecordFault); 25] = [
+const BAD_RECORDS: [(usize, u64, RecordFault); 31] = [
     (16, 15, RecordFault::BadKind),
     (20, 0, RecordFault::BadKind),
-    (20, 3, RecordFault::BadKind),
-    (20, 4, RecordFault::BadKind),
     (20, 5, RecordFault::BadKind),
     (30, 0, RecordFault::BadName),
     (30, 9, RecordFault::BadName),
@@ -33,6 +31,8 @@ const BAD_RECORDS: [(usize, u64, RecordFault); 25] = [
     (31, 0x22, RecordFault::BadName),
     (31, 0x2C, RecordFault::BadName),
     (31, 0x7F, RecordFault::BadName),
+    (20, 3, RecordFault::BadSpec),
+    (20, 4, RecordFault::BadSpec),
     (23, 4, RecordFault::BadSpec),
     (24, 13, RecordFault::BadCounts),
     (24, 16, RecordFault::BadCounts),
@@ -44,6 +44,12 @@ const BAD_RECORDS: [(usize, u64, RecordFault); 25] = [
     (25, 65_536, RecordFault::BadSingle),
     (25, 3 * (1 << 32) + 1, RecordFault::BadSingle),
     (25, 1 << 32, RecordFault::BadSingle),
+    (26, 65_536, RecordFault::BadMark),
+    (39, 2, RecordFault::BadMark),
+    (41, 1, RecordFault::BadMark),
+    (27, (1 << 63) - 1, RecordFault::BadSum),
+    (28, (1 << 63) - 1, RecordFault::BadSum),
+    (28, 1 << 63, RecordFault::BadSum),
 ];
 
 // That a histogram has this reference, name, counts, sum and redundant count.
@@ -92,7 +98,6 @@ fn stops_and_flags(rt: HostRuntime) -> Result<(), Fail> {
         (8, 12, 1, None, false, false),
         (18, 0, 0, None, false, false),
         (18, 2, 0, None, false, false),
-        (18, 3, 0, None, false, false),
     ] {
         let words = changed(&rt, &one_empty(&rt), &[(index, value)]);
         let reading = read(rt.alloc(), &words)?;

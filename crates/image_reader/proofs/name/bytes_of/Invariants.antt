@@ -1,6 +1,6 @@
 use Rattle.std.proofs.Common.{◌≡◌, take}
 use Rattle.segment_image.specs.Words.{bytes_of_words}
-use Rattle.image_reader.proofs.record.bytes_of.Given as goal
+use Rattle.image_reader.proofs.name.bytes_of.Given as goal
 
 -- the bytes of the words so far
 abbrev pub invariant-loop-word : goal.invariant-loop-word

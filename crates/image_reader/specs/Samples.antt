@@ -1,0 +1,61 @@
+-- The samples that a reader has met.
+use Rattle.std.specs.Prelude.{◌≡◌, Bool, true, not, ◌||◌, ◌==◌, nat_lt, ℕ, ℤ, List, All, map}
+use Rattle.std.specs.List.{filter}
+use Rattle.std.specs.declared.cmp.Ordering.{Ordering}
+use Rattle.std.specs.Ordering.{nat_cmp, int_cmp, ordering_then}
+use Rattle.std.specs.List.Sorted.{IsStrictlySortedBy}
+use Rattle.std.specs.Map.{keys_of}
+use Rattle.segment_image.specs.Blocks.{field_at}
+use Rattle.bucket_ranges.specs.Reading.{is_i32, sample_value, first_samples}
+use Rattle.image_reader.specs.declared.sample.Sample.{Sample}
+use Rattle.image_reader.specs.declared.sample.Samples.{Samples}
+
+-- whether a sample's record is bad, where `known` says whether it names a sparse histogram that is read before it
+abbrev pub is_bad_sample_by : List ℕ → ℕ → Bool → Bool
+is_bad_sample_by words at known =
+    nat_lt (field_at words at 0) 8
+    || not (is_i32 (sample_value words at))
+    || nat_lt 4294967295 (field_at words at 6)
+    || nat_lt (field_at words at 6) (field_at words at 7)
+    || not known
+
+-- a histogram and a value, and their count and mark
+abbrev pub Entry : Type 0
+Entry = (ℕ × ℤ) × (ℕ × ℕ)
+
+-- those of the sample's record at a reference
+abbrev pub sample_entry : List ℕ → ℕ → Entry
+sample_entry words at = ((field_at words at 4, sample_value words at), (field_at words at 6, field_at words at 7))
+
+-- those that the reader holds of a sample
+abbrev pub entry_of : Sample → Entry
+entry_of sample = ((sample.histogram, sample.value), (sample.count, sample.mark))
+
+-- the value and the count; the mark
+abbrev pub entry_count : Entry → ℤ × ℕ
+entry_count entry = (entry.0.1, entry.1.0)
+
+abbrev pub entry_mark : Entry → ℕ
+entry_mark entry = entry.1.1
+
+-- the order of the values
+abbrev pub by_entry_value : Entry → Entry → Ordering
+by_entry_value a b = int_cmp a.0.1 b.0.1
+
+-- what is held of a histogram
+abbrev pub held : Samples → ℕ → List Entry
+held samples histogram = filter (λ entry. entry.0.0 == histogram) samples.map.entries
+
+-- the order of histograms and values
+abbrev pub by_key : ℕ × ℤ → ℕ × ℤ → Ordering
+by_key a b = ordering_then (nat_cmp a.0 b.0) (int_cmp a.1 b.1)
+
+-- the keys ascend, and their values are those of an `i32`
+pub record AreSamples (samples : Samples) : Type 0 where
+  pub ordered : IsStrictlySortedBy by_key (keys_of samples.map.entries)
+  pub small : All (λ entry. is_i32 entry.0.1 ≡ true) samples.map.entries
+
+-- of each histogram is held what its first samples say, where the samples of the list are these
+abbrev pub HoldsSamples : List ℕ → List ℕ → Samples → Type 0
+HoldsSamples words samples reader =
+    (histogram : ℕ) → held reader histogram ≡ map (sample_entry words) (first_samples words samples histogram)

@@ -1,0 +1,252 @@
+//! The units of a record's buckets: their counts, the single word, and the marks of what deltas have taken.
+//!
+//! The counts stand from word 4 of their block on, and the marks behind them. The packed bucket, which is the one that
+//! the single word names, has its mark in the record.
+
+ghost use Rattle.std.specs.Prelude.{◌≡◌, ◌≤◌, ◌<◌, ◌+◌, ◌-◌, ◌||◌, ◌∷◌, [], ℕ, true, false, not, min, Ok, pos, map, length, slice_index, IfOk};
+ghost use Rattle.std.specs.List.{range_with_len};
+ghost use Rattle.segment_image.specs.Checks.{first_fault};
+ghost use Rattle.segment_image.specs.Head.{header_of};
+ghost use Rattle.segment_image.specs.Blocks.{field_at};
+ghost use Rattle.bucket_ranges.specs.Single.{packed_bucket as packed_bucket_of, is_packed_bucket, units_packed as units_packed_of};
+ghost use Rattle.bucket_ranges.specs.Reading.{has_counts as has_counts_of, has_large as has_large_of, is_bad_single as is_bad_single_of, count_at, is_bad_mark_at, is_large_mark_at, record_buckets, total_at, mark_at};
+ghost use Rattle.image_reader.specs.Buckets.{AreBucketsAt, IsRoomFor, bucket_checks};
+
+use bucket_ranges::reading::RecordFault;
+use bucket_ranges::{Ranges, SingleWord};
+use segment_image::{SegmentHead, block};
+use std::alloc::{AllocError, Global};
+
+const COUNTS_TAG: u64 = 2;
+
+const MAX_TOTAL: u64 = 4_294_967_295;
+
+const MAX_PACKED: u64 = 65_535;
+
+/// Where the units of a record's buckets stand, and their marks.
+#[derive(Clone, Copy, Debug)]
+pub(crate) struct Buckets {
+    /// How many buckets there are.
+    number: usize,
+    /// The reference of the block of counts, 0 where there is none.
+    counts: usize,
+    /// What the single word says, where it has a lawful form.
+    single: Option<SingleWord>,
+    /// The mark of the packed bucket.
+    single_mark: u64,
+}
+
+impl Buckets {
+    /// Those of the record at `at`, which names a lawful spec with buckets.
+    pub(crate) fn at(words: &[u64], at: usize) -> Buckets
+        requires within { at + 16 ≤ length words.now }
+        requires buckets { record_buckets words.now at ≡ field_at words.now at 7 }
+        requires few { field_at words.now at 7 ≤ 1000 }
+        ensures { AreBucketsAt words.now at result }
+    {
+        let number = words[at + 7] as usize;
+        Buckets {
+            number,
+            counts: words[at + 8] as usize,
+            single: SingleWord::of(words[at + 9], number),
+            single_mark: words[at + 10],
+        }
+    }
+}
+
+/// The first fault of a record's buckets: `BadCounts`, `BadSingle` or `BadMark`.
+pub(crate) fn buckets_fault(
+    words: &[u64],
+    head: &SegmentHead,
+    at: usize,
+    buckets: &Buckets,
+) -> Option<RecordFault>
+    requires header { header_of words.now ≡ Ok head.now }
+    requires buckets { AreBucketsAt words.now at buckets.now }
+    ensures { result ≡ first_fault (bucket_checks words.now head.now at) }
+{
+    if !has_counts(words, head, at, buckets) || has_large(words, buckets) {
+        return Some(RecordFault::BadCounts);
+    }
+    if is_bad_single(buckets) {
+        return Some(RecordFault::BadSingle);
+    }
+    if is_bad_mark(words, buckets) {
+        return Some(RecordFault::BadMark);
+    }
+    None
+}
+
+// Whether the counts reference is 0 or names a block of counts for so many buckets.
+fn has_counts(words: &[u64], head: &SegmentHead, at: usize, buckets: &Buckets) -> bool
+    requires header { header_of words.now ≡ Ok head.now }
+    requires buckets { AreBucketsAt words.now at buckets.now }
+    ensures value { result ≡ has_counts_of words.now head.now at }
+    ensures room { result ≡ true → IsRoomFor words.now buckets.now }
+{
+    if buckets.counts == 0 {
+        return true;
+    }
+    match block(words, head, buckets.counts as u64) {
+        Ok(found) => found.tag == COUNTS_TAG && found.size >= (4 + 2 * buckets.number) as u64,
+        Err(_) => false,
+    }
+}
+
+// The count of a bucket, 0 where there is no block of counts.
+fn count(words: &[u64], buckets: &Buckets, bucket: usize) -> u64
+    requires room { IsRoomFor words.now buckets.now }
+    requires bucket { bucket < buckets.now.number }
+    ensures { result ≡ count_at words.now buckets.now.counts bucket }
+{
+    if buckets.counts == 0 {
+        0
+    } else {
+        words[buckets.counts + (4 + bucket)]
+    }
+}
+
+// The units of a bucket that the single word itself holds.
+fn units_packed(single: &Option<SingleWord>, bucket: usize) -> u64
+    ensures { result ≡ units_packed_of single.now bucket }
+{
+    match single {
+        Some(
+            SingleWord::Packed {
+                bucket: packed,
+                units,
+            },
+        ) if *packed == bucket => *units,
+        _ => 0,
+    }
+}
+
+// The total of a bucket; one that passes 2^64 - 1 is answered as that.
+fn total(words: &[u64], buckets: &Buckets, bucket: usize) -> u64
+    requires room { IsRoomFor words.now buckets.now }
+    requires bucket { bucket < buckets.now.number }
+    ensures { result ≡ min (total_at words.now buckets.now.counts buckets.now.single bucket) 18446744073709551615 }
+{
+    count(words, buckets, bucket).saturating_add(units_packed(&buckets.single, bucket))
+}
+
+// Whether a total is above 2^32 - 1.
+fn has_large(words: &[u64], buckets: &Buckets) -> bool
+    requires { IsRoomFor words.now buckets.now }
+    ensures { result ≡ has_large_of (map (total_at words.now buckets.now.counts buckets.now.single) (range_with_len 0 buckets.now.number)) }
+{
+    for bucket in 0..buckets.number {
+        if total(words, buckets, bucket) > MAX_TOTAL {
+            return true;
+        }
+    }
+    false
+}
+
+// Whether the single word has no form, or says that the counts are in use while there are none.
+fn is_bad_single(buckets: &Buckets) -> bool
+    ensures { result ≡ is_bad_single_of buckets.now.single buckets.now.counts }
+{
+    match buckets.single {
+        None => true,
+        Some(SingleWord::Disabled { .. }) => buckets.counts == 0,
+        Some(_) => false,
+    }
+}
+
+// The packed bucket, if there is one.
+fn packed_bucket(single: &Option<SingleWord>) -> Option<usize>
+    ensures { result ≡ packed_bucket_of single.now }
+{
+    match single {
+        Some(SingleWord::Packed { bucket, .. }) => Some(*bucket),
+        Some(SingleWord::Disabled { packed }) => *packed,
+        _ => None,
+    }
+}
+
+fn is_packed(single: &Option<SingleWord>, bucket: usize) -> bool
+    ensures { result ≡ is_packed_bucket single.now bucket }
+{
+    match packed_bucket(single) {
+        Some(packed) => packed == bucket,
+        None => false,
+    }
+}
+
+// The mark of a bucket.
+fn mark(words: &[u64], buckets: &Buckets, bucket: usize) -> u64
+    requires room { IsRoomFor words.now buckets.now }
+    requires bucket { bucket < buckets.now.number }
+    ensures { result ≡ mark_at words.now buckets.now.counts buckets.now.number buckets.now.single buckets.now.single_mark bucket }
+{
+    if is_packed(&buckets.single, bucket) {
+        buckets.single_mark
+    } else if buckets.counts == 0 {
+        0
+    } else {
+        words[buckets.counts + (4 + buckets.number + bucket)]
+    }
+}
+
+// Whether the mark of a bucket is above its total, in the packed bucket also above 65,535.
+fn is_large_mark(words: &[u64], buckets: &Buckets, bucket: usize) -> bool
+    requires room { IsRoomFor words.now buckets.now }
+    requires bucket { bucket < buckets.now.number }
+    ensures { result ≡ is_large_mark_at words.now buckets.now.counts buckets.now.number buckets.now.single buckets.now.single_mark bucket }
+{
+    let mark = mark(words, buckets, bucket);
+    mark > total(words, buckets, bucket)
+        && (!is_packed(&buckets.single, bucket) || mark > MAX_PACKED)
+}
+
+// Whether there is a single mark while no bucket is or was packed, or a bucket's mark is too large.
+fn is_bad_mark(words: &[u64], buckets: &Buckets) -> bool
+    requires { IsRoomFor words.now buckets.now }
+    ensures { result ≡ is_bad_mark_at words.now buckets.now.counts buckets.now.number buckets.now.single buckets.now.single_mark }
+{
+    if packed_bucket(&buckets.single).is_none() && buckets.single_mark != 0 {
+        return true;
+    }
+    for bucket in 0..buckets.number {
+        if is_large_mark(words, buckets, bucket) {
+            return true;
+        }
+    }
+    false
+}
+
+/// The totals of all buckets, each under its least value, where none is above 2^32 - 1.
+pub(crate) fn counts_of(
+    alloc: Global,
+    words: &[u64],
+    buckets: &Buckets,
+    ranges: &Ranges,
+) -> Result<Vec<(i32, u64)>, AllocError>
+    requires room { IsRoomFor words.now buckets.now }
+    requires ranges { length ranges.now - 1 ≡ buckets.now.number }
+    requires small { has_large_of (map (total_at words.now buckets.now.counts buckets.now.single) (range_with_len 0 buckets.now.number)) ≡ false }
+    ensures { IfOk result (λ counts. counts.items ≡ map (λ i. (pos (slice_index ranges.now i), total_at words.now buckets.now.counts buckets.now.single i)) (range_with_len 0 buckets.now.number)) }
+{
+    let mut counts = Vec::with_capacity(alloc, buckets.number)?;
+    for bucket in 0..buckets.number {
+        counts.push((ranges.low(bucket), total(words, buckets, bucket)))?;
+    }
+    Ok(counts)
+}
+
+/// The marks of all buckets.
+pub(crate) fn marks_of(
+    alloc: Global,
+    words: &[u64],
+    buckets: &Buckets,
+) -> Result<Vec<u64>, AllocError>
+    requires { IsRoomFor words.now buckets.now }
+    ensures { IfOk result (λ marks. marks.items ≡ map (mark_at words.now buckets.now.counts buckets.now.number buckets.now.single buckets.now.single_mark) (range_with_len 0 buckets.now.number)) }
+{
+    let mut marks = Vec::with_capacity(alloc, buckets.number)?;
+    for bucket in 0..buckets.number {
+        marks.push(mark(words, buckets, bucket))?;
+    }
+    Ok(marks)
+}

@@ -1,0 +1,159 @@
+//! What a reader gathers along the list of records.
+
+ghost use Rattle.std.specs.Prelude.{◌≡◌, ◌+◌, ◌≤◌, ◌++◌, [], ◌∷◌, List, ℕ, Ok, None, true, length, IfOk, OnOk};
+ghost use Rattle.segment_image.specs.Head.{header_of};
+ghost use Rattle.segment_image.specs.Blocks.{field_at};
+ghost use Rattle.std.specs.List.{list_all};
+ghost use Rattle.bucket_ranges.specs.Reading.{is_block, is_name_byte, name_of, record_fault};
+ghost use Rattle.image_reader.specs.Gathering.{IsGathered, IsReady};
+
+use crate::names::Names;
+use crate::reading::BadRecord;
+use crate::record::{Refusal, check_record};
+use crate::sample::{Samples, sample_at};
+use bucket_ranges::reading::RecordFault;
+use segment_image::SegmentHead;
+use std::alloc::{AllocError, Global};
+
+const HISTOGRAM_TAG: u64 = 1;
+
+const SAMPLE_TAG: u64 = 3;
+
+const SPARSE: u64 = 4;
+
+/// What the records of a list say, as far as they were gathered.
+#[derive(Drop)]
+pub(crate) struct Gathering {
+    /// The references of the histograms that are read: of each name the first without a fault.
+    pub(crate) read: Vec<u64>,
+    /// The samples of those that are sparse.
+    pub(crate) samples: Samples,
+    /// The records that have a fault.
+    pub(crate) bad: Vec<BadRecord>,
+    /// The names of the histograms that are read.
+    names: Names,
+    /// Of each word, whether a sparse histogram is read there.
+    sparse: Vec<bool>,
+}
+
+impl Gathering {
+    /// Nothing gathered yet of a list in so many words.
+    pub(crate) fn new(
+        alloc: Global,
+        words: &[u64],
+        head: &SegmentHead,
+    ) -> Result<Gathering, AllocError>
+        ensures gathered { IfOk result (IsGathered words.now head.now []) }
+        ensures ready { IfOk result (IsReady words.now) }
+    {
+        Ok(Gathering {
+            read: Vec::new(alloc),
+            samples: Samples::new(alloc),
+            bad: Vec::new(alloc),
+            names: Names::new(alloc),
+            sparse: vec![in alloc; false; words.len()]?,
+        })
+    }
+
+    /// Gathers what the record at a reference says, which stands behind those so far.
+    pub(crate) fn add(
+        &mut self,
+        alloc: Global,
+        words: &[u64],
+        head: &SegmentHead,
+        reference: u64,
+    ) -> Result<(), AllocError>
+        requires header { header_of words.now ≡ Ok head.now }
+        requires block { is_block words.now head.now reference ≡ true }
+        requires ready { IsReady words.now self.old }
+        ensures gathered { OnOk result ((earlier : List ℕ) → IsGathered words.now head.now earlier self.old → IsGathered words.now head.now (earlier ++ reference ∷ []) self.new) }
+        ensures ready { OnOk result (IsReady words.now self.new) }
+    {
+        let tag = words[reference as usize + 2];
+        if tag == HISTOGRAM_TAG {
+            self.add_histogram(alloc, words, head, reference)
+        } else if tag == SAMPLE_TAG {
+            self.add_sample(words, head, reference)
+        } else {
+            Ok(())
+        }
+    }
+
+    // Gathers a histogram's record.
+    fn add_histogram(
+        &mut self,
+        alloc: Global,
+        words: &[u64],
+        head: &SegmentHead,
+        reference: u64,
+    ) -> Result<(), AllocError>
+        requires header { header_of words.now ≡ Ok head.now }
+        requires tag { field_at words.now reference 2 ≡ 1 }
+        requires least { 5 ≤ field_at words.now reference 0 }
+        requires within { reference + field_at words.now reference 0 ≤ length words.now }
+        requires ready { IsReady words.now self.old }
+        ensures gathered { OnOk result ((earlier : List ℕ) → IsGathered words.now head.now earlier self.old → IsGathered words.now head.now (earlier ++ reference ∷ []) self.new) }
+        ensures ready { OnOk result (IsReady words.now self.new) }
+    {
+        match check_record(alloc, words, head, reference as usize) {
+            Ok(name) => self.keep(alloc, words, head, reference, &name),
+            Err(Refusal::Fault(fault)) => {
+                self.bad.push(BadRecord { reference, fault })?;
+                Ok(())
+            }
+            Err(Refusal::Memory) => Err(AllocError),
+        }
+    }
+
+    // Keeps the reference of a histogram's record without a fault, unless one of its name is kept.
+    fn keep(
+        &mut self,
+        alloc: Global,
+        words: &[u64],
+        head: &SegmentHead,
+        reference: u64,
+        name: &[u8],
+    ) -> Result<(), AllocError>
+        requires tag { field_at words.now reference 2 ≡ 1 }
+        requires within { reference + 5 ≤ length words.now }
+        requires lawful { record_fault words.now head.now reference ≡ None }
+        requires name { name.now ≡ name_of words.now reference }
+        requires bytes { list_all is_name_byte name.now ≡ true }
+        requires ready { IsReady words.now self.old }
+        ensures gathered { OnOk result ((earlier : List ℕ) → IsGathered words.now head.now earlier self.old → IsGathered words.now head.now (earlier ++ reference ∷ []) self.new) }
+        ensures ready { OnOk result (IsReady words.now self.new) }
+    {
+        if !self.names.insert(alloc, name)? {
+            return Ok(());
+        }
+        self.read.push(reference)?;
+        let at = reference as usize;
+        if words[at + 4] == SPARSE {
+            self.sparse[at] = true;
+        }
+        Ok(())
+    }
+
+    // Gathers a sample's record.
+    fn add_sample(
+        &mut self,
+        words: &[u64],
+        head: &SegmentHead,
+        reference: u64,
+    ) -> Result<(), AllocError>
+        requires tag { field_at words.now reference 2 ≡ 3 }
+        requires least { 5 ≤ field_at words.now reference 0 }
+        requires within { reference + field_at words.now reference 0 ≤ length words.now }
+        requires ready { IsReady words.now self.old }
+        ensures gathered { OnOk result ((earlier : List ℕ) → IsGathered words.now head.now earlier self.old → IsGathered words.now head.now (earlier ++ reference ∷ []) self.new) }
+        ensures ready { OnOk result (IsReady words.now self.new) }
+    {
+        let Some(sample) = sample_at(words, reference as usize, &self.sparse) else {
+            let fault = RecordFault::BadSample;
+            self.bad.push(BadRecord { reference, fault })?;
+            return Ok(());
+        };
+        self.samples.insert(&sample)?;
+        Ok(())
+    }
+}

@@ -1,0 +1,75 @@
+//! What a record of a histogram without a fault reads as.
+
+ghost use Rattle.std.specs.Prelude.{◌≡◌, ◌≤◌, ◌+◌, ℕ, List, None, Ok, ◌≢◌, length, IfOk};
+ghost use Rattle.segment_image.specs.Head.{header_of};
+ghost use Rattle.segment_image.specs.Blocks.{field_at};
+ghost use Rattle.bucket_ranges.specs.Reading.{record_fault, histogram_of, bucket_counts, bucket_marks, spec_of};
+ghost use Rattle.image_reader.specs.Views.{histogram_view};
+ghost use Rattle.image_reader.specs.Samples.{AreSamples, HoldsSamples};
+
+use crate::buckets::{Buckets, counts_of, marks_of};
+use crate::name::read_name;
+use crate::reading::HistReading;
+use crate::sample::Samples;
+use crate::spec::spec_at;
+use bucket_ranges::{Ranges, Spec};
+use segment_image::SegmentHead;
+use std::alloc::{AllocError, Global};
+
+const SPARSE: u64 = 4;
+
+/// The histogram of the record in a block at `at`, which has no fault; `samples` are those of the list.
+pub(crate) fn histogram(
+    alloc: Global,
+    words: &[u64],
+    head: &SegmentHead,
+    at: usize,
+    samples: &Samples,
+) -> Result<HistReading, AllocError>
+    requires header { header_of words.now ≡ Ok head.now }
+    requires lawful { record_fault words.now head.now at ≡ None }
+    requires within { at + field_at words.now at 0 ≤ length words.now }
+    requires samples { AreSamples samples.now }
+    ensures { IfOk result (λ hist. (listed : List ℕ) → HoldsSamples words.now listed samples.now → histogram_view hist ≡ histogram_of words.now listed at) }
+{
+    let name = read_name(alloc, words, at)?;
+    let spec = spec_at(alloc, words, at)?;
+    let (counts, marks) = if words[at + 4] == SPARSE {
+        samples.of(alloc, at as u64)?
+    } else {
+        bucket_lists(alloc, words, head, at, &spec)?
+    };
+    Ok(HistReading {
+        reference: at as u64,
+        name,
+        spec,
+        counts,
+        marks,
+        sum: words[at + 11].cast_signed(),
+        sum_mark: words[at + 12].cast_signed(),
+        redundant: words[at + 13],
+    })
+}
+
+// The totals of the buckets of a record without a fault, and their marks.
+fn bucket_lists(
+    alloc: Global,
+    words: &[u64],
+    head: &SegmentHead,
+    at: usize,
+    spec: &Spec,
+) -> Result<(Vec<(i32, u64)>, Vec<u64>), AllocError>
+    requires header { header_of words.now ≡ Ok head.now }
+    requires lawful { record_fault words.now head.now at ≡ None }
+    requires within { at + field_at words.now at 0 ≤ length words.now }
+    requires kind { field_at words.now at 4 ≢ 4 }
+    requires spec { spec.now ≡ spec_of words.now at }
+    ensures { IfOk result (λ lists. (lists.0.items ≡ bucket_counts words.now at) × (lists.1.items ≡ bucket_marks words.now at)) }
+{
+    let buckets = Buckets::at(words, at);
+    let Ok(ranges) = Ranges::of(alloc, spec) else {
+        return Err(AllocError);
+    };
+    let counts = counts_of(alloc, words, &buckets, &ranges)?;
+    Ok((counts, marks_of(alloc, words, &buckets)?))
+}

@@ -1,0 +1,115 @@
+//! The samples of sparse histograms.
+//!
+//! The words of a sample's record, counted from the first of its block: 4 is the reference of its histogram's record, 5
+//! the value, 6 the count and 7 the mark.
+
+ghost use Rattle.std.specs.Prelude.{◌≡◌, ◌≤◌, ◌+◌, [], true, false, if◌then◌else◌, ◌==◌, get_or, ℕ, All, map, length, IfOk, OnOk, MatchOption};
+ghost use Rattle.std.specs.BTreeSet.{insert_key};
+ghost use Rattle.segment_image.specs.Blocks.{field_at};
+ghost use Rattle.bucket_ranges.specs.Reading.{is_i32};
+ghost use Rattle.image_reader.specs.Samples.{Entry, by_entry_value, is_bad_sample_by, sample_entry, entry_of, held, AreSamples, entry_count, entry_mark};
+
+use std::alloc::{AllocError, Global};
+use std::collections::BTreeMap;
+
+const MIN_SIZE: u64 = 8;
+
+const MAX_COUNT: u64 = 4_294_967_295;
+
+/// What the record of a sample says.
+#[derive(Clone, Copy, Debug)]
+pub(crate) struct Sample {
+    /// The reference of its histogram's record.
+    histogram: u64,
+    value: i32,
+    count: u64,
+    mark: u64,
+}
+
+/// The sample of the record in a block at `at`, or nothing where the record is bad. Of each word `sparse` says whether
+/// a sparse histogram is read there.
+pub(crate) fn sample_at(words: &[u64], at: usize, sparse: &[bool]) -> Option<Sample>
+    requires least { 5 ≤ field_at words.now at 0 }
+    requires within { at + field_at words.now at 0 ≤ length words.now }
+    ensures { MatchOption result
+        (is_bad_sample_by words.now at (get_or sparse.now (field_at words.now at 4) false) ≡ true)
+        (λ sample. (is_bad_sample_by words.now at (get_or sparse.now (field_at words.now at 4) false) ≡ false) × (entry_of sample ≡ sample_entry words.now at)) }
+{
+    let histogram = words[at + 4];
+    if words[at] < MIN_SIZE || !is_marked(sparse, histogram) {
+        return None;
+    }
+    let value = i32::try_from(words[at + 5].cast_signed()).ok()?;
+    let count = words[at + 6];
+    let mark = words[at + 7];
+    if count > MAX_COUNT || mark > count {
+        return None;
+    }
+    Some(Sample {
+        histogram,
+        value,
+        count,
+        mark,
+    })
+}
+
+fn is_marked(marks: &[bool], reference: u64) -> bool
+    ensures { result ≡ get_or marks.now reference false }
+{
+    let at = reference as usize;
+    at < marks.len() && marks[at]
+}
+
+/// The samples that a reader has met, in an ordered map: the count and the mark of each value of each histogram.
+#[derive(Drop)]
+pub(crate) struct Samples {
+    map: BTreeMap<(u64, i32), (u64, u64)>,
+}
+
+impl Samples {
+    /// No samples.
+    pub(crate) fn new(alloc: Global) -> Samples
+        ensures held { (histogram : ℕ) → held result histogram ≡ [] }
+        ensures are { AreSamples result }
+    {
+        Samples {
+            map: BTreeMap::new(alloc),
+        }
+    }
+
+    /// Adds a sample, unless one of its histogram and value is there.
+    pub(crate) fn insert(&mut self, sample: &Sample) -> Result<(), AllocError>
+        requires are { AreSamples self.old }
+        requires small { is_i32 sample.now.value ≡ true }
+        ensures held { OnOk result ((histogram : ℕ) → held self.new histogram
+            ≡ (if sample.now.histogram == histogram then insert_key by_entry_value (held self.old histogram) (entry_of sample.now) else held self.old histogram)) }
+        ensures are { OnOk result (AreSamples self.new) }
+    {
+        let key = (sample.histogram, sample.value);
+        if !self.map.contains_key(&key) {
+            self.map.insert(key, (sample.count, sample.mark))?;
+        }
+        Ok(())
+    }
+
+    /// The values of a histogram, ascending, and their counts; and their marks.
+    pub(crate) fn of(
+        &self,
+        alloc: Global,
+        histogram: u64,
+    ) -> Result<(Vec<(i32, u64)>, Vec<u64>), AllocError>
+        requires { AreSamples self.now }
+        ensures { IfOk result (λ lists. (lists.0.items ≡ map entry_count (held self.now histogram)) × (lists.1.items ≡ map entry_mark (held self.now histogram))) }
+    {
+        let mut counts = Vec::new(alloc);
+        let mut marks = Vec::new(alloc);
+        for (key, units) in self
+            .map
+            .range((histogram, i32::MIN)..=(histogram, i32::MAX))
+        {
+            counts.push((key.1, units.0))?;
+            marks.push(units.1)?;
+        }
+        Ok((counts, marks))
+    }
+}

@@ -1,17 +1,19 @@
 -- The buckets of a lawful spec and their boundaries.
-use Rattle.std.proofs.Common.{◌≡◌, ◌∙◌, ℕ, ◌+◌, ◌-◌, ◌<◌, ◌≤◌, Bool, true, false, ◌==◌, List, [], ◌∷◌, length, Option, Some, None, if◌then◌else◌, All, ap, refl, arith}
+use Rattle.std.proofs.Common.{◌≡◌, ◌≢◌, ◌∙◌, map, ℕ, ◌+◌, ◌<◌, ◌≤◌, Bool, true, false, ◌==◌, List, [], ◌∷◌, length, Option, Some, None, if◌then◌else◌, All, ap, refl, arith}
 use Rattle.std.proofs.Common.{ℤ, pos, get_or, drop, take, sym, subst, Vec, Global}
 use Rattle.std.specs.Fmt.{decimal, signed_decimal}
 use Rattle.std.specs.List.{zip, flat_map}
 use Rattle.std.proofs.lemmas.Grind.{get_or_after_one}
 use Rattle.std.proofs.lemmas.Slice.Zip.{get_or-zip, length-zip}
 use Rattle.bucket_ranges.specs.Reading.{Histogram}
-use Rattle.persist_report_core.specs.Text.{bucket_text, line, kind_word}
+use Rattle.persist_report_core.specs.Text.{highs_of, bucket_text, line, kind_word}
+use Rattle.persist_report_core.specs.Readable.{IsCounted}
 use Rattle.std.proofs.lemmas.Bool.Decides.{nat_tests}
 use Rattle.csv.specs.declared.writer.Writer.{Writer}
 use Rattle.persist_report_core.specs.Lines.{Adds}
 use Rattle.persist_report_core.proofs.Adding.{Adds-step, Adds-nothing}
-use Rattle.std.proofs.lemmas.List.{length-drop}
+use Rattle.std.specs.Prelude.{◌+ℤ◌}
+use Rattle.std.proofs.lemmas.List.{length-drop, length-map, get_or-map}
 use Rattle.std.proofs.lemmas.List.Elements.{All-cons}
 use Rattle.segment_image.specs.Checks.{first_fault}
 use Rattle.bucket_ranges.specs.declared.spec.Spec.{Spec}
@@ -19,7 +21,7 @@ use Rattle.bucket_ranges.specs.declared.spec.Spec.TheVariants.{Linear, Boolean, 
 use Rattle.bucket_ranges.specs.Spec.{spec_fault, buckets_of}
 use Rattle.bucket_ranges.specs.Ranges.{boundaries_of}
 use Rattle.bucket_ranges.proofs.Ascent.{is_linear-from_checks, boundaries_of-split}
-use Rattle.bucket_ranges.proofs.Customs.{is_custom-from_checks, length-distinct, length-custom_boundaries}
+use Rattle.bucket_ranges.proofs.Customs.{is_custom-from_checks, length-distinct}
 
 -- a check that comes first, where none fails
 no_first_fault : {F : Type 0} (failed : Bool) (fault : F) (rest : Option F) → (if failed then Some fault else rest) ≡ None → (failed ≡ false) × (rest ≡ None)
@@ -40,23 +42,58 @@ few_buckets Boolean e = omega arith
 few_buckets (Custom values) e = omega (arith, (is_custom-from_checks values e).few, length-distinct values)
 few_buckets Sparse e = omega arith
 
--- the boundaries are one more than the buckets, where there are buckets, and none where there are not
-pub length-boundaries_of : (spec : Spec) → spec_fault spec ≡ None → length (boundaries_of spec) - 1 ≡ buckets_of spec
-length-boundaries_of (Linear min max n) e = omega (arith, (boundaries_of-split (Linear min max n) e (λ same. absurd (cc))).count)
-length-boundaries_of Boolean e = omega (arith, (boundaries_of-split Boolean e (λ same. absurd (cc))).count)
-length-boundaries_of (Custom values) e = omega (arith, length-custom_boundaries values)
-length-boundaries_of Sparse e = omega arith
+-- the boundaries are one more than the buckets, where there are buckets
+length-boundaries_of : (spec : Spec) → spec_fault spec ≡ None → spec ≢ Sparse → length (boundaries_of spec) ≡ buckets_of spec + 1
+length-boundaries_of spec e ne = (boundaries_of-split spec e ne).count
 
--- the bucket at i of as many counts as there are buckets
-pub bucket_at : (counts : List (ℤ × ℕ)) (boundaries : List ℕ) (i : ℕ) (d : (ℤ × ℕ) × ℕ) → i < length counts → i + 1 < length boundaries
-    → get_or (zip counts (drop 1 boundaries)) i d ≡ (get_or counts i d.0, get_or boundaries (i + 1) d.1)
-bucket_at counts boundaries i d h more =
-    let high : i < length (drop 1 boundaries) = omega (arith, length-drop 1 boundaries, more) in
-    get_or-zip counts (drop 1 boundaries) i d h high ∙ ap (λ x. (get_or counts i d.0, x)) (get_or_after_one boundaries i d.1 ∙ ap (λ k. get_or boundaries k d.1) (omega arith))
+-- so many stand behind buckets
+length-behind : (boundaries : List ℕ) (n : ℕ) → length boundaries ≡ n + 1 → length (map pos (drop 1 boundaries)) ≡ n
+length-behind boundaries n e = omega (arith, length-map (drop 1 boundaries) pos, length-drop 1 boundaries, e)
 
--- the buckets are as many as the counts
-pub length-buckets : (counts : List (ℤ × ℕ)) (boundaries : List ℕ) → length boundaries - 1 ≡ length counts → length (zip counts (drop 1 boundaries)) ≡ length counts
-length-buckets counts boundaries e = rw length-zip (omega (arith, length-drop 1 boundaries, e))
+-- as many as the counts
+pub length-highs : (spec : Spec) (counts : List (ℤ × ℕ)) → spec_fault spec ≡ None → IsCounted spec (length counts)
+    → length (highs_of spec counts) ≡ length counts
+length-highs (Linear min max n) counts lawful counted =
+    length-behind (boundaries_of (Linear min max n)) n (length-boundaries_of (Linear min max n) lawful (λ same. absurd (cc))) ∙ sym counted
+length-highs Boolean counts lawful counted = length-behind (boundaries_of Boolean) 3 (length-boundaries_of Boolean lawful (λ same. absurd (cc))) ∙ sym counted
+length-highs (Custom values) counts lawful counted =
+    length-behind (boundaries_of (Custom values)) (buckets_of (Custom values)) (length-boundaries_of (Custom values) lawful (λ same. absurd (cc))) ∙ sym counted
+length-highs Sparse counts lawful counted = length-map counts (λ (count : ℤ × ℕ). count.0 +ℤ pos 1)
+
+-- what stands behind buckets is the boundaries behind the first
+highs_of-boundaries : (spec : Spec) (counts : List (ℤ × ℕ)) → (spec ≡ Sparse → ⊥) → highs_of spec counts ≡ map pos (drop 1 (boundaries_of spec))
+highs_of-boundaries (Linear min max n) counts ne = refl
+highs_of-boundaries Boolean counts ne = refl
+highs_of-boundaries (Custom values) counts ne = refl
+highs_of-boundaries Sparse counts ne = absurd (ne refl)
+
+pub bucket_behind : (spec : Spec) (counts : List (ℤ × ℕ)) (i : ℕ) → (spec ≡ Sparse → ⊥) → i + 1 < length (boundaries_of spec)
+    → get_or (highs_of spec counts) i (pos 0) ≡ pos (get_or (boundaries_of spec) (i + 1) 0)
+bucket_behind spec counts i ne within =
+    let boundaries : List ℕ = boundaries_of spec in
+    let inside : i < length (drop 1 boundaries) = omega (arith, within, length-drop 1 boundaries) in
+    ap (λ highs. get_or highs i (pos 0)) (highs_of-boundaries spec counts ne)
+    ∙ (get_or-map pos (drop 1 boundaries) i 0 (pos 0) inside
+    ∙ ap pos (get_or_after_one boundaries i 0 ∙ ap (λ k. get_or boundaries k 0) (omega arith)))
+
+-- so a bucket of counts that are all counted has a boundary behind it
+pub has_behind : (spec : Spec) (counts : List (ℤ × ℕ)) (i : ℕ) → spec_fault spec ≡ None → (spec ≡ Sparse → ⊥) → IsCounted spec (length counts)
+    → i < length counts → i + 1 < length (boundaries_of spec)
+has_behind spec counts i lawful ne counted within =
+    omega (
+      arith,
+      length-highs spec counts lawful counted,
+      ap length (highs_of-boundaries spec counts ne),
+      length-map (drop 1 (boundaries_of spec)) pos,
+      length-drop 1 (boundaries_of spec),
+      within,
+    )
+
+-- behind a value stands the next one
+pub value_behind : (counts : List (ℤ × ℕ)) (i : ℕ) (count : ℤ × ℕ) → i < length counts → count ≡ get_or counts i count
+    → get_or (highs_of Sparse counts) i (pos 0) ≡ count.0 +ℤ pos 1
+value_behind counts i count within is =
+    get_or-map (λ (c : ℤ × ℕ). c.0 +ℤ pos 1) counts i count (pos 0) within ∙ ap (λ (c : ℤ × ℕ). c.0 +ℤ pos 1) (sym is)
 
 -- the choice at a number that is not 0
 if_some : {X : Type 0} (n : ℕ) (x y : X) → 0 < n → (if n == 0 then x else y) ≡ y
@@ -71,26 +108,26 @@ abbrev pub line_of_bucket : Histogram → ℤ × ℕ → ℤ → List ℕ
 line_of_bucket hist bucket high = line (hist.name ∷ kind_word hist.spec ∷ signed_decimal bucket.0 ∷ signed_decimal high ∷ decimal bucket.1 ∷ [])
 
 -- the step of a loop over the buckets, at one that has units
-pub Adds-bucket : (hist : Histogram) (boundaries : List ℕ) (i : ℕ) {first second third : Writer (Vec ℕ Global)} → i < length hist.counts → i + 1 < length boundaries
-    → Adds first second (flat_map (bucket_text hist) (take i (zip hist.counts (drop 1 boundaries))))
+pub Adds-bucket : (hist : Histogram) (highs : List ℤ) (i : ℕ) {first second third : Writer (Vec ℕ Global)} → i < length hist.counts → i < length highs
+    → Adds first second (flat_map (bucket_text hist) (take i (zip hist.counts highs)))
     → 0 < (get_or hist.counts i (pos 0, 0)).1
-    → Adds second third (line_of_bucket hist (get_or hist.counts i (pos 0, 0)) (pos (get_or boundaries (i + 1) 0)))
-    → Adds first third (flat_map (bucket_text hist) (take (i + 1) (zip hist.counts (drop 1 boundaries))))
-Adds-bucket hist boundaries i {first} {second} {third} h more before units after =
+    → Adds second third (line_of_bucket hist (get_or hist.counts i (pos 0, 0)) (get_or highs i (pos 0)))
+    → Adds first third (flat_map (bucket_text hist) (take (i + 1) (zip hist.counts highs)))
+Adds-bucket hist highs i {first} {second} {third} h more before units after =
     let bucket : ℤ × ℕ = get_or hist.counts i (pos 0, 0) in
-    let written = line_of_bucket hist bucket (pos (get_or boundaries (i + 1) 0)) in
-    let text = ap (bucket_text hist) (bucket_at hist.counts boundaries i ((pos 0, 0), 0) h more) ∙ if_some bucket.1 [] written units in
-    let within : i < length (zip hist.counts (drop 1 boundaries)) = rw length-zip (omega (arith, length-drop 1 boundaries, more, h)) in
-    Adds-step (bucket_text hist) (zip hist.counts (drop 1 boundaries)) i ((pos 0, 0), 0) within before (subst (Adds second third) (sym text) after)
+    let written = line_of_bucket hist bucket (get_or highs i (pos 0)) in
+    let text = ap (bucket_text hist) (get_or-zip hist.counts highs i ((pos 0, 0), pos 0) h more) ∙ if_some bucket.1 [] written units in
+    let within : i < length (zip hist.counts highs) = rw length-zip (omega (arith, more, h)) in
+    Adds-step (bucket_text hist) (zip hist.counts highs) i ((pos 0, 0), pos 0) within before (subst (Adds second third) (sym text) after)
 
 -- and at one that has none
-pub Adds-no_bucket : (hist : Histogram) (boundaries : List ℕ) (i : ℕ) {first second : Writer (Vec ℕ Global)} → i < length hist.counts → i + 1 < length boundaries
-    → Adds first second (flat_map (bucket_text hist) (take i (zip hist.counts (drop 1 boundaries))))
+pub Adds-no_bucket : (hist : Histogram) (highs : List ℤ) (i : ℕ) {first second : Writer (Vec ℕ Global)} → i < length hist.counts → i < length highs
+    → Adds first second (flat_map (bucket_text hist) (take i (zip hist.counts highs)))
     → (get_or hist.counts i (pos 0, 0)).1 ≤ 0
-    → Adds first second (flat_map (bucket_text hist) (take (i + 1) (zip hist.counts (drop 1 boundaries))))
-Adds-no_bucket hist boundaries i {first} {second} h more before units =
+    → Adds first second (flat_map (bucket_text hist) (take (i + 1) (zip hist.counts highs)))
+Adds-no_bucket hist highs i {first} {second} h more before units =
     let bucket : ℤ × ℕ = get_or hist.counts i (pos 0, 0) in
-    let written = line_of_bucket hist bucket (pos (get_or boundaries (i + 1) 0)) in
-    let text = ap (bucket_text hist) (bucket_at hist.counts boundaries i ((pos 0, 0), 0) h more) ∙ if_zero bucket.1 [] written units in
-    let within : i < length (zip hist.counts (drop 1 boundaries)) = rw length-zip (omega (arith, length-drop 1 boundaries, more, h)) in
-    Adds-step (bucket_text hist) (zip hist.counts (drop 1 boundaries)) i ((pos 0, 0), 0) within before (subst (Adds second second) (sym text) (Adds-nothing second before.ready))
+    let written = line_of_bucket hist bucket (get_or highs i (pos 0)) in
+    let text = ap (bucket_text hist) (get_or-zip hist.counts highs i ((pos 0, 0), pos 0) h more) ∙ if_zero bucket.1 [] written units in
+    let within : i < length (zip hist.counts highs) = rw length-zip (omega (arith, more, h)) in
+    Adds-step (bucket_text hist) (zip hist.counts highs) i ((pos 0, 0), pos 0) within before (subst (Adds second second) (sym text) (Adds-nothing second before.ready))

@@ -1,5 +1,5 @@
 -- The text of a report: lines of comma-separated fields without quotes, each ended by one line feed.
-use Rattle.std.specs.Prelude.{◌≡◌, Bool, ◌==◌, if◌then◌else◌, ℕ, ℤ, List, [], ◌∷◌, ◌++◌, drop, codes, Option, Some, None, sum_by, IsPermutation, IsSortedByKey}
+use Rattle.std.specs.Prelude.{◌≡◌, Bool, ◌==◌, if◌then◌else◌, ℕ, ℤ, pos, ◌+ℤ◌, List, [], ◌∷◌, ◌++◌, map, drop, codes, Option, Some, None, sum_by, IsPermutation, IsSortedByKey}
 use Rattle.std.specs.Fmt.{decimal, signed_decimal}
 use Rattle.std.specs.List.{join_with_byte, flat_map, zip}
 use Rattle.std.specs.Ordering.{nat_cmp}
@@ -24,14 +24,20 @@ kind_word Boolean = codes "boolean"
 kind_word (Custom values) = codes "custom"
 kind_word Sparse = codes "sparse"
 
--- the line of a bucket that has units: its least value, the least value behind it, and its units
-abbrev pub bucket_text : Histogram → (ℤ × ℕ) × ℕ → List ℕ
+-- what stands behind each bucket: the least value of the next, or 2,147,483,647; behind a value of a sparse histogram the
+-- next value
+abbrev pub highs_of : Spec → List (ℤ × ℕ) → List ℤ
+highs_of Sparse counts = map (λ count. count.0 +ℤ pos 1) counts
+highs_of spec counts = map pos (drop 1 (boundaries_of spec))
+
+-- the line of a bucket that has units: its least value, what stands behind it, and its units
+abbrev pub bucket_text : Histogram → (ℤ × ℕ) × ℤ → List ℕ
 bucket_text hist bucket =
     let low = bucket.0.0 in
     let count = bucket.0.1 in
     let high = bucket.1 in
     if count == 0 then []
-    else line (hist.name ∷ kind_word hist.spec ∷ signed_decimal low ∷ decimal high ∷ decimal count ∷ [])
+    else line (hist.name ∷ kind_word hist.spec ∷ signed_decimal low ∷ signed_decimal high ∷ decimal count ∷ [])
 
 -- the units of a histogram
 abbrev pub units_of : Histogram → ℕ
@@ -40,7 +46,7 @@ units_of hist = sum_by (λ count. count.1) hist.counts
 -- the buckets that have units, ascending, and the line of the total
 abbrev pub histogram_text : Histogram → List ℕ
 histogram_text hist =
-    flat_map (bucket_text hist) (zip hist.counts (drop 1 (boundaries_of hist.spec)))
+    flat_map (bucket_text hist) (zip hist.counts (highs_of hist.spec hist.counts))
     ++ line (hist.name ∷ codes "total" ∷ decimal (units_of hist) ∷ signed_decimal hist.sum ∷ [])
 
 -- the line of a flag that is set
@@ -60,6 +66,9 @@ record_fault_word records.BadName = codes "BadName"
 record_fault_word records.BadSpec = codes "BadSpec"
 record_fault_word records.BadCounts = codes "BadCounts"
 record_fault_word records.BadSingle = codes "BadSingle"
+record_fault_word records.BadMark = codes "BadMark"
+record_fault_word records.BadSum = codes "BadSum"
+record_fault_word records.BadSample = codes "BadSample"
 
 -- the line of a bad record
 abbrev pub bad_text : ℕ × RecordFault → List ℕ

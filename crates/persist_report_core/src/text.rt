@@ -1,18 +1,18 @@
 //! The text of a report.
 
-ghost use Rattle.std.specs.Prelude.{◌≡◌, ◌<◌, ◌^◌, [], ◌∷◌, All, IfOk, OnOk, map, drop, codes};
+ghost use Rattle.std.specs.Prelude.{◌≡◌, ◌<◌, ◌^◌, [], ◌∷◌, All, IfOk, OnOk, length, get_or, pos, ◌+ℤ◌, map, codes};
 ghost use Rattle.std.specs.Fmt.{decimal, signed_decimal};
 ghost use Rattle.std.specs.List.{flat_map, zip};
 ghost use Rattle.bucket_ranges.specs.Ranges.{boundaries_of};
 ghost use Rattle.image_reader.specs.Views.{histogram_view, bad_view, reading_view};
-ghost use Rattle.persist_report_core.specs.Text.{line, kind_word as kind_word_of, bucket_text, units_of, histogram_text, flag_text, redundant_text, bad_text, stopped_text, AreInOrder, IsTextOf};
+ghost use Rattle.persist_report_core.specs.Text.{line, kind_word as kind_word_of, highs_of, bucket_text, units_of, histogram_text, flag_text, redundant_text, bad_text, stopped_text, AreInOrder, IsTextOf};
 ghost use Rattle.persist_report_core.specs.Lines.{IsAtLine, Adds};
 ghost use Rattle.persist_report_core.specs.Readable.{IsReadable};
 
 use crate::lines::{into_text, new_lines, put_line};
 use crate::order::{Named, in_order, units};
 use crate::words::{image_fault_word, kind_word, record_fault_word};
-use bucket_ranges::Ranges;
+use bucket_ranges::{Ranges, Spec};
 use csv::Writer;
 use image_reader::{BadRecord, HistReading, Reading};
 use segment_image::ImageFault;
@@ -21,13 +21,33 @@ use std::alloc::{AllocError, Global};
 // So many histograms are looked at together.
 const BATCH: usize = 64;
 
-// The line of a bucket: its least value, the least value behind it, and its units.
+// What stands behind a value of a sparse histogram: the next one.
+fn behind(value: i32) -> i64
+    ensures { result ≡ value +ℤ pos 1 }
+{
+    i64::from(value) + 1
+}
+
+// What stands behind bucket `i`: the least value of the next one, or the next value of a sparse histogram.
+fn high(hist: &HistReading, ranges: &Ranges, i: usize) -> i64
+    requires ranges { ranges.now ≡ boundaries_of hist.now.spec }
+    requires readable { IsReadable (histogram_view hist.now) }
+    requires within { i < length hist.now.counts.items }
+    ensures { result ≡ get_or (highs_of hist.now.spec hist.now.counts.items) i (pos 0) }
+{
+    match hist.spec {
+        Spec::Sparse => behind(hist.counts[i].0),
+        _ => i64::from(ranges.high(i)),
+    }
+}
+
+// The line of a bucket: its least value, what stands behind it, and its units.
 fn put_bucket(
     alloc: Global,
     lines: &mut Writer<Vec<u8>>,
     hist: &HistReading,
     bucket: &(i32, u64),
-    high: i32,
+    high: i64,
 ) -> Result<(), AllocError>
     requires { IsAtLine lines.old }
     ensures { OnOk result (Adds lines.old lines.new (line (hist.now.name.items ∷ kind_word_of hist.now.spec ∷ signed_decimal bucket.now.0 ∷ signed_decimal high ∷ decimal bucket.now.1 ∷ []))) }
@@ -55,14 +75,14 @@ fn put_buckets(
 ) -> Result<(), AllocError>
     requires ready { IsAtLine lines.old }
     requires readable { IsReadable (histogram_view hist.now) }
-    ensures { OnOk result (Adds lines.old lines.new (flat_map (bucket_text (histogram_view hist.now)) (zip hist.now.counts.items (drop 1 (boundaries_of hist.now.spec))))) }
+    ensures { OnOk result (Adds lines.old lines.new (flat_map (bucket_text (histogram_view hist.now)) (zip hist.now.counts.items (highs_of hist.now.spec hist.now.counts.items)))) }
 {
     let Ok(ranges) = Ranges::of(alloc, &hist.spec) else {
         return Err(AllocError);
     };
     for (i, bucket) in hist.counts.iter().enumerate() {
         if bucket.1 > 0 {
-            put_bucket(alloc, lines, hist, bucket, ranges.high(i))?;
+            put_bucket(alloc, lines, hist, bucket, high(hist, &ranges, i))?;
         }
     }
     Ok(())

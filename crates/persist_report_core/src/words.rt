@@ -29,6 +29,9 @@ pub(crate) fn record_fault_word(fault: RecordFault) -> &'static [u8]
         RecordFault::BadSpec => b"BadSpec",
         RecordFault::BadCounts => b"BadCounts",
         RecordFault::BadSingle => b"BadSingle",
+        RecordFault::BadMark => b"BadMark",
+        RecordFault::BadSum => b"BadSum",
+        RecordFault::BadSample => b"BadSample",
     }
 }
 

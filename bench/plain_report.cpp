@@ -60,11 +60,10 @@ struct Bucket {
 struct Histogram {
     std::string name;
     Word kind = 0;
-    std::vector<Bucket> buckets;  // those with units alone, ascending once it is printed
+    std::vector<Bucket> buckets;  // ascending, and those with units alone
     Word units = 0;
     std::int64_t sum = 0;
     Word redundant = 0;
-    std::unordered_set<std::int64_t> values;  // of a sparse one: those that have a sample
 };
 
 struct Reading {
@@ -158,6 +157,7 @@ public:
             if (words_[at + 2] == kSample) fault = read_sample(at);
             if (fault != nullptr) reading_.bad.emplace_back(at, fault);
         }
+        for (const auto& [at, index] : sparse_) settle(reading_.histograms[index]);
         return std::move(reading_);
     }
 
@@ -273,12 +273,20 @@ private:
         if (value < INT32_MIN || value > INT32_MAX || count > kMostUnits || mark > count) return "BadSample";
         const auto found = sparse_.find(words_[at + 4]);
         if (found == sparse_.end()) return "BadSample";
-        Histogram& histogram = reading_.histograms[found->second];
-        if (histogram.values.insert(value).second && count != 0) {
-            histogram.buckets.push_back({value, value + 1, count});
-            histogram.units += count;
-        }
+        reading_.histograms[found->second].buckets.push_back({value, value + 1, count});
         return nullptr;
+    }
+
+    // Of the samples of a sparse histogram the first of each value counts.
+    static void settle(Histogram& histogram) {
+        std::vector<Bucket>& buckets = histogram.buckets;
+        std::stable_sort(buckets.begin(), buckets.end(),
+                         [](const Bucket& one, const Bucket& other) { return one.low < other.low; });
+        const auto is_same = [](const Bucket& one, const Bucket& other) { return one.low == other.low; };
+        buckets.erase(std::unique(buckets.begin(), buckets.end(), is_same), buckets.end());
+        const auto is_empty = [](const Bucket& bucket) { return bucket.count == 0; };
+        buckets.erase(std::remove_if(buckets.begin(), buckets.end(), is_empty), buckets.end());
+        for (const Bucket& bucket : buckets) histogram.units += bucket.count;
     }
 
     const Words& words_;
@@ -293,6 +301,9 @@ private:
 
 class Text {
 public:
+    // Room for so many bytes, so that they need not be moved while they become more.
+    explicit Text(std::size_t room) { text_.reserve(room); }
+
     Text& operator<<(std::string_view text) {
         text_.append(text);
         return *this;
@@ -306,18 +317,14 @@ public:
         return *this;
     }
 
-    const std::string& whole() const { return text_; }
+    std::string take() { return std::move(text_); }
 
 private:
     std::string text_;
 };
 
-void write_histogram(Text& text, Histogram& histogram) {
+void write_histogram(Text& text, const Histogram& histogram) {
     constexpr std::array<std::string_view, 5> kinds = {"", "linear", "boolean", "custom", "sparse"};
-    if (histogram.kind == kSparse) {
-        std::sort(histogram.buckets.begin(), histogram.buckets.end(),
-                  [](const Bucket& one, const Bucket& other) { return one.low < other.low; });
-    }
     for (const Bucket& bucket : histogram.buckets) {
         text << histogram.name << "," << kinds[histogram.kind] << ",";
         text.number(bucket.low) << ",";
@@ -333,8 +340,13 @@ std::string report_of(const Words& words) {
     Reading reading = Reader(words).read();
     std::sort(reading.histograms.begin(), reading.histograms.end(),
               [](const Histogram& one, const Histogram& other) { return one.name < other.name; });
-    Text text;
-    for (Histogram& histogram : reading.histograms) write_histogram(text, histogram);
+    constexpr std::size_t most_numbers = 60;  // bytes of a line without the name
+    std::size_t room = 0;
+    for (const Histogram& histogram : reading.histograms) {
+        room += (histogram.buckets.size() + 1) * (histogram.name.size() + most_numbers);
+    }
+    Text text(room);
+    for (const Histogram& histogram : reading.histograms) write_histogram(text, histogram);
     if (words[6] & 1) text << "!flag,corrupt\n";
     if (words[6] & 2) text << "!flag,full\n";
     for (const Histogram& histogram : reading.histograms) {
@@ -347,7 +359,7 @@ std::string report_of(const Words& words) {
         text.number(at) << "," << fault << "\n";
     }
     if (reading.stopped != nullptr) text << "!stopped," << reading.stopped << "\n";
-    return text.whole();
+    return text.take();
 }
 
 void run(const char* path) {

@@ -80,28 +80,29 @@ class Forge:
         self.tail = at
 
     def spec(self, kind):
-        """The three numbers of a lawful spec, and a custom one's ranges."""
+        """The three numbers of a spec, and a custom one's ranges."""
         chance = self.chance
         most_buckets = min(1000, (self.page - 40) // 2)
+        wide = [1000, 1001] if most_buckets == 1000 else []
         if kind == LINEAR:
-            n = chance.choice([3, 4, 5, 6, chance.randint(3, most_buckets)])
+            n = chance.choice([3, 4, 5, 6, chance.randint(3, most_buckets), *wide])
             least = chance.choice([1, 2, 9, 1000])
             most = chance.choice([least + max(1, n - 2), least + n + 50, GREATEST - 1])
             return [least, most, n], []
         if kind == BOOLEAN:
             return [1, 2, 3], []
         if kind == CUSTOM:
-            count = chance.choice([1, 2, 3, 4, chance.randint(1, most_buckets - 1)])
+            count = chance.choice([1, 2, 3, 4, chance.randint(1, most_buckets - 1), *[n - 1 for n in wide]])
             ranges = sorted(chance.sample(range(1, 2000), count))
             ranges[-1] = GREATEST - 1 if chance.random() < 0.2 else ranges[-1]
             return [ranges[0], ranges[-1], count + 1], ranges
         return [0, 0, 0], []
 
     def histogram(self):
-        """A lawful histogram, where there is room for it."""
+        """A histogram where there is room for it, lawful but for a name of 129 bytes or 1,001 buckets now and then."""
         chance = self.chance
         kind = chance.choice([LINEAR, BOOLEAN, CUSTOM, SPARSE])
-        name = chance.choice(NAMES)
+        name = chance.choice(NAMES) if chance.random() < 0.97 else b"m" * 129
         spec, ranges = self.spec(kind)
         padding = bytes(-len(name) % 8) if chance.random() < 0.8 else b"\xff" * (-len(name) % 8)
         name_words = struct.unpack(f"<{(len(name) + 7) // 8}Q", name + padding)
@@ -178,6 +179,12 @@ def small_block(forge, record):
     forge.store(record.at, forge.chance.choice([15, 15, 8, 5]))
 
 
+def shortened_block(forge, record):
+    """The block ends right behind the name or the ranges, or one word before."""
+    ranges = record.n - 1 if record.kind == CUSTOM else 0
+    forge.store(record.at, record.first_range + ranges - record.at - forge.chance.choice([0, 1, 1]))
+
+
 def no_kind(forge, record):
     forge.store(record.at + 4, forge.chance.choice([0, 5, 2**32 + 1, 2**64 - 1]))
 
@@ -211,6 +218,15 @@ def spec_number(forge, record):
     forge.store(record.at + place, chance.choice(edges))
 
 
+def linear_numbers(forge, record):
+    """The numbers of a linear spec at a limit, or one past it."""
+    most = GREATEST - 1
+    lawful = [(1, most, 5), (5, 6, 3), (1, 4, 5), (1, 2, 3), (1, most, 1000)]
+    wrong = [(1, GREATEST, 5), (5, 5, 3), (5, 5, 2), (5, 4, 3), (1, 4, 6), (1, 10, 2), (0, 10, 5), (1, most, 1001)]
+    if record.kind == LINEAR:
+        forge.store(record.at + 5, *forge.chance.choice(forge.chance.choice([lawful, wrong, wrong])))
+
+
 def spec_past_page(forge, record):
     buckets = (forge.page - 4) // 2 + forge.chance.choice([0, 1, 1, 1])
     if record.kind == LINEAR:
@@ -225,18 +241,18 @@ def custom_count(forge, record):
 
 
 def custom_range(forge, record):
+    """A range at the one before it, or at a limit; the record's minimum and maximum mostly follow it."""
     chance = forge.chance
     if record.kind == CUSTOM:
-        at = record.first_range + chance.choice([0, record.n - 2, chance.randrange(record.n - 1)])
-        before = forge.words[at - 1] if at > record.first_range else 0
-        forge.store(at, chance.choice([0, before, before + 1, GREATEST - 1, GREATEST, 2**32 + 1]))
-
-
-def custom_last_range(forge, record):
-    if record.kind == CUSTOM:
-        last = forge.chance.choice([GREATEST - 1, GREATEST, GREATEST, 2**63])
-        forge.store(record.first_range + record.n - 2, last)
-        forge.store(record.at + 6, last)
+        last = record.n - 2
+        place = chance.choice([0, last, chance.randint(0, last), chance.randint(0, last)])
+        at = record.first_range + place
+        before = forge.words[at - 1] if place > 0 else 0
+        word = chance.choice([before, before, before + 1, 0, GREATEST - 1, GREATEST, 2**32 + 1])
+        forge.store(at, word)
+        if chance.random() < 0.8:
+            forge.store(record.at + 5, *[word] * (place == 0))
+            forge.store(record.at + 6, *[word] * (place == last))
 
 
 def counts_reference(forge, record):
@@ -335,19 +351,21 @@ def name_of_another(forge, record):
 
 HISTOGRAM_FAULTS = [
     small_block,
+    shortened_block,
     no_kind,
     another_kind,
     name_length,
     name_byte,
     name_start,
     spec_number,
-    spec_number,
+    linear_numbers,
+    linear_numbers,
     spec_past_page,
     spec_past_page,
     custom_count,
     custom_range,
     custom_range,
-    custom_last_range,
+    custom_range,
     counts_reference,
     counts_reference,
     counts_size,

@@ -25,15 +25,19 @@ MOST_BUCKETS = 1000
 
 @dataclasses.dataclass
 class Image:
-    """The bytes of an image, the pieces of its report, how many buckets are read in it, and what it holds."""
+    """The bytes of an image, the pieces of its report, and what it holds.
+
+    `buckets` are those that are looked at, `listed` those of them that the reading has, as no bad record's are.
+    """
 
     data: bytes
     report: Callable[[], Iterable[bytes]]
     buckets: int
+    listed: int
     holds: str
 
     def load(self):
-        """What the time of a reading is held against: its words and the buckets that are read."""
+        """What the time of a reading is held against."""
         return len(self.data) // 8 + self.buckets
 
 
@@ -116,7 +120,7 @@ def boolean_histograms(size, names):
         segment.publish(at)
         low, high = bucket, [1, 2, GREATEST][bucket]
         by_name[name] = f"{name},boolean,{low},{high},{units}\n{name},total,{units},{bucket * units}\n"
-    return Image(segment.bytes(), in_order(by_name), 3 * len(by_name), f"{len(by_name)} histograms")
+    return Image(segment.bytes(), in_order(by_name), 3 * len(by_name), 3 * len(by_name), f"{len(by_name)} histograms")
 
 
 def boolean(size):
@@ -149,7 +153,7 @@ def sparse(size):
         total += value * count
     segment.store(record + 4, SPARSE, 0, 0, 0, 0, 0, 0, total % 2**64, 0, units, 1, ord("S"))
     text = "".join(line for _, line in sorted(lines)) + f"S,total,{units},{total}\n"
-    return Image(segment.bytes(), lambda: [text.encode()], 0, f"{len(lines)} samples")
+    return Image(segment.bytes(), lambda: [text.encode()], 0, 0, f"{len(lines)} samples")
 
 
 def linear_histograms(size, spec, name_length, most_count):
@@ -174,7 +178,8 @@ def linear_histograms(size, spec, name_length, most_count):
         segment.publish(at)
         lines = [f"{name},linear,{boundaries[i]},{boundaries[i + 1]},{count}\n" for i, count in enumerate(counts)]
         by_name[name] = "".join(lines) + f"{name},total,{units},{total}\n"
-    return Image(segment.bytes(), in_order(by_name), n * len(by_name), f"{len(by_name)} histograms")
+    buckets = n * len(by_name)
+    return Image(segment.bytes(), in_order(by_name), buckets, buckets, f"{len(by_name)} histograms")
 
 
 def linear(size):
@@ -196,36 +201,51 @@ def distinct_limits(count):
     return [int.from_bytes(bytes(lawful[number // place % side] for place in places), "little") for number in numbers]
 
 
-def shared(size):
+def overlapping_records(size, last_mark):
     """Records of 16 words that begin every nine words, each with 1,000 buckets, all with one block of counts.
 
     The single word of each is the size of the next, 16 packed units of bucket 0; its single mark is the next one's
     cookie, which the count of bucket 0 allows; its sum is the next one's type, its sum mark the next one's next and
     its redundant count the next one's kind; the length of its name is the next one's minimum, 4; and its name is
-    the next one's maximum.
+    the next one's maximum. Answers the bytes, the names and the references.
     """
     stride, overlap = 9, 16
     segment = Segment(size)
     counts_at = segment.block(4 + 2 * MOST_BUCKETS, COUNTS)
     segment.words[counts_at + 4] = BLOCK_COOKIE
+    segment.words[counts_at + 4 + 2 * MOST_BUCKETS - 1] = last_mark
     limits = distinct_limits(size // stride)
-    units, by_name = BLOCK_COOKIE + overlap, {}
+    names, references = [], []
     while segment.free < size:
         fitting = (segment.room() - overlap) // stride + 1
         for _ in range(fitting):
             at = segment.free
-            most = limits[len(by_name)]
-            following = limits[len(by_name) + 1]
+            most, following = limits[len(names) : len(names) + 2]
             segment.store(at, overlap, BLOCK_COOKIE, HISTOGRAM, QUEUE, LINEAR, 4, most, MOST_BUCKETS, counts_at)
             segment.store(at + 9, overlap, BLOCK_COOKIE, HISTOGRAM, 0, LINEAR, 4, following)
             segment.publish(at)
             segment.free += stride
-            name = following.to_bytes(4, "little").decode()
-            by_name[name] = f"{name},linear,0,4,{units}\n{name},total,{units},1\n"
+            names.append(following.to_bytes(4, "little").decode())
+            references.append(at)
         segment.free = min(size, segment.free + segment.room())
-    redundant = "".join(f"!redundant,{name},{LINEAR}\n" for name in sorted(by_name)).encode()
-    report = lambda: [*in_order(by_name)(), redundant]
-    return Image(segment.bytes(), report, MOST_BUCKETS * len(by_name), f"{len(by_name)} histograms")
+    return segment.bytes(), names, references
+
+
+def shared(size):
+    """Records of 16 words that begin every nine words, each with 1,000 buckets, all with one block of counts."""
+    data, names, _ = overlapping_records(size, 0)
+    units = BLOCK_COOKIE + 16
+    by_name = {name: f"{name},linear,0,4,{units}\n{name},total,{units},1\n" for name in names}
+    redundant = "".join(f"!redundant,{name},{LINEAR}\n" for name in sorted(names)).encode()
+    buckets = MOST_BUCKETS * len(names)
+    return Image(data, lambda: [*in_order(by_name)(), redundant], buckets, buckets, f"{len(names)} histograms")
+
+
+def refused(size):
+    """Records as those of `shared`, each bad by the mark of its last bucket, which is looked at last."""
+    data, _, references = overlapping_records(size, 1)
+    report = lambda: ["".join(f"!bad,{at},BadMark\n" for at in references).encode()]
+    return Image(data, report, MOST_BUCKETS * len(references), 0, f"{len(references)} bad records")
 
 
 def lines(size):
@@ -249,14 +269,15 @@ def lines(size):
     text = "".join(f"@,linear,{boundaries[i]},{boundaries[i + 1]},{count}\n" for i in range(MOST_BUCKETS))
     text += f"@,total,{units},0\n"
     report = lambda: (text.replace("@", name).encode() for name in sorted(taken))
-    return Image(segment.bytes(), report, MOST_BUCKETS * len(taken), f"{len(taken)} histograms")
+    buckets = MOST_BUCKETS * len(taken)
+    return Image(segment.bytes(), report, buckets, buckets, f"{len(taken)} histograms")
 
 
 def custom(size):
     """Custom histograms of 999 ranges, each with a packed bucket; every other one has its last range out of order."""
     segment = Segment(size)
     chance = random.Random(6)
-    by_name, bad, buckets = {}, [], 0
+    by_name, bad = {}, []
     for i, name in enumerate(names_of(size // 1000 + 1)):
         at = segment.block(15 + 1 + MOST_BUCKETS - 1, HISTOGRAM)
         if at is None:
@@ -269,11 +290,11 @@ def custom(size):
             bad.append(f"!bad,{at},BadSpec\n")
         else:
             by_name[name] = f"{name},custom,{ranges[0]},{ranges[1]},1\n{name},total,1,0\n"
-        buckets += MOST_BUCKETS
         segment.store(at + 4, *head, *ranges)
         segment.publish(at)
     report = lambda: [*in_order(by_name)(), "".join(bad).encode()]
-    return Image(segment.bytes(), report, buckets, f"{len(by_name) + len(bad)} histograms")
+    records = len(by_name) + len(bad)
+    return Image(segment.bytes(), report, MOST_BUCKETS * records, MOST_BUCKETS * len(by_name), f"{records} records")
 
 
 def overlapping_blocks(size, tag):
@@ -297,14 +318,14 @@ def overlapping_blocks(size, tag):
 def chain(size):
     """A list as long as fits, of blocks of another type that overlap, in no order."""
     data, references = overlapping_blocks(size, PURGED)
-    return Image(data, lambda: [], 0, f"{len(references)} blocks")
+    return Image(data, lambda: [], 0, 0, f"{len(references)} blocks")
 
 
 def faults(size):
-    """The same of histogram records, all of them too small."""
+    """A list as long as fits, of histogram records that overlap and are all too small, in no order."""
     data, references = overlapping_blocks(size, HISTOGRAM)
     report = lambda: ["".join(f"!bad,{at},BadKind\n" for at in references).encode()]
-    return Image(data, report, 0, f"{len(references)} bad records")
+    return Image(data, report, 0, 0, f"{len(references)} bad records")
 
 
 def samples(size):
@@ -336,7 +357,7 @@ def samples(size):
     segment.store(record + 4, SPARSE, 0, 0, 0, 0, 0, 0, 0, 0, units, 1, ord("S"))
     text = "".join(f"S,sparse,{value},{value + 1},{BLOCK_COOKIE}\n" for value in sorted(values))
     text += f"S,total,{units},0\n"
-    return Image(segment.bytes(), lambda: [text.encode()], 0, f"{number} samples")
+    return Image(segment.bytes(), lambda: [text.encode()], 0, 0, f"{number} samples")
 
 
 MIB = 131_072
@@ -349,6 +370,7 @@ LAWFUL = {
 }
 FORGED = {
     "shared": (shared, [MIB, 2 * MIB, 4 * MIB, 8 * MIB]),
+    "refused": (refused, [MIB, 2 * MIB, 4 * MIB, 8 * MIB]),
     "lines": (lines, [MIB // 32, MIB // 16, MIB // 8, MIB // 4]),
     "custom": (custom, [MIB, 2 * MIB, 4 * MIB, 8 * MIB]),
     "chain": (chain, [MIB, 2 * MIB, 4 * MIB, 8 * MIB]),

@@ -5,18 +5,22 @@
 
 For each family of images of images.py, four images are made in a scratch folder, each with about twice the words of
 the one before it. The report of each is compared with the one that it has to give. Then the built program runs over
-the four by turns, TURNS times or until SECONDS have passed, and the best time of each counts. Printed are for each
-image its words, what it holds, its load (its words and the buckets that are read in it), the most memory of a run in
-MiB, the best time in milliseconds, and the ratios of load and time to those of the image before. The time may grow
-by 2.3 where the load doubles, and in proportion where it grows otherwise.
+the four by turns, TURNS times or until SECONDS have passed, but three times at least, and the best time of each
+counts. Printed are for each image its words, what it holds, its load (its words and the buckets that are looked at),
+the most memory of a run and the memory allowed, in MiB, the best time in milliseconds, and the ratios of load and
+time to those of the image before.
+
+The time may grow by 2.3 where the load doubles, and in proportion where it grows otherwise. Allowed are 64 bytes a
+word, 32 bytes a bucket of a record that is not bad, three times the bytes of the report, and 16 MiB for the program.
 
 At last one forged image of 8 MiB with more than five GiB of report is read with no more than GIB of memory: the
 answer has to be the report or NoMemory. It is left out where families are chosen.
 
-The status is 1 where a report is another one or a time grows by more.
+The status is 1 where a report is another one, a time grows by more or a run takes more memory.
 """
 
 import argparse
+import dataclasses
 import pathlib
 import sys
 import tempfile
@@ -26,42 +30,59 @@ import images
 import runs
 
 MOST = 2.3 / 2
+MEBIBYTE = 2**20
 
 
-def check(program, image, path, gibibytes):
-    """The most memory of a run in MiB, or None where the report is another one."""
+@dataclasses.dataclass
+class Row:
+    """What is printed of an image; memory is in MiB."""
+
+    path: pathlib.Path
+    words: int
+    holds: str
+    load: int
+    peak: float
+    allowed: float
+
+
+def row_of(program, name, size, folder, gibibytes):
+    """The row of an image, or None where its report is another one."""
+    image = images.FAMILIES[name][0](size)
+    path = folder / f"{name}-{size}.img"
     path.write_bytes(image.data)
     given = runs.answered(program, path, gibibytes)
-    if given.is_report(image):
-        return given.peak / 1024
-    print(f"{path.name}: another report of {given.length} bytes, status {given.status}: {given.error}")
-    return None
+    if not given.is_report(image):
+        print(f"{path.name}: another report of {given.length} bytes, status {given.status}: {given.error}")
+        return None
+    allowed = 16 + (64 * size + 32 * image.listed + 3 * given.length) / MEBIBYTE
+    return Row(path, size, image.holds, image.load(), given.peak / 1024, allowed)
+
+
+def print_rows(rows, best):
+    """Prints the rows of a family with their times; whether no time and no memory is more than it may be."""
+    print("    words  holds                       load        MiB    allowed         ms    load x   time x")
+    is_right = True
+    for i, (row, seconds) in enumerate(zip(rows, best)):
+        text = f"{row.words:9}  {row.holds:20}  {row.load:10}  {row.peak:9.1f}  {row.allowed:9.1f}  {1000 * seconds:9.2f}"
+        wrong = "" if row.peak <= row.allowed else "  too much memory"
+        if i > 0:
+            by_load, by_time = row.load / rows[i - 1].load, seconds / best[i - 1]
+            text += f"  {by_load:8.2f} {by_time:8.2f}"
+            wrong += "" if by_time <= MOST * by_load else "  too much time"
+        is_right = is_right and not wrong
+        print(text + wrong, flush=True)
+    return is_right
 
 
 def measure(program, name, folder, chosen):
-    """Prints the growth of a family; whether each report is right and no time grows by too much."""
+    """Prints the growth of a family; whether each report is right and nothing is more than it may be."""
     make, sizes = images.FAMILIES[name]
     print(f"\n{name}: {make.__doc__.splitlines()[0]}")
-    paths, loads, peaks, holds = [], [], [], []
-    for size in sizes:
-        image = make(size)
-        paths.append(folder / f"{name}-{size}.img")
-        peaks.append(check(program, image, paths[-1], chosen.memory))
-        loads.append(image.load())
-        holds.append(image.holds)
-    if None in peaks:
+    rows = [row_of(program, name, size, folder, chosen.memory) for size in sizes]
+    if None in rows:
         return False
-    best = runs.best_by_turns([(program, path) for path in paths], chosen.turns, chosen.seconds)
-    print("    words  holds                       load       MiB         ms    load x   time x")
-    is_linear = True
-    for i, size in enumerate(sizes):
-        row = f"{size:9}  {holds[i]:20}  {loads[i]:10}  {peaks[i]:8.1f}  {1000 * best[i]:9.2f}"
-        if i > 0:
-            by_load, by_time = loads[i] / loads[i - 1], best[i] / best[i - 1]
-            is_linear = is_linear and by_time <= MOST * by_load
-            row += f"  {by_load:8.2f} {by_time:8.2f}{'' if by_time <= MOST * by_load else '  too much'}"
-        print(row, flush=True)
-    return is_linear
+    best = runs.best_by_turns([(program, row.path) for row in rows], chosen.turns, chosen.seconds)
+    return print_rows(rows, best)
 
 
 def try_without_memory(program, folder, gibibytes):
@@ -93,7 +114,7 @@ def main():
         is_right = [measure(program, name, scratch, chosen) for name in chosen.only or images.FAMILIES]
         if not chosen.only:
             is_right.append(try_without_memory(program, scratch, chosen.memory))
-    print("\neach report as it has to be, and no time grows by more than its load allows:", "yes" if all(is_right) else "no")
+    print("\neach report as it has to be, no time and no memory more than it may be:", "yes" if all(is_right) else "no")
     return 0 if all(is_right) else 1
 
 

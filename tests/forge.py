@@ -245,10 +245,10 @@ def custom_range(forge, record):
     chance = forge.chance
     if record.kind == CUSTOM:
         last = record.n - 2
-        place = chance.choice([0, last, chance.randint(0, last), chance.randint(0, last)])
+        place = chance.choice([0, last, last, chance.randint(0, last), chance.randint(0, last)])
         at = record.first_range + place
         before = forge.words[at - 1] if place > 0 else 0
-        word = chance.choice([before, before, before + 1, 0, GREATEST - 1, GREATEST, 2**32 + 1])
+        word = chance.choice([before, before, before + 1, 0, GREATEST - 1, GREATEST, GREATEST, 2**32 + 1])
         forge.store(at, word)
         if chance.random() < 0.8:
             forge.store(record.at + 5, *[word] * (place == 0))
@@ -362,7 +362,9 @@ HISTOGRAM_FAULTS = [
     linear_numbers,
     spec_past_page,
     spec_past_page,
+    spec_past_page,
     custom_count,
+    custom_range,
     custom_range,
     custom_range,
     custom_range,
@@ -373,6 +375,9 @@ HISTOGRAM_FAULTS = [
     counts_size,
     counts_header,
     count,
+    count,
+    count_and_packed,
+    count_and_packed,
     count_and_packed,
     sparse_words,
     single_word,
@@ -385,6 +390,25 @@ HISTOGRAM_FAULTS = [
     sum_difference,
     name_of_another,
 ]
+
+
+IN_ORDER = [
+    [small_block, no_kind],
+    [name_length, name_byte, name_start],
+    [spec_number, linear_numbers, custom_range],
+    [counts_reference, counts_size, counts_header, count, sparse_words],
+    [single_word, single_without_counts],
+    [single_mark, other_mark],
+    [sum_limit, sum_difference],
+]
+
+
+def neighbouring_faults(forge, record):
+    """A fault of one check and one of the next, of which the first has to be told."""
+    chance = forge.chance
+    first = chance.randrange(len(IN_ORDER) - 1)
+    for faults in IN_ORDER[first : first + 2]:
+        chance.choice(faults)(forge, record)
 
 
 def sample_fault(forge, record):
@@ -439,7 +463,7 @@ def break_header(forge):
     """Something else in one word of the header."""
     chance = forge.chance
     size, page = len(forge.words), forge.page
-    if chance.random() < 0.15:
+    if chance.random() < 0.12:
         forge.free = chance.choice([0, 15, 17, size, size + 1, 2**64 - 1])
         return
     edges = {
@@ -476,16 +500,19 @@ def image_of(chance):
         part = chance.choices([forge.histogram, forge.sample, forge.other], [6, 5, 1])[0]
         part()
     if chance.random() < 0.85 and forge.histograms:
-        for record in chance.sample(forge.histograms, min(len(forge.histograms), chance.choice([1, 2, 3, 4]))):
-            for fault in chance.sample(HISTOGRAM_FAULTS, chance.choice([1, 1, 1, 2])):
-                fault(forge, record)
-        for _ in range(chance.choice([0, 0, 1, 2]) if forge.samples else 0):
+        for record in chance.sample(forge.histograms, min(len(forge.histograms), chance.choice([1, 2, 3, 4, 5, 6]))):
+            if chance.random() < 0.3:
+                neighbouring_faults(forge, record)
+            else:
+                chance.choice(HISTOGRAM_FAULTS)(forge, record)
+        for _ in range(chance.choice([0, 1, 2, 3]) if forge.samples else 0):
             sample_fault(forge, chance.choice(forge.samples))
         if chance.random() < 0.25:
             break_list(forge)
         if chance.random() < 0.2:
             overwrite(forge)
-    if chance.random() < 0.15:
-        break_header(forge)
+    if chance.random() < 0.2:
+        for _ in range(chance.choice([1, 1, 2, 3])):
+            break_header(forge)
     data = forge.bytes()
-    return resize(data, chance) if chance.random() < 0.06 else data
+    return resize(data, chance) if chance.random() < 0.08 else data

@@ -7,7 +7,7 @@ Builds the plain program with 'c++ -O2' in a scratch folder, and runs it over th
 tests/cases/reading. Then it makes the largest image of each lawful family of images.py (with --forged of each forged
 one too), compares the reports of both programs with the one that it has to give, and runs both by turns, TURNS times.
 Printed are the best times in milliseconds and their ratio. The status is 1 where a report is another one, or where
-the longest lawful report takes more than 1.5 times as long as by the plain program.
+the longest lawful report, `largest`, takes more than 1.5 times as long as by the plain program.
 """
 
 import argparse

@@ -188,7 +188,7 @@ def linear(size):
 
 
 def largest(size):
-    """Linear histograms of 1,000 buckets with names of 128 bytes and all counts used: the longest lawful reports."""
+    """Linear histograms of 1,000 buckets with names of 128 bytes and all counts used: the longest of these reports."""
     return linear_histograms(size, [1_000_000_000, GREATEST - 1, MOST_BUCKETS], 128, 10_000)
 
 

@@ -1,107 +1,122 @@
 #!/usr/bin/env python3
-"""Measures how the time of `report` grows with the image.
+"""Measures how the time of `report` grows with the image, and what memory it takes.
 
-    report.py [PROGRAM]
+    report.py [--only FAMILY]... [--turns TURNS] [--seconds SECONDS] [--memory GIB] [PROGRAM]
 
-Makes lawful images of 1, 2, 4 and 8 MiB in a scratch folder, full of boolean histograms of 16 words each, on one
-list, whose names stand in no order. Runs the built program over each of them by turns, TURNS times, and takes the
-best time of each. Prints it in milliseconds, and as a ratio to that of the image of 1 MiB and to that of half the
-size. The status is 1 where a doubling takes more than 2.3 times, or where a report is not the one that was wanted.
+For each family of images of images.py, four images are made in a scratch folder, each with about twice the words of
+the one before it. The report of each is compared with the one that it has to give. Then the built program runs over
+the four by turns, TURNS times or until SECONDS have passed, but three times at least, and the best time of each
+counts. Printed are for each image its words, what it holds, its load (its words and the buckets that are looked at),
+the most memory of a run and the memory allowed, in MiB, the best time in milliseconds, and the ratios of load and
+time to those of the image before.
+
+The time may grow by 2.3 where the load doubles, and in proportion where it grows otherwise. Allowed are 64 bytes a
+word, 32 bytes a bucket of a record that is not bad, three times the bytes of the report, and 16 MiB for the program.
+
+At last one forged image of 8 MiB with more than five GiB of report is read with no more than GIB of memory: the
+answer has to be the report or NoMemory. It is left out where families are chosen.
+
+The status is 1 where a report is another one, a time grows by more or a run takes more memory.
 """
 
-import array
+import argparse
+import dataclasses
 import pathlib
-import random
-import subprocess
 import sys
 import tempfile
-import time
 
-HERE = pathlib.Path(__file__).resolve().parent
-PROGRAM = HERE.parent / "crates" / "persist_report" / "out" / "persist_report"
-SIZES = [131_072, 262_144, 524_288, 1_048_576]
-PAGE = 65_536
-RECORD = 16
-TURNS = 40
-MOST = 2.3
+sys.dont_write_bytecode = True
+import images
+import runs
+
+MOST = 2.3 / 2
+MEBIBYTE = 2**20
 
 
-def names_of(count):
-    """Distinct names of at most eight bytes, in no order."""
-    numbers = random.Random(1).sample(range(16**7), count)
-    return [f"h{number:x}" for number in numbers]
+@dataclasses.dataclass
+class Row:
+    """What is printed of an image; memory is in MiB."""
+
+    path: pathlib.Path
+    words: int
+    holds: str
+    load: int
+    peak: float
+    allowed: float
 
 
-def image_of(size):
-    """The words of an image full of boolean histograms, and the lines of its report."""
-    names = names_of((size - RECORD) // RECORD)
-    words = array.array("Q", bytes(8 * size))
-    words[0:9] = array.array("Q", [0x408305DC, 1, size, PAGE, 7, 1, 0, size, size - RECORD])
-    words[12:16] = array.array("Q", [4, 1, 0, 16])
-    lines = {}
-    for i, name in enumerate(names):
-        at = RECORD * (i + 1)
-        following = at + RECORD if at + RECORD < size else 12
-        bucket, units = i % 3, 1 + i % 60_000
-        single = bucket * 2**32 + units
-        text = int.from_bytes(name.encode(), "little")
-        record = [RECORD, 0xC8799269, 1, following, 2, 1, 2, 3, 0, single, 0, bucket * units, 0, units, len(name), text]
-        words[at : at + RECORD] = array.array("Q", record)
-        low, high = bucket, [1, 2, 2_147_483_647][bucket]
-        lines[name] = f"{name},boolean,{low},{high},{units}\n{name},total,{units},{bucket * units}\n"
-    if sys.byteorder == "big":
-        words.byteswap()
-    return words.tobytes(), "".join(lines[name] for name in sorted(lines)).encode()
+def row_of(program, name, size, folder, gibibytes):
+    """The row of an image, or None where its report is another one."""
+    image = images.FAMILIES[name][0](size)
+    path = folder / f"{name}-{size}.img"
+    path.write_bytes(image.data)
+    given = runs.answered(program, path, gibibytes)
+    if not given.is_report(image):
+        print(f"{path.name}: another report of {given.length} bytes, status {given.status}: {given.error}")
+        return None
+    allowed = 16 + (64 * size + 32 * image.listed + 3 * given.length) / MEBIBYTE
+    return Row(path, size, image.holds, image.load(), given.peak / 1024, allowed)
 
 
-def seconds_of(program, path):
-    start = time.perf_counter()
-    subprocess.run([program, "report", path], stdout=subprocess.DEVNULL, check=True)
-    return time.perf_counter() - start
+def print_rows(rows, best):
+    """Prints the rows of a family with their times; whether no time and no memory is more than it may be."""
+    print("    words  holds                       load        MiB    allowed         ms    load x   time x")
+    is_right = True
+    for i, (row, seconds) in enumerate(zip(rows, best)):
+        text = f"{row.words:9}  {row.holds:20}  {row.load:10}  {row.peak:9.1f}  {row.allowed:9.1f}  {1000 * seconds:9.2f}"
+        wrong = "" if row.peak <= row.allowed else "  too much memory"
+        if i > 0:
+            by_load, by_time = row.load / rows[i - 1].load, seconds / best[i - 1]
+            text += f"  {by_load:8.2f} {by_time:8.2f}"
+            wrong += "" if by_time <= MOST * by_load else "  too much time"
+        is_right = is_right and not wrong
+        print(text + wrong, flush=True)
+    return is_right
 
 
-def measure(program, folder):
-    """The best time of each size, or None where a report is wrong."""
-    paths = {}
-    for size in SIZES:
-        image, report = image_of(size)
-        paths[size] = folder / f"{size}.img"
-        paths[size].write_bytes(image)
-        given = subprocess.run([program, "report", paths[size]], capture_output=True)
-        if (given.stdout, given.stderr, given.returncode) != (report, b"", 0):
-            print(f"{size} words: another report, status {given.returncode}: {given.stderr.decode()}")
-            return None
-    best = {size: float("inf") for size in SIZES}
-    for _ in range(TURNS):
-        for size in SIZES:
-            best[size] = min(best[size], seconds_of(program, paths[size]))
-    return best
+def measure(program, name, folder, chosen):
+    """Prints the growth of a family; whether each report is right and nothing is more than it may be."""
+    make, sizes = images.FAMILIES[name]
+    print(f"\n{name}: {make.__doc__.splitlines()[0]}")
+    rows = [row_of(program, name, size, folder, chosen.memory) for size in sizes]
+    if None in rows:
+        return False
+    best = runs.best_by_turns([(program, row.path) for row in rows], chosen.turns, chosen.seconds)
+    return print_rows(rows, best)
 
 
-def main(arguments):
-    if len(arguments) > 1 or arguments[:1] in (["-h"], ["--help"]):
-        print(__doc__, file=sys.stderr)
-        return 2
-    program = pathlib.Path(arguments[0]) if arguments else PROGRAM
-    if not program.is_file():
-        print(f"{program}: no such program; 'rt run' in crates/persist_report builds it", file=sys.stderr)
+def try_without_memory(program, folder, gibibytes):
+    """Whether the image of the longest report is read, or refused for want of memory with nothing written."""
+    image = images.lines(8 * images.MIB)
+    path = folder / "longest.img"
+    path.write_bytes(image.data)
+    given = runs.answered(program, path, gibibytes)
+    is_refused = (given.length, given.error, given.status) == (0, "persist_report: NoMemory\n", 5)
+    is_right = is_refused or given.is_report(image)
+    answer = "NoMemory" if is_refused else "the report" if is_right else f"status {given.status}: {given.error}"
+    print(f"\n8 MiB, {image.holds}, {image.buckets} lines, within {gibibytes} GiB: {answer}, at most {given.peak / 1024:.0f} MiB")
+    return is_right
+
+
+def main():
+    parser = argparse.ArgumentParser(description=__doc__, formatter_class=argparse.RawDescriptionHelpFormatter)
+    parser.add_argument("--only", action="append", choices=list(images.FAMILIES), metavar="FAMILY")
+    parser.add_argument("--turns", type=int, default=40)
+    parser.add_argument("--seconds", type=float, default=20)
+    parser.add_argument("--memory", type=float, default=6)
+    parser.add_argument("program", nargs="?", type=pathlib.Path, default=runs.PROGRAM)
+    chosen = parser.parse_args()
+    program = runs.program_of(chosen.program)
+    if program is None:
         return 2
     with tempfile.TemporaryDirectory() as folder:
-        best = measure(program.resolve(), pathlib.Path(folder))
-    if best is None:
-        return 1
-    is_linear = True
-    print("  MiB  histograms       ms   to 1 MiB   to half")
-    for size in SIZES:
-        to_first = best[size] / best[SIZES[0]]
-        to_half = best[size] / best[size // 2] if size // 2 in best else None
-        is_linear = is_linear and (to_half is None or to_half <= MOST)
-        shown = "" if to_half is None else f"{to_half:10.2f}"
-        count = (size - RECORD) // RECORD
-        print(f"{8 * size // 2**20:5}  {count:10}  {1000 * best[size]:7.2f}  {to_first:9.2f}{shown}")
-    print("each doubling takes at most", MOST, "times:", "yes" if is_linear else "no")
-    return 0 if is_linear else 1
+        scratch = pathlib.Path(folder)
+        is_right = [measure(program, name, scratch, chosen) for name in chosen.only or images.FAMILIES]
+        if not chosen.only:
+            is_right.append(try_without_memory(program, scratch, chosen.memory))
+    print("\neach report as it has to be, no time and no memory more than it may be:", "yes" if all(is_right) else "no")
+    return 0 if all(is_right) else 1
 
 
 if __name__ == "__main__":
-    sys.exit(main(sys.argv[1:]))
+    sys.exit(main())

@@ -1,294 +1,387 @@
 #!/usr/bin/env python3
 """A plain slow reader of images, written apart from the program, to compare its answers with.
 
-It follows the text of the format one sentence at a time and shares nothing with the program.
+It follows the text of the format one sentence at a time and shares nothing with the program. Beside the answer it
+tells which of the format's rules came into play, so that a test can say what it has tried.
 
-    plain_reader.py [--whole] FILE      prints the report of the image, or its fault on the error stream
+    plain_reader.py report [FILE]
 
-Without --whole it reads what the program reads today: linear and boolean histograms, and neither marks nor the
-sizes of sums are checked. With --whole it reads the whole format: custom and sparse histograms too, and all checks.
+prints the report of the image, or its fault on the error stream; without FILE it reads standard input.
 """
 
+import collections
 import struct
 import sys
 
-LIMIT_BYTES = 8_388_608
+MOST_BYTES = 8_388_608
+MOST_WORDS = 1_048_576
 SEGMENT_COOKIE = 0x408305DC
 BLOCK_COOKIE = 0xC8799269
 QUEUE = 12
 GREATEST = 2_147_483_647
-UNITS = 2**32 - 1
+MOST_UNITS = 2**32 - 1
+MOST_SUM = 2**31 * MOST_UNITS
+MOST_PACKED = 65_535
 TOP = 2**63
-NOTHING_PACKED = TOP + 65_535
 KINDS = {1: "linear", 2: "boolean", 3: "custom", 4: "sparse"}
 
+RULES = """
+TooLong; NotWords
+TooShort; BadCookie; BadVersion; BadPage; BadSize, other than the words; BadSize, no whole pages; NotReady; Deleted
+BadFree; BadQueue
+a list that ends; Loop; stopped, BadRef below the first block; stopped, BadRef past the free pointer
+stopped, BadBlock of another cookie; stopped, BadBlock too small; stopped, BadBlock past the free pointer
+stopped, BadBlock in two pages
+linear; boolean; custom; sparse; a type that is passed over; a later record of a name; a lawful record after a faulty one
+BadKind of a small block; BadKind of no kind
+BadName by its length; BadName past the block; BadName by a byte; BadName by its first byte
+BadSpec of a linear; BadSpec of a boolean; BadSpec of a custom's number of buckets; BadSpec past the block
+BadSpec of ranges out of order; BadSpec of a range past the limit; BadSpec of a custom's ends; BadSpec of a sparse
+BadSpec past the page
+BadCounts, BadRef below the first block; BadCounts, BadRef past the free pointer; BadCounts, BadBlock of another cookie
+BadCounts, BadBlock too small; BadCounts, BadBlock past the free pointer; BadCounts, BadBlock in two pages
+BadCounts of another type; BadCounts of a block too small for them; BadCounts of a count; BadCounts with packed units
+BadCounts of a sparse
+BadSingle of no form; BadSingle of no bucket; BadSingle without counts
+BadMark where nothing was packed; BadMark of the packed bucket; BadMark of another bucket
+BadSum of the sum; BadSum of the mark; BadSum of the difference
+single word empty; single word packed; single word disabled after packing; single word disabled without packing
+counts beside an empty single word; counts beside packed units; units on their way; a mark on the counts that is not looked at
+a mark of another bucket; a block of counts named twice; a name of 128 bytes; a name with padding that is not zero
+a sample; a sample without units; a later sample of a value; the least value; the greatest value
+BadSample of a small block; BadSample of no value; BadSample of a count; BadSample of a mark
+BadSample of no histogram that was read; BadSample of a histogram that is not sparse
+flag corrupt; flag full; a redundant count that differs
+"""
+RULES = [rule.strip() for rule in RULES.replace("\n", ";").split(";") if rule.strip()]
 
-class Fault(Exception):
+
+class ImageFault(Exception):
     """Why there is no report of an image; its text is what the program prints behind its name."""
+
+
+class Bad(Exception):
+    """The fault of a block or a record, and the rule by which it has it."""
+
+    def __init__(self, fault, rule):
+        super().__init__(fault)
+        self.fault = fault
+        self.rule = rule
+
+
+def require(holds, fault, reason=""):
+    if not holds:
+        raise Bad(fault, f"{fault} {reason}".strip())
+
+
+def require_image(holds, fault, rule, seen):
+    if not holds:
+        seen[rule] += 1
+        raise ImageFault(fault)
 
 
 def signed(word):
     return word - 2**64 if word >= TOP else word
 
 
-def words_of(data):
-    if len(data) > LIMIT_BYTES:
-        raise Fault("TooLong")
-    if len(data) % 8:
-        raise Fault("NotWords")
+def words_of(data, seen):
+    require_image(len(data) <= MOST_BYTES, "TooLong", "TooLong", seen)
+    require_image(len(data) % 8 == 0, "NotWords", "NotWords", seen)
     return struct.unpack(f"<{len(data) // 8}Q", data)
 
 
-def check_header(words):
-    if len(words) < 16:
-        raise Fault("Image TooShort")
-    if words[0] != SEGMENT_COOKIE:
-        raise Fault("Image BadCookie")
-    if words[1] != 1:
-        raise Fault("Image BadVersion")
-    size, page = words[2], words[3]
-    if page % 16 or not 64 <= page <= 65_536:
-        raise Fault("Image BadPage")
-    if size != len(words) or size % page or size > 2**20 or size == 0:
-        raise Fault("Image BadSize")
-    if words[5] == 2:
-        raise Fault("Image Deleted")
-    if words[5] != 1:
-        raise Fault("Image NotReady")
-    if not 16 <= words[7] <= size:
-        raise Fault("Image BadFree")
-    if words[12:15] != (4, 1, 0):
-        raise Fault("Image BadQueue")
+def check_header(words, seen):
+    def wanted(holds, fault, reason=""):
+        require_image(holds, f"Image {fault}", fault + reason, seen)
+
+    wanted(len(words) >= 16, "TooShort")
+    wanted(words[0] == SEGMENT_COOKIE, "BadCookie")
+    wanted(words[1] == 1, "BadVersion")
+    size, page, state, free = words[2], words[3], words[5], words[7]
+    wanted(page % 16 == 0 and 64 <= page <= 65_536, "BadPage")
+    wanted(size == len(words) and size <= MOST_WORDS, "BadSize", ", other than the words")
+    wanted(size % page == 0, "BadSize", ", no whole pages")
+    wanted(state in (1, 2), "NotReady")
+    wanted(state == 1, "Deleted")
+    wanted(16 <= free <= size, "BadFree")
+    wanted(words[12:15] == (4, 1, 0), "BadQueue")
 
 
-def block_fault(words, reference):
-    """What is wrong with the block at a reference, or None."""
+def check_block(words, reference):
     page, free = words[3], words[7]
-    if reference < 16 or reference + 5 > free:
-        return "BadRef"
-    size, cookie = words[reference : reference + 2]
-    if cookie != BLOCK_COOKIE or size < 5 or reference + size > free:
-        return "BadBlock"
-    if reference // page != (reference + size - 1) // page:
-        return "BadBlock"
-    return None
+    require(reference >= 16, "BadRef", "below the first block")
+    require(reference + 5 <= free, "BadRef", "past the free pointer")
+    size, cookie = words[reference], words[reference + 1]
+    require(cookie == BLOCK_COOKIE, "BadBlock", "of another cookie")
+    require(size >= 5, "BadBlock", "too small")
+    require(reference + size <= free, "BadBlock", "past the free pointer")
+    require(reference // page == (reference + size - 1) // page, "BadBlock", "in two pages")
 
 
-def walk(words):
-    """The references of the list in their order, and why it stops, or None."""
-    met = []
-    known = set()
-    following = words[15]
+def walk(words, seen):
+    """The references on the list in their order, and the fault that stops it, or None."""
+    met = {}
+    following = words[QUEUE + 3]
     while following != QUEUE:
-        fault = block_fault(words, following)
-        if fault is None and following in known:
-            fault = "Loop"
-        if fault is not None:
-            return met, fault
-        met.append(following)
-        known.add(following)
+        try:
+            check_block(words, following)
+        except Bad as bad:
+            seen[f"stopped, {bad.rule}"] += 1
+            return list(met), bad.fault
+        if following in met:
+            seen["Loop"] += 1
+            return list(met), "Loop"
+        met[following] = True
         following = words[following + 3]
-    return met, None
+    seen["a list that ends"] += 1
+    return list(met), None
+
+
+def name_of(words, at, seen):
+    length = words[at + 14]
+    require(1 <= length <= 128, "BadName", "by its length")
+    taken = -(-length // 8)
+    require(15 + taken <= words[at], "BadName", "past the block")
+    whole = struct.pack(f"<{taken}Q", *words[at + 15 : at + 15 + taken])
+    name = whole[:length]
+    require(all(0x21 <= byte <= 0x7E and byte not in b',"' for byte in name), "BadName", "by a byte")
+    require(name[:1] != b"!", "BadName", "by its first byte")
+    seen["a name of 128 bytes"] += length == 128
+    seen["a name with padding that is not zero"] += any(whole[length:])
+    return name
 
 
 def linear_boundaries(least, most, n):
-    if least == 0 or not least < most <= GREATEST - 1:
+    """The boundaries of a linear spec, or None where it is unlawful."""
+    if least == 0 or most <= least or most > GREATEST - 1 or n < 3 or n > 1000 or n > most - least + 2:
         return None
-    if not 3 <= n <= 1000 or n > most - least + 2:
-        return None
-    between = []
-    for i in range(1, n):
-        # The middle of the interval from one half below to one half above is rounded up.
-        exact = 2 * (least * (n - 1 - i) + most * (i - 1)) + (n - 2)
-        between.append(exact // (2 * (n - 2)))
-    return [0] + between + [GREATEST]
+    inner = [(2 * (least * (n - 1 - i) + most * (i - 1)) + (n - 2)) // (2 * (n - 2)) for i in range(1, n)]
+    return [0, *inner, GREATEST]
 
 
-def custom_boundaries(words, first, end, n):
-    if not 2 <= n <= 1000 or first + n - 1 > end:
-        return None
-    values = list(words[first : first + n - 1])
-    if values[0] < 1 or values[-1] > GREATEST - 1:
-        return None
-    if any(a >= b for a, b in zip(values, values[1:])):
-        return None
-    return [0] + values + [GREATEST]
+def custom_boundaries(words, at, name):
+    least, most, n = words[at + 5 : at + 8]
+    require(2 <= n <= 1000, "BadSpec", "of a custom's number of buckets")
+    first = at + 15 + -(-len(name) // 8)
+    require(first + n - 1 <= at + words[at], "BadSpec", "past the block")
+    boundaries = [0, *words[first : first + n - 1]]
+    require(all(low < high for low, high in zip(boundaries, boundaries[1:])), "BadSpec", "of ranges out of order")
+    require(boundaries[-1] < GREATEST, "BadSpec", "of a range past the limit")
+    require((least, most) == (boundaries[1], boundaries[-1]), "BadSpec", "of a custom's ends")
+    return [*boundaries, GREATEST]
 
 
-def boundaries_of(words, at, name_words):
-    """The boundaries of the record's ranges, none of a sparse one, or None where its spec is unlawful."""
-    kind, least, most, n = words[at + 4 : at + 8]
-    if kind == 1:
-        found = linear_boundaries(least, most, n)
-    elif kind == 2:
-        found = linear_boundaries(1, 2, 3) if (least, most, n) == (1, 2, 3) else None
-    elif kind == 3:
-        found = custom_boundaries(words, at + 15 + name_words, at + words[at], n)
-        if found is not None and (least, most) != (found[1], found[-2]):
-            found = None
-    else:
-        found = [] if (least, most, n) == (0, 0, 0) else None
-    if found is None or 4 + 2 * n > words[3]:
-        return None
-    return found
-
-
-def name_of(words, at):
-    """The record's name and how many words it takes, or None where it is unlawful."""
-    length = words[at + 14]
-    if not 1 <= length <= 128:
-        return None
-    taken = (length + 7) // 8
-    if 15 + taken > words[at]:
-        return None
-    name = struct.pack(f"<{taken}Q", *words[at + 15 : at + 15 + taken])[:length]
-    if any(byte < 0x21 or byte > 0x7E or byte in b',"' for byte in name) or name[:1] == b"!":
-        return None
-    return name, taken
-
-
-def packed_in(single):
-    """The bucket and the units of a packed single word, or None."""
-    bucket, units = divmod(single, 2**32)
-    return (bucket, units) if single < TOP and 1 <= units <= 65_535 else None
-
-
-def single_fault(single, n, counts_at):
-    if single == 0:
-        return False
-    if single >= TOP:
-        return counts_at == 0 or not (single - TOP < n or single == NOTHING_PACKED)
-    packed = packed_in(single)
-    return packed is None or packed[0] >= n
-
-
-def mark_fault(words, at, totals, counts_at, n):
-    single, single_mark = words[at + 9], words[at + 10]
-    named = None
-    if packed_in(single):
-        named = packed_in(single)[0]
-    elif single >= TOP and single != NOTHING_PACKED:
-        named = single - TOP
-    if named is None and single_mark:
-        return True
-    if named is not None and single_mark > max(totals[named], 65_535):
-        return True
-    marks = words[counts_at + 4 + n : counts_at + 4 + 2 * n] if counts_at else [0] * n
-    return any(marks[i] > totals[i] for i in range(n) if i != named)
-
-
-def sum_fault(words, at):
-    bound = 2**31 * UNITS
-    total, mark = signed(words[at + 11]), signed(words[at + 12])
-    return any(abs(value) > bound for value in (total, mark, total - mark))
-
-
-def read_histogram(words, at, whole):
-    """What a histogram's record says, or its first fault."""
-    kind = words[at + 4]
-    if words[at] < 16 or kind not in ((1, 2, 3, 4) if whole else (1, 2)):
-        return "BadKind"
-    named = name_of(words, at)
-    if named is None:
-        return "BadName"
-    name, name_words = named
-    boundaries = boundaries_of(words, at, name_words)
-    if boundaries is None:
-        return "BadSpec"
-    counts_at, single, single_mark = words[at + 8 : at + 11]
-    totals = {}
+def boundaries_of(words, at, name):
+    """The boundaries of the record's ranges; none of a sparse one."""
+    kind, spec = words[at + 4], words[at + 5 : at + 8]
     if kind == 4:
-        if counts_at or single or single_mark:
-            return "BadCounts"
+        require(spec == (0, 0, 0), "BadSpec", "of a sparse")
+        return []
+    if kind == 3:
+        boundaries = custom_boundaries(words, at, name)
     else:
-        n = len(boundaries) - 1
-        if counts_at:
-            if block_fault(words, counts_at) or words[counts_at + 2] != 2 or words[counts_at] < 4 + 2 * n:
-                return "BadCounts"
-        totals = {i: words[counts_at + 4 + i] if counts_at else 0 for i in range(n)}
-        packed = packed_in(single)
-        if packed and packed[0] < n:
-            totals[packed[0]] += packed[1]
-        if any(total > UNITS for total in totals.values()):
-            return "BadCounts"
-        if single_fault(single, n, counts_at):
-            return "BadSingle"
-        if whole and mark_fault(words, at, totals, counts_at, n):
-            return "BadMark"
-    if whole and sum_fault(words, at):
-        return "BadSum"
-    lines = [(boundaries[i], boundaries[i + 1], totals[i]) for i in sorted(totals)]
-    return {"at": at, "name": name, "kind": kind, "lines": lines, "sum": signed(words[at + 11]), "redundant": words[at + 13]}
+        boundaries = linear_boundaries(*spec)
+        require(kind == 2 or boundaries is not None, "BadSpec", "of a linear")
+        require(kind == 1 or spec == (1, 2, 3), "BadSpec", "of a boolean")
+    require(4 + 2 * spec[2] <= words[3], "BadSpec", "past the page")
+    return boundaries
 
 
-def read_sample(words, at, by_reference):
-    """Adds a sample's record to its histogram, or answers that it is bad."""
-    if words[at] < 8:
-        return False
-    owner, value, count, mark = words[at + 4 : at + 8]
-    value = signed(value)
-    histogram = by_reference.get(owner)
-    if not -(2**31) <= value < 2**31 or count > UNITS or mark > count:
-        return False
-    if histogram is None or histogram["kind"] != 4:
-        return False
-    if all(low != value for low, _, _ in histogram["lines"]):
-        histogram["lines"].append((value, value + 1, count))
-    return True
+def check_counts_block(words, counts, n):
+    try:
+        check_block(words, counts)
+    except Bad as bad:
+        raise Bad("BadCounts", f"BadCounts, {bad.rule}") from None
+    require(words[counts + 2] == 2, "BadCounts", "of another type")
+    require(words[counts] >= 4 + 2 * n, "BadCounts", "of a block too small for them")
 
 
-def report_of(data, whole):
-    """The bytes of the report of an image; raises its Fault where there is none."""
-    words = words_of(data)
-    check_header(words)
-    references, stopped = walk(words)
-    by_name, by_reference, bad = {}, {}, []
+def packed_in(single, n):
+    """The bucket and the units that a lawful packed word has, or None."""
+    bucket, units = divmod(single, 2**32)
+    return (bucket, units) if bucket < n and 1 <= units <= MOST_PACKED else None
+
+
+def totals_of(words, at, n):
+    """The totals of the buckets, after the checks of the counts."""
+    counts = words[at + 8]
+    totals = [0] * n
+    if counts != 0:
+        check_counts_block(words, counts, n)
+        totals = list(words[counts + 4 : counts + 4 + n])
+    require(all(total <= MOST_UNITS for total in totals), "BadCounts", "of a count")
+    packed = packed_in(words[at + 9], n)
+    if packed is not None:
+        bucket, units = packed
+        totals[bucket] += units
+        require(totals[bucket] <= MOST_UNITS, "BadCounts", "with packed units")
+    return totals
+
+
+def named_bucket(words, at, n, seen):
+    """The bucket that is or was packed, or None, after the checks of the single word."""
+    counts, single = words[at + 8], words[at + 9]
+    if single == 0:
+        seen["single word empty"] += 1
+        seen["counts beside an empty single word"] += counts != 0
+        return None
+    if single < TOP:
+        bucket, units = divmod(single, 2**32)
+        require(1 <= units <= MOST_PACKED, "BadSingle", "of no form")
+        require(bucket < n, "BadSingle", "of no bucket")
+        seen["single word packed"] += 1
+        seen["counts beside packed units"] += counts != 0 and any(words[counts + 4 : counts + 4 + n])
+        return bucket
+    bucket = single - TOP
+    require(bucket <= 65_535, "BadSingle", "of no form")
+    require(bucket == 65_535 or bucket < n, "BadSingle", "of no bucket")
+    require(counts != 0, "BadSingle", "without counts")
+    seen[f"single word disabled {'without' if bucket == 65_535 else 'after'} packing"] += 1
+    return None if bucket == 65_535 else bucket
+
+
+def check_marks(words, at, totals, named, seen):
+    counts, single_mark = words[at + 8], words[at + 10]
+    require(named is not None or single_mark == 0, "BadMark", "where nothing was packed")
+    if named is not None:
+        require(single_mark <= max(totals[named], MOST_PACKED), "BadMark", "of the packed bucket")
+        seen["units on their way"] += single_mark > totals[named]
+    if counts != 0:
+        first = counts + 4 + len(totals)
+        for bucket, total in enumerate(totals):
+            mark = words[first + bucket]
+            if bucket == named:
+                seen["a mark on the counts that is not looked at"] += mark > total
+            else:
+                require(mark <= total, "BadMark", "of another bucket")
+                seen["a mark of another bucket"] += mark > 0
+
+
+def check_sum(words, at):
+    total, mark = signed(words[at + 11]), signed(words[at + 12])
+    require(abs(total) <= MOST_SUM, "BadSum", "of the sum")
+    require(abs(mark) <= MOST_SUM, "BadSum", "of the mark")
+    require(abs(total - mark) <= MOST_SUM, "BadSum", "of the difference")
+
+
+def read_histogram(words, at, seen):
+    """What a histogram's record says; raises its first fault."""
+    kind = words[at + 4]
+    require(words[at] >= 16, "BadKind", "of a small block")
+    require(kind in KINDS, "BadKind", "of no kind")
+    name = name_of(words, at, seen)
+    boundaries = boundaries_of(words, at, name)
+    if kind == 4:
+        require(words[at + 8 : at + 11] == (0, 0, 0), "BadCounts", "of a sparse")
+        buckets = {}
+    else:
+        totals = totals_of(words, at, len(boundaries) - 1)
+        named = named_bucket(words, at, len(totals), seen)
+        check_marks(words, at, totals, named, seen)
+        buckets = {low: (high, total) for low, high, total in zip(boundaries, boundaries[1:], totals)}
+    check_sum(words, at)
+    return {"name": name, "kind": kind, "buckets": buckets, "sum": signed(words[at + 11]), "redundant": words[at + 13]}
+
+
+def read_sample(words, at, read_at, seen):
+    """Adds a sample to its histogram; raises its fault. `read_at` has the histograms that were read, by reference."""
+    require(words[at] >= 8, "BadSample", "of a small block")
+    owner, value, count, mark = words[at + 4], signed(words[at + 5]), words[at + 6], words[at + 7]
+    require(-(2**31) <= value < 2**31, "BadSample", "of no value")
+    require(count <= MOST_UNITS, "BadSample", "of a count")
+    require(mark <= count, "BadSample", "of a mark")
+    require(owner in read_at, "BadSample", "of no histogram that was read")
+    histogram = read_at[owner]
+    require(histogram["kind"] == 4, "BadSample", "of a histogram that is not sparse")
+    if value in histogram["buckets"]:
+        seen["a later sample of a value"] += 1
+        return
+    histogram["buckets"][value] = (value + 1, count)
+    seen["a sample"] += 1
+    seen["a sample without units"] += count == 0
+    seen["the least value"] += value == -(2**31)
+    seen["the greatest value"] += value == 2**31 - 1
+
+
+def read_records(words, references, seen):
+    """The histograms by their names, and the bad records with their faults in the order of the list."""
+    by_name, read_at, bad_records = {}, {}, []
+    bad_names, counts_named = set(), set()
     for at in references:
-        tag = words[at + 2]
-        if tag == 1:
-            found = read_histogram(words, at, whole)
-            if isinstance(found, str):
-                bad.append((at, found))
-            elif found["name"] not in by_name:
-                by_name[found["name"]] = by_reference[at] = found
-        elif tag == 3 and whole and not read_sample(words, at, by_reference):
-            bad.append((at, "BadSample"))
-    text, redundant = [], []
+        try:
+            if words[at + 2] == 1:
+                found = read_histogram(words, at, seen)
+                if found["name"] in by_name:
+                    seen["a later record of a name"] += 1
+                else:
+                    by_name[found["name"]] = read_at[at] = found
+                    seen[KINDS[found["kind"]]] += 1
+                    seen["a lawful record after a faulty one"] += found["name"] in bad_names
+                seen["a block of counts named twice"] += words[at + 8] in counts_named
+                counts_named.update(words[at + 8 : at + 9] if words[at + 8] else ())
+            elif words[at + 2] == 3:
+                read_sample(words, at, read_at, seen)
+            else:
+                seen["a type that is passed over"] += 1
+        except Bad as bad:
+            seen[bad.rule] += 1
+            bad_records.append((at, bad.fault))
+            bad_names.update(lawful_name(words, at))
+    return by_name, bad_records
+
+
+def lawful_name(words, at):
+    """The name of a record in a list, which is empty where the record has none."""
+    try:
+        return [name_of(words, at, collections.Counter())] if words[at + 2] == 1 and words[at] >= 16 else []
+    except Bad:
+        return []
+
+
+def report_of(data, seen):
+    """The bytes of the report of an image; raises its fault where there is none."""
+    words = words_of(data, seen)
+    check_header(words, seen)
+    references, stopped = walk(words, seen)
+    by_name, bad_records = read_records(words, references, seen)
+    lines, redundant = [], []
     for name in sorted(by_name):
         histogram = by_name[name]
         shown = name.decode()
         units = 0
-        for low, high, count in sorted(histogram["lines"]):
+        for low in sorted(histogram["buckets"]):
+            high, count = histogram["buckets"][low]
             units += count
-            if count:
-                text.append(f"{shown},{KINDS[histogram['kind']]},{low},{high},{count}")
-        text.append(f"{shown},total,{units},{histogram['sum']}")
+            if count != 0:
+                lines.append(f"{shown},{KINDS[histogram['kind']]},{low},{high},{count}")
+        lines.append(f"{shown},total,{units},{histogram['sum']}")
         if histogram["redundant"] != units:
             redundant.append(f"!redundant,{shown},{histogram['redundant']}")
-    text += ["!flag,corrupt"] if words[6] & 1 else []
-    text += ["!flag,full"] if words[6] & 2 else []
-    text += redundant
-    text += [f"!bad,{at},{fault}" for at, fault in bad]
-    text += [f"!stopped,{stopped}"] if stopped else []
-    return "".join(line + "\n" for line in text).encode()
+    for bit, flag in ((1, "corrupt"), (2, "full")):
+        if words[6] & bit:
+            lines.append(f"!flag,{flag}")
+            seen[f"flag {flag}"] += 1
+    seen["a redundant count that differs"] += len(redundant)
+    lines += redundant
+    lines += [f"!bad,{at},{fault}" for at, fault in bad_records]
+    lines += [f"!stopped,{stopped}"] if stopped else []
+    return "".join(line + "\n" for line in lines).encode()
 
 
-def answer(data, whole):
-    """What a program that reads the image writes to its two streams, and its status."""
+def answer(data, seen=None):
+    """What a program writes to its two streams, and its status. `seen` counts how often each rule came into play."""
     try:
-        return report_of(data, whole), b"", 0
-    except Fault as fault:
+        return report_of(data, collections.Counter() if seen is None else seen), b"", 0
+    except ImageFault as fault:
         return b"", f"persist_report: {fault}\n".encode(), 3
 
 
 def main(arguments):
-    whole = "--whole" in arguments
-    paths = [word for word in arguments if word != "--whole"]
-    if len(paths) != 1:
+    if arguments[:1] != ["report"] or len(arguments) > 2:
         print(__doc__, file=sys.stderr)
         return 2
-    with open(paths[0], "rb") as file:
-        output, error, status = answer(file.read(), whole)
+    with open(arguments[1], "rb") if arguments[1:] else sys.stdin.buffer as file:
+        output, error, status = answer(file.read())
     sys.stdout.buffer.write(output)
     sys.stderr.buffer.write(error)
     return status

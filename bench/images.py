@@ -1,0 +1,380 @@
+"""Families of images that grow, each with the report that it has to give.
+
+A family is a function of a number of words; it gives an `Image`. LAWFUL has those that a segment can become, FORGED
+those that somebody made to keep a reader busy.
+"""
+
+import array
+import dataclasses
+import random
+import sys
+from collections.abc import Callable, Iterable
+
+PAGE = 65_536
+QUEUE = 12
+FIRST = 16
+SEGMENT_COOKIE = 0x408305DC
+BLOCK_COOKIE = 0xC8799269
+WASTED = 2**64 - 1
+PURGED, HISTOGRAM, COUNTS, SAMPLE = 0, 1, 2, 3
+LINEAR, BOOLEAN, CUSTOM, SPARSE = 1, 2, 3, 4
+NOTHING_PACKED = 2**63 + 65_535
+GREATEST = 2_147_483_647
+MOST_BUCKETS = 1000
+
+
+@dataclasses.dataclass
+class Image:
+    """The bytes of an image, the pieces of its report, and what it holds.
+
+    `buckets` are those that are looked at, `listed` those of them that the reading has, as no bad record's are.
+    """
+
+    data: bytes
+    report: Callable[[], Iterable[bytes]]
+    buckets: int
+    listed: int
+    holds: str
+
+    def load(self):
+        """What the time of a reading is held against."""
+        return len(self.data) // 8 + self.buckets
+
+
+class Segment:
+    """The words of a segment, claimed from the front, and its list."""
+
+    def __init__(self, size):
+        self.page = min(PAGE, size)
+        self.words = array.array("Q", bytes(8 * size))
+        self.free = FIRST
+        self.tail = QUEUE
+        self.store(0, SEGMENT_COOKIE, 1, size, self.page, 7, 1)
+        self.store(QUEUE, 4, 1, 0, QUEUE)
+
+    def store(self, at, *words):
+        self.words[at : at + len(words)] = array.array("Q", words)
+
+    def room(self):
+        return self.page - self.free % self.page
+
+    def block(self, size, tag):
+        """A new block, or None where it does not fit."""
+        if size > self.room() and self.free + self.room() < len(self.words):
+            self.store(self.free, self.room(), WASTED)
+            self.free += self.room()
+        if size > self.room() or self.free + size > len(self.words):
+            return None
+        claimed = self.room() if self.room() - size < 5 else size
+        at = self.free
+        self.store(at, claimed, BLOCK_COOKIE, tag)
+        self.free += claimed
+        return at
+
+    def publish(self, at):
+        self.words[self.tail + 3] = at
+        self.words[at + 3] = QUEUE
+        self.tail = at
+
+    def bytes(self):
+        self.store(7, self.free, self.tail)
+        words = self.words[:]
+        if sys.byteorder == "big":
+            words.byteswap()
+        return words.tobytes()
+
+
+def names_of(count, length=8):
+    """Distinct names of at most eight bytes, or of just `length` where that is more, in no order."""
+    numbers = random.Random(1).sample(range(16**7), count)
+    return [f"h{number:x}".ljust(length if length > 8 else 0, "x") for number in numbers]
+
+
+def words_of(name):
+    data = name.encode()
+    return [int.from_bytes(data[i : i + 8], "little") for i in range(0, len(data), 8)]
+
+
+def linear_boundaries(least, most, n):
+    inner = [(2 * (least * (n - 1 - i) + most * (i - 1)) + (n - 2)) // (2 * (n - 2)) for i in range(1, n)]
+    return [0, *inner, GREATEST]
+
+
+def in_order(by_name):
+    """The pieces of a report, from the text of each name."""
+    return lambda: (by_name[name].encode() for name in sorted(by_name))
+
+
+def boolean_histograms(size, names):
+    """As many boolean histograms as fit, each with a packed bucket."""
+    segment = Segment(size)
+    by_name = {}
+    for i, name in enumerate(names):
+        name_words = words_of(name)
+        at = segment.block(15 + len(name_words), HISTOGRAM)
+        if at is None:
+            break
+        bucket, units = i % 3, 1 + i % 60_000
+        single = bucket * 2**32 + units
+        segment.store(at + 4, BOOLEAN, 1, 2, 3, 0, single, 0, bucket * units, 0, units, len(name), *name_words)
+        segment.publish(at)
+        low, high = bucket, [1, 2, GREATEST][bucket]
+        by_name[name] = f"{name},boolean,{low},{high},{units}\n{name},total,{units},{bucket * units}\n"
+    return Image(segment.bytes(), in_order(by_name), 3 * len(by_name), 3 * len(by_name), f"{len(by_name)} histograms")
+
+
+def boolean(size):
+    """Boolean histograms of 16 words, each with a packed bucket, whose names stand in no order."""
+    return boolean_histograms(size, names_of(size // 16))
+
+
+def alike(size):
+    """Boolean histograms of 31 words, whose names differ in the last eight of their 128 bytes alone."""
+    numbers = random.Random(9).sample(range(10**8), size // 31)
+    return boolean_histograms(size, [f"{'n' * 120}{number:08}" for number in numbers])
+
+
+def sparse(size):
+    """One sparse histogram and as many samples as fit, whose values stand in no order."""
+    segment = Segment(size)
+    chance = random.Random(2)
+    record = segment.block(16, HISTOGRAM)
+    segment.publish(record)
+    lines, units, total = [], 0, 0
+    for value in chance.sample(range(-(2**31), 2**31), size // 8):
+        at = segment.block(8, SAMPLE)
+        if at is None:
+            break
+        count = chance.randrange(1, 32_768)
+        segment.store(at + 4, record, value % 2**64, count, 0)
+        segment.publish(at)
+        lines.append((value, f"S,sparse,{value},{value + 1},{count}\n"))
+        units += count
+        total += value * count
+    segment.store(record + 4, SPARSE, 0, 0, 0, 0, 0, 0, total % 2**64, 0, units, 1, ord("S"))
+    text = "".join(line for _, line in sorted(lines)) + f"S,total,{units},{total}\n"
+    return Image(segment.bytes(), lambda: [text.encode()], 0, 0, f"{len(lines)} samples")
+
+
+def linear_histograms(size, spec, name_length, most_count):
+    """As many linear histograms as fit, with all counts used and names in no order."""
+    n = spec[2]
+    boundaries = linear_boundaries(*spec)
+    segment = Segment(size)
+    chance = random.Random(3)
+    by_name = {}
+    for name in names_of(size // (2 * n), name_length):
+        name_words = words_of(name)
+        at = segment.block(15 + len(name_words), HISTOGRAM)
+        counts_at = segment.block(4 + 2 * n, COUNTS) if at is not None else None
+        if counts_at is None:
+            break
+        counts = [chance.randrange(1, most_count) for _ in range(n)]
+        units = sum(counts)
+        total = sum(low * count for low, count in zip(boundaries, counts))
+        record = [LINEAR, *spec, counts_at, NOTHING_PACKED, 0, total, 0, units, len(name), *name_words]
+        segment.store(at + 4, *record)
+        segment.store(counts_at + 4, *counts)
+        segment.publish(at)
+        lines = [f"{name},linear,{boundaries[i]},{boundaries[i + 1]},{count}\n" for i, count in enumerate(counts)]
+        by_name[name] = "".join(lines) + f"{name},total,{units},{total}\n"
+    buckets = n * len(by_name)
+    return Image(segment.bytes(), in_order(by_name), buckets, buckets, f"{len(by_name)} histograms")
+
+
+def linear(size):
+    """Linear histograms of 30 buckets, each with its own block of counts, all of them used."""
+    return linear_histograms(size, [1, 10_000, 30], 8, 16_000)
+
+
+def largest(size):
+    """Linear histograms of 1,000 buckets with names of 128 bytes and all counts used: the longest of these reports."""
+    return linear_histograms(size, [1_000_000_000, GREATEST - 1, MOST_BUCKETS], 128, 10_000)
+
+
+def distinct_limits(count):
+    """Distinct maxima of linear specs whose four bytes are a lawful name, in no order."""
+    lawful = [byte for byte in range(0x23, 0x7F) if byte != ord(",")]
+    numbers = random.Random(4).sample(range(len(lawful) ** 4), count)
+    side = len(lawful)
+    places = [side**3, side**2, side, 1]
+    return [int.from_bytes(bytes(lawful[number // place % side] for place in places), "little") for number in numbers]
+
+
+def overlapping_records(size, last_mark):
+    """Records of 16 words that begin every nine words, each with 1,000 buckets, all with one block of counts.
+
+    The single word of each is the size of the next, 16 packed units of bucket 0; its single mark is the next one's
+    cookie, which the count of bucket 0 allows; its sum is the next one's type, its sum mark the next one's next and
+    its redundant count the next one's kind; the length of its name is the next one's minimum, 4; and its name is
+    the next one's maximum. Answers the bytes, the names and the references.
+    """
+    stride, overlap = 9, 16
+    segment = Segment(size)
+    counts_at = segment.block(4 + 2 * MOST_BUCKETS, COUNTS)
+    segment.words[counts_at + 4] = BLOCK_COOKIE
+    segment.words[counts_at + 4 + 2 * MOST_BUCKETS - 1] = last_mark
+    limits = distinct_limits(size // stride)
+    names, references = [], []
+    while segment.free < size:
+        fitting = (segment.room() - overlap) // stride + 1
+        for _ in range(fitting):
+            at = segment.free
+            most, following = limits[len(names) : len(names) + 2]
+            segment.store(at, overlap, BLOCK_COOKIE, HISTOGRAM, QUEUE, LINEAR, 4, most, MOST_BUCKETS, counts_at)
+            segment.store(at + 9, overlap, BLOCK_COOKIE, HISTOGRAM, 0, LINEAR, 4, following)
+            segment.publish(at)
+            segment.free += stride
+            names.append(following.to_bytes(4, "little").decode())
+            references.append(at)
+        segment.free = min(size, segment.free + segment.room())
+    return segment.bytes(), names, references
+
+
+def shared(size):
+    """Records of 16 words that begin every nine words, each with 1,000 buckets, all with one block of counts."""
+    data, names, _ = overlapping_records(size, 0)
+    units = BLOCK_COOKIE + 16
+    by_name = {name: f"{name},linear,0,4,{units}\n{name},total,{units},1\n" for name in names}
+    redundant = "".join(f"!redundant,{name},{LINEAR}\n" for name in sorted(names)).encode()
+    buckets = MOST_BUCKETS * len(names)
+    return Image(data, lambda: [*in_order(by_name)(), redundant], buckets, buckets, f"{len(names)} histograms")
+
+
+def refused(size):
+    """Records as those of `shared`, each bad by the mark of its last bucket, which is looked at last."""
+    data, _, references = overlapping_records(size, 1)
+    report = lambda: ["".join(f"!bad,{at},BadMark\n" for at in references).encode()]
+    return Image(data, report, MOST_BUCKETS * len(references), 0, f"{len(references)} bad records")
+
+
+def lines(size):
+    """Linear histograms of 1,000 buckets with names of 128 bytes, and one block of counts, all of them used."""
+    spec = [1_000_000_000, GREATEST - 1, MOST_BUCKETS]
+    boundaries = linear_boundaries(*spec)
+    count = 4_000_000_000
+    units = count * MOST_BUCKETS
+    segment = Segment(size)
+    counts_at = segment.block(4 + 2 * MOST_BUCKETS, COUNTS)
+    segment.store(counts_at + 4, *[count] * MOST_BUCKETS)
+    taken = []
+    for name in names_of(size // 31, 128):
+        at = segment.block(31, HISTOGRAM)
+        if at is None:
+            break
+        record = [LINEAR, *spec, counts_at, NOTHING_PACKED, 0, 0, 0, units, len(name), *words_of(name)]
+        segment.store(at + 4, *record)
+        segment.publish(at)
+        taken.append(name)
+    text = "".join(f"@,linear,{boundaries[i]},{boundaries[i + 1]},{count}\n" for i in range(MOST_BUCKETS))
+    text += f"@,total,{units},0\n"
+    report = lambda: (text.replace("@", name).encode() for name in sorted(taken))
+    buckets = MOST_BUCKETS * len(taken)
+    return Image(segment.bytes(), report, buckets, buckets, f"{len(taken)} histograms")
+
+
+def custom(size):
+    """Custom histograms of 999 ranges, each with a packed bucket; every other one has its last range out of order."""
+    segment = Segment(size)
+    chance = random.Random(6)
+    by_name, bad = {}, []
+    for i, name in enumerate(names_of(size // 1000 + 1)):
+        at = segment.block(15 + 1 + MOST_BUCKETS - 1, HISTOGRAM)
+        if at is None:
+            break
+        ranges = sorted(chance.sample(range(1, GREATEST), MOST_BUCKETS - 1))
+        single = 2**32 + 1
+        head = [CUSTOM, ranges[0], ranges[-1], MOST_BUCKETS, 0, single, 0, 0, 0, 1, len(name), *words_of(name)]
+        if i % 2 == 1:
+            ranges[-1] = ranges[-2]
+            bad.append(f"!bad,{at},BadSpec\n")
+        else:
+            by_name[name] = f"{name},custom,{ranges[0]},{ranges[1]},1\n{name},total,1,0\n"
+        segment.store(at + 4, *head, *ranges)
+        segment.publish(at)
+    report = lambda: [*in_order(by_name)(), "".join(bad).encode()]
+    records = len(by_name) + len(bad)
+    return Image(segment.bytes(), report, MOST_BUCKETS * records, MOST_BUCKETS * len(by_name), f"{records} records")
+
+
+def overlapping_blocks(size, tag):
+    """Blocks of five words that begin every four words, on one list that goes through them in no order."""
+    segment = Segment(size)
+    references = []
+    for page in range(0, size, segment.page):
+        first = max(page, FIRST)
+        references += range(first, page + segment.page - 4, 4)
+    random.Random(7).shuffle(references)
+    for at in references:
+        segment.store(at, 5, BLOCK_COOKIE, tag)
+        segment.publish(at)
+    for at in range(segment.page, size + 1, segment.page):
+        if segment.words[at - 4] == 0:
+            segment.words[at - 4] = 5
+    segment.free = size
+    return segment.bytes(), references
+
+
+def chain(size):
+    """A list as long as fits, of blocks of another type that overlap, in no order."""
+    data, references = overlapping_blocks(size, PURGED)
+    return Image(data, lambda: [], 0, 0, f"{len(references)} blocks")
+
+
+def faults(size):
+    """A list as long as fits, of histogram records that overlap and are all too small, in no order."""
+    data, references = overlapping_blocks(size, HISTOGRAM)
+    report = lambda: ["".join(f"!bad,{at},BadKind\n" for at in references).encode()]
+    return Image(data, report, 0, 0, f"{len(references)} bad records")
+
+
+def samples(size):
+    """Samples that begin every five words, so that the size of each is the value of the one before it.
+
+    The cookie of each is the count of the one before it, and its type the mark. There are not as many sizes as
+    blocks, so most values come again and again, in no order.
+    """
+    stride, smallest = 5, 8
+    segment = Segment(size)
+    chance = random.Random(8)
+    record = segment.block(16, HISTOGRAM)
+    segment.publish(record)
+    values, number = set(), 0
+    while segment.free < size:
+        fitting = (segment.room() - smallest) // stride + 1
+        for _ in range(fitting):
+            at = segment.free
+            following = at + stride
+            rest = segment.page - following % segment.page
+            value = chance.randrange(smallest, rest + 1) if rest >= smallest else 1
+            segment.store(at, segment.words[at] or smallest, BLOCK_COOKIE, SAMPLE, QUEUE, record, value, BLOCK_COOKIE, SAMPLE)
+            segment.publish(at)
+            segment.free += stride
+            values.add(value)
+            number += 1
+        segment.free = min(size, segment.free + segment.room())
+    units = len(values) * BLOCK_COOKIE
+    segment.store(record + 4, SPARSE, 0, 0, 0, 0, 0, 0, 0, 0, units, 1, ord("S"))
+    text = "".join(f"S,sparse,{value},{value + 1},{BLOCK_COOKIE}\n" for value in sorted(values))
+    text += f"S,total,{units},0\n"
+    return Image(segment.bytes(), lambda: [text.encode()], 0, 0, f"{number} samples")
+
+
+MIB = 131_072
+LAWFUL = {
+    "boolean": (boolean, [MIB, 2 * MIB, 4 * MIB, 8 * MIB]),
+    "alike": (alike, [MIB, 2 * MIB, 4 * MIB, 8 * MIB]),
+    "sparse": (sparse, [MIB, 2 * MIB, 4 * MIB, 8 * MIB]),
+    "linear": (linear, [MIB, 2 * MIB, 4 * MIB, 8 * MIB]),
+    "largest": (largest, [MIB, 2 * MIB, 4 * MIB, 8 * MIB]),
+}
+FORGED = {
+    "shared": (shared, [MIB, 2 * MIB, 4 * MIB, 8 * MIB]),
+    "refused": (refused, [MIB, 2 * MIB, 4 * MIB, 8 * MIB]),
+    "lines": (lines, [MIB // 32, MIB // 16, MIB // 8, MIB // 4]),
+    "custom": (custom, [MIB, 2 * MIB, 4 * MIB, 8 * MIB]),
+    "chain": (chain, [MIB, 2 * MIB, 4 * MIB, 8 * MIB]),
+    "faults": (faults, [MIB, 2 * MIB, 4 * MIB, 8 * MIB]),
+    "samples": (samples, [MIB, 2 * MIB, 4 * MIB, 8 * MIB]),
+}
+FAMILIES = {**LAWFUL, **FORGED}

@@ -1,0 +1,38 @@
+#!/usr/bin/env python3
+"""Runs a command with a limit on its memory and tells what it took.
+
+    peak.py GIB COMMAND WORD..
+
+The streams are the command's. Behind all that the command writes on the error stream there is one more line, with its
+status (of a signal, the number with a minus; after ten minutes it is killed) and the most memory that it had, in
+KiB. It is a program of its own since a command seems to have had at least the memory of the process that started it.
+"""
+
+import resource
+import signal
+import subprocess
+import sys
+
+MOST_SECONDS = 600
+
+
+def main(arguments):
+    if len(arguments) < 2:
+        print(__doc__, file=sys.stderr)
+        return 2
+    limit = int(float(arguments[0]) * 2**30)
+
+    def limited():
+        resource.setrlimit(resource.RLIMIT_AS, (limit, limit))
+
+    try:
+        status = subprocess.run(arguments[1:], preexec_fn=limited, timeout=MOST_SECONDS).returncode
+    except subprocess.TimeoutExpired:
+        status = -signal.SIGKILL
+    peak = resource.getrusage(resource.RUSAGE_CHILDREN).ru_maxrss
+    print(status, peak, file=sys.stderr)
+    return 0
+
+
+if __name__ == "__main__":
+    sys.exit(main(sys.argv[1:]))

@@ -1,0 +1,78 @@
+"""Runs of a program over images: what it answers, what memory it takes, and how long it needs."""
+
+import dataclasses
+import pathlib
+import subprocess
+import sys
+import threading
+import time
+import zlib
+
+HERE = pathlib.Path(__file__).resolve().parent
+PROGRAM = HERE.parent / "crates" / "persist_report" / "out" / "persist_report"
+PIECE = 2**20
+
+
+@dataclasses.dataclass
+class Answer:
+    """How many bytes a program wrote and their checksum, its error stream, its status and its most memory in KiB."""
+
+    length: int
+    checksum: int
+    error: str
+    status: int
+    peak: int
+
+    def is_report(self, image):
+        """Whether this is the report of the image and nothing else."""
+        return (self.length, self.checksum, self.error, self.status) == (*summary(image.report()), "", 0)
+
+
+def summary(pieces):
+    """The length and the checksum of bytes that come in pieces."""
+    length = checksum = 0
+    for piece in pieces:
+        length += len(piece)
+        checksum = zlib.crc32(piece, checksum)
+    return length, checksum
+
+
+def answered(program, path, gibibytes):
+    """What the program answers to 'report PATH' with so much memory."""
+    command = [sys.executable, HERE / "peak.py", str(gibibytes), program, "report", path]
+    with subprocess.Popen(command, stdout=subprocess.PIPE, stderr=subprocess.PIPE) as running:
+        errors = []
+        taking = threading.Thread(target=lambda: errors.append(running.stderr.read()))
+        taking.start()
+        length, checksum = summary(iter(lambda: running.stdout.read(PIECE), b""))
+        taking.join()
+    error = errors[0].decode(errors="replace")
+    *before, last = error.splitlines(keepends=True)
+    status, peak = map(int, last.split())
+    return Answer(length, checksum, "".join(before), status, peak)
+
+
+def seconds_of(program, path):
+    start = time.perf_counter()
+    subprocess.run([program, "report", path], stdout=subprocess.DEVNULL, check=True)
+    return time.perf_counter() - start
+
+
+def best_by_turns(runs, most_turns, most_seconds):
+    """The best time of each of some runs, which are pairs of program and image, by turns: three turns at least."""
+    best = [float("inf")] * len(runs)
+    end = time.perf_counter() + most_seconds
+    for turn in range(most_turns):
+        if turn >= 3 and time.perf_counter() > end:
+            break
+        for i, (program, path) in enumerate(runs):
+            best[i] = min(best[i], seconds_of(program, path))
+    return best
+
+
+def program_of(path):
+    """The program at a path as a command, or None, after it said that there is none."""
+    if not path.is_file():
+        print(f"{path}: no such program; 'rt run' in crates/persist_report builds it", file=sys.stderr)
+        return None
+    return path.resolve()

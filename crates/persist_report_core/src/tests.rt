@@ -90,6 +90,71 @@ const B_THEN_A: [(usize, u64); 14] = [
     (47, 65),
 ];
 
+// A linear histogram `L` from 1 to 10 with five buckets, and one sample 10.
+const LINEAR_SAMPLE: [(usize, u64); 8] = [
+    (20, 1),
+    (21, 1),
+    (22, 10),
+    (23, 5),
+    (25, (4 << 32) + 1),
+    (27, 10),
+    (29, 1),
+    (31, 76),
+];
+
+// A custom histogram `C` with the ranges 3 and 10, and two samples 3.
+const CUSTOM_SAMPLES: [(usize, u64); 12] = [
+    (7, 34),
+    (16, 18),
+    (20, 3),
+    (21, 3),
+    (22, 10),
+    (23, 3),
+    (25, (1 << 32) + 2),
+    (27, 6),
+    (29, 2),
+    (31, 67),
+    (32, 3),
+    (33, 10),
+];
+
+// A sparse histogram `S` with two samples -5 and one sample 7.
+const SPARSE_SAMPLES: [(usize, u64); 22] = [
+    (7, 48),
+    (8, 40),
+    (19, 32),
+    (20, 4),
+    (21, 0),
+    (22, 0),
+    (23, 0),
+    (27, u64::MAX - 2),
+    (29, 3),
+    (31, 83),
+    (32, 8),
+    (33, COOKIE),
+    (34, 3),
+    (35, 40),
+    (36, 16),
+    (37, u64::MAX - 4),
+    (38, 2),
+    (40, 8),
+    (41, COOKIE),
+    (42, 3),
+    (43, 12),
+    (44, 16),
+];
+
+// A sample of the boolean histogram.
+const BAD_SAMPLE: [(usize, u64); 7] = [
+    (7, 40),
+    (19, 32),
+    (32, 8),
+    (33, COOKIE),
+    (34, 3),
+    (35, 12),
+    (36, 16),
+];
+
 fn report_of(alloc: Global, image: &[u8]) -> Result<Vec<u8>, CliFault> {
     let mut reader = Watched::new(image);
     let mut writer = Watched::new(Vec::new(alloc));
@@ -118,6 +183,30 @@ fn texts(rt: HostRuntime) -> Result<(), Fail> {
         (&[(15, 13)], b"!stopped,BadRef\n"),
         (&[(15, 32)], b"!stopped,BadRef\n"),
         (&[(17, 0)], b"!stopped,BadBlock\n"),
+    ];
+    for (changes, expected) in cases {
+        let image = image_with(alloc, changes)?;
+        let text = report_of(alloc, &image)?;
+        assert_eq!(rt; text.as_slice(), expected, "with the words {changes:?}");
+    }
+    Ok(())
+}
+
+#[test]
+fn kinds(rt: HostRuntime) -> Result<(), Fail> {
+    let alloc = rt.alloc();
+    let mut sparse = Vec::from_slice(alloc, &SPARSE_SAMPLES)?;
+    sparse.extend_from_slice(&[(45, 7), (46, 1)])?;
+    let mut race = Vec::from_slice(alloc, &SPARSE_SAMPLES)?;
+    race.extend_from_slice(&[(45, u64::MAX - 4), (27, u64::MAX - 9), (29, 2)])?;
+    let cases: [(&[(usize, u64)], &[u8]); 7] = [
+        (&LINEAR_SAMPLE, b"L,linear,10,2147483647,1\nL,total,1,10\n"),
+        (&CUSTOM_SAMPLES, b"C,custom,3,10,2\nC,total,2,6\n"),
+        (&sparse, b"S,sparse,-5,-4,2\nS,sparse,7,8,1\nS,total,3,-3\n"),
+        (&race, b"S,sparse,-5,-4,2\nS,total,2,-10\n"),
+        (&[(26, 1)], b"!bad,16,BadMark\n"),
+        (&[(27, (1 << 63) - 1)], b"!bad,16,BadSum\n"),
+        (&BAD_SAMPLE, b"A,total,0,0\n!bad,32,BadSample\n"),
     ];
     for (changes, expected) in cases {
         let image = image_with(alloc, changes)?;

@@ -11,7 +11,7 @@ use Rattle.std.proofs.lemmas.Map.Steps.{length-le_from_distinct_below}
 use Rattle.segment_image.specs.declared.fault.ImageFault.{ImageFault}
 use Rattle.segment_image.specs.declared.fault.ImageFault.TheVariants.{BadRef, BadBlock, Loop}
 use Rattle.segment_image.specs.Checks.{first_fault}
-use Rattle.segment_image.specs.Blocks.{is_placed, is_claimed}
+use Rattle.segment_image.specs.Blocks.{field_at, is_placed, is_claimed}
 use Rattle.segment_image.specs.declared.head.SegmentHead.{SegmentHead}
 use Rattle.bucket_ranges.specs.Reading.{before, next_of, is_block, IsWalk, IsListed, stop_of, Reading, reading_along, IsReading}
 
@@ -193,13 +193,17 @@ pub readings_agree : (words : List ℕ) (head : SegmentHead) (a b : Reading)
 readings_agree words head a b v w =
     v.2 ∙ (ap (reading_along words head) (listed_agree words head v.0 w.0 v.1 w.1) ∙ sym w.2)
 
--- where a lawful block stands
-pub is_block-within : (words : List ℕ) (head : SegmentHead) (reference : ℕ)
-    → is_block words head reference ≡ true → (16 ≤ reference) × (reference + 5 ≤ head.free)
+-- where a lawful block stands: it has five words or more, behind the header and below the free pointer
+pub is_block-within : (words : List ℕ) (head : SegmentHead) (reference : ℕ) → is_block words head reference ≡ true
+    → (16 ≤ reference) × (5 ≤ field_at words reference 0) × (reference + field_at words reference 0 ≤ head.free)
 is_block-within words head reference lawful =
-    let placed = (and_parts (is_placed head reference) (is_claimed words head reference) lawful).0 in
-    let both = and_parts (nat_le 16 reference) (nat_le (reference + 5) head.free) placed in
-    (leb-true 16 reference both.0, leb-true (reference + 5) head.free both.1)
+    let size : ℕ = field_at words reference 0 in
+    let parts = and_parts (is_placed head reference) (is_claimed words head reference) lawful in
+    let placed = and_parts (nat_le 16 reference) (nat_le (reference + 5) head.free) parts.0 in
+    let three = (and_parts _ _ parts.1).0 in
+    let two = and_parts _ (nat_le (reference + size) head.free) three in
+    let one = and_parts (field_at words reference 1 == 0xC8799269) (nat_le 5 size) two.0 in
+    (leb-true 16 reference placed.0, leb-true 5 size one.1, leb-true (reference + size) head.free two.1)
 
 -- a walk has at most as many references as there are words below the free pointer
 pub IsWalk-length : (words : List ℕ) (head : SegmentHead) (xs : List ℕ) → IsWalk words head xs → length xs ≤ head.free
@@ -214,4 +218,4 @@ IsWalk-length words head xs walk =
     let block = is_block-within words head (slice_index xs at.0) (walk.lawful at.0 at.2) in
     let is : q ≡ slice_index xs at.0 =
     eqb-true q at.1 at.4 ∙ (sym at.3 ∙ get_or_default_zero xs at.0 at.1 at.2) in
-    omega (arith, block.1))
+    omega (arith, block.1, block.2))

@@ -1,8 +1,8 @@
 -- What a lawful header and a lawful block say of the words.
-use Rattle.std.proofs.Common.{◌≡◌, Bool, true, false, not, ◌&&◌, ◌==◌, if◌then◌else◌, ℕ, ◌+◌, ◌-◌, ◌/◌, ◌≤◌, List, [], ◌∷◌, length, Option, Some, None, Ok, Err, refl, arith, ap, sym, ◌∙◌}
-use Rattle.std.specs.Prelude.{nat_le, nat_lt}
+use Rattle.std.proofs.Common.{◌≡◌, Bool, true, false, not, ◌&&◌, ◌==◌, if◌then◌else◌, ℕ, ◌+◌, ◌≤◌, List, [], ◌∷◌, length, Option, Some, None, Ok, Err, refl, arith, ap, sym, ◌∙◌}
+use Rattle.std.specs.Prelude.{nat_lt}
 use Rattle.std.specs.List.{AllByRecursion, list_any}
-use Rattle.std.proofs.lemmas.Bool.{not-false, or_parts, and_parts, and_from, ltb-false, leb-true, eqb-true, eq-eqb, ne_eqb}
+use Rattle.std.proofs.lemmas.Bool.{not-false, or_parts, and_from, ltb-false, eqb-true, eq-eqb, ne_eqb}
 use Rattle.segment_image.specs.Checks.{checked, first_fault}
 use Rattle.segment_image.specs.Words.{word_at}
 use Rattle.segment_image.specs.Shape.{is_size}
@@ -13,6 +13,7 @@ use Rattle.segment_image.specs.declared.blocks.BlockHead.{BlockHead}
 use Rattle.segment_image.specs.declared.fault.ImageFault.{ImageFault}
 use Rattle.segment_image.specs.declared.fault.ImageFault.TheVariants.{BadRef, BadBlock, Loop}
 use Rattle.bucket_ranges.specs.Reading.{before, is_block, next_of, stop_of}
+use Rattle.bucket_ranges.proofs.Walks.{is_block-within}
 
 -- where checks give a value, none of them fails, and the value is the one that they were given
 pub checked_ok : {F X : Type 0} (checks : List (Bool × F)) (x y : X) → checked checks x ≡ Ok y
@@ -39,29 +40,6 @@ IsHeaded-from_header words head e =
     let same : (head_of words).free ≡ head.free = ap (λ (h : SegmentHead). h.free) passed.1 in
     record { long = long; free_within = omega (arith, size, free, same) }
 
--- where a lawful block lies
-pub record IsExtent (words : List ℕ) (head : SegmentHead) (reference : ℕ) : Type 0 where
-  pub within : reference + 5 ≤ head.free
-  pub least : 5 ≤ field_at words reference 0
-  pub extent : reference + field_at words reference 0 ≤ head.free
-
-pub IsExtent-from_block : (words : List ℕ) (head : SegmentHead) (reference : ℕ) → is_block words head reference ≡ true
-    → IsExtent words head reference
-IsExtent-from_block words head reference lawful =
-    let size : ℕ = field_at words reference 0 in
-    let cookie : Bool = field_at words reference 1 == 0xC8799269 in
-    let paged : Bool = reference / head.shape.page == (reference + size - 1) / head.shape.page in
-    let least : Bool = nat_le 5 size in
-    let extent : Bool = nat_le (reference + size) head.free in
-    let parts = and_parts (is_placed head reference) (is_claimed words head reference) lawful in
-    let unpaged = and_parts ((cookie && least) && extent) paged parts.1 in
-    let sized = and_parts (cookie && least) extent unpaged.0 in
-    record {
-      within = leb-true (reference + 5) head.free (and_parts (nat_le 16 reference) (nat_le (reference + 5) head.free) parts.0).1;
-      least = leb-true 5 size (and_parts cookie least sized.0).1;
-      extent = leb-true (reference + size) head.free sized.1;
-    }
-
 -- what the head of a lawful block is
 pub record IsBlockHead (words : List ℕ) (head : SegmentHead) (reference : ℕ) (found : BlockHead) : Type 0 where
   pub lawful : is_block words head reference ≡ true
@@ -83,8 +61,9 @@ pub block_in_words : (words : List ℕ) (head : SegmentHead) (reference : ℕ) �
     → (5 ≤ field_at words reference 0) × (reference + field_at words reference 0 ≤ length words)
 block_in_words words head reference h lawful =
     let headed = IsHeaded-from_header words head h in
-    let extent = IsExtent-from_block words head reference lawful in
-    (extent.least, omega arith)
+    let (from, least, extent) = is_block-within words head reference lawful in
+    let free = headed.free_within in
+    (least, omega (arith, extent, free))
 
 -- all of a block that was found lies in the words
 pub block_extent : (words : List ℕ) (head : SegmentHead) (reference : ℕ) (found : BlockHead)

@@ -2,37 +2,23 @@
 use Rattle.std.proofs.Common.{◌≡◌, ◌≢◌, ◌⊎◌, ℕ, ◌+◌, ◌-◌, ◌/◌, ◌<◌, ◌≤◌, ◌==◌, true, List, length, set, length-set, inl, inr, ap, ◌∙◌, subst, arith}
 use Rattle.std.specs.Prelude.{◌&&◌, nat_le}
 use Rattle.std.proofs.lemmas.List.{get_or-set_other}
-use Rattle.std.proofs.lemmas.Bool.{leb-true, le-leb, and_from, or_right}
-use Rattle.std.specs.Cmp.{first_so, second_so}
+use Rattle.std.proofs.lemmas.Bool.{le-leb, and_from, or_right}
 use mathlib.Core.Logic.{dite}
 use native.Mathlib.Decide.{ℕ_discrete}
 use Rattle.segment_image.specs.Words.{word_at}
 use Rattle.segment_image.specs.Head.{head_of}
-use Rattle.segment_image.specs.Blocks.{field_at, is_block, is_placed, is_claimed}
+use Rattle.segment_image.specs.Blocks.{field_at, is_block}
 use Rattle.segment_image.specs.declared.head.SegmentHead.{SegmentHead}
+use Rattle.bucket_ranges.proofs.Walks.{is_block-within}
 use Rattle.list_core.specs.Chain.{is_reference}
 use Rattle.list_core.specs.Publish.{Publishing}
 use Rattle.list_core.specs.Laws.{IsHeld, IsList, block_words}
 
--- a lawful block has five words or more, behind the header and below the free pointer
-pub block_within : (words : List ℕ) (head : SegmentHead) (at : ℕ) → is_block words head at ≡ true
-    → (16 ≤ at) × (5 ≤ field_at words at 0) × (at + field_at words at 0 ≤ head.free)
-block_within words head at lawful =
-    let size : ℕ = field_at words at 0 in
-    let placed : is_placed head at ≡ true = first_so (is_placed head at) (is_claimed words head at) lawful in
-    let claimed : is_claimed words head at ≡ true = second_so (is_placed head at) (is_claimed words head at) lawful in
-    let three = first_so _ _ claimed in
-    let two = first_so _ (nat_le (at + size) head.free) three in (
-      leb-true 16 at (first_so (nat_le 16 at) (nat_le (at + 5) head.free) placed),
-      leb-true 5 size (second_so (field_at words at 1 == 0xC8799269) (nat_le 5 size) two),
-      leb-true (at + size) head.free (second_so _ (nat_le (at + size) head.free) three),
-    )
-
--- so it is a reference that a list can have
+-- a lawful block is a reference that a list can have
 pub block_reference : (words : List ℕ) (head : SegmentHead) (at : ℕ) → is_block words head at ≡ true → head.free ≤ length words
     → is_reference (length words) at ≡ true
 block_reference words head at lawful free =
-    let (from, five, within) = block_within words head at lawful in
+    let (from, five, within) = is_block-within words head at lawful in
     or_right (at == 12) _ (and_from (nat_le 16 at) _ (le-leb 16 at from) (le-leb (at + 5) (length words) (omega (arith, five, within, free))))
 
 -- it is one in other words too, where its size and its cookie, the free pointer and the length of pages are the same
@@ -55,7 +41,7 @@ module _ (words chain : List ℕ) (publishings : List Publishing) (is : IsList w
 
   pub held_within : (at : ℕ) → IsHeld chain publishings at → (16 ≤ at) × (5 ≤ field_at words at 0) × (at + field_at words at 0 ≤ length words)
   held_within at held =
-      let within = block_within words (head_of words) at (held_lawful at held) in
+      let within = is_block-within words (head_of words) at (held_lawful at held) in
       let free = is.free in
       (within.0, within.1, omega (arith, within.2, free))
 

@@ -11,14 +11,14 @@ use Rattle.segment_image.specs.declared.head.SegmentHead.{SegmentHead}
 use Rattle.bucket_ranges.specs.Reading.{IsWalk}
 use Rattle.list_core.specs.Chain.{stops, IsLinked, IsChain}
 use Rattle.list_core.specs.Laws.{IsStop, AreNeighbours}
-use Rattle.list_core.proofs.Blocks.{block_within}
+use Rattle.bucket_ranges.proofs.Walks.{is_block-within}
 
 -- the stops of a chain are distinct, and no record is the queue block
 distinct_stops : (words chain : List ℕ) (head : SegmentHead) → IsWalk words head chain → (i j : ℕ) → i < j → j ≤ length chain
     → slice_index (stops chain) i ≢ slice_index (stops chain) j
 distinct_stops words chain head walk i zero lt within = absurd (omega arith)
 distinct_stops words chain head walk zero (suc j) lt within = λ same.
-    let from = (block_within words head (slice_index chain j) (walk.lawful j (omega arith))).0 in omega (arith, from, same)
+    let from = (is_block-within words head (slice_index chain j) (walk.lawful j (omega arith))).0 in omega (arith, from, same)
 distinct_stops words chain head walk (suc i) (suc j) lt within = walk.distinct i j (omega arith) (omega arith)
 
 -- so a chain is linked

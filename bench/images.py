@@ -297,14 +297,15 @@ def custom(size):
     return Image(segment.bytes(), report, MOST_BUCKETS * records, MOST_BUCKETS * len(by_name), f"{records} records")
 
 
-def overlapping_blocks(size, tag):
-    """Blocks of five words that begin every four words, on one list that goes through them in no order."""
+def overlapping_blocks(size, tag, is_scattered=False):
+    """Blocks of five words that begin every four words, on one list that goes through them in order, or in none."""
     segment = Segment(size)
     references = []
     for page in range(0, size, segment.page):
         first = max(page, FIRST)
         references += range(first, page + segment.page - 4, 4)
-    random.Random(7).shuffle(references)
+    if is_scattered:
+        random.Random(7).shuffle(references)
     for at in references:
         segment.store(at, 5, BLOCK_COOKIE, tag)
         segment.publish(at)
@@ -316,13 +317,19 @@ def overlapping_blocks(size, tag):
 
 
 def chain(size):
-    """A list as long as fits, of blocks of another type that overlap, in no order."""
+    """A list as long as fits, of blocks of another type that overlap."""
     data, references = overlapping_blocks(size, PURGED)
     return Image(data, lambda: [], 0, 0, f"{len(references)} blocks")
 
 
+def scattered(size):
+    """The same list in no order, so that each step of a walk has to wait for memory."""
+    data, references = overlapping_blocks(size, PURGED, is_scattered=True)
+    return Image(data, lambda: [], 0, 0, f"{len(references)} blocks")
+
+
 def faults(size):
-    """A list as long as fits, of histogram records that overlap and are all too small, in no order."""
+    """A list as long as fits, of histogram records that overlap and are all too small."""
     data, references = overlapping_blocks(size, HISTOGRAM)
     report = lambda: ["".join(f"!bad,{at},BadKind\n" for at in references).encode()]
     return Image(data, report, 0, 0, f"{len(references)} bad records")
@@ -374,6 +381,7 @@ FORGED = {
     "lines": (lines, [MIB // 32, MIB // 16, MIB // 8, MIB // 4]),
     "custom": (custom, [MIB, 2 * MIB, 4 * MIB, 8 * MIB]),
     "chain": (chain, [MIB, 2 * MIB, 4 * MIB, 8 * MIB]),
+    "scattered": (scattered, [MIB, 2 * MIB, 4 * MIB, 8 * MIB]),
     "faults": (faults, [MIB, 2 * MIB, 4 * MIB, 8 * MIB]),
     "samples": (samples, [MIB, 2 * MIB, 4 * MIB, 8 * MIB]),
 }

@@ -1,15 +1,18 @@
 //! Readings of words whose values are known, and a comparison with a slow and plain reader.
 
+mod custom;
 mod forgeries;
 mod images;
+mod marks;
 mod slow_reader;
+mod sparse;
 
 use crate::{BadRecord, HistReading, Reading, RecordFault, read};
 use bucket_ranges::Spec;
 use forgeries::Random;
 use images::{
-    DISABLED, NOTHING_PACKED, Words, blank, changed, one_counted, one_empty, shared_counts, three,
-    two_empty,
+    DISABLED, Words, blank, changed, custom, one_counted, one_empty, shared_counts, sparse_race,
+    sparse_samples, three, two_empty,
 };
 use segment_image::ImageFault;
 use slow_reader::slow_read;
@@ -66,6 +69,18 @@ fn expect_histogram(
     assert_eq!(rt; hist.name.as_slice(), name);
     assert_eq!(rt; hist.counts.as_slice(), counts);
     assert_eq!(rt; (hist.sum, hist.redundant), sums);
+}
+
+// That an image has no histogram, and this fault in its only record, at 16.
+fn expect_fault(rt: &impl Abort, alloc: Global, words: &Words, fault: RecordFault) {
+    let reading = read(alloc, words).ok().expect(rt, "a reading");
+    let bad = [BadRecord {
+        reference: 16,
+        fault,
+    }];
+    assert!(rt; reading.hists.is_empty());
+    assert_eq!(rt; reading.bad.as_slice(), bad.as_slice());
+    assert_eq!(rt; reading.stopped, None);
 }
 
 // That words read as these boolean histograms alone: of each its reference, its name's only byte and its counts.
@@ -242,6 +257,9 @@ fn reads_as_the_slow_reader(rt: HostRuntime) -> Result<(), Fail> {
         two_empty(&rt, 66),
         shared_counts(&rt),
         three(&rt),
+        sparse_samples(&rt),
+        sparse_race(&rt),
+        custom(&rt),
     ] {
         read_alike(&rt, rt.alloc(), &words)?;
     }
@@ -283,7 +301,14 @@ fn forge(
 #[test]
 fn reads_forgeries_as_the_slow_reader(rt: HostRuntime) {
     let mut random = Random::new(1);
-    for words in [one_counted(&rt), two_empty(&rt, 65), three(&rt)] {
+    for words in [
+        one_counted(&rt),
+        two_empty(&rt, 65),
+        three(&rt),
+        sparse_samples(&rt),
+        sparse_race(&rt),
+        custom(&rt),
+    ] {
         let (stopped, bad, sound) = forge(&rt, rt.alloc(), &mut random, &words);
         assert!(rt;
             stopped > 20 && bad > 20 && sound > 20,

@@ -41,13 +41,15 @@ impl Random {
     }
 
     fn limit(&mut self) -> u64 {
-        match self.below(6) {
+        match self.below(8) {
             0 => BLOCK_COOKIE,
             1 => 0xFFFF_FFFF,
             2 => 1 << 32,
-            3 => u64::MAX,
+            3 => u64::MAX - self.below(24),
             4 => 65_535 + self.below(2),
-            _ => 2_147_483_646 + self.below(2),
+            5 => u64::MAX - 2_147_483_648 + self.below(2),
+            6 => 9_223_372_034_707_292_160 + self.below(2),
+            _ => 2_147_483_646 + self.below(3),
         }
     }
 

@@ -138,3 +138,77 @@ pub(crate) fn three(rt: &impl Abort) -> Words {
     ];
     changed(rt, &two_empty(rt, 66), &changes)
 }
+
+/// The sparse histogram `S` at 16 with two samples of -5 in a block at 32 and one of 7 in a block at 40.
+pub(crate) fn sparse_samples(rt: &impl Abort) -> Words {
+    let changes = [
+        (7, 48),
+        (8, 40),
+        (15, 16),
+        (16, 16),
+        (17, BLOCK_COOKIE),
+        (18, 1),
+        (19, 32),
+        (20, 4),
+        (27, 3_u64.wrapping_neg()),
+        (29, 3),
+        (30, 1),
+        (31, 83),
+        (32, 8),
+        (33, BLOCK_COOKIE),
+        (34, 3),
+        (35, 40),
+        (36, 16),
+        (37, 5_u64.wrapping_neg()),
+        (38, 2),
+        (40, 8),
+        (41, BLOCK_COOKIE),
+        (42, 3),
+        (43, 12),
+        (44, 16),
+        (45, 7),
+        (46, 1),
+    ];
+    changed(rt, &blank(rt), &changes)
+}
+
+/// The sparse histogram `S` after a race for -5: both blocks name it, the one at 40 is first on the list and has all
+/// three units, and the other has none.
+pub(crate) fn sparse_race(rt: &impl Abort) -> Words {
+    let changes = [
+        (8, 32),
+        (19, 40),
+        (27, 15_u64.wrapping_neg()),
+        (35, 12),
+        (38, 0),
+        (43, 32),
+        (45, 5_u64.wrapping_neg()),
+        (46, 3),
+    ];
+    changed(rt, &sparse_samples(rt), &changes)
+}
+
+/// The custom histogram `C` at 16 of the values 3 and 10, with four packed samples of 10.
+pub(crate) fn custom(rt: &impl Abort) -> Words {
+    let changes = [
+        (7, 34),
+        (8, 16),
+        (15, 16),
+        (16, 18),
+        (17, BLOCK_COOKIE),
+        (18, 1),
+        (19, 12),
+        (20, 3),
+        (21, 3),
+        (22, 10),
+        (23, 3),
+        (25, (2 << 32) + 4),
+        (27, 40),
+        (29, 4),
+        (30, 1),
+        (31, 67),
+        (32, 3),
+        (33, 10),
+    ];
+    changed(rt, &blank(rt), &changes)
+}

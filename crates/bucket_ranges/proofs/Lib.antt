@@ -7,3 +7,4 @@ pub mod Distinct
 pub mod Customs
 pub mod Named
 pub mod Earlier
+pub mod FirstSamples

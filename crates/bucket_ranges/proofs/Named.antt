@@ -1,14 +1,13 @@
 -- The spec that the words of a record name, where they are those of a lawful one.
-use Rattle.std.proofs.Common.{◌≡◌, Bool, true, false, not, ◌&&◌, ◌||◌, ◌==◌, nat_lt, nat_le, if◌then◌else◌, ℕ, ◌+◌, ◌-◌, ◌<◌, ◌≤◌, List, [], ◌∷◌, ◌++◌, length, slice_index, Option, Some, None, ◌⊎◌, inl, inr, refl, ap, sym, ◌∙◌, arith}
+use Rattle.std.proofs.Common.{◌≡◌, Bool, true, false, not, ◌&&◌, ◌==◌, nat_lt, nat_le, if◌then◌else◌, ℕ, ◌-◌, ◌<◌, ◌≤◌, List, [], ◌∷◌, ◌++◌, length, slice_index, Option, Some, None, inl, inr, refl, ap, sym, arith}
 use Rattle.std.specs.Prelude.{is_none}
 use Rattle.std.specs.List.{list_any}
 use Rattle.std.proofs.lemmas.Bool.{and_parts, ltb-true, leb-true, eqb-true, le-ltb, lt-ltb, or_from}
 use Rattle.segment_image.specs.Checks.{first_fault}
-use Rattle.bucket_ranges.specs.declared.spec.Spec.{Spec}
 use Rattle.bucket_ranges.specs.declared.spec.Spec.TheVariants.{Linear, Boolean, Custom, Sparse}
 use Rattle.bucket_ranges.specs.declared.spec.SpecFault.{SpecFault}
 use Rattle.bucket_ranges.specs.declared.spec.SpecFault.TheVariants.{TooMany, BadRange, Empty}
-use Rattle.bucket_ranges.specs.Spec.{spec_fault, buckets_of, custom_checks, distinct_values}
+use Rattle.bucket_ranges.specs.Spec.{spec_fault, buckets_of, distinct_values}
 use Rattle.bucket_ranges.specs.Ranges.{boundaries_of}
 use Rattle.bucket_ranges.specs.Reading.{ascends_above, is_custom_named, spec_named, is_spec_named}
 use Rattle.bucket_ranges.proofs.Distinct.{Member, Ascends, distinct-of_ascending}

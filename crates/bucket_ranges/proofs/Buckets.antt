@@ -1,6 +1,6 @@
 -- Values between boundaries.
-use Rattle.std.proofs.Common.{◌≡◌, ℕ, zero, suc, ◌+◌, ◌-◌, ◌<◌, ◌≤◌, List, length, slice_index, ap, arith, inl, inr}
-use Rattle.std.proofs.lemmas.Bool.{cases_order}
+use Rattle.std.proofs.Common.{◌≡◌, Bool, true, false, nat_le, if◌then◌else◌, refl, ◌/◌, ℕ, zero, suc, ◌+◌, ◌-◌, ◌<◌, ◌≤◌, List, length, slice_index, ap, arith, inl, inr}
+use Rattle.std.proofs.lemmas.Bool.{cases_order, leb-true, leb-false}
 use Rattle.bucket_ranges.specs.Ranges.{IsAscending, IsBucketOf}
 
 -- boundaries further on are greater
@@ -36,3 +36,43 @@ one_bucket boundaries value i j up p q = elim (cases_order i j) [
         absurd (omega (arith, le, high, low))
   ]
 ]
+
+-- ---- halving
+
+-- the value lies in one of so many buckets from `low` on
+pub record IsAmong (boundaries : List ℕ) (value low count : ℕ) : Type 0 where
+  pub some : 1 ≤ count
+  pub within : low + count + 1 ≤ length boundaries
+  pub above : slice_index boundaries low ≤ value
+  pub below : value < slice_index boundaries (low + count)
+
+halving-by : (boundaries : List ℕ) (value low count : ℕ) (reached : Bool) → IsAscending boundaries → 1 < count
+    → IsAmong boundaries value low count → (reached ≡ true → slice_index boundaries (low + count / 2) ≤ value)
+    → (reached ≡ false → value < slice_index boundaries (low + count / 2))
+    → IsAmong boundaries value (low + (if reached then count / 2 else 0)) (count - count / 2)
+halving-by boundaries value low count true up more among reaches misses = record {
+  some = omega (arith, more);
+  within = let within = among.within in omega (arith, within);
+  above = reaches refl;
+  below = let place : low + count / 2 + (count - count / 2) ≡ low + count = omega arith in rw place among.below;
+}
+halving-by boundaries value low count false up more among reaches misses = record {
+  some = omega (arith, more);
+  within = let within = among.within in omega (arith, within);
+  above = let place : low + 0 ≡ low = omega arith in rw place among.above;
+  below =
+      let within = among.within in
+      let place : low + 0 + (count - count / 2) ≡ low + (count - count / 2) = omega arith in
+      let further = ascends boundaries (low + count / 2) (low + (count - count / 2)) up (omega arith) (omega (arith, within, more)) in
+      let less = misses refl in
+      rw place (omega (arith, further, less));
+}
+
+-- half of them are left
+pub halving : (boundaries : List ℕ) (value low count step : ℕ) → IsAscending boundaries → 1 < count
+    → IsAmong boundaries value low count
+    → step ≡ (if nat_le (slice_index boundaries (low + count / 2)) value then count / 2 else 0)
+    → IsAmong boundaries value (low + step) (count - count / 2)
+halving boundaries value low count step up more among is =
+    rw is (halving-by boundaries value low count (nat_le (slice_index boundaries (low + count / 2)) value) up more among
+    (leb-true (slice_index boundaries (low + count / 2)) value) (leb-false (slice_index boundaries (low + count / 2)) value))

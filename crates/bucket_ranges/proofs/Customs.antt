@@ -1,5 +1,5 @@
 -- The boundaries of a lawful custom spec.
-use Rattle.std.proofs.Common.{◌≡◌, Bool, true, false, not, nat_eq, nat_lt, ℕ, zero, suc, ◌+◌, ◌-◌, ◌<◌, ◌≤◌, List, [], ◌∷◌, ◌++◌, length, slice_index, None, Ok, if◌then◌else◌, ◌⊎◌, inl, inr, refl, ap, sym, ◌∙◌, subst, arith}
+use Rattle.std.proofs.Common.{◌≡◌, Bool, true, false, not, nat_eq, nat_lt, ℕ, zero, suc, ◌+◌, ◌<◌, ◌≤◌, List, [], ◌∷◌, ◌++◌, length, slice_index, None, Ok, if◌then◌else◌, ◌⊎◌, inl, inr, refl, ap, ◌∙◌, arith}
 use Rattle.std.specs.List.{All, Any, list_any, dedup}
 use Rattle.std.specs.List.Sorted.{IsPermutation, IsSorted, IsStrictlyIncreasing}
 use Rattle.std.specs.List.Retain.{IsFiltered, DiffersFromLast}
@@ -126,7 +126,7 @@ push-ascends m (x ∷ xs) up below = (
 distinct-below : (values : List ℕ) → IsCustom values → (y : ℕ) → Member y (distinct_values values) → y < 2147483647
 distinct-below values lawful y m =
     let le = All-contains (λ value. value ≤ 2147483646) values y lawful.below
-        (contains-from values y (distinct-member values y m).0) in
+    (contains-from values y (distinct-member values y m).0) in
     omega (arith, le)
 
 boundaries-ascend : (values : List ℕ) → IsCustom values → Ascends (custom_boundaries values)
@@ -169,6 +169,7 @@ boundary-small values lawful y (inr m) = elim (member-push y 2147483647 (distinc
 -- what every list of boundaries keeps
 pub custom_boundaries-are : (values : List ℕ) → IsCustom values → AreBoundaries (custom_boundaries values)
 custom_boundaries-are values lawful = record {
+  few = omega (arith, length-custom_boundaries values, length-distinct values, lawful.few);
   small = λ i. elim (cases_order i (length (custom_boundaries values))) [
     | inl e ↦ omega (arith, get_or_past (custom_boundaries values) i 0 (omega arith))
     | inr o ↦ elim o [
@@ -212,16 +213,20 @@ sorted_once values sorted once lawful moved up kept =
     ∙ ascending-unique (dedup nat_eq sorted) (custom_boundaries values)
     (ascends-from _ (IsStrictlyIncreasing-dedup sorted up)) (boundaries-ascend values lawful)
     (λ z m. to_boundaries values z (member-from built z (Contains-permutation sorted built z (IsPermutation-sym built sorted moved)
-      (Contains-from_dedup nat_eq sorted z (contains-from _ z m)))))
+    (Contains-from_dedup nat_eq sorted z (contains-from _ z m)))))
     (λ z m. member-from _ z (Contains-dedup_nat sorted z (Contains-permutation built sorted z moved
-      (contains-from built z (from_boundaries values z m)))))
+    (contains-from built z (from_boundaries values z m)))))
 
 -- ---- values that stand in order
 
--- values above 0 that ascend are the boundaries themselves, between the ends
+-- values above 0 that ascend are their own distinct values
+pub distinct_values-of_ascending : (values : List ℕ) → IsStrictlyIncreasing values → All (λ value. 0 < value) values
+    → distinct_values values ≡ values
+distinct_values-of_ascending values up above = distinct-of_ascending values (ascends-from values up)
+    (λ y m. All-contains (λ value. 0 < value) values y above (contains-from values y m))
+
+-- so they are the boundaries themselves, between the ends
 pub custom_boundaries-of_ascending : (values : List ℕ) → IsStrictlyIncreasing values → All (λ value. 0 < value) values
     → custom_boundaries values ≡ 0 ∷ (values ++ 2147483647 ∷ [])
 custom_boundaries-of_ascending values up above =
-    let same : distinct_values values ≡ values = distinct-of_ascending values (ascends-from values up)
-        (λ y m. All-contains (λ value. 0 < value) values y above (contains-from values y m)) in
-    ap (λ ds. 0 ∷ (ds ++ 2147483647 ∷ [])) same
+    ap (λ ds. 0 ∷ (ds ++ 2147483647 ∷ [])) (distinct_values-of_ascending values up above)

@@ -1,5 +1,5 @@
 -- The distinct values of a custom spec: they ascend, they are the values above 0, and no other list is like that.
-use Rattle.std.proofs.Common.{◌≡◌, ◌↔◌, Bool, true, false, ◌==◌, nat_lt, ℕ, zero, suc, ◌+◌, ◌-◌, ◌<◌, ◌≤◌, List, [], ◌∷◌, ◌++◌, length, slice_index, slice_index_or, if◌then◌else◌, ◌⊎◌, inl, inr, refl, ap, sym, ◌∙◌, add-one, arith}
+use Rattle.std.proofs.Common.{◌≡◌, Bool, true, false, ◌==◌, nat_lt, ℕ, zero, suc, ◌+◌, ◌<◌, ◌≤◌, List, [], ◌∷◌, length, slice_index_or, if◌then◌else◌, ◌⊎◌, inl, inr, refl, sym, ◌∙◌, add-one, arith}
 use native.Mathlib.Numerals.{unary_clauses}
 use Rattle.std.specs.List.{Contains}
 use Rattle.std.specs.List.Sorted.{IsStrictlyIncreasing}
@@ -81,8 +81,8 @@ ascending-unique (x ∷ xs) [] up vp to from = absurd (to x (inl refl))
 ascending-unique (x ∷ xs) (y ∷ ys) up vp to from =
     let first : x ≡ y = same-first x xs y ys up vp (to x (inl refl)) (from y (inl refl)) in
     let rest : xs ≡ ys = ascending-unique xs ys up.1 vp.1
-        (λ z m. member-rest y z ys (let lt = up.0 z m in omega (arith, lt, first)) (to z (inr m)))
-        (λ z m. member-rest x z xs (let lt = vp.0 z m in omega (arith, lt, first)) (from z (inr m))) in
+    (λ z m. member-rest y z ys (let lt = up.0 z m in omega (arith, lt, first)) (to z (inr m)))
+    (λ z m. member-rest x z xs (let lt = vp.0 z m in omega (arith, lt, first)) (from z (inr m))) in
     cc
 
 -- ---- a value put in order
@@ -158,10 +158,13 @@ distinct-member-by : (v y : ℕ) (rest ds : List ℕ) (none : Bool) → (none �
     → Member y (v ∷ rest) × (0 < y)
 distinct-member-by v y rest ds true some so_far m = let n = so_far m in (inr n.0, n.1)
 distinct-member-by v y rest ds false some so_far m = elim (member-put v y ds m) [
-  | inl e ↦ (inl e, elim (cases_order v 0) [
-    | inl same ↦ absurd (some refl same)
-    | inr other ↦ elim other [ inl lt ↦ absurd (omega (arith, lt)) | inr lt ↦ omega (arith, lt, e) ]
-  ])
+  | inl e ↦ (
+    inl e,
+    elim (cases_order v 0) [
+      | inl same ↦ absurd (some refl same)
+      | inr other ↦ elim other [ inl lt ↦ absurd (omega (arith, lt)) | inr lt ↦ omega (arith, lt, e) ]
+    ],
+  )
   | inr n ↦ let was = so_far n in (inr was.0, was.1)
 ]
 

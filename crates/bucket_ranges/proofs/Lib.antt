@@ -8,3 +8,6 @@ pub mod Customs
 pub mod Named
 pub mod Earlier
 pub mod FirstSamples
+pub mod Sums
+pub mod Values
+pub mod Masks

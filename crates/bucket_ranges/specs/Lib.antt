@@ -7,3 +7,4 @@ pub mod Spec
 pub mod Ranges
 pub mod Single
 pub mod Reading
+pub mod Tally

@@ -34,6 +34,7 @@ IsAscending boundaries = (i : ℕ) → i + 1 < length boundaries → slice_index
 
 -- what every list of boundaries keeps; where it is not empty it begins with 0 and ends with 2,147,483,647
 pub record AreBoundaries (boundaries : List ℕ) : Type 0 where
+  pub few : length boundaries ≤ 1001
   pub small : AreValues boundaries
   pub ascending : IsAscending boundaries
   pub ends : 0 < length boundaries

@@ -60,3 +60,18 @@ impl PartialEq for CustomValues {
 impl Eq for CustomValues {
     ghost laws = { Prim.search (comparing, rules) };
 }
+
+ghost use Rattle.std.specs.Prelude.{◌<◌, ◌++◌, ◌∷◌, ℕ, List, [], All};
+ghost use Rattle.std.specs.List.Sorted.{IsStrictlyIncreasing};
+ghost use Rattle.bucket_ranges.specs.Spec.{distinct_values, AreDistinctValues};
+ghost use Rattle.bucket_ranges.specs.Ranges.{custom_boundaries};
+
+/// The distinct values of a custom spec are those of its values that are above 0, each once and below the next, and
+/// no other list is like that. So values that stand like that already are the boundaries between both ends.
+///
+/// It does nothing: what it promises are laws of the definitions.
+pub fn distinct_values_stand_once()
+    ensures stand { (values : List ℕ) → AreDistinctValues values (distinct_values values) }
+    ensures only { (values others : List ℕ) → AreDistinctValues values others → others ≡ distinct_values values }
+    ensures in_order { (values : List ℕ) → IsStrictlyIncreasing values → All (λ value. 0 < value) values → custom_boundaries values ≡ 0 ∷ (values ++ 2147483647 ∷ []) }
+{}

@@ -23,7 +23,7 @@ impl Model for Ranges {
 }
 
 impl Ranges {
-    ghost use Rattle.std.specs.Prelude.{◌≡◌, ◌+◌, ◌-◌, ◌<◌, length, pos, slice_index, MatchResult, MatchOption, IfOk, Err};
+    ghost use Rattle.std.specs.Prelude.{◌≡◌, ℕ, ◌+◌, ◌-◌, ◌<◌, length, pos, slice_index, MatchResult, MatchOption, IfOk, Err};
     ghost use Rattle.bucket_ranges.specs.Spec.{spec_fault, buckets_of};
     ghost use Rattle.bucket_ranges.specs.Ranges.{boundaries_of, clamped, IsBucketOf};
 
@@ -77,26 +77,25 @@ impl Ranges {
     }
 
     /// The bucket of a value, which is clamped first: a value below 0 counts as 0, and one above 2,147,483,646 as that
-    /// (Chromium's histograms). It is found by halving, without memory.
+    /// (Chromium's histograms). It is found by halving, without memory and without a branch on the value.
     pub fn bucket(&self, value: i32) -> usize
         requires { 1 < length self.now }
-        ensures { IsBucketOf self.now (clamped value) result }
+        ensures found { IsBucketOf self.now (clamped value) result }
+        ensures only { (other : ℕ) → IsBucketOf self.now (clamped value) other → other ≡ result }
     {
         let value = clamp(value);
         let mut low = 0;
         let mut count = self.len();
         while count > 1 {
             let half = count / 2;
-            if self.boundaries[low + half] <= value {
-                low += half;
-            }
+            low += half_where_reached(half, self.boundaries[low + half], value);
             count -= half;
         }
         low
     }
 }
 
-ghost use Rattle.std.specs.Prelude.{◌≡◌, ◌≢◌, ◌+◌, ◌<◌, ◌≤◌, nat_lt, ℕ, List, length, None, IfOk};
+ghost use Rattle.std.specs.Prelude.{◌≡◌, ◌≢◌, if◌then◌else◌, ◌+◌, ◌<◌, ◌≤◌, nat_lt, nat_le, ℕ, List, length, None, IfOk};
 ghost use Rattle.std.specs.List.{list_any};
 ghost use Rattle.segment_image.specs.Checks.{checked};
 ghost use Rattle.bucket_ranges.specs.declared.spec.Spec.{Spec};
@@ -125,8 +124,18 @@ const MAX_BUCKETS: u32 = 1000;
 
 const MAX_CUSTOM_VALUES: usize = 999;
 
+// `half` where a value reaches a boundary, and 0 where it does not. No branch hangs on the value: the difference is
+// taken in 64 bits, so its upper half is all ones where it would be below 0, and 0 elsewhere.
+fn half_where_reached(half: usize, boundary: u32, value: u32) -> usize
+    requires { half < 4294967296 }
+    ensures { result ≡ (if nat_le boundary value then half else 0) }
+{
+    let difference = u64::from(boundary).wrapping_sub(u64::from(value) + 1);
+    half & (difference >> 32) as usize
+}
+
 // A value as it is counted.
-fn clamp(value: i32) -> u32
+pub(crate) fn clamp(value: i32) -> u32
     ensures { result ≡ clamped value }
 {
     u32::try_from(value).unwrap_or(0).min(MAX_VALUE - 1)

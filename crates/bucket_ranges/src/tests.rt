@@ -1,5 +1,8 @@
 //! Ranges, single words and faults whose values are known.
 
+mod customs;
+mod tallies;
+
 use crate::reading::RecordFault;
 use crate::{Ranges, SingleWord, Spec, SpecFault};
 use std::alloc::Global;
@@ -141,6 +144,8 @@ fn spec_faults(rt: HostRuntime) -> Result<(), Fail> {
         (SpecFault::BadMax, 2, "BadMax"),
         (SpecFault::TooFew, 3, "TooFew"),
         (SpecFault::TooMany, 4, "TooMany"),
+        (SpecFault::BadRange, 5, "BadRange"),
+        (SpecFault::Empty, 6, "Empty"),
         (SpecFault::NoMemory, 7, "NoMemory"),
     ] {
         assert_eq!(rt; fault.number(), number, "{fault:?}");

@@ -1,5 +1,5 @@
 -- The buckets of a lawful spec and their boundaries.
-use Rattle.std.proofs.Common.{◌≡◌, ◌∙◌, ℕ, ◌+◌, ◌<◌, ◌≤◌, Bool, true, false, ◌==◌, List, [], ◌∷◌, length, Option, Some, None, if◌then◌else◌, All, ap, refl, arith}
+use Rattle.std.proofs.Common.{◌≡◌, ◌∙◌, ℕ, ◌+◌, ◌-◌, ◌<◌, ◌≤◌, Bool, true, false, ◌==◌, List, [], ◌∷◌, length, Option, Some, None, if◌then◌else◌, All, ap, refl, arith}
 use Rattle.std.proofs.Common.{ℤ, pos, get_or, drop, take, sym, subst, Vec, Global}
 use Rattle.std.specs.Fmt.{decimal, signed_decimal}
 use Rattle.std.specs.List.{zip, flat_map}
@@ -15,10 +15,11 @@ use Rattle.std.proofs.lemmas.List.{length-drop}
 use Rattle.std.proofs.lemmas.List.Elements.{All-cons}
 use Rattle.segment_image.specs.Checks.{first_fault}
 use Rattle.bucket_ranges.specs.declared.spec.Spec.{Spec}
-use Rattle.bucket_ranges.specs.declared.spec.Spec.TheVariants.{Linear, Boolean}
+use Rattle.bucket_ranges.specs.declared.spec.Spec.TheVariants.{Linear, Boolean, Custom, Sparse}
 use Rattle.bucket_ranges.specs.Spec.{spec_fault, buckets_of}
 use Rattle.bucket_ranges.specs.Ranges.{boundaries_of}
 use Rattle.bucket_ranges.proofs.Ascent.{is_linear-from_checks, boundaries_of-split}
+use Rattle.bucket_ranges.proofs.Customs.{is_custom-from_checks, length-distinct, length-custom_boundaries}
 
 -- a check that comes first, where none fails
 no_first_fault : {F : Type 0} (failed : Bool) (fault : F) (rest : Option F) → (if failed then Some fault else rest) ≡ None → (failed ≡ false) × (rest ≡ None)
@@ -32,14 +33,19 @@ all_pass (check ∷ rest) e =
     let (here, later) = no_first_fault check.0 check.1 (first_fault rest) e in
     All-cons (λ check. check.0 ≡ false) check rest here (all_pass rest later)
 
--- a lawful spec has 1 to 1,000 buckets
-pub few_buckets : (spec : Spec) → spec_fault spec ≡ None → (1 ≤ buckets_of spec) × (buckets_of spec ≤ 1000)
-few_buckets (Linear min max n) e = let linear = is_linear-from_checks min max n e in (omega (arith, linear.few), linear.many)
-few_buckets Boolean e = (omega arith, omega arith)
+-- a lawful spec has at most 1,000 buckets
+pub few_buckets : (spec : Spec) → spec_fault spec ≡ None → buckets_of spec ≤ 1000
+few_buckets (Linear min max n) e = (is_linear-from_checks min max n e).many
+few_buckets Boolean e = omega arith
+few_buckets (Custom values) e = omega (arith, (is_custom-from_checks values e).few, length-distinct values)
+few_buckets Sparse e = omega arith
 
--- the boundaries are one more than the buckets
-pub length-boundaries_of : (spec : Spec) → spec_fault spec ≡ None → length (boundaries_of spec) ≡ buckets_of spec + 1
-length-boundaries_of spec e = (boundaries_of-split spec e).count
+-- the boundaries are one more than the buckets, where there are buckets, and none where there are not
+pub length-boundaries_of : (spec : Spec) → spec_fault spec ≡ None → length (boundaries_of spec) - 1 ≡ buckets_of spec
+length-boundaries_of (Linear min max n) e = omega (arith, (boundaries_of-split (Linear min max n) e (λ same. absurd (cc))).count)
+length-boundaries_of Boolean e = omega (arith, (boundaries_of-split Boolean e (λ same. absurd (cc))).count)
+length-boundaries_of (Custom values) e = omega (arith, length-custom_boundaries values)
+length-boundaries_of Sparse e = omega arith
 
 -- the bucket at i of as many counts as there are buckets
 pub bucket_at : (counts : List (ℤ × ℕ)) (boundaries : List ℕ) (i : ℕ) (d : (ℤ × ℕ) × ℕ) → i < length counts → i + 1 < length boundaries
@@ -49,7 +55,7 @@ bucket_at counts boundaries i d h more =
     get_or-zip counts (drop 1 boundaries) i d h high ∙ ap (λ x. (get_or counts i d.0, x)) (get_or_after_one boundaries i d.1 ∙ ap (λ k. get_or boundaries k d.1) (omega arith))
 
 -- the buckets are as many as the counts
-pub length-buckets : (counts : List (ℤ × ℕ)) (boundaries : List ℕ) → length boundaries ≡ length counts + 1 → length (zip counts (drop 1 boundaries)) ≡ length counts
+pub length-buckets : (counts : List (ℤ × ℕ)) (boundaries : List ℕ) → length boundaries - 1 ≡ length counts → length (zip counts (drop 1 boundaries)) ≡ length counts
 length-buckets counts boundaries e = rw length-zip (omega (arith, length-drop 1 boundaries, e))
 
 -- the choice at a number that is not 0

@@ -25,6 +25,7 @@ invariant_of-result c =
     let all = so_far-last (inner_boundary c.args.min c.args.max c.args.n) c.args.n c.loop-i.i _ (omega arith)
     c.loop-i.invariant.so_far in
     record {
+      few = omega (arith, ap length pushed, length_push c.loop-i.boundaries.items 2147483647, c.loop-i.invariant.len, c.requires.many);
       small = subst AreValues (sym pushed) (values-push _ 2147483647 c.loop-i.invariant.small (omega arith));
       ascending = subst IsAscending (sym (◌∙◌ {A = List ℕ} pushed all))
           (linear_boundaries-ascending c.args.min c.args.max c.args.n c.requires);

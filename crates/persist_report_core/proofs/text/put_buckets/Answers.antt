@@ -1,4 +1,4 @@
-use Rattle.std.proofs.Common.{◌≡◌, ◌+◌, ◌<◌, ◌≤◌, ◌∙◌, ap, drop, length, arith, rules}
+use Rattle.std.proofs.Common.{◌≡◌, ℕ, List, ◌+◌, ◌-◌, ◌<◌, ◌≤◌, ◌∙◌, ap, drop, length, arith, rules}
 use mir.Syntax.{w32}
 use mir.Val.{SFits}
 use Rattle.std.specs.List.{zip}
@@ -14,7 +14,7 @@ use Rattle.persist_report_core.proofs.text.put_buckets.Goals.{then-bucket-gt0+in
 pub high-requires : goal.high-requires
 high-requires c =
     let ranges : c.in-Ok.ranges ≡ boundaries_of c.args.hist.now.spec = MatchOption-at_none _ _ c.requires.readable.lawful c.in-Ok.ensures.boundaries in
-    let len = ap length ranges ∙ length-boundaries_of c.args.hist.now.spec c.requires.readable.lawful in
+    let len = ap (λ (boundaries : List ℕ). length boundaries - 1) ranges ∙ length-boundaries_of c.args.hist.now.spec c.requires.readable.lawful in
     omega (arith, len, c.requires.readable.counted, c.loop-i-test.true)
 
 pub loop-i-preserved : goal.loop-i-preserved

@@ -1,4 +1,4 @@
-use Rattle.std.proofs.Common.{◌≡◌, sym, ◌∙◌}
+use Rattle.std.proofs.Common.{sym, ◌∙◌}
 use Rattle.bucket_ranges.proofs.Customs.{is_custom-from_checked}
 use Rattle.bucket_ranges.proofs.ranges.Ranges.of.Goals as goal
 

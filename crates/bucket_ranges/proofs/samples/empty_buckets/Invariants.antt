@@ -1,0 +1,7 @@
+use Rattle.std.proofs.Common.{◌≡◌, pos, map, slice_index}
+use Rattle.std.specs.List.{range_with_len}
+use Rattle.bucket_ranges.proofs.samples.empty_buckets.Given as goal
+
+-- The buckets below `i`.
+abbrev pub invariant-loop-i : goal.invariant-loop-i
+invariant-loop-i l = l.counts.items ≡ map (λ i. (pos (slice_index l.ranges i), 0)) (range_with_len 0 l.i)

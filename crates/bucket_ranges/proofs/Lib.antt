@@ -10,3 +10,4 @@ pub mod Values
 pub mod Masks
 pub mod Named
 pub mod Earlier
+pub mod FirstSamples

@@ -47,12 +47,16 @@ impl RecordFault {
     }
 }
 
-ghost use Rattle.std.specs.Prelude.{◌≡◌, true, ℕ, List, [], ◌∷◌, ◌++◌, None};
+ghost use Rattle.std.specs.Prelude.{◌≡◌, ◌==◌, true, ℕ, ℤ, List, [], ◌∷◌, ◌++◌, None};
+ghost use Rattle.std.specs.List.{filter, find};
+ghost use Rattle.std.specs.List.Sorted.{IsStrictlySortedBy};
+ghost use Rattle.std.specs.Ordering.{int_eq};
+ghost use Rattle.segment_image.specs.Blocks.{field_at};
 ghost use Rattle.segment_image.specs.declared.head.SegmentHead.{SegmentHead};
 ghost use Rattle.bucket_ranges.specs.declared.spec.Spec.TheVariants.{Custom};
 ghost use Rattle.bucket_ranges.specs.Spec.{spec_fault, buckets_of};
 ghost use Rattle.bucket_ranges.specs.Ranges.{boundaries_of};
-ghost use Rattle.bucket_ranges.specs.Reading.{IsListed, IsReading, Reading, is_custom_named, is_spec_named, spec_named};
+ghost use Rattle.bucket_ranges.specs.Reading.{IsListed, IsReading, Reading, is_custom_named, is_spec_named, spec_named, sample_value, by_value, first_samples};
 
 /// What a segment's list of records is, is settled by its words: any two lists of the same words are one.
 ///
@@ -83,4 +87,14 @@ pub fn named_specs_are_lawful()
 /// It does nothing: what it promises is a law of the definitions.
 pub fn inner_ranges_are_boundaries()
     ensures { (min max n : ℕ) (inner : List ℕ) → is_custom_named min max n inner ≡ true → boundaries_of (Custom inner) ≡ 0 ∷ (inner ++ 2147483647 ∷ []) }
+{}
+
+/// The samples that count for a sparse histogram stand in the order of their values, each value once, and the one of a
+/// value is the first of that value among the samples that name the histogram.
+///
+/// It does nothing: what it promises is a law of the definitions.
+pub fn first_samples_are_first()
+    ensures ascending { (words samples : List ℕ) (histogram : ℕ) → IsStrictlySortedBy (by_value words) (first_samples words samples histogram) }
+    ensures first { (words samples : List ℕ) (histogram : ℕ) (value : ℤ) → find (λ sample. int_eq value (sample_value words sample)) (first_samples words samples histogram)
+        ≡ find (λ sample. int_eq value (sample_value words sample)) (filter (λ sample. field_at words sample 4 == histogram) samples) }
 {}

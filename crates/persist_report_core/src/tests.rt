@@ -90,6 +90,49 @@ const B_THEN_A: [(usize, u64); 14] = [
     (47, 65),
 ];
 
+// A block of counts at 32, which the histogram has mounted.
+const MOUNTED: [(usize, u64); 5] = [(7, 42), (24, 32), (32, 10), (33, COOKIE), (34, 2)];
+
+// 70,000 samples 1, which are too many to be packed.
+const TOO_MANY_TO_PACK: [(usize, u64); 4] = [
+    (25, DISABLED + 65_535),
+    (27, 70_000),
+    (29, 70_000),
+    (37, 70_000),
+];
+
+// 65,535 packed samples 1, and then one more.
+const ONE_MORE_THAN_PACKED: [(usize, u64); 4] = [
+    (25, DISABLED + 1),
+    (27, 65_536),
+    (29, 65_536),
+    (37, 65_536),
+];
+
+// Three samples, and all of them taken by deltas.
+const TAKEN: [(usize, u64); 8] = [
+    (25, DISABLED + 1),
+    (26, 2),
+    (27, 2),
+    (28, 2),
+    (29, 3),
+    (36, 1),
+    (37, 2),
+    (39, 1),
+];
+
+// Two packed samples 1, then samples 0 and 1, and all of them taken, the packed bucket's by its single mark.
+const TAKEN_TWICE: [(usize, u64); 8] = [
+    (25, DISABLED + 1),
+    (26, 3),
+    (27, 3),
+    (28, 3),
+    (29, 4),
+    (36, 1),
+    (37, 3),
+    (39, 1),
+];
+
 // A linear histogram `L` from 1 to 10 with five buckets, and one sample 10.
 const LINEAR_SAMPLE: [(usize, u64); 8] = [
     (20, 1),
@@ -165,8 +208,9 @@ fn report_of(alloc: Global, image: &[u8]) -> Result<Vec<u8>, CliFault> {
 #[test]
 fn texts(rt: HostRuntime) -> Result<(), Fail> {
     let alloc = rt.alloc();
-    let cases: [(&[(usize, u64)], &[u8]); 11] = [
+    let cases: [(&[(usize, u64)], &[u8]); 12] = [
         (&[], b"A,total,0,0\n"),
+        (&[(8, 12)], b"A,total,0,0\n"),
         (
             &THREE_SAMPLES,
             b"A,boolean,0,1,1\nA,boolean,1,2,2\nA,total,3,2\n",
@@ -186,6 +230,34 @@ fn texts(rt: HostRuntime) -> Result<(), Fail> {
     ];
     for (changes, expected) in cases {
         let image = image_with(alloc, changes)?;
+        let text = report_of(alloc, &image)?;
+        assert_eq!(rt; text.as_slice(), expected, "with the words {changes:?}");
+    }
+    Ok(())
+}
+
+#[test]
+fn units_in_counts(rt: HostRuntime) -> Result<(), Fail> {
+    let alloc = rt.alloc();
+    let cases: [(&[(usize, u64)], &[u8]); 4] = [
+        (
+            &TOO_MANY_TO_PACK,
+            b"A,boolean,1,2,70000\nA,total,70000,70000\n",
+        ),
+        (
+            &ONE_MORE_THAN_PACKED,
+            b"A,boolean,1,2,65536\nA,total,65536,65536\n",
+        ),
+        (&TAKEN, b"A,boolean,0,1,1\nA,boolean,1,2,2\nA,total,3,2\n"),
+        (
+            &TAKEN_TWICE,
+            b"A,boolean,0,1,1\nA,boolean,1,2,3\nA,total,4,3\n",
+        ),
+    ];
+    for (changes, expected) in cases {
+        let mut words = Vec::from_slice(alloc, &MOUNTED)?;
+        words.extend_from_slice(changes)?;
+        let image = image_with(alloc, &words)?;
         let text = report_of(alloc, &image)?;
         assert_eq!(rt; text.as_slice(), expected, "with the words {changes:?}");
     }

@@ -271,11 +271,17 @@ fn kinds(rt: HostRuntime) -> Result<(), Fail> {
     sparse.extend_from_slice(&[(45, 7), (46, 1)])?;
     let mut race = Vec::from_slice(alloc, &SPARSE_SAMPLES)?;
     race.extend_from_slice(&[(45, u64::MAX - 4), (27, u64::MAX - 9), (29, 2)])?;
-    let cases: [(&[(usize, u64)], &[u8]); 7] = [
+    let mut stray = Vec::from_slice(alloc, &SPARSE_SAMPLES)?;
+    stray.extend_from_slice(&[(45, 7), (46, 1), (36, 40)])?;
+    let cases: [(&[(usize, u64)], &[u8]); 8] = [
         (&LINEAR_SAMPLE, b"L,linear,10,2147483647,1\nL,total,1,10\n"),
         (&CUSTOM_SAMPLES, b"C,custom,3,10,2\nC,total,2,6\n"),
         (&sparse, b"S,sparse,-5,-4,2\nS,sparse,7,8,1\nS,total,3,-3\n"),
         (&race, b"S,sparse,-5,-4,2\nS,total,2,-10\n"),
+        (
+            &stray,
+            b"S,sparse,7,8,1\nS,total,1,-3\n!redundant,S,3\n!bad,32,BadSample\n",
+        ),
         (&[(26, 1)], b"!bad,16,BadMark\n"),
         (&[(27, (1 << 63) - 1)], b"!bad,16,BadSum\n"),
         (&BAD_SAMPLE, b"A,total,0,0\n!bad,32,BadSample\n"),

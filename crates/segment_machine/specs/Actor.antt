@@ -1,0 +1,168 @@
+-- What an actor has done and seen, read off its record; and the same of all actors together.
+use Rattle.std.specs.Prelude.{◌≡◌, ◌≢◌, Bool, true, false, ◌&&◌, ◌==◌, ℕ, ◌+◌, ℤ, pos, ◌+ℤ◌, if◌then◌else◌, List, [], ◌∷◌, ◌++◌, map, fold, sum_by, drop, slice_index, Option, Some, None}
+use mathlib.Core.Option.{some}
+use lib.ListN.{get_elem?}
+use Rattle.std.specs.List.{filter, flat_map, Contains, All}
+use Rattle.std.specs.Str.{bytes_eq}
+use Rattle.std.specs.Ordering.{int_eq}
+use Rattle.bucket_ranges.specs.declared.spec.Spec.{Spec}
+use Rattle.bucket_ranges.specs.declared.spec.Spec.TheVariants as spec
+use Rattle.bucket_ranges.specs.Spec.{buckets_of}
+use Rattle.bucket_ranges.specs.Ranges.{boundaries_of}
+use Rattle.segment_machine.specs.declared.entry.Entry.{Entry}
+use Rattle.segment_machine.specs.declared.place.Place.{Place}
+use Rattle.segment_machine.specs.declared.place.Place.TheVariants.{Spent, Raised, Sized, Marked, Beaten, Linked, Losing, Moving}
+use Rattle.segment_machine.specs.declared.actor.Actor.{Actor}
+use Rattle.segment_machine.specs.declared.actor.Cost.{Cost}
+use Rattle.segment_machine.specs.declared.actor.Given.{Given}
+use Rattle.segment_machine.specs.declared.actor.Known.{Known}
+use Rattle.segment_machine.specs.declared.actor.Moment.{Moment}
+use Rattle.segment_machine.specs.declared.actor.Published.{Published}
+use Rattle.segment_machine.specs.declared.actor.Sighting.{Sighting}
+use Rattle.segment_machine.specs.declared.actor.Taken.{Taken}
+use Rattle.segment_machine.specs.Entry.{counted_among, summed_among, noted_among, is_of}
+
+-- ---- entries
+
+-- its accepted entries: those that an adopted image stands for, then its log
+abbrev pub log_of : Actor → List Entry
+log_of a = a.first ++ map (λ c. c.entry) a.log
+
+-- the entries that are counted, by ended calls or by the running one; an adopted image's are
+abbrev pub counted_of : Actor → List Entry
+counted_of a = a.first ++ counted_among (a.log ++ a.running)
+
+-- those whose amounts are in the sum; an adopted image's are
+abbrev pub summed_of : Actor → List Entry
+summed_of a = a.first ++ summed_among (a.log ++ a.running)
+
+-- those whose units are in the redundant count; an adopted image's are not
+abbrev pub noted_of : Actor → List Entry
+noted_of a = noted_among (a.log ++ a.running)
+
+-- ---- units in transit
+
+-- the units of a bucket of a histogram that a call disabled and has not added to the counts
+abbrev pub transit_at : Place → ℕ → ℕ → ℕ
+transit_at (Moving look bucket units) histogram i = if (look.histogram == histogram) && (bucket == i) then units else 0
+transit_at _ histogram i = 0
+
+-- those of all actors
+abbrev pub transit_of : List Actor → ℕ → ℕ → ℕ
+transit_of actors histogram i = sum_by (λ a. transit_at a.place histogram i) actors
+
+-- whether a call that stands here can only go on with what it has begun: to complete a header, to move the tail on, to purge a
+-- lost block, to add moved units; one that was joined does nothing at all
+abbrev pub is_bound : Place → Bool
+is_bound Spent = true
+is_bound (Raised at size) = true
+is_bound (Sized at size) = true
+is_bound (Marked at size) = true
+is_bound (Beaten tail behind) = true
+is_bound (Linked at tail) = true
+is_bound (Losing look at) = true
+is_bound (Moving look bucket units) = true
+is_bound _ = false
+
+-- ---- what deltas took
+
+-- units that deltas took of a key
+abbrev pub units_listed : List (ℤ × ℕ) → ℤ → ℕ
+units_listed counts key = sum_by (λ count. if int_eq count.0 key then count.1 else 0) counts
+
+abbrev pub taken_units : List Taken → List ℕ → ℤ → ℕ
+taken_units list name key = sum_by (λ t. if bytes_eq t.name name then units_listed t.counts key else 0) list
+
+-- what they took of a sum
+abbrev pub taken_sum : List Taken → List ℕ → ℤ
+taken_sum list name = fold ◌+ℤ◌ (pos 0) (map (λ t. if bytes_eq t.name name then t.sum else pos 0) list)
+
+-- A delta or snapshot of a name is a final one, among those of an opener that has made so many recorders and whose log is
+-- this: no recorder was outstanding when its recorder was made, none was made after that one, and the log, which is that
+-- recorder's from then on, gained no entry of the name behind it.
+pub record IsFinal (made : ℕ) (log : List Entry) (name : List ℕ) (moment : Moment) : Type 0 where
+  pub alone : moment.outstanding ≡ 0
+  pub youngest : moment.before + 1 ≡ made
+  pub quiet : All (λ entry. is_of name entry ≡ false) (drop moment.log log)
+
+-- ---- costs
+
+-- the units that costs name, of one histogram, and all of them
+abbrev pub cost_of : List Cost → List ℕ → ℕ
+cost_of costs name = sum_by (λ cost. if bytes_eq cost.name name then cost.units else 0) costs
+
+abbrev pub cost_total : List Cost → ℕ
+cost_total costs = sum_by (λ cost. cost.units) costs
+
+-- all units that an actor has, spent or not
+abbrev pub units_of : Actor → ℕ
+units_of a = a.share + cost_total a.costs + cost_total a.held
+
+-- ---- what it knows
+
+-- the histogram of a reference, among those that a `hist` was answered Ok with
+abbrev pub known_at : List Known → ℕ → Option Known
+known_at [] reference = None
+known_at (known ∷ rest) reference = if known.reference == reference then Some known else known_at rest reference
+
+-- whether a spec has buckets
+abbrev pub has_buckets : Spec → Bool
+has_buckets (spec.Linear min max n) = true
+has_buckets spec.Boolean = true
+has_buckets (spec.Custom values) = true
+has_buckets spec.Sparse = false
+
+-- the actor knows a histogram with buckets at a reference
+abbrev pub Buckets : Actor → ℕ → Known → Type 0
+Buckets a histogram known = Contains a.names known × (known.reference ≡ histogram) × (has_buckets known.spec ≡ true)
+
+-- the actor knows a sparse histogram at a reference
+abbrev pub Sparse : Actor → ℕ → Known → Type 0
+Sparse a histogram known = Contains a.names known × (known.reference ≡ histogram) × (known.spec ≡ spec.Sparse)
+
+-- the number of its buckets, 0 where it is not known
+abbrev pub known_buckets : Option Known → ℕ
+known_buckets (Some known) = buckets_of known.spec
+known_buckets None = 0
+
+-- the key of a bucket of a known histogram, 0 where it is not known
+abbrev pub bucket_key : Option Known → ℕ → ℤ
+bucket_key (Some known) i = pos (slice_index (boundaries_of known.spec) i)
+bucket_key None i = pos 0
+
+-- a word of a published record that it saw; such a word never changes
+abbrev pub word_seen : List Sighting → ℕ → Option ℕ
+word_seen [] at = None
+word_seen (seen ∷ rest) at = if seen.at == at then Some seen.word else word_seen rest at
+
+-- ---- actors together
+
+-- something holds of each actor that is not spent
+abbrev pub Each : List Actor → (Actor → Type 0) → Type 0
+Each actors holds = (id : ℕ) (a : Actor) → get_elem? actors id ≡ some a → a.place ≢ Spent → holds a
+
+abbrev pub all_counted : List Actor → List Entry
+all_counted actors = flat_map counted_of actors
+
+abbrev pub all_summed : List Actor → List Entry
+all_summed actors = flat_map summed_of actors
+
+abbrev pub all_noted : List Actor → List Entry
+all_noted actors = flat_map noted_of actors
+
+abbrev pub all_taken : List Actor → List Taken
+all_taken actors = flat_map (λ a. a.taken) actors
+
+abbrev pub all_published : List Actor → List Published
+all_published actors = flat_map (λ a. a.published) actors
+
+-- the records that a cursor gave
+abbrev pub given_by : ℕ → List Given → List ℕ
+given_by cursor list = map (λ g. g.reference) (filter (λ g. g.cursor == cursor) list)
+
+abbrev pub all_given : List Actor → ℕ → List ℕ
+all_given actors cursor = flat_map (λ a. given_by cursor a.given) actors
+
+-- the units that were spent or are held for a histogram
+abbrev pub all_costs : List Actor → List ℕ → ℕ
+all_costs actors name = sum_by (λ a. cost_of a.costs name + cost_of a.held name) actors

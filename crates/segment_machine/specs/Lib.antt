@@ -1,0 +1,17 @@
+pub use Rattle.segment_image.specs.Words
+pub use Rattle.segment_image.specs.Head
+pub use Rattle.bucket_ranges.specs.Reading
+pub use Rattle.list_core.specs.Chain
+pub mod Entry
+pub mod Form
+pub mod Actor
+pub mod Event
+pub mod Next
+pub mod Made
+pub mod Ready
+pub mod Note
+pub mod State
+pub mod Seats
+pub mod Consistent
+pub mod Promises
+pub mod Examples

@@ -1,0 +1,97 @@
+-- What a record holds that was given to its maker, in the words of a payload and in what an actor has seen of it.
+use Rattle.std.specs.Prelude.{◌≡◌, ◌≢◌, ◌⊎◌, ℕ, ◌+◌, ◌-◌, ◌<◌, ℤ, List, [], ◌∷◌, ◌++◌, length, replicate, slice_index, Some}
+use Rattle.std.specs.Int.{w64, cast_unsigned}
+use Rattle.std.specs.List.{All}
+use Rattle.segment_image.specs.Words.{bytes_of_words}
+use Rattle.bucket_ranges.specs.declared.spec.Spec.{Spec}
+use Rattle.bucket_ranges.specs.declared.spec.Spec.TheVariants.{Linear, Boolean, Custom, Sparse}
+use Rattle.bucket_ranges.specs.Spec.{distinct_values}
+use Rattle.segment_machine.specs.declared.actor.Actor.{Actor}
+use Rattle.segment_machine.specs.declared.actor.Made.{Made}
+use Rattle.segment_machine.specs.declared.actor.Made.TheVariants.{Histogram, Sample}
+use Rattle.segment_machine.specs.Form.{off_word}
+use Rattle.segment_machine.specs.Actor.{word_seen}
+
+-- ---- in words
+
+-- the kind, the minimum, the maximum and the number of buckets of a spec
+abbrev pub spec_fields : Spec → List ℕ
+spec_fields (Linear min max n) = 1 ∷ min ∷ max ∷ n ∷ []
+spec_fields Boolean = 2 ∷ 1 ∷ 2 ∷ 3 ∷ []
+spec_fields (Custom values) =
+    let inner = distinct_values values in
+    3 ∷ slice_index inner 0 ∷ slice_index inner (length inner - 1) ∷ (length inner + 1) ∷ []
+spec_fields Sparse = 4 ∷ 0 ∷ 0 ∷ 0 ∷ []
+
+-- the ranges that stand behind the name
+abbrev pub spec_ranges : Spec → List ℕ
+spec_ranges (Linear min max n) = []
+spec_ranges Boolean = []
+spec_ranges (Custom values) = distinct_values values
+spec_ranges Sparse = []
+
+-- two specs are the same: kind, minimum, maximum, number of buckets and, of custom ones, all ranges
+abbrev pub SameSpec : Spec → Spec → Type 0
+SameSpec a b = (spec_fields a ≡ spec_fields b) × (spec_ranges a ≡ spec_ranges b)
+
+-- words that have the bytes of a name, and zeros behind them up to a whole word
+abbrev pub AreNameWords : List ℕ → List ℕ → Type 0
+AreNameWords name words = (k : ℕ) × (k < 8) × (bytes_of_words words ≡ name ++ replicate k 0)
+
+-- the front of a payload with which a record is published. That of a histogram has no counts and an empty single word, or
+-- it names a counts block and its single word is off from the start; its marks, sums and redundant count are 0
+abbrev pub IsPayload : ℕ → Made → List ℕ → Type 0
+IsPayload version (Histogram name spec) payload =
+    (letters : List ℕ) × (counts single : ℕ) × AreNameWords name letters
+    × (((counts ≡ 0) × (single ≡ 0)) ⊎ ((counts ≢ 0) × (spec ≢ Sparse) × (single ≡ off_word version 0)))
+    × (payload ≡ spec_fields spec ++ counts ∷ single ∷ 0 ∷ 0 ∷ 0 ∷ 0 ∷ length name ∷ (letters ++ spec_ranges spec))
+IsPayload version (Sample histogram value) payload =
+    (k : ℕ) × (payload ++ replicate k 0 ≡ histogram ∷ cast_unsigned w64 value ∷ [])
+
+-- ---- in what an actor has seen
+
+-- it saw that a record is one of a histogram of this name
+abbrev pub SawName : Actor → List ℕ → ℕ → Type 0
+SawName a name at =
+    (word_seen a.seen_words (at + 2) ≡ Some 1) × (word_seen a.seen_words (at + 14) ≡ Some (length name))
+    × (letters : List ℕ) × AreNameWords name letters
+    × ((i : ℕ) → i < length letters → word_seen a.seen_words (at + 15 + i) ≡ Some (slice_index letters i))
+
+-- it saw that a record is none of this name: its type is another, or the length or a word of the name is
+abbrev pub SawOtherName : Actor → List ℕ → ℕ → Type 0
+SawOtherName a name at =
+    ((tag : ℕ) × (word_seen a.seen_words (at + 2) ≡ Some tag) × (tag ≢ 1))
+    ⊎ ((len : ℕ) × (word_seen a.seen_words (at + 14) ≡ Some len) × (len ≢ length name))
+    ⊎ ((letters : List ℕ) × (i word : ℕ) × AreNameWords name letters × (i < length letters)
+    × (word_seen a.seen_words (at + 15 + i) ≡ Some word) × (word ≢ slice_index letters i))
+
+-- it saw the spec of a record whose name has so many words
+abbrev pub SawSpec : Actor → Spec → ℕ → ℕ → Type 0
+SawSpec a spec letters at =
+    ((i : ℕ) → i < 4 → word_seen a.seen_words (at + 4 + i) ≡ Some (slice_index (spec_fields spec) i))
+    × ((i : ℕ) → i < length (spec_ranges spec)
+    → word_seen a.seen_words (at + 15 + letters + i) ≡ Some (slice_index (spec_ranges spec) i))
+
+-- the first record of a name on the chain, as far as the actor walked along it
+abbrev pub IsFirstNamed : Actor → List ℕ → ℕ → Type 0
+IsFirstNamed a name at =
+    (front behind : List ℕ) × (a.seen_chain ≡ front ++ at ∷ behind) × All (SawOtherName a name) front × SawName a name at
+
+-- it saw that a record is a sample of this value of a histogram
+abbrev pub SawSample : Actor → ℕ → ℤ → ℕ → Type 0
+SawSample a histogram value at =
+    (word_seen a.seen_words (at + 2) ≡ Some 3) × (word_seen a.seen_words (at + 4) ≡ Some histogram)
+    × (word_seen a.seen_words (at + 5) ≡ Some (cast_unsigned w64 value))
+
+-- it saw that a record is none
+abbrev pub SawOther : Actor → ℕ → ℤ → ℕ → Type 0
+SawOther a histogram value at =
+    ((tag : ℕ) × (word_seen a.seen_words (at + 2) ≡ Some tag) × (tag ≢ 3))
+    ⊎ ((of : ℕ) × (word_seen a.seen_words (at + 4) ≡ Some of) × (of ≢ histogram))
+    ⊎ ((word : ℕ) × (word_seen a.seen_words (at + 5) ≡ Some word) × (word ≢ cast_unsigned w64 value))
+
+-- the first sample of a value behind the record of its histogram, as far as the actor walked along the chain
+abbrev pub IsFirstSample : Actor → ℕ → ℤ → ℕ → Type 0
+IsFirstSample a histogram value at =
+    (front between behind : List ℕ) × (a.seen_chain ≡ front ++ histogram ∷ (between ++ at ∷ behind))
+    × All (SawOther a histogram value) between × SawSample a histogram value at

@@ -1,0 +1,181 @@
+-- What an actor notes in its own record, beside an event. A note changes no word; it comes at one of its actor's events, before
+-- or behind what that event makes of it. So a step still changes one word and one actor at most.
+use Rattle.std.specs.Prelude.{◌≡◌, ◌≢◌, Bool, true, false, not, ◌&&◌, ℕ, ◌+◌, ◌-◌, ◌*◌, ◌<◌, ◌≤◌, ℤ, pos, unsigned_abs, ◌⊎◌, List, [], ◌∷◌, ◌++◌, map, take, drop, length, Some, None}
+use mathlib.Core.Option.{some}
+use lib.ListN.{get_elem?}
+use Rattle.std.specs.List.{range_with_len, Contains, All}
+use Rattle.std.specs.Ordering.{int_eq}
+use Rattle.segment_machine.specs.declared.entry.Entry.{Entry}
+use Rattle.segment_machine.specs.declared.entry.Counting.{Counting}
+use Rattle.segment_machine.specs.declared.place.Place.TheVariants.{Spent, SumLoaded}
+use Rattle.segment_machine.specs.declared.actor.Actor.{Actor}
+use Rattle.segment_machine.specs.declared.actor.Answered.{Answered}
+use Rattle.segment_machine.specs.declared.actor.Cost.{Cost}
+use Rattle.segment_machine.specs.declared.actor.Known.{Known}
+use Rattle.segment_machine.specs.declared.actor.Made.{Made}
+use Rattle.segment_machine.specs.declared.actor.Moment.{Moment}
+use Rattle.segment_machine.specs.declared.actor.Own.{Own}
+use Rattle.segment_machine.specs.declared.actor.Sighting.{Sighting}
+use Rattle.segment_machine.specs.declared.actor.Taken.{Taken}
+use Rattle.segment_machine.specs.Entry.{AreWithin, fresh, has_ended, tally_noted}
+use Rattle.bucket_ranges.specs.Spec.{buckets_of}
+use Rattle.bucket_ranges.specs.declared.spec.Spec.TheVariants as spec
+use Rattle.bucket_ranges.specs.Single.{units_packed, packed_bucket}
+use Rattle.segment_machine.specs.Form.{is_off, form_of}
+use Rattle.segment_machine.specs.Actor.{log_of, is_bound, cost_total, bucket_key, has_buckets, word_seen}
+use Rattle.segment_machine.specs.Made.{IsFirstNamed, IsFirstSample, SawSample, SawSpec, AreNameWords}
+use Rattle.segment_machine.specs.Next.{change_first, change_own}
+
+pub data Note : Type 0 where
+  -- a call that counts begins: entries of a histogram, and what it holds for them
+  begins : (name : List ℕ) (cost : ℕ) (entries : List Entry) → Note
+  -- the amount of the entry that is summed next becomes known, where it was told as 0
+  amounts : (amount : ℤ) → Note
+  -- the block at a word is to hold this
+  asks : (at : ℕ) (made : Made) → Note
+  -- a `hist` is answered Ok with this
+  knows : (known : Known) → Note
+  -- a delta of a histogram begins, and ends
+  takes : (name : List ℕ) → Note
+  has_taken : Note
+  -- a snapshot begins, and is answered
+  looks : Note
+  answers : (answered : Answered) → Note
+  -- a call that counts ends: it was accepted
+  ends : Note
+  -- it ends refused: its first entries have ended, and nothing has happened of the others
+  refused : (added : ℕ) → Note
+
+-- when a delta or a snapshot of this actor begins
+abbrev pub moment_of : Actor → Moment
+moment_of a = record { log = length (log_of a); before = a.made; outstanding = a.outstanding }
+
+-- a delta that has taken nothing yet
+abbrev pub nothing_taken : Actor → List ℕ → Taken
+nothing_taken a name = record { name = name; counts = []; sum = pos 0; swapped = false; moment = moment_of a }
+
+-- from now on it looks at single words and counts anew
+abbrev pub looking : Actor → Actor
+looking a = record a { since_singles = length a.seen_singles; since_counts = length a.seen_counts }
+
+-- of an entry nothing has happened
+abbrev pub is_untouched : Counting → Bool
+is_untouched c = not c.counted && not c.summed && not c.noted
+
+-- the units of a name of these entries
+abbrev pub units_running : List Counting → List ℕ → ℕ
+units_running list name = tally_noted (map (λ c. c.entry) list) name
+
+-- what a refused call has spent: the units of its first entries
+abbrev pub spent_by : ℕ → Actor → List Cost
+spent_by added a = map (λ (cost : Cost). record cost { units = units_running (take added a.running) cost.name }) a.held
+
+-- what becomes of its record
+abbrev pub noted : Actor → Note → Actor
+noted a (begins name cost entries) = record a {
+  share = a.share - cost;
+  held = record { name = name; units = cost } ∷ [];
+  running = map fresh entries;
+}
+noted a (amounts amount) = record a {
+  running = change_first
+      (λ c. int_eq c.entry.amount (pos 0) && not c.summed)
+      (λ c. let entry = c.entry in record c { entry = record entry { amount = amount } })
+      a.running;
+}
+noted a (asks at made) = record a { own = change_own at (λ own. record own { made = Some made }) a.own }
+noted a (knows known) = record a { names = a.names ++ known ∷ [] }
+noted a (takes name) = record (looking a) { taking = true; taken = a.taken ++ nothing_taken a name ∷ [] }
+noted a has_taken = record a { taking = false }
+noted a looks = looking a
+noted a (answers answered) = record a { snapshots = a.snapshots ++ answered ∷ [] }
+noted a ends = record a { log = a.log ++ a.running; running = []; costs = a.costs ++ a.held; held = [] }
+noted a (refused added) = record a {
+  share = a.share + (cost_total a.held - cost_total (spent_by added a));
+  log = a.log ++ take added a.running;
+  running = [];
+  costs = a.costs ++ spent_by added a;
+  held = [];
+}
+
+-- single words, and counts, that it saw since its delta or snapshot began
+abbrev pub SawSingle : Actor → ℕ → ℕ → Type 0
+SawSingle a at word = Contains (drop a.since_singles a.seen_singles) (record { at = at; word = word })
+
+abbrev pub SawCount : Actor → ℕ → ℕ → Type 0
+SawCount a at word = Contains (drop a.since_counts a.seen_counts) (record { at = at; word = word })
+
+-- what it saw of a bucket: packed units; or, where the word is off, the count that stands behind the counts reference, in
+-- version 2 with the units that the word keeps
+abbrev pub SawBucket : Actor → Known → ℕ → ℕ → Type 0
+SawBucket a known bucket total =
+    (word : ℕ) × SawSingle a (known.reference + 9) word
+    × let form = form_of a.version (buckets_of known.spec) word in
+    (((is_off word ≡ false) × (total ≡ units_packed form bucket))
+    ⊎ ((is_off word ≡ true) × ((counts count : ℕ) × (word_seen a.seen_words (known.reference + 8) ≡ Some counts)
+    × SawCount a (counts + 4 + bucket) count × (total ≡ count + units_packed form bucket))))
+
+-- where the mark of a bucket stands: the single mark of the packed bucket, or behind the counts
+abbrev pub IsMarkOf : Actor → Known → ℕ → ℕ → Type 0
+IsMarkOf a known bucket at =
+    ((word : ℕ) × SawSingle a (known.reference + 9) word
+    × (packed_bucket (form_of a.version (buckets_of known.spec) word) ≡ Some bucket) × (at ≡ known.reference + 10))
+    ⊎ ((counts : ℕ) × (word_seen a.seen_words (known.reference + 8) ≡ Some counts) × (at ≡ counts + 4 + buckets_of known.spec + bucket))
+
+-- what it saw of a bucket was taken: it is 0, or the mark was raised to it at least
+abbrev pub TookBucket : Actor → Known → ℕ → Type 0
+TookBucket a known bucket =
+    (total : ℕ) × SawBucket a known bucket total
+    × ((total ≡ 0) ⊎ ((at mark : ℕ) × IsMarkOf a known bucket at × SawCount a at mark × (total ≤ mark)))
+
+abbrev pub TookSample : Actor → ℕ → Type 0
+TookSample a sample =
+    (count : ℕ) × SawCount a (sample + 6) count × ((count ≡ 0) ⊎ ((mark : ℕ) × SawCount a (sample + 7) mark × (count ≤ mark)))
+
+-- A delta has taken all that it saw: of each bucket, or of each sample of its histogram that it met; and the sum was swapped.
+pub record TookAll (a : Actor) (known : Known) : Type 0 where
+  pub buckets : has_buckets known.spec ≡ true → (bucket : ℕ) → bucket < buckets_of known.spec → TookBucket a known bucket
+  pub samples : known.spec ≡ spec.Sparse → (value : ℤ) (sample : ℕ) → Contains a.seen_chain sample
+      → SawSample a known.reference value sample → TookSample a sample
+  pub summed : (before : List Taken) × (last : Taken) × (a.taken ≡ before ++ last ∷ []) × (last.name ≡ known.name) × (last.swapped ≡ true)
+
+-- A snapshot is what it saw: each bucket once, in order, or samples, each with its total; the sum that it loaded; and the
+-- redundant count, which it loaded last.
+pub record SawAll (a : Actor) (known : Known) (answered : Answered) : Type 0 where
+  pub buckets : has_buckets known.spec ≡ true
+      → (map (λ count. count.0) answered.counts ≡ map (bucket_key (Some known)) (range_with_len 0 (buckets_of known.spec)))
+      × ((bucket : ℕ) (count : ℤ × ℕ) → get_elem? answered.counts bucket ≡ some count → SawBucket a known bucket count.1)
+  pub samples : known.spec ≡ spec.Sparse
+      → All (λ count. (sample : ℕ) × IsFirstSample a known.reference count.0 sample × SawCount a (sample + 6) count.1) answered.counts
+  pub values : known.spec ≡ spec.Sparse → (value : ℤ) (sample count : ℕ) → Contains a.seen_chain sample → SawSample a known.reference value sample
+      → SawCount a (sample + 6) count → count ≢ 0 → Contains (map (λ count. count.0) answered.counts) value
+  pub sum : a.place ≡ SumLoaded known.reference answered.sum
+  pub redundant : (before : List Sighting) × (a.seen_counts ≡ before ++ record { at = known.reference + 13; word = answered.redundant } ∷ [])
+
+-- when an actor may note it. An opener counts and takes nothing itself
+abbrev pub MayNote : Actor → Note → Type 0
+MayNote a (begins name cost entries) =
+    (a.place ≢ Spent) × (a.opener ≡ 0) × (a.running ≡ []) × (a.held ≡ []) × (a.taking ≡ false) × (cost ≤ a.share)
+    × Contains (map (λ known. known.name) a.names) name × AreWithin name cost entries
+MayNote a (amounts amount) =
+    (a.running ≢ []) × All (λ c. c.entry.amount ≡ pos 0) a.running
+    × (unsigned_abs amount ≤ 2147483648 * cost_total a.held)
+MayNote a (asks at made) = (own : Own) × Contains a.own own × (own.at ≡ at) × (own.made ≡ None)
+MayNote a (knows known) =
+    IsFirstNamed a known.name known.reference
+    × ((letters : List ℕ) × AreNameWords known.name letters × SawSpec a known.spec (length letters) known.reference)
+MayNote a (takes name) =
+    (a.place ≢ Spent) × (a.opener ≡ 0) × (a.running ≡ []) × (a.taking ≡ false) × Contains (map (λ known. known.name) a.names) name
+MayNote a has_taken = (a.taking ≡ true) × ((known : Known) × Contains a.names known × TookAll a known)
+MayNote a looks = (a.place ≢ Spent) × (a.opener ≡ 0) × (a.running ≡ []) × (a.taking ≡ false)
+MayNote a (answers answered) =
+    (known : Known) × Contains a.names known × (known.name ≡ answered.name) × SawAll a known answered
+    × (answered.moment ≡ moment_of a)
+MayNote a ends = (is_bound a.place ≡ false) × All (λ c. has_ended c ≡ true) a.running
+MayNote a (refused added) =
+    (is_bound a.place ≡ false) × All (λ c. has_ended c ≡ true) (take added a.running) × All (λ c. is_untouched c ≡ true) (drop added a.running)
+
+-- notes one after the other
+abbrev pub Notes : Actor → List Note → Actor → Type 0
+Notes a [] b = a ≡ b
+Notes a (note ∷ rest) b = MayNote a note × Notes (noted a note) rest b

@@ -1,0 +1,160 @@
+-- What the crates above will promise of every state that is reached. These are statements; docs/DEFINITIONS.md says which of
+-- them are proved.
+use Rattle.std.specs.Prelude.{◌≡◌, ◌≢◌, ◌⊎◌, true, false, ℕ, ◌+◌, ◌<◌, ◌≤◌, ◌==◌, if◌then◌else◌, ℤ, pos, List, [], ◌∷◌, ◌++◌, length, slice_set, replicate, slice_index, None}
+use mathlib.Core.Option.{some}
+use lib.ListN.{get_elem?}
+use Rattle.std.specs.List.{Contains, All}
+use Rattle.segment_image.specs.Shape.{Dimensions}
+use Rattle.segment_image.specs.Words.{word_at}
+use Rattle.segment_image.specs.Head.{head_of}
+use Rattle.segment_image.specs.Blocks.{field_at}
+use Rattle.alloc_core.specs.Layout.{IsShape, render, fresh}
+use Rattle.bucket_ranges.specs.Reading.{is_sparse, record_buckets, sum_of, spec_of, Histogram, Reading, IsReading}
+use Rattle.segment_machine.specs.declared.actor.Actor.{Actor}
+use Rattle.segment_machine.specs.declared.actor.Answered.{Answered}
+use Rattle.segment_machine.specs.declared.actor.Known.{Known}
+use Rattle.segment_machine.specs.declared.actor.Taken.{Taken}
+use Rattle.bucket_ranges.specs.Ranges.{clamped, AreBoundaries, IsBucketOf}
+use Rattle.segment_machine.specs.Entry.{key_of, tally_units, tally_sum, tally_noted}
+use Rattle.segment_machine.specs.Actor.{Each, log_of, all_counted, all_summed, taken_units, taken_sum, transit_of, given_by, IsFinal}
+use Rattle.segment_machine.specs.Made.{SameSpec}
+use Rattle.segment_machine.specs.Event.{Event, link, spot}
+use Rattle.segment_machine.specs.State.{State, memory, IsStep}
+use Rattle.segment_machine.specs.Seats.{opener_of, MaySplit, parent, newcomer, MayLend, lender, borrower, MayJoin, joined, spent}
+use Rattle.segment_machine.specs.Consistent.{Opening, IsConsistent, IsHistogram, IsSample, bucket_total, key_at}
+
+-- ---- the states that are reached
+
+-- a new segment with so many shared cursors, and its opener
+abbrev pub new_opening : Dimensions → ℕ → ℕ → Opening
+new_opening shape version id = record { words = render shape (fresh shape version id); claims = [] }
+
+abbrev pub new_state : Dimensions → ℕ → ℕ → ℕ → State
+new_state shape version id cursors = record {
+  words = render shape (fresh shape version id);
+  cursors = replicate cursors 12;
+  actors = opener_of shape version ∷ [];
+}
+
+-- an opener makes a recorder, and joins one
+abbrev pub IsSplit : State → ℕ → ℕ → State → Type 0
+IsSplit old id units new =
+    (a : Actor) × (get_elem? old.actors id ≡ some a) × MaySplit a units
+    × (new ≡ record old { actors = slice_set old.actors id (parent a units) ++ newcomer a units ∷ [] })
+
+abbrev pub IsJoin : State → ℕ → ℕ → State → Type 0
+IsJoin old id other new =
+    (a b : Actor) × (id ≢ other) × (get_elem? old.actors id ≡ some a) × (get_elem? old.actors other ≡ some b) × MayJoin a b
+    × (new ≡ record old { actors = slice_set (slice_set old.actors id (joined a b)) other spent })
+
+-- an opener lends units to a recorder
+abbrev pub IsLent : State → ℕ → ℕ → ℕ → State → Type 0
+IsLent old id other units new =
+    (a b : Actor) × (id ≢ other) × (get_elem? old.actors id ≡ some a) × (get_elem? old.actors other ≡ some b) × MayLend a b units
+    × (new ≡ record old { actors = slice_set (slice_set old.actors id (lender a units)) other (borrower b units) })
+
+-- from one state steps, recorders that are made and joined, and units that are lent lead to another, in whatever order
+pub data IsReached (version : ℕ) (start : State) : State → Type 0 where
+  started : IsReached version start start
+  stepped : (old new : State) (id : ℕ) (event : Event) → IsReached version start old → IsStep version old id event new → IsReached version start new
+  split : (old new : State) (id units : ℕ) → IsReached version start old → IsSplit old id units new → IsReached version start new
+  lent : (old new : State) (id other units : ℕ) → IsReached version start old → IsLent old id other units new → IsReached version start new
+  joined_in : (old new : State) (id other : ℕ) → IsReached version start old → IsJoin old id other new → IsReached version start new
+
+-- a state of a new segment of version 1 or 2
+abbrev pub IsState : Dimensions → ℕ → ℕ → ℕ → State → Type 0
+IsState shape version id cursors state =
+    IsShape shape × ((version ≡ 1) ⊎ (version ≡ 2)) × (cursors ≤ 8) × IsReached version (new_state shape version id cursors) state
+
+-- ---- keys
+
+-- the key of a value is the least value of its bucket
+abbrev pub KeysAreLeast : Type 0
+KeysAreLeast = (boundaries : List ℕ) (value : ℤ) (bucket : ℕ) → AreBoundaries boundaries → IsBucketOf boundaries (clamped value) bucket
+    → key_of boundaries value ≡ pos (slice_index boundaries bucket)
+
+-- ---- one step
+
+-- a step changes one word and one actor at most
+abbrev pub StepsChangeOne : Type 0
+StepsChangeOne = (version : ℕ) (old new : State) (id : ℕ) (event : Event) → IsStep version old id event new
+    → ((at : ℕ) → at ≢ spot (length old.words) event → word_at (memory new) at ≡ word_at (memory old) at)
+    × ((other : ℕ) → other ≢ id → get_elem? new.actors other ≡ get_elem? old.actors other)
+
+-- the chain after an event that found a number: longer by a record at its end, where a link succeeds
+abbrev pub chain_behind : Event → ℕ → List ℕ → List ℕ
+chain_behind (link tail at) found chain = if found == 12 then chain ++ at ∷ [] else chain
+chain_behind _ found chain = chain
+
+-- a link puts its record at the end of the chain, and nothing else changes the chain: so records come in the order of their links
+abbrev pub LinksAppend : Type 0
+LinksAppend = (opening : Opening) (old new : State) (id : ℕ) (event : Event) → (before : IsConsistent opening old) → (behind : IsConsistent opening new)
+    → IsStep (word_at opening.words 1) old id event new
+    → behind.chain ≡ chain_behind event (word_at (memory old) (spot (length old.words) event)) before.chain
+
+-- ---- every state
+
+-- every state that is reached is consistent
+abbrev pub StatesAreConsistent : Type 0
+StatesAreConsistent = (shape : Dimensions) (version id cursors : ℕ) (state : State) → IsState shape version id cursors state
+    → IsConsistent (new_opening shape version id) state
+
+-- A consistent state of version 1 reads as exactly the names that were published, each once: nothing is bad, the list does not
+-- stop, and each histogram's counts are what was counted less what is in transit, its sum the amounts that were added.
+abbrev pub ConsistentStatesRead : Type 0
+ConsistentStatesRead = (opening : Opening) (state : State) (reading : Reading) → (is : IsConsistent opening state)
+    → word_at opening.words 1 ≡ 1 → IsReading state.words (head_of state.words) reading
+    → (reading.bad ≡ []) × (reading.stopped ≡ None)
+    × ((name : List ℕ) (at : ℕ) → IsHistogram state.words is.chain name at
+    → (h : Histogram) × Contains reading.hists h × (h.name ≡ name) × (h.reference ≡ at))
+    × ((h : Histogram) → Contains reading.hists h → IsHistogram state.words is.chain h.name h.reference
+    × (h.sum ≡ tally_sum (all_summed state.actors) h.name)
+    × ((i : ℕ) → is_sparse state.words h.reference ≡ false → i < record_buckets state.words h.reference
+    → bucket_total 1 state.words h.reference i + transit_of state.actors h.reference i
+    ≡ tally_units (all_counted state.actors) h.name (key_at state.words h.reference i)))
+
+-- a histogram that a `hist` was answered Ok with is the first of its name, and has the spec
+abbrev pub NamesAreFirst : Type 0
+NamesAreFirst = (shape : Dimensions) (version id cursors : ℕ) (state : State) → IsState shape version id cursors state
+    → (is : IsConsistent (new_opening shape version id) state)
+    → Each state.actors (λ a. (known : Known) → Contains a.names known
+    → IsHistogram state.words is.chain known.name known.reference × SameSpec (spec_of state.words known.reference) known.spec)
+
+-- what a shared cursor gave one recorder stands in the order of the chain: so does what it gave all, each record once, by the
+-- first part of consistency
+abbrev pub CursorsKeepOrder : Type 0
+CursorsKeepOrder = (shape : Dimensions) (version id cursors : ℕ) (state : State) → IsState shape version id cursors state
+    → (is : IsConsistent (new_opening shape version id) state)
+    → Each state.actors (λ a. (cursor i j k l : ℕ) → i < j → get_elem? (given_by cursor a.given) i ≡ some (slice_index is.chain k)
+    → get_elem? (given_by cursor a.given) j ≡ some (slice_index is.chain l) → k < length is.chain → l < length is.chain → k < l)
+
+-- ---- after the joins
+
+-- the opener has joined all recorders that it has made
+abbrev pub IsJoined : State → Actor → Type 0
+IsJoined state a = (get_elem? state.actors 0 ≡ some a) × (a.outstanding ≡ 0) × (a.running ≡ [])
+
+-- then the totals, the sums and the redundant counts are the tally of its log
+abbrev pub JoinedTotals : Type 0
+JoinedTotals = (shape : Dimensions) (version id cursors : ℕ) (state : State) (a : Actor) → IsState shape version id cursors state → IsJoined state a
+    → (is : IsConsistent (new_opening shape version id) state) (name : List ℕ) (at : ℕ) → IsHistogram state.words is.chain name at
+    → ((i : ℕ) → is_sparse state.words at ≡ false → i < record_buckets state.words at
+    → bucket_total version state.words at i ≡ tally_units (log_of a) name (key_at state.words at i))
+    × ((sample : ℕ) (value : ℤ) → is_sparse state.words at ≡ true → IsSample state.words is.chain at value sample
+    → field_at state.words sample 6 ≡ tally_units (log_of a) name value)
+    × (sum_of state.words at ≡ tally_sum (log_of a) name)
+    × (field_at state.words at 13 ≡ tally_noted (log_of a) name)
+
+-- where a final delta of a name was taken, all deltas together took its totals and its sum
+abbrev pub FinalDeltasTakeAll : Type 0
+FinalDeltasTakeAll = (shape : Dimensions) (version id cursors : ℕ) (state : State) (a : Actor) (t : Taken)
+    → IsState shape version id cursors state → IsJoined state a → Contains a.taken t → IsFinal a.made (log_of a) t.name t.moment
+    → ((key : ℤ) → taken_units a.taken t.name key ≡ tally_units (log_of a) t.name key)
+    × (taken_sum a.taken t.name ≡ tally_sum (log_of a) t.name)
+
+-- a final snapshot has the totals, the sum and the redundant count
+abbrev pub FinalSnapshotsAreExact : Type 0
+FinalSnapshotsAreExact = (shape : Dimensions) (version id cursors : ℕ) (state : State) (a : Actor) (s : Answered)
+    → IsState shape version id cursors state → IsJoined state a → Contains a.snapshots s → IsFinal a.made (log_of a) s.name s.moment
+    → All (λ count. count.1 ≡ tally_units (log_of a) s.name count.0) s.counts
+    × (s.sum ≡ tally_sum (log_of a) s.name) × (s.redundant ≡ tally_noted (log_of a) s.name)

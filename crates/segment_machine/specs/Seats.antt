@@ -1,0 +1,134 @@
+-- How recorders are made and joined, and how units are lent. These change no word of a segment, and the records of two actors:
+-- an opener and a recorder. In the running segment the first two load a word beside it that never changes.
+use Rattle.std.specs.Prelude.{◌≡◌, ◌≢◌, ℕ, ◌+◌, ◌-◌, ◌<◌, ◌≤◌, max, false, ◌||◌, nat_lt, if◌then◌else◌, List, [], ◌++◌, map, length}
+use Rattle.segment_image.specs.Shape.{Dimensions}
+use Rattle.segment_machine.specs.declared.place.Place.TheVariants.{Spent, Idle}
+use Rattle.segment_machine.specs.declared.actor.Actor.{Actor}
+use Rattle.segment_machine.specs.declared.actor.Answered.{Answered}
+use Rattle.segment_machine.specs.declared.actor.Moment.{Moment}
+use Rattle.segment_machine.specs.declared.actor.Taken.{Taken}
+use Rattle.segment_machine.specs.Actor.{log_of, is_bound}
+
+-- an actor that has done nothing, and has seen this free pointer
+abbrev pub idle : Dimensions → ℕ → ℕ → ℕ → Actor
+idle shape version free share = record {
+  shape = shape;
+  version = version;
+  share = share;
+  costs = [];
+  held = [];
+  first = [];
+  log = [];
+  running = [];
+  place = Idle;
+  own = [];
+  claimed = [];
+  published = [];
+  spoiled = false;
+  filled = false;
+  seen_free = free;
+  seen_chain = [];
+  seen_tail = 12;
+  seen_singles = [];
+  seen_counts = [];
+  seen_words = [];
+  seen_cursors = [];
+  names = [];
+  taken = [];
+  taking = false;
+  since_singles = 0;
+  since_counts = 0;
+  snapshots = [];
+  given = [];
+  opener = 0;
+  made = 0;
+  outstanding = 0;
+}
+
+-- the opener of a new segment, with all its units
+abbrev pub opener_of : Dimensions → ℕ → Actor
+opener_of shape version = record (idle shape version 16 4294967295) { opener = 1 }
+
+-- ---- a recorder is made
+
+abbrev pub MaySplit : Actor → ℕ → Type 0
+MaySplit a units = (a.place ≡ Idle) × (a.opener ≡ 1) × (units ≤ a.share) × (a.outstanding < 256)
+
+-- what the opener is then: it has handed out the units
+abbrev pub parent : Actor → ℕ → Actor
+parent a units = record a { share = a.share - units; made = a.made + 1; outstanding = a.outstanding + 1 }
+
+-- and the recorder: it has seen what its opener has, done nothing, and knows no histogram
+abbrev pub newcomer : Actor → ℕ → Actor
+newcomer a units = record (idle a.shape a.version a.seen_free units) {
+  seen_chain = a.seen_chain;
+  seen_tail = a.seen_tail;
+  seen_singles = a.seen_singles;
+  seen_counts = a.seen_counts;
+  seen_words = a.seen_words;
+  seen_cursors = a.seen_cursors;
+  made = a.made;
+  outstanding = a.outstanding;
+}
+
+-- ---- units are lent
+
+-- An opener may hand more of its units to a recorder: in the stepped world, where all actors draw on one pool, those that a call
+-- costs, when it begins.
+abbrev pub MayLend : Actor → Actor → ℕ → Type 0
+MayLend a b units = (a.opener ≡ 1) × (b.opener ≡ 0) × (b.place ≢ Spent) × (units ≤ a.share)
+
+abbrev pub lender : Actor → ℕ → Actor
+lender a units = record a { share = a.share - units }
+
+abbrev pub borrower : Actor → ℕ → Actor
+borrower b units = record b { share = b.share + units }
+
+-- ---- a recorder is joined
+
+abbrev pub MayJoin : Actor → Actor → Type 0
+MayJoin a b = (a.place ≡ Idle) × (a.opener ≡ 1) × (1 ≤ a.outstanding) × (is_bound b.place ≡ false)
+    × (b.opener ≡ 0) × (b.held ≡ []) × (b.running ≡ []) × (b.taking ≡ false)
+
+-- a moment of a recorder whose log comes behind another
+abbrev pub shifted : ℕ → Moment → Moment
+shifted entries moment = record moment { log = entries + moment.log }
+
+abbrev pub shifted_taken : ℕ → List Taken → List Taken
+shifted_taken entries list = map (λ (t : Taken). record t { moment = shifted entries t.moment }) list
+
+abbrev pub shifted_answers : ℕ → List Answered → List Answered
+shifted_answers entries list = map (λ (s : Answered). record s { moment = shifted entries s.moment }) list
+
+-- the longer of two prefixes of one chain
+abbrev pub longer : List ℕ → List ℕ → List ℕ
+longer a b = if nat_lt (length a) (length b) then b else a
+
+-- What the opener is then: it has what both had, the recorder's log, deltas, snapshots and answers behind its own, and the
+-- rest of the recorder's share. Of two tails it has its own, which is no later than the present one.
+abbrev pub joined : Actor → Actor → Actor
+joined a b = record a {
+  share = a.share + b.share;
+  costs = a.costs ++ b.costs;
+  log = a.log ++ b.log;
+  own = a.own ++ b.own;
+  claimed = a.claimed ++ b.claimed;
+  published = a.published ++ b.published;
+  spoiled = a.spoiled || b.spoiled;
+  filled = a.filled || b.filled;
+  seen_free = max a.seen_free b.seen_free;
+  seen_chain = longer a.seen_chain b.seen_chain;
+  seen_singles = a.seen_singles ++ b.seen_singles;
+  seen_counts = a.seen_counts ++ b.seen_counts;
+  seen_words = a.seen_words ++ b.seen_words;
+  seen_cursors = a.seen_cursors ++ b.seen_cursors;
+  names = a.names ++ b.names;
+  taken = a.taken ++ shifted_taken (length (log_of a)) b.taken;
+  snapshots = a.snapshots ++ shifted_answers (length (log_of a)) b.snapshots;
+  given = a.given ++ b.given;
+  outstanding = a.outstanding - 1;
+}
+
+-- what the recorder is then
+abbrev pub spent : Actor
+spent = record (idle (record { size = 0; page = 0 }) 0 0 0) { place = Spent }

@@ -1,0 +1,189 @@
+//! What an actor has done and seen.
+
+use crate::entry::{Counting, Entry};
+use crate::place::Place;
+use bucket_ranges::Spec;
+use segment_image::Shape;
+use std::collections::LinkedList;
+
+/// A word that was seen: where it stands, and what it was.
+pub struct Sighting {
+    pub at: u64,
+    pub word: u64,
+}
+
+/// Words that an allocation claimed: where they begin, and how many they are.
+pub struct Claim {
+    pub at: u64,
+    pub size: u64,
+}
+
+/// A claimed block that is still its claimer's own, and what was stored in it.
+pub struct Own {
+    /// Where it begins.
+    pub at: u64,
+    /// Its size.
+    pub size: u64,
+    /// Its type: 1 histogram, 2 counts, 3 sparse sample, 0 a lost counts block.
+    pub tag: u64,
+    /// Its next: 0 until it is stored, then 12.
+    pub next: u64,
+    /// The front of its payload, up to the last word that was stored. Behind that are zeros.
+    pub payload: LinkedList<u64>,
+    /// What it is to hold, where it is to be a record.
+    pub made: Option<Made>,
+}
+
+/// What a record is to hold, as it was given to its maker.
+pub enum Made {
+    /// A histogram of a name and a spec.
+    Histogram { name: LinkedList<u8>, spec: Spec },
+    /// A value of the sparse histogram whose record has this reference.
+    Sample { histogram: u64, value: i32 },
+}
+
+/// A record that was published: its reference, and what it is to hold.
+pub struct Published {
+    pub reference: u64,
+    pub made: Made,
+}
+
+/// A histogram that a `hist` was answered Ok with.
+pub struct Known {
+    pub name: LinkedList<u8>,
+    pub spec: Spec,
+    pub reference: u64,
+}
+
+/// Units of a segment that calls on a histogram took from a share.
+pub struct Cost {
+    pub name: LinkedList<u8>,
+    pub units: u64,
+}
+
+/// When a delta or a snapshot began. The recorders are counted among those of one opener.
+pub struct Moment {
+    /// How many entries the log of its recorder had.
+    pub log: u64,
+    /// How many recorders were made before its recorder was.
+    pub before: u64,
+    /// How many of these had not been joined when its recorder was made.
+    pub outstanding: u64,
+}
+
+/// What a delta took, so far as it went.
+pub struct Taken {
+    pub name: LinkedList<u8>,
+    /// Keys, each with the units that were taken of it. A key may stand more than once.
+    pub counts: LinkedList<(i32, u64)>,
+    /// What was taken of the sum, and whether it was.
+    pub sum: i64,
+    pub swapped: bool,
+    pub moment: Moment,
+}
+
+/// What a snapshot answered.
+pub struct Answered {
+    pub name: LinkedList<u8>,
+    /// All keys that were looked at, each with its total.
+    pub counts: LinkedList<(i32, u64)>,
+    pub sum: i64,
+    pub redundant: u64,
+    pub moment: Moment,
+}
+
+/// A record that a shared cursor gave.
+pub struct Given {
+    pub cursor: u64,
+    pub reference: u64,
+}
+
+/// What an actor has done and seen: a recorder, or an opener, whose record gathers those of the recorders that it joined.
+/// It is a view alone, and no value of it is made: its numbers have no bound.
+pub struct Actor {
+    // ---- the segment
+
+    /// The words of the segment and of each page.
+    pub shape: Shape,
+    /// The version of its format, 1 or 2.
+    pub version: u64,
+
+    // ---- units
+
+    /// The units that it may still spend. An opener's are the pool, those that it has not handed out.
+    pub share: u64,
+    /// What ended calls have spent, by histogram.
+    pub costs: LinkedList<Cost>,
+    /// What the running call holds, by histogram. It is spent or comes back when the call ends.
+    pub held: LinkedList<Cost>,
+
+    // ---- entries
+
+    /// The entries that an adopted image stands for, which are counted and summed. An opener's alone.
+    pub first: LinkedList<Entry>,
+    /// The entries of ended calls, in order: its log.
+    pub log: LinkedList<Counting>,
+    /// The entries of the running call.
+    pub running: LinkedList<Counting>,
+
+    // ---- the running call
+
+    /// Where it stands, with what it has loaded and stored.
+    pub place: Place,
+    /// Blocks that it has claimed and that are neither published nor mounted. A call that is refused leaves them here.
+    pub own: LinkedList<Own>,
+
+    // ---- what it has made and set
+
+    /// All blocks that it has claimed.
+    pub claimed: LinkedList<Claim>,
+    /// The records whose link it has done, in this order.
+    pub published: LinkedList<Published>,
+    /// Whether it has set the corrupt flag.
+    pub spoiled: bool,
+    /// Whether an allocation of it has set the full flag.
+    pub filled: bool,
+
+    // ---- what it has seen
+
+    /// The free pointer that it saw last.
+    pub seen_free: u64,
+    /// The chain, so far as it has walked along it.
+    pub seen_chain: LinkedList<u64>,
+    /// The tail that it saw last.
+    pub seen_tail: u64,
+    /// The single words that it saw, by where they stand.
+    pub seen_singles: LinkedList<Sighting>,
+    /// The counts, marks and redundant counts that it saw.
+    pub seen_counts: LinkedList<Sighting>,
+    /// The words of published records that it saw and that never change: types, specs, names, samples, and counts
+    /// references other than 0.
+    pub seen_words: LinkedList<Sighting>,
+    /// The shared cursors that it saw, by their numbers.
+    pub seen_cursors: LinkedList<Sighting>,
+
+    // ---- what its calls answered
+
+    /// The histograms that its `hist` was answered Ok with.
+    pub names: LinkedList<Known>,
+    /// What its deltas took, in order.
+    pub taken: LinkedList<Taken>,
+    /// Whether the last of these is still going on.
+    pub taking: bool,
+    /// How many single words, and how many counts, it had seen when its last delta or snapshot began.
+    pub since_singles: u64,
+    pub since_counts: u64,
+    /// Its snapshots.
+    pub snapshots: LinkedList<Answered>,
+    /// The records that shared cursors gave it, in order.
+    pub given: LinkedList<Given>,
+
+    // ---- recorders
+
+    /// 1 for an opener, 0 for a recorder.
+    pub opener: u64,
+    /// How many recorders the opener has made; for a recorder, how many were made before it.
+    pub made: u64,
+    /// How many of these are not joined; for a recorder, how many were not when it was made.
+    pub outstanding: u64,
+}

@@ -1,0 +1,119 @@
+//! The laws of the machine: what its definitions say of worked examples.
+//!
+//! The functions do nothing. What each promises is a law of the definitions in `specs/`; the examples are in
+//! `specs/Examples.antt`.
+
+ghost use Rattle.segment_machine.specs.Promises.{StepsChangeOne};
+ghost use Rattle.segment_machine.specs.Examples.{Keys, PackedThenMounted, StoppedInTransit, PackingLimit, DeltasAndMarks, TwoTakers, PackedRun, MountingRun, TakerRuns, TakingRun, SparseSamples, Batches, MountedIsConsistent, ListBreaks, RecordsBreak, TotalsBreak, MarksBreak, SumsBreak, TransitBreaks, FlagsBreak, UnitsBreak};
+
+/// A step changes one word and one actor at most.
+pub fn steps_change_one()
+    ensures { StepsChangeOne }
+{}
+
+/// The keys of values, with buckets and without.
+pub fn keys()
+    ensures { Keys }
+{}
+
+/// Two packed units are moved to the counts, where the next sample is counted: the words become those of the segment, and the
+/// totals, the sum and the redundant count are those of the entries.
+pub fn packed_then_mounted()
+    ensures { PackedThenMounted }
+{}
+
+/// Stopped between disabling and moving, the totals and the units in transit are together what was counted.
+pub fn stopped_in_transit()
+    ensures { StoppedInTransit }
+{}
+
+/// 65,535 units are packed at most; in version 2 a frozen word keeps them.
+pub fn packing_limit()
+    ensures { PackingLimit }
+{}
+
+/// Marks are what deltas took, and which deltas are final.
+pub fn deltas_and_marks()
+    ensures { DeltasAndMarks }
+{}
+
+/// What one taker has taken another does not take again.
+pub fn two_takers()
+    ensures { TwoTakers }
+{}
+
+/// A sample that is packed goes through its events to the log.
+pub fn packed_run()
+    ensures { PackedRun }
+{}
+
+/// A sample of another bucket claims and mounts a counts block, disables the single word, moves its units and counts its own,
+/// in this order; each event may be done when it is.
+pub fn mounting_run()
+    ensures { MountingRun }
+{}
+
+/// A taker takes what is above the mark that it finds, and nothing where another taker was before it.
+pub fn taker_runs()
+    ensures { TakerRuns }
+{}
+
+/// A delta of a packed word: each of its events may be done, and then it has taken all and may end.
+pub fn taking_run()
+    ensures { TakingRun }
+{}
+
+/// The keys of a sparse histogram are its values.
+pub fn sparse_samples()
+    ensures { SparseSamples }
+{}
+
+/// The entries of a batch and what it costs.
+pub fn batches()
+    ensures { Batches }
+{}
+
+/// The segment that was packed and then mounted is consistent, with who recorded 1, 1 and 0.
+pub fn mounted_is_consistent()
+    ensures { MountedIsConsistent }
+{}
+
+/// The list is no chain where a word behind the free pointer is not 0.
+pub fn list_breaks()
+    ensures { ListBreaks }
+{}
+
+/// A record does not hold what it was given where it was published before its name was stored.
+pub fn records_break()
+    ensures { RecordsBreak }
+{}
+
+/// Totals are not what was counted where packed units were added to the counts and the single word still has them.
+pub fn totals_break()
+    ensures { TotalsBreak }
+{}
+
+/// Marks are not what was taken where two deltas took the same units.
+pub fn marks_break()
+    ensures { MarksBreak }
+{}
+
+/// Sums are not the amounts where a packed sample was left out.
+pub fn sums_break()
+    ensures { SumsBreak }
+{}
+
+/// Transit is not local where no bucket was packed.
+pub fn transit_breaks()
+    ensures { TransitBreaks }
+{}
+
+/// Flags are not set rightly where nobody has set the corrupt flag.
+pub fn flags_break()
+    ensures { FlagsBreak }
+{}
+
+/// Units are not kept where a unit was spent and is still in a share.
+pub fn units_break()
+    ensures { UnitsBreak }
+{}

@@ -1,0 +1,52 @@
+//! Where a running call stands.
+
+/// What a call has loaded of a histogram that is not sparse.
+pub struct Look {
+    /// The reference of the histogram's record.
+    pub histogram: u64,
+    /// The single word, where it was loaded and no exchange of it has failed since.
+    pub single: Option<u64>,
+    /// The counts reference that was loaded or stored, 0 where there is none yet.
+    pub counts: u64,
+}
+
+/// Where a running call stands: what it has loaded and stored, as far as what it may do next rests on that. A walk has no
+/// place of its own, since what it has met is in what the actor has seen.
+pub enum Place {
+    /// The actor has been joined with another, and never does anything again.
+    Spent,
+    /// No call is going on, or it stands at the begin of one of its parts.
+    Idle,
+    /// Allocation: it loaded flags without the corrupt one.
+    FlagsLoaded,
+    /// Allocation: it loaded a lawful free pointer.
+    FreeLoaded { free: u64 },
+    /// Allocation: the words from `at` on are its own, all zeros.
+    Raised { at: u64, size: u64 },
+    /// Allocation: their size is stored.
+    Sized { at: u64, size: u64 },
+    /// Allocation: the cookie of a claimed block is stored too.
+    Marked { at: u64, size: u64 },
+    /// Publishing: it loaded the tail, and its record is not linked.
+    TailLoaded { tail: u64 },
+    /// Publishing: another record, `next`, stood behind the tail.
+    Beaten { tail: u64, next: u64 },
+    /// Publishing: its record `at` is linked behind `tail`, which the tail may still be.
+    Linked { at: u64, tail: u64 },
+    /// Counting or taking: it knows the single word, the counts reference, or both.
+    Looking { look: Look },
+    /// Counting: its counts block `at` is not needed, since the histogram had `found` first.
+    Losing { look: Look, at: u64 },
+    /// Counting, in version 1: it disabled a single word that had `units` of `bucket`, and has not added them to the counts.
+    Moving { look: Look, bucket: u64, units: u64 },
+    /// Taking: it loaded the count of a bucket.
+    CountLoaded { look: Look, bucket: u64, count: u64 },
+    /// Taking: it loaded the count of a sparse sample.
+    SampleLoaded { sample: u64, count: u64 },
+    /// Taking: it loaded the sum.
+    SumLoaded { histogram: u64, sum: i64 },
+    /// A shared cursor: it loaded where the cursor stands.
+    CursorLoaded { cursor: u64, at: u64 },
+    /// A shared cursor: it loaded the record behind that.
+    BehindCursor { cursor: u64, at: u64, next: u64 },
+}

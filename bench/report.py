@@ -10,8 +10,8 @@ counts. Printed are for each image its words, what it holds, its load (its words
 the most memory of a run and the memory allowed, in MiB, the best time in milliseconds, and the ratios of load and
 time to those of the image before.
 
-The time may grow by 2.3 where the load doubles, and in proportion where it grows otherwise; of the family `scattered`
-the growth is told and not judged, since it is that of the machine's caches. Allowed are 64 bytes a word, 32 bytes a
+The time may grow by 2.3 where the load doubles, and in proportion where it grows otherwise; of the families `alike` and
+`scattered` the growth is told and not judged, since it is that of the machine's caches. Allowed are 64 bytes a word, 32 bytes a
 bucket of a record that is not bad, three times the bytes of the report, and 16 MiB for the program.
 
 At last one forged image of 8 MiB with more than five GiB of report is read with no more than GIB of memory: the
@@ -32,7 +32,7 @@ import runs
 
 MOST = 2.3 / 2
 # The families whose growth is told and not judged.
-TOLD = {"scattered"}
+TOLD = {"alike", "scattered"}
 MEBIBYTE = 2**20
 
 
@@ -104,8 +104,8 @@ def try_without_memory(program, folder, gibibytes):
 def main():
     parser = argparse.ArgumentParser(description=__doc__, formatter_class=argparse.RawDescriptionHelpFormatter)
     parser.add_argument("--only", action="append", choices=list(images.FAMILIES), metavar="FAMILY")
-    parser.add_argument("--turns", type=int, default=40)
-    parser.add_argument("--seconds", type=float, default=20)
+    parser.add_argument("--turns", type=int, default=250)
+    parser.add_argument("--seconds", type=float, default=40)
     parser.add_argument("--memory", type=float, default=6)
     parser.add_argument("program", nargs="?", type=pathlib.Path, default=runs.PROGRAM)
     chosen = parser.parse_args()

@@ -1,5 +1,5 @@
 -- What an actor has done and seen, read off its record; and the same of all actors together.
-use Rattle.std.specs.Prelude.{◌≡◌, ◌≢◌, Bool, true, false, ◌&&◌, ◌==◌, ℕ, ◌+◌, ℤ, pos, ◌+ℤ◌, if◌then◌else◌, List, [], ◌∷◌, ◌++◌, map, fold, sum_by, drop, slice_index, Option, Some, None}
+use Rattle.std.specs.Prelude.{◌≡◌, ◌≢◌, Bool, true, false, ◌&&◌, ◌==◌, ℕ, ◌+◌, ℤ, pos, ◌+ℤ◌, if◌then◌else◌, List, [], ◌∷◌, ◌++◌, map, fold, sum_by, drop, length, slice_index, Option, Some, None}
 use mathlib.Core.Option.{some}
 use lib.ListN.{get_elem?}
 use Rattle.std.specs.List.{filter, flat_map, Contains, All}
@@ -84,6 +84,12 @@ pub record IsFinal (made : ℕ) (log : List Entry) (name : List ℕ) (moment : M
   pub alone : moment.outstanding ≡ 0
   pub youngest : moment.before + 1 ≡ made
   pub quiet : All (λ entry. is_of name entry ≡ false) (drop moment.log log)
+
+-- ---- what it looks at
+
+-- from now on it looks at single words and counts anew
+abbrev pub looking : Actor → Actor
+looking a = record a { since_singles = length a.seen_singles; since_counts = length a.seen_counts }
 
 -- ---- costs
 

@@ -262,9 +262,9 @@ next a (load_counts histogram) found = record a {
 }
 next a (add_count at units) found =
     record a { place = Idle; running = count_next a.running; seen_counts = a.seen_counts ++ sight at (found + units) }
-next a (add_sum histogram amount) found = record a { running = sum_next a.running }
+next a (add_sum histogram amount) found = record a { place = Idle; running = sum_next a.running }
 next a (add_redundant histogram units) found =
-    record a { running = note_next a.running; seen_counts = a.seen_counts ++ sight (histogram + 13) (found + units) }
+    record a { place = Idle; running = note_next a.running; seen_counts = a.seen_counts ++ sight (histogram + 13) (found + units) }
 next a (load_count at) found =
     record a { place = at_count a.place at found; seen_counts = a.seen_counts ++ sight at found }
 next a (raise_mark at least) found = record a {

@@ -22,7 +22,7 @@ use Rattle.bucket_ranges.specs.Spec.{buckets_of}
 use Rattle.bucket_ranges.specs.declared.spec.Spec.TheVariants as spec
 use Rattle.bucket_ranges.specs.Single.{units_packed, packed_bucket}
 use Rattle.segment_machine.specs.Form.{is_off, form_of}
-use Rattle.segment_machine.specs.Actor.{log_of, is_bound, cost_total, bucket_key, has_buckets, word_seen}
+use Rattle.segment_machine.specs.Actor.{log_of, is_bound, looking, cost_total, bucket_key, has_buckets, word_seen}
 use Rattle.segment_machine.specs.Made.{IsFirstNamed, IsFirstSample, SawSample, SawSpec, AreNameWords}
 use Rattle.segment_machine.specs.Next.{change_first, change_own}
 
@@ -53,10 +53,6 @@ moment_of a = record { log = length (log_of a); before = a.made; outstanding = a
 -- a delta that has taken nothing yet
 abbrev pub nothing_taken : Actor → List ℕ → Taken
 nothing_taken a name = record { name = name; counts = []; sum = pos 0; swapped = false; moment = moment_of a }
-
--- from now on it looks at single words and counts anew
-abbrev pub looking : Actor → Actor
-looking a = record a { since_singles = length a.seen_singles; since_counts = length a.seen_counts }
 
 -- of an entry nothing has happened
 abbrev pub is_untouched : Counting → Bool
@@ -89,8 +85,8 @@ noted a (takes name) = record (looking a) { taking = true; taken = a.taken ++ no
 noted a has_taken = record a { taking = false }
 noted a looks = looking a
 noted a (answers answered) = record a { snapshots = a.snapshots ++ answered ∷ [] }
-noted a ends = record a { log = a.log ++ a.running; running = []; costs = a.costs ++ a.held; held = [] }
-noted a (refused added) = record a {
+noted a ends = record (looking a) { log = a.log ++ a.running; running = []; costs = a.costs ++ a.held; held = [] }
+noted a (refused added) = record (looking a) {
   share = a.share + (cost_total a.held - cost_total (spent_by added a));
   log = a.log ++ take added a.running;
   running = [];
@@ -139,18 +135,21 @@ pub record TookAll (a : Actor) (known : Known) : Type 0 where
       → SawSample a known.reference value sample → TookSample a sample
   pub summed : (before : List Taken) × (last : Taken) × (a.taken ≡ before ++ last ∷ []) × (last.name ≡ known.name) × (last.swapped ≡ true)
 
--- A snapshot is what it saw: each bucket once, in order, or samples, each with its total; the sum that it loaded; and the
--- redundant count, which it loaded last.
+-- A snapshot is what it saw since it began: each bucket once, in order, with its total; or samples, each value once with the
+-- count of its first sample, and of all samples of its histogram that it met each that has a count; the sum that it loaded; and
+-- the redundant count, which it loaded last.
 pub record SawAll (a : Actor) (known : Known) (answered : Answered) : Type 0 where
   pub buckets : has_buckets known.spec ≡ true
       → (map (λ count. count.0) answered.counts ≡ map (bucket_key (Some known)) (range_with_len 0 (buckets_of known.spec)))
       × ((bucket : ℕ) (count : ℤ × ℕ) → get_elem? answered.counts bucket ≡ some count → SawBucket a known bucket count.1)
   pub samples : known.spec ≡ spec.Sparse
       → All (λ count. (sample : ℕ) × IsFirstSample a known.reference count.0 sample × SawCount a (sample + 6) count.1) answered.counts
-  pub values : known.spec ≡ spec.Sparse → (value : ℤ) (sample count : ℕ) → Contains a.seen_chain sample → SawSample a known.reference value sample
-      → SawCount a (sample + 6) count → count ≢ 0 → Contains (map (λ count. count.0) answered.counts) value
+  pub once : known.spec ≡ spec.Sparse → (i j : ℕ) (x y : ℤ × ℕ) → get_elem? answered.counts i ≡ some x → get_elem? answered.counts j ≡ some y
+      → x.0 ≡ y.0 → i ≡ j
+  pub values : known.spec ≡ spec.Sparse → (value : ℤ) (sample : ℕ) → Contains a.seen_chain sample → SawSample a known.reference value sample
+      → (count : ℕ) × SawCount a (sample + 6) count × ((count ≡ 0) ⊎ Contains (map (λ count. count.0) answered.counts) value)
   pub sum : a.place ≡ SumLoaded known.reference answered.sum
-  pub redundant : (before : List Sighting) × (a.seen_counts ≡ before ++ record { at = known.reference + 13; word = answered.redundant } ∷ [])
+  pub redundant : (before : List Sighting) × (drop a.since_counts a.seen_counts ≡ before ++ record { at = known.reference + 13; word = answered.redundant } ∷ [])
 
 -- when an actor may note it. An opener counts and takes nothing itself
 abbrev pub MayNote : Actor → Note → Type 0

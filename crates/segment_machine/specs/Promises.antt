@@ -1,6 +1,6 @@
 -- What the crates above will promise of every state that is reached. These are statements; docs/DEFINITIONS.md says which of
 -- them are proved.
-use Rattle.std.specs.Prelude.{◌≡◌, ◌≢◌, ◌⊎◌, true, false, ℕ, ◌+◌, ◌<◌, ◌≤◌, ◌==◌, if◌then◌else◌, ℤ, pos, List, [], ◌∷◌, ◌++◌, length, slice_set, replicate, slice_index, None}
+use Rattle.std.specs.Prelude.{◌≡◌, ◌≢◌, ◌⊎◌, true, false, ℕ, ◌+◌, ◌<◌, ◌≤◌, ◌==◌, if◌then◌else◌, ℤ, pos, List, [], ◌∷◌, ◌++◌, take, length, slice_set, replicate, slice_index, Some, None}
 use mathlib.Core.Option.{some}
 use lib.ListN.{get_elem?}
 use Rattle.std.specs.List.{Contains, All}
@@ -13,15 +13,22 @@ use Rattle.bucket_ranges.specs.Reading.{is_sparse, record_buckets, sum_of, spec_
 use Rattle.segment_machine.specs.declared.actor.Actor.{Actor}
 use Rattle.segment_machine.specs.declared.actor.Answered.{Answered}
 use Rattle.segment_machine.specs.declared.actor.Known.{Known}
+use Rattle.segment_machine.specs.declared.actor.Sighting.{Sighting}
 use Rattle.segment_machine.specs.declared.actor.Taken.{Taken}
+use Rattle.bucket_ranges.specs.Spec.{buckets_of}
+use Rattle.bucket_ranges.specs.declared.spec.Spec.TheVariants as spec
+use Rattle.bucket_ranges.specs.Single.{packed_bucket}
 use Rattle.bucket_ranges.specs.Ranges.{clamped, AreBoundaries, IsBucketOf}
+use Rattle.segment_machine.specs.declared.entry.Entry.{Entry}
 use Rattle.segment_machine.specs.Entry.{key_of, tally_units, tally_sum, tally_noted}
-use Rattle.segment_machine.specs.Actor.{Each, log_of, all_counted, all_summed, taken_units, taken_sum, transit_of, given_by, IsFinal}
+use Rattle.segment_machine.specs.Form.{is_off, form_of}
+use Rattle.segment_machine.specs.Actor.{Each, has_buckets, bucket_key, log_of, all_counted, all_summed, units_listed, taken_units, taken_sum, transit_of, given_by, IsFinal}
 use Rattle.segment_machine.specs.Made.{SameSpec}
+use Rattle.segment_machine.specs.Note.{SawSingle, TookAll, SawAll}
 use Rattle.segment_machine.specs.Event.{Event, link, spot}
 use Rattle.segment_machine.specs.State.{State, memory, IsStep}
 use Rattle.segment_machine.specs.Seats.{opener_of, MaySplit, parent, newcomer, MayLend, lender, borrower, MayJoin, joined, spent}
-use Rattle.segment_machine.specs.Consistent.{Opening, IsConsistent, IsHistogram, IsSample, bucket_total, key_at}
+use Rattle.segment_machine.specs.Consistent.{Opening, IsConsistent, IsHistogram, IsSample, bucket_total, key_at, units_taken}
 
 -- ---- the states that are reached
 
@@ -128,11 +135,56 @@ CursorsKeepOrder = (shape : Dimensions) (version id cursors : ℕ) (state : Stat
     → Each state.actors (λ a. (cursor i j k l : ℕ) → i < j → get_elem? (given_by cursor a.given) i ≡ some (slice_index is.chain k)
     → get_elem? (given_by cursor a.given) j ≡ some (slice_index is.chain l) → k < length is.chain → l < length is.chain → k < l)
 
+-- ---- what a delta and a snapshot owe
+
+-- what had been accepted before a recorder was made, and what it has accepted itself
+abbrev pub accepted_by : Actor → List Entry
+accepted_by a = a.inherited ++ log_of a
+
+-- since its delta or snapshot began, it saw no single word of a histogram that is off
+abbrev pub SawOpen : Actor → Known → Type 0
+SawOpen a known = (word : ℕ) → SawSingle a (known.reference + 9) word → is_off word ≡ false
+
+-- a bucket of which nothing can be in transit for an actor that looks at it: in version 2 any, in version 1 any but the packed one
+-- where the actor saw the word off
+abbrev pub IsWhole : ℕ → Actor → Known → ℕ → Type 0
+IsWhole version a known i =
+    (version ≡ 2) ⊎ SawOpen a known
+    ⊎ ((word : ℕ) → SawSingle a (known.reference + 9) word → packed_bucket (form_of version (buckets_of known.spec) word) ≢ Some i)
+
+-- Once a delta has taken all that it saw, all deltas together took of each bucket and each value at least what its recorder had
+-- accepted, and what had been accepted before that one was made; of a packed bucket whose units may be in transit, at least each
+-- count of it that the recorder had seen before.
+abbrev pub DeltasTakeAccepted : Type 0
+DeltasTakeAccepted = (shape : Dimensions) (version id cursors : ℕ) (state : State) (who : ℕ) (a : Actor) (known : Known)
+    → IsState shape version id cursors state → get_elem? state.actors who ≡ some a → Contains a.names known
+    → a.taking ≡ true → TookAll a known
+    → ((i : ℕ) → has_buckets known.spec ≡ true → i < buckets_of known.spec → IsWhole version a known i
+    → tally_units (accepted_by a) known.name (bucket_key (Some known) i) ≤ units_taken state.actors known.name (bucket_key (Some known) i))
+    × ((i : ℕ) (s : Sighting) → has_buckets known.spec ≡ true → i < buckets_of known.spec → Contains (take a.since_counts a.seen_counts) s
+    → field_at state.words known.reference 8 ≢ 0 → s.at ≡ field_at state.words known.reference 8 + 4 + i
+    → s.word ≤ units_taken state.actors known.name (bucket_key (Some known) i))
+    × ((value : ℤ) → known.spec ≡ spec.Sparse
+    → tally_units (accepted_by a) known.name value ≤ units_taken state.actors known.name value)
+
+-- A snapshot has of each bucket and each value at least as much, in the same way; and its redundant count is at least the units
+-- that were accepted.
+abbrev pub SnapshotsSeeAccepted : Type 0
+SnapshotsSeeAccepted = (shape : Dimensions) (version id cursors : ℕ) (state : State) (who : ℕ) (a : Actor) (known : Known) (answered : Answered)
+    → IsState shape version id cursors state → get_elem? state.actors who ≡ some a → Contains a.names known → SawAll a known answered
+    → ((i : ℕ) → has_buckets known.spec ≡ true → i < buckets_of known.spec → IsWhole version a known i
+    → tally_units (accepted_by a) known.name (bucket_key (Some known) i) ≤ units_listed answered.counts (bucket_key (Some known) i))
+    × ((i : ℕ) (s : Sighting) → has_buckets known.spec ≡ true → i < buckets_of known.spec → Contains (take a.since_counts a.seen_counts) s
+    → field_at state.words known.reference 8 ≢ 0 → s.at ≡ field_at state.words known.reference 8 + 4 + i
+    → s.word ≤ units_listed answered.counts (bucket_key (Some known) i))
+    × ((value : ℤ) → known.spec ≡ spec.Sparse → tally_units (accepted_by a) known.name value ≤ units_listed answered.counts value)
+    × (tally_noted (accepted_by a) known.name ≤ answered.redundant)
+
 -- ---- after the joins
 
 -- the opener has joined all recorders that it has made
 abbrev pub IsJoined : State → Actor → Type 0
-IsJoined state a = (get_elem? state.actors 0 ≡ some a) × (a.outstanding ≡ 0) × (a.running ≡ [])
+IsJoined state a = (get_elem? state.actors 0 ≡ some a) × (a.outstanding ≡ 0)
 
 -- then the totals, the sums and the redundant counts are the tally of its log
 abbrev pub JoinedTotals : Type 0
@@ -156,5 +208,5 @@ FinalDeltasTakeAll = (shape : Dimensions) (version id cursors : ℕ) (state : St
 abbrev pub FinalSnapshotsAreExact : Type 0
 FinalSnapshotsAreExact = (shape : Dimensions) (version id cursors : ℕ) (state : State) (a : Actor) (s : Answered)
     → IsState shape version id cursors state → IsJoined state a → Contains a.snapshots s → IsFinal a.made (log_of a) s.name s.moment
-    → All (λ count. count.1 ≡ tally_units (log_of a) s.name count.0) s.counts
+    → ((key : ℤ) → units_listed s.counts key ≡ tally_units (log_of a) s.name key)
     × (s.sum ≡ tally_sum (log_of a) s.name) × (s.redundant ≡ tally_noted (log_of a) s.name)

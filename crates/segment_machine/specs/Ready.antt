@@ -174,10 +174,10 @@ Ready a (load_published at index) = MayTurn a × Contains a.seen_chain at × IsF
 Ready a (load_counts histogram) = MayTurn a × ((known : Known) × Buckets a histogram known)
 Ready a (add_count at units) = MayCount a at units
 Ready a (add_sum histogram amount) =
-    (c : Counting) × (known : Known) × SumsNext a c × (c.entry.amount ≡ amount)
+    MayTurn a × (c : Counting) × (known : Known) × SumsNext a c × (c.entry.amount ≡ amount)
     × Contains a.names known × (known.reference ≡ histogram) × (known.name ≡ c.entry.name)
 Ready a (add_redundant histogram units) =
-    (c : Counting) × (known : Known) × NotesNext a c × (c.entry.units ≡ units)
+    MayTurn a × (c : Counting) × (known : Known) × NotesNext a c × (c.entry.units ≡ units)
     × Contains a.names known × (known.reference ≡ histogram) × (known.name ≡ c.entry.name)
 Ready a (load_count at) = MayLoadCount a at
 Ready a (raise_mark at least) = MayRaise a at least

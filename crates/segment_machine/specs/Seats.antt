@@ -7,7 +7,7 @@ use Rattle.segment_machine.specs.declared.actor.Actor.{Actor}
 use Rattle.segment_machine.specs.declared.actor.Answered.{Answered}
 use Rattle.segment_machine.specs.declared.actor.Moment.{Moment}
 use Rattle.segment_machine.specs.declared.actor.Taken.{Taken}
-use Rattle.segment_machine.specs.Actor.{log_of, is_bound}
+use Rattle.segment_machine.specs.Actor.{log_of, is_bound, looking}
 
 -- an actor that has done nothing, and has seen this free pointer
 abbrev pub idle : Dimensions → ℕ → ℕ → ℕ → Actor
@@ -18,6 +18,7 @@ idle shape version free share = record {
   costs = [];
   held = [];
   first = [];
+  inherited = [];
   log = [];
   running = [];
   place = Idle;
@@ -60,7 +61,8 @@ parent a units = record a { share = a.share - units; made = a.made + 1; outstand
 
 -- and the recorder: it has seen what its opener has, done nothing, and knows no histogram
 abbrev pub newcomer : Actor → ℕ → Actor
-newcomer a units = record (idle a.shape a.version a.seen_free units) {
+newcomer a units = looking (record (idle a.shape a.version a.seen_free units) {
+  inherited = log_of a;
   seen_chain = a.seen_chain;
   seen_tail = a.seen_tail;
   seen_singles = a.seen_singles;
@@ -69,7 +71,7 @@ newcomer a units = record (idle a.shape a.version a.seen_free units) {
   seen_cursors = a.seen_cursors;
   made = a.made;
   outstanding = a.outstanding;
-}
+})
 
 -- ---- units are lent
 

@@ -121,6 +121,8 @@ pub struct Actor {
 
     /// The entries that an adopted image stands for, which are counted and summed. An opener's alone.
     pub first: LinkedList<Entry>,
+    /// The entries that its opener's log had when it was made: what had been accepted before it. A recorder's alone.
+    pub inherited: LinkedList<Entry>,
     /// The entries of ended calls, in order: its log.
     pub log: LinkedList<Counting>,
     /// The entries of the running call.
@@ -170,7 +172,8 @@ pub struct Actor {
     pub taken: LinkedList<Taken>,
     /// Whether the last of these is still going on.
     pub taking: bool,
-    /// How many single words, and how many counts, it had seen when its last delta or snapshot began.
+    /// How many single words, and how many counts, it had seen when its last delta or snapshot began, or its last call that
+    /// counts ended, whichever came later.
     pub since_singles: u64,
     pub since_counts: u64,
     /// Its snapshots.

@@ -67,7 +67,7 @@ returns c = (
                               inl (off_look, 0, (refl, not_zero, (9223372036854775809, refl, refl), knows), (omega arith, refl), refl),
                             ),
                             (
-                              (counted, known, (([], refl), refl, refl), refl, (0, omega arith, refl), refl, refl),
+                              (refl, counted, known, (([], refl), refl, refl), refl, (0, omega arith, refl), refl, refl),
                               tt,
                             ),
                           ),

@@ -8,10 +8,16 @@ pub mod Actor
 pub mod Event
 pub mod Next
 pub mod Made
+pub mod Body
+pub mod Ledger
+pub mod Seen
 pub mod Ready
 pub mod Note
 pub mod State
 pub mod Seats
 pub mod Consistent
 pub mod Promises
+pub mod Learned
+pub mod Kept
+pub mod Keeps
 pub mod Examples

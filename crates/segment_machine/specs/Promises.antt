@@ -127,12 +127,12 @@ NamesAreFirst = (shape : Dimensions) (version id cursors : ℕ) (state : State) 
     → Each state.actors (λ a. (known : Known) → Contains a.names known
     → IsHistogram state.words is.chain known.name known.reference × SameSpec (spec_of state.words known.reference) known.spec)
 
--- what a shared cursor gave one recorder stands in the order of the chain: so does what it gave all, each record once, by the
--- first part of consistency
+-- what a shared cursor gave one recorder stands in the order of the chain; what it gave all is the front of the chain, each record
+-- once, by the first part of consistency
 abbrev pub CursorsKeepOrder : Type 0
 CursorsKeepOrder = (shape : Dimensions) (version id cursors : ℕ) (state : State) → IsState shape version id cursors state
     → (is : IsConsistent (new_opening shape version id) state)
-    → Each state.actors (λ a. (cursor i j k l : ℕ) → i < j → get_elem? (given_by cursor a.given) i ≡ some (slice_index is.chain k)
+    → Each state.actors (λ a. (cursor i j k l : ℕ) → a.opener ≡ 0 → i < j → get_elem? (given_by cursor a.given) i ≡ some (slice_index is.chain k)
     → get_elem? (given_by cursor a.given) j ≡ some (slice_index is.chain l) → k < length is.chain → l < length is.chain → k < l)
 
 -- ---- what a delta and a snapshot owe

@@ -1,0 +1,179 @@
+-- What each block of a segment is, and how the words of a segment are made of blocks: more than the words tell, since it says of
+-- each word what it stands for.
+use Rattle.std.specs.Prelude.{◌≡◌, Bool, true, false, ℕ, ◌+◌, ◌-◌, ◌*◌, ℤ, List, [], ◌∷◌, ◌++◌, map, length, replicate, slice_index}
+use Rattle.std.specs.Int.{w64, cast_unsigned}
+use Rattle.std.specs.List.{filter}
+use Rattle.std.specs.Prelude as std
+use mathlib.Core.Option.{Option, none}
+use Rattle.bucket_ranges.specs.declared.spec.Spec.{Spec}
+use Rattle.alloc_core.specs.Layout as layout
+use Rattle.segment_machine.specs.declared.actor.Claim.{Claim}
+use Rattle.segment_machine.specs.declared.actor.Made.{Made}
+use Rattle.segment_machine.specs.declared.actor.Own.{Own}
+use Rattle.segment_machine.specs.declared.actor.Published.{Published}
+use Rattle.segment_machine.specs.Made.{spec_fields, spec_ranges}
+
+-- ---- what a block is
+
+-- the published record of a histogram: what was given to its maker, then the words that change, then the words of its name and
+-- what stands behind the name and the ranges
+pub record Record : Type 0 where
+  pub name : List ℕ
+  pub spec : Spec
+  pub size : ℕ
+  pub next : ℕ
+  pub counts : ℕ
+  pub single : ℕ
+  pub mark : ℕ
+  pub sum : ℕ
+  pub sum_mark : ℕ
+  pub noted : ℕ
+  pub letters : List ℕ
+  pub rest : List ℕ
+
+-- a counts block that a record names: that record's reference, name and spec, then a count and a mark for each bucket, and what
+-- stands behind
+pub record Counts : Type 0 where
+  pub of : ℕ
+  pub name : List ℕ
+  pub spec : Spec
+  pub size : ℕ
+  pub next : ℕ
+  pub units : List ℕ
+  pub marks : List ℕ
+  pub rest : List ℕ
+
+-- a published sparse sample: its histogram's reference and name, its value, then its count, its mark, and what stands behind
+pub record Sample : Type 0 where
+  pub of : ℕ
+  pub name : List ℕ
+  pub value : ℤ
+  pub size : ℕ
+  pub next : ℕ
+  pub units : ℕ
+  pub mark : ℕ
+  pub rest : List ℕ
+
+-- the queue block; words that nobody has claimed, as a block in the making, a wasted rest of a page or what lies between the
+-- blocks of an adopted image; a claimed block that is still its claimer's own; a record; a counts block; a sample; and a published
+-- record of another type, which only an adopted image can have
+pub data Body : Type 0 where
+  queue : (next : ℕ) → Body
+  plain : (words : List ℕ) → Body
+  held : (block : Own) → Body
+  histogram : (record_of : Record) → Body
+  counts : (block : Counts) → Body
+  sample : (record_of : Sample) → Body
+  other : (size tag next : ℕ) (payload : List ℕ) → Body
+
+-- ---- its words
+
+abbrev pub own_words : Own → List ℕ
+own_words own =
+    own.size ∷ 0xC8799269 ∷ own.tag ∷ own.next ∷ (own.payload ++ replicate (own.size - 4 - length own.payload) 0)
+
+-- a number of a spec: its kind, minimum, maximum or number of buckets
+abbrev pub spec_field : Spec → ℕ → ℕ
+spec_field spec i = slice_index (spec_fields spec) i
+
+abbrev pub record_words : Record → List ℕ
+record_words r =
+    r.size ∷ 0xC8799269 ∷ 1 ∷ r.next ∷ spec_field r.spec 0 ∷ spec_field r.spec 1 ∷ spec_field r.spec 2 ∷ spec_field r.spec 3
+    ∷ r.counts ∷ r.single ∷ r.mark ∷ r.sum ∷ r.sum_mark ∷ r.noted ∷ length r.name ∷ (r.letters ++ spec_ranges r.spec ++ r.rest)
+
+abbrev pub counts_words : Counts → List ℕ
+counts_words c = c.size ∷ 0xC8799269 ∷ 2 ∷ c.next ∷ (c.units ++ c.marks ++ c.rest)
+
+abbrev pub sample_words : Sample → List ℕ
+sample_words s = s.size ∷ 0xC8799269 ∷ 3 ∷ s.next ∷ s.of ∷ cast_unsigned w64 s.value ∷ s.units ∷ s.mark ∷ s.rest
+
+abbrev pub words_of : Body → List ℕ
+words_of (queue next) = 4 ∷ 1 ∷ 0 ∷ next ∷ []
+words_of (plain words) = words
+words_of (held block) = own_words block
+words_of (histogram r) = record_words r
+words_of (counts c) = counts_words c
+words_of (sample s) = sample_words s
+words_of (other size tag next payload) = size ∷ 0xC8799269 ∷ tag ∷ next ∷ payload
+
+-- whether somebody has claimed it
+abbrev pub is_claimed : Body → Bool
+is_claimed (queue next) = false
+is_claimed (plain words) = false
+is_claimed (held block) = true
+is_claimed (histogram r) = true
+is_claimed (counts c) = true
+is_claimed (sample s) = true
+is_claimed (other size tag next payload) = true
+
+-- ---- the segment
+
+-- a block: where it begins, whose it is while it is in the making or somebody's own, and what it is
+pub record Piece : Type 0 where
+  pub at : ℕ
+  pub owner : Option ℕ
+  pub body : Body
+
+abbrev pub extent_of : Piece → ℕ
+extent_of piece = length (words_of piece.body)
+
+abbrev pub block_of : Piece → layout.Block
+block_of piece = record { at = piece.at; owner = piece.owner; words = words_of piece.body }
+
+-- A record on the list: where it is, and what was given to its maker. An adopted image can have records of other types, of which
+-- nothing is said.
+pub record Listed : Type 0 where
+  pub reference : ℕ
+  pub made : std.Option Made
+
+abbrev pub listed : Published → Listed
+listed p = record { reference = p.reference; made = std.Some p.made }
+
+-- What a segment consists of: what its header says, its blocks in a row, how many words are behind them, and the records on its
+-- list, in the order of the list, with what each was given.
+pub record Anatomy : Type 0 where
+  pub version : ℕ
+  pub id : ℕ
+  pub corrupt : Bool
+  pub full : Bool
+  pub tail : ℕ
+  pub pieces : List Piece
+  pub spare : ℕ
+  pub records : List Listed
+
+abbrev pub layout_of : Anatomy → layout.Layout
+layout_of anatomy = record {
+  version = anatomy.version;
+  id = anatomy.id;
+  corrupt = anatomy.corrupt;
+  full = anatomy.full;
+  tail = anatomy.tail;
+  blocks = map block_of anatomy.pieces;
+  spare = anatomy.spare;
+}
+
+-- where the records are, in the order of the list
+abbrev pub order_of : Anatomy → List ℕ
+order_of anatomy = map (λ (l : Listed). l.reference) anatomy.records
+
+-- the free pointer
+abbrev pub free_of : Anatomy → ℕ
+free_of anatomy = layout.free_of (layout_of anatomy)
+
+-- the claimed blocks, in the order of their places
+abbrev pub claims_of : List Piece → List Claim
+claims_of pieces =
+    map (λ piece. record { at = piece.at; size = extent_of piece }) (filter (λ piece. is_claimed piece.body) pieces)
+
+-- a segment without blocks
+abbrev pub blank : (version id size : ℕ) → Anatomy
+blank version id size = record {
+  version = version;
+  id = id;
+  corrupt = false;
+  full = false;
+  tail = 12;
+  pieces = record { at = 12; owner = none; body = queue 12 } ∷ [];
+  spare = size - 16;
+  records = [];
+}

@@ -1,0 +1,100 @@
+-- What is to be shown of what holds between any two events: it holds of a new segment, each event keeps it, recorders that are made
+-- and joined keep it, and it has the parts of consistency in it.
+use Rattle.std.specs.Prelude.{◌≡◌, ◌⊎◌, ℕ, List, [], take, drop, length, slice_set, ⊤}
+use mathlib.Core.Option.{some}
+use lib.ListN.{get_elem?}
+use Rattle.segment_image.specs.Shape.{Dimensions}
+use Rattle.segment_image.specs.Words.{word_at}
+use Rattle.alloc_core.specs.Layout.{IsShape}
+use Rattle.segment_machine.specs.declared.actor.Actor.{Actor}
+use Rattle.segment_machine.specs.Event.{Event, load_flags, load_free, exchange_free, store_size, store_cookie, store_type, store_payload, set_flag, store_own_next, load_tail, link, move_tail, load_next, load_published, spot, after}
+use Rattle.segment_machine.specs.Next.{next}
+use Rattle.segment_machine.specs.Ready.{Ready}
+use Rattle.segment_machine.specs.State.{State, memory}
+use Rattle.segment_machine.specs.Consistent.{ListIsChain, FlagsAreSet, UnitsAreKept}
+use Rattle.segment_machine.specs.Promises.{new_opening, new_state, IsSplit, IsJoin, IsLent}
+use Rattle.segment_machine.specs.Body.{Anatomy, blank, order_of}
+use Rattle.segment_machine.specs.Learned.{Learned}
+use Rattle.segment_machine.specs.Kept.{Kept}
+
+-- ---- at the opening
+
+-- a new segment with its opener is kept
+abbrev pub OpeningIsKept : Type 0
+OpeningIsKept = (shape : Dimensions) (version id cursors : ℕ) → IsShape shape → (version ≡ 1) ⊎ (version ≡ 2)
+    → Kept shape (blank version id shape.size) (new_state shape version id cursors)
+
+-- ---- at events
+
+-- what an event finds
+abbrev pub found_at : State → Event → ℕ
+found_at state event = word_at (memory state) (spot (length state.words) event)
+
+-- the state after an event of an actor
+abbrev pub happened : ℕ → State → ℕ → Actor → Event → State
+happened version state id a event =
+    let size = length state.words in
+    let words = after size version event (memory state) in
+    record { words = take size words; cursors = drop size words; actors = slice_set state.actors id (next a event (found_at state event)) }
+
+-- an event that a recorder may do keeps what holds, and its actor learns of the number that it found
+abbrev pub EventKeeps : Event → Type 0
+EventKeeps event = (shape : Dimensions) (opened : Anatomy) (state : State) (id : ℕ) (a : Actor) → Kept shape opened state
+    → get_elem? state.actors id ≡ some a → a.opener ≡ 0 → Ready a event
+    → Kept shape opened (happened opened.version state id a event) × Learned a event (found_at state event)
+
+-- the events that allocate a block and set flags
+abbrev pub IsAllocating : Event → Type 0
+IsAllocating load_flags = ⊤
+IsAllocating load_free = ⊤
+IsAllocating (exchange_free old new) = ⊤
+IsAllocating (store_size at size) = ⊤
+IsAllocating (store_cookie at cookie) = ⊤
+IsAllocating (store_type at tag) = ⊤
+IsAllocating (store_payload at index value) = ⊤
+IsAllocating (set_flag flag) = ⊤
+IsAllocating _ = ⊥
+
+-- the events that put a record on the list and walk along it
+abbrev pub IsListing : Event → Type 0
+IsListing (store_own_next at) = ⊤
+IsListing load_tail = ⊤
+IsListing (link tail at) = ⊤
+IsListing (move_tail old new) = ⊤
+IsListing (load_next at) = ⊤
+IsListing (load_published at index) = ⊤
+IsListing _ = ⊥
+
+abbrev pub AllocatingKeeps : Type 0
+AllocatingKeeps = (event : Event) → IsAllocating event → EventKeeps event
+
+abbrev pub ListingKeeps : Type 0
+ListingKeeps = (event : Event) → IsListing event → EventKeeps event
+
+-- ---- at seats
+
+-- a recorder is made, joined, and lent units
+abbrev pub SplitsKeep : Type 0
+SplitsKeep = (shape : Dimensions) (opened : Anatomy) (old new : State) (id units : ℕ) → Kept shape opened old → IsSplit old id units new → Kept shape opened new
+
+abbrev pub JoinsKeep : Type 0
+JoinsKeep = (shape : Dimensions) (opened : Anatomy) (old new : State) (id other : ℕ) → Kept shape opened old → IsJoin old id other new → Kept shape opened new
+
+abbrev pub LendsKeep : Type 0
+LendsKeep = (shape : Dimensions) (opened : Anatomy) (old new : State) (id other units : ℕ) → Kept shape opened old → IsLent old id other units new
+    → Kept shape opened new
+
+-- ---- what it has in it
+
+-- the list of a kept state is the chain, its flags are set rightly, and its units are kept
+abbrev pub KeptIsChain : Type 0
+KeptIsChain = (shape : Dimensions) (version id : ℕ) (state : State) → IsShape shape → (kept : Kept shape (blank version id shape.size) state)
+    → ListIsChain (new_opening shape version id).words [] state.words state.cursors state.actors (order_of kept.anatomy)
+
+abbrev pub KeptFlagsAreSet : Type 0
+KeptFlagsAreSet = (shape : Dimensions) (version id : ℕ) (state : State) → IsShape shape → Kept shape (blank version id shape.size) state
+    → FlagsAreSet (new_opening shape version id).words state.words state.actors
+
+abbrev pub KeptUnitsAreKept : Type 0
+KeptUnitsAreKept = (shape : Dimensions) (version id : ℕ) (state : State) → IsShape shape → (kept : Kept shape (blank version id shape.size) state)
+    → UnitsAreKept state.words state.actors (order_of kept.anatomy)

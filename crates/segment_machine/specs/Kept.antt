@@ -28,16 +28,17 @@ use Rattle.segment_machine.specs.declared.actor.Cost.{Cost}
 use Rattle.segment_machine.specs.declared.actor.Given.{Given}
 use Rattle.segment_machine.specs.declared.actor.Known.{Known}
 use Rattle.segment_machine.specs.declared.actor.Made.{Made}
+use Rattle.segment_machine.specs.declared.actor.Moment.{Moment}
 use Rattle.segment_machine.specs.declared.actor.Made.TheVariants as made
 use Rattle.segment_machine.specs.declared.actor.Own.{Own}
 use Rattle.segment_machine.specs.declared.actor.Sighting.{Sighting}
 use Rattle.segment_machine.specs.declared.actor.Taken.{Taken}
 use Rattle.segment_machine.specs.Entry.{is_counted, is_summed, is_noted, has_ended, AreWithin, is_of, tally_units, tally_sum, tally_noted}
 use Rattle.segment_machine.specs.Form.{is_off, form_of, off_word, units_in, Leads}
-use Rattle.segment_machine.specs.Actor.{Each, Buckets, Sparse, log_of, known_at, bucket_key, units_listed, taken_sum, all_counted, all_summed, all_noted, all_taken, all_published, all_given, cost_of, cost_total, units_of, IsFinal}
+use Rattle.segment_machine.specs.Actor.{Each, Buckets, Sparse, log_of, counted_of, word_seen, known_at, bucket_key, units_listed, taken_sum, all_counted, all_summed, all_noted, all_taken, all_published, all_given, cost_of, cost_total, units_of, IsFinal}
 use Rattle.segment_machine.specs.Made.{spec_fields, spec_ranges, AreNameWords, SawSample, IsFirstSample}
 use Rattle.segment_machine.specs.Note.{is_untouched, SawSingle, SawCount, SawBucket}
-use Rattle.segment_machine.specs.Promises.{accepted_by, IsWhole}
+use Rattle.segment_machine.specs.Promises.{accepted_by}
 use Rattle.segment_machine.specs.Consistent.{units_taken, IsWithinCounts}
 use Rattle.segment_machine.specs.Seats.{spent}
 use Rattle.segment_machine.specs.State.{State}
@@ -196,7 +197,7 @@ pub record AreInOrder (running : List Counting) : Type 0 where
   pub summed_next : All (λ c. c.noted ≡ true → is_summed c ≡ true) running
 
 -- A running call holds what its entries cost, of a histogram that its actor knows; in a log all entries have ended; of each
--- accepted entry of a sparse histogram that has units, its actor met the sample.
+-- entry of a sparse histogram that has units and was counted by its actor, or before it, its actor met the sample.
 pub record CallsRight (anatomy : Anatomy) (a : Actor) : Type 0 where
   pub ordered : AreInOrder a.running
   pub within : a.running ≢ [] → (name : List ℕ) × (cost : ℕ)
@@ -204,7 +205,7 @@ pub record CallsRight (anatomy : Anatomy) (a : Actor) : Type 0 where
       × Contains (map (λ known. known.name) a.names) name
   pub held : length a.held ≤ 1
   pub ended : All (λ c. has_ended c ≡ true) a.log
-  pub met : (entry : Entry) (of : ℕ) → Contains (accepted_by a) entry → 0 < entry.units → IsFirst anatomy.records entry.name spec.Sparse of
+  pub met : (entry : Entry) (of : ℕ) → Contains (a.inherited ++ counted_of a) entry → 0 < entry.units → IsFirst anatomy.records entry.name spec.Sparse of
       → (at : ℕ) × IsFirstOf anatomy.records of entry.key at × Contains a.seen_chain at × SawSample a of entry.key at
   pub taking : a.taking ≡ true → (a.running ≡ []) × ((before : List Taken) × (last : Taken) × (a.taken ≡ before ++ last ∷ []))
 
@@ -273,15 +274,27 @@ IsAlone actors a = (opener : Actor) × (get_elem? actors 0 ≡ some opener) × (
 
 -- ---- deltas and snapshots
 
--- what a recorder saw of a bucket since its delta or snapshot began is no more than what is counted there, and no less than what
--- had been accepted, where nothing of it can be in transit. So of a sample. Counters that it saw before are no more than those
--- that it sees now, and redundant counts no less than what had been accepted. A sum that one alone has loaded is the sum.
+-- nothing of a bucket can be in transit when an actor loads its count: in version 2 never, in version 1 where it is not the packed
+-- bucket, or no other actor is there
+abbrev pub IsSettled : Anatomy → List Actor → Actor → Known → ℕ → Type 0
+IsSettled anatomy actors a known bucket =
+    (anatomy.version ≡ 2) ⊎ IsAlone actors a
+    ⊎ ((r : Record) → HasRecord anatomy.pieces known.reference r → packed_bucket (form_at anatomy.version r) ≢ Some bucket)
+
+-- What a recorder saw of a bucket since its delta or snapshot began is no more than what is counted there. And it is no less than
+-- what had been accepted: packed units that it saw, and counts that it loaded where nothing can be in transit, with the units that
+-- a frozen word keeps. So of a sample, and of redundant counts. Counters that it saw before are no more than those that it sees
+-- now. A sum that one alone has loaded is the sum.
 pub record LooksBack (anatomy : Anatomy) (actors : List Actor) (a : Actor) : Type 0 where
   pub most : (known : Known) (bucket total : ℕ) → Contains a.names known → bucket < buckets_of known.spec → SawBucket a known bucket total
       → total ≤ tally_units (all_counted actors) known.name (bucket_key (Some known) bucket)
-  pub least : (known : Known) (bucket total : ℕ) → Contains a.names known → bucket < buckets_of known.spec → SawBucket a known bucket total
-      → IsWhole anatomy.version a known bucket ⊎ IsAlone actors a
-      → tally_units (accepted_by a) known.name (bucket_key (Some known) bucket) ≤ total
+  pub packed : (known : Known) (bucket word : ℕ) → Contains a.names known → bucket < buckets_of known.spec
+      → SawSingle a (known.reference + 9) word → is_off word ≡ false
+      → tally_units (accepted_by a) known.name (bucket_key (Some known) bucket) ≤ units_packed (form_of anatomy.version (buckets_of known.spec) word) bucket
+  pub counted : (known : Known) (bucket counts count : ℕ) (r : Record) → Contains a.names known → bucket < buckets_of known.spec
+      → word_seen a.seen_words (known.reference + 8) ≡ Some counts → SawCount a (counts + 4 + bucket) count
+      → HasRecord anatomy.pieces known.reference r → IsSettled anatomy actors a known bucket
+      → tally_units (accepted_by a) known.name (bucket_key (Some known) bucket) ≤ count + units_packed (form_at anatomy.version r) bucket
   pub samples : (known : Known) (value : ℤ) (at count : ℕ) → Contains a.names known → IsFirstOf anatomy.records known.reference value at
       → SawCount a (at + 6) count → tally_units (accepted_by a) known.name value ≤ count
   pub rising : (s t : Sighting) → Contains (take a.since_counts a.seen_counts) s → Contains (drop a.since_counts a.seen_counts) t
@@ -301,9 +314,24 @@ IsQuiet a name entries =
 abbrev pub ended_deltas : Actor → List Taken
 ended_deltas a = if a.taking then take (length a.taken - 1) a.taken else a.taken
 
+-- a moment at which a delta or a snapshot of an actor began
+abbrev pub IsMomentOf : Actor → Moment → Type 0
+IsMomentOf a m =
+    ((t : Taken) × Contains a.taken t × (t.moment ≡ m)) ⊎ ((s : Answered) × Contains a.snapshots s × (s.moment ≡ m))
+
+-- A moment lies in the log and before the recorders that are made next; a recorder's own is told of that recorder. Where none was
+-- outstanding, all recorders that live, but the one itself, were made later.
+pub record IsMoment (actors : List Actor) (opener : Actor) (id : ℕ) (a : Actor) (m : Moment) : Type 0 where
+  pub logged : m.log ≤ length (log_of a)
+  pub before : m.before < opener.made
+  pub mine : a.opener ≡ 0 → (m.before ≡ a.made) × (m.outstanding ≡ a.outstanding)
+  pub eldest : m.outstanding ≡ 0 → (other : ℕ) (c : Actor) → get_elem? actors other ≡ some c → is_living c ≡ true
+      → other ≢ id → m.before < c.made
+
 -- Where a final delta was taken, all deltas have taken what is counted and the sum; and a final snapshot has what is counted, the
--- sum and the redundant units. Final is so far: the recorder is alone, and nothing was counted since.
-pub record FinalsAreExact (actors : List Actor) (opener a : Actor) : Type 0 where
+-- sum and the redundant units. Final is so far: the recorder is alone, and nothing was counted since. So is the sum of a delta that
+-- goes on, once it was swapped.
+pub record FinalsAreExact (actors : List Actor) (opener : Actor) (id : ℕ) (a : Actor) : Type 0 where
   pub deltas : (t : Taken) → Contains (ended_deltas a) t → t.moment.outstanding ≡ 0 → t.moment.before + 1 ≡ opener.made
       → IsQuiet a t.name t.moment.log
       → ((key : ℤ) → units_taken actors t.name key ≡ tally_units (all_counted actors) t.name key)
@@ -312,8 +340,9 @@ pub record FinalsAreExact (actors : List Actor) (opener a : Actor) : Type 0 wher
       → IsQuiet a s.name s.moment.log
       → ((key : ℤ) → units_listed s.counts key ≡ tally_units (all_counted actors) s.name key)
       × (s.sum ≡ tally_sum (all_summed actors) s.name) × (s.redundant ≡ tally_noted (all_noted actors) s.name)
-  pub began : (t : Taken) → Contains a.taken t → (t.moment.log ≤ length (log_of a)) × (t.moment.before < opener.made)
-  pub looked : (s : Answered) → Contains a.snapshots s → (s.moment.log ≤ length (log_of a)) × (s.moment.before < opener.made)
+  pub moments : (m : Moment) → IsMomentOf a m → IsMoment actors opener id a m
+  pub swapped : (before : List Taken) (last : Taken) → a.taking ≡ true → a.taken ≡ before ++ last ∷ [] → last.swapped ≡ true → IsAlone actors a
+      → taken_sum (all_taken actors) last.name ≡ tally_sum (all_summed actors) last.name
 
 -- ---- all of it
 
@@ -326,7 +355,7 @@ pub record Fits (shape : Dimensions) (anatomy : Anatomy) (cursors : List ℕ) (a
   pub apart : (i j : ℕ) (x y : Own) → get_elem? a.own i ≡ some x → get_elem? a.own j ≡ some y → x.at ≡ y.at → i ≡ j
   pub calls : CallsRight anatomy a
   pub looks : a.opener ≡ 0 → LooksBack anatomy actors a
-  pub finals : FinalsAreExact actors opener a
+  pub finals : FinalsAreExact actors opener id a
   pub snapshots : All (IsWithinCounts actors) a.snapshots
 
 -- a shared cursor stands on the list, and has given the records up to there, each once, to each recorder in their order

@@ -24,12 +24,12 @@ use Rattle.bucket_ranges.specs.Single.{units_packed, packed_bucket}
 use Rattle.segment_machine.specs.Form.{is_off, form_of}
 use Rattle.segment_machine.specs.Actor.{log_of, is_bound, looking, cost_total, bucket_key, has_buckets, word_seen}
 use Rattle.segment_machine.specs.Made.{IsFirstNamed, IsFirstSample, SawSample, SawSpec, AreNameWords}
-use Rattle.segment_machine.specs.Next.{change_first, change_own}
+use Rattle.segment_machine.specs.Next.{change_last, change_own}
 
 pub data Note : Type 0 where
   -- a call that counts begins: entries of a histogram, and what it holds for them
   begins : (name : List ℕ) (cost : ℕ) (entries : List Entry) → Note
-  -- the amount of the entry that is summed next becomes known, where it was told as 0
+  -- the amount of the last entry becomes known, where it was told as 0: that of a sample, or of a batch's sum
   amounts : (amount : ℤ) → Note
   -- the block at a word is to hold this
   asks : (at : ℕ) (made : Made) → Note
@@ -74,10 +74,7 @@ noted a (begins name cost entries) = record a {
   running = map fresh entries;
 }
 noted a (amounts amount) = record a {
-  running = change_first
-      (λ c. int_eq c.entry.amount (pos 0) && not c.summed)
-      (λ c. let entry = c.entry in record c { entry = record entry { amount = amount } })
-      a.running;
+  running = change_last (λ c. let entry = c.entry in record c { entry = record entry { amount = amount } }) a.running;
 }
 noted a (asks at made) = record a { own = change_own at (λ own. record own { made = Some made }) a.own }
 noted a (knows known) = record a { names = a.names ++ known ∷ [] }
@@ -157,7 +154,8 @@ MayNote a (begins name cost entries) =
     (a.place ≢ Spent) × (a.opener ≡ 0) × (a.running ≡ []) × (a.held ≡ []) × (a.taking ≡ false) × (cost ≤ a.share)
     × Contains (map (λ known. known.name) a.names) name × AreWithin name cost entries
 MayNote a (amounts amount) =
-    (a.running ≢ []) × All (λ c. c.entry.amount ≡ pos 0) a.running
+    ((before : List Counting) × (last : Counting) × (a.running ≡ before ++ last ∷ []) × (last.summed ≡ false) × (last.noted ≡ false))
+    × All (λ c. c.entry.amount ≡ pos 0) a.running
     × (unsigned_abs amount ≤ 2147483648 * cost_total a.held)
 MayNote a (asks at made) = (own : Own) × Contains a.own own × (own.at ≡ at) × (own.made ≡ None)
 MayNote a (knows known) =

@@ -1,2 +1,4 @@
-pub mod Alone
-pub mod Mounted
+mod Alone
+pub mod Lists
+mod Mounted
+pub mod Pieces

@@ -1,4 +1,6 @@
-mod Alone
+pub mod Alone
 pub mod Lists
-mod Mounted
+pub mod Mounted
+pub mod Opening
+pub mod ImpliedFlags
 pub mod Pieces

@@ -42,7 +42,7 @@ use Rattle.segment_machine.specs.Promises.{accepted_by}
 use Rattle.segment_machine.specs.Consistent.{units_taken, IsWithinCounts}
 use Rattle.segment_machine.specs.Seats.{spent}
 use Rattle.segment_machine.specs.State.{State}
-use Rattle.segment_machine.specs.Body.{Record, Counts, Sample, Body, queue, plain, held, histogram, counts, sample, other, Piece, Listed, listed, Anatomy, layout_of, order_of, free_of, claims_of}
+use Rattle.segment_machine.specs.Body.{Record, Counts, Sample, Body, queue, plain, held, histogram, counts, sample, other, words_of, is_claimed, Piece, extent_of, Listed, listed, Anatomy, layout_of, order_of, free_of, claims_of}
 use Rattle.segment_machine.specs.Ledger.{form_at, key_of_bucket, IsBalanced}
 use Rattle.segment_machine.specs.Seen.{Stands, HasPlain, HasOwn, HasRecord, HasCounts, HasSample, IsFirst, IsFirstOf, Sees}
 
@@ -370,6 +370,12 @@ pub record CursorsAreKept (chain cursors : List ℕ) (actors : List Actor) : Typ
 abbrev pub IsSetBy : Bool → Bool → List Bool → Type 0
 IsSetBy now opened set = now ≡ (opened || fold ◌||◌ false set)
 
+-- a claimed block says its size, which is five words at least; it is its claimer's own, or nobody's any more
+abbrev pub ClaimedRight : Piece → Type 0
+ClaimedRight piece = is_claimed piece.body ≡ true
+    → (slice_index (words_of piece.body) 0 ≡ extent_of piece) × (5 ≤ extent_of piece)
+    × ((piece.owner ≡ none) ⊎ ((block : Own) × (piece.body ≡ held block)))
+
 -- the blocks of the opening stand where they stood
 abbrev pub StandStill : List Piece → List Piece → Type 0
 StandStill opened pieces = (k : ℕ) (p : Piece) → get_elem? opened k ≡ some p → (q : Piece) × (get_elem? pieces k ≡ some q) × (q.at ≡ p.at)
@@ -381,6 +387,7 @@ pub record Kept (shape : Dimensions) (opened : Anatomy) (state : State) : Type 0
   pub same : (anatomy.version ≡ opened.version) × (anatomy.id ≡ opened.id)
   pub versions : (anatomy.version ≡ 1) ⊎ (anatomy.version ≡ 2)
   pub still : StandStill opened.pieces anatomy.pieces
+  pub blocks : (k : ℕ) (piece : Piece) → get_elem? anatomy.pieces k ≡ some piece → ClaimedRight piece
   pub list : ListIsKept state.words opened anatomy state.actors
   pub claims : IsPermutation (claims_of anatomy.pieces) (claims_of opened.pieces ++ flat_map (λ a. a.claimed) state.actors)
   pub records : RecordsAreKept shape.page anatomy

@@ -4,6 +4,7 @@
 //! `specs/Examples.antt`.
 
 ghost use Rattle.segment_machine.specs.Promises.{StepsChangeOne};
+ghost use Rattle.segment_machine.specs.Keeps.{OpeningIsKept, KeptFlagsAreSet};
 ghost use Rattle.segment_machine.specs.Examples.{Keys, PackedThenMounted, StoppedInTransit, PackingLimit, DeltasAndMarks, TwoTakers, PackedRun, MountingRun, TakerRuns, TakingRun, SparseSamples, Batches, MountedIsConsistent, ListBreaks, RecordsBreak, TotalsBreak, MarksBreak, SumsBreak, TransitBreaks, FlagsBreak, UnitsBreak};
 
 /// A step changes one word and one actor at most.
@@ -116,4 +117,14 @@ pub fn flags_break()
 /// Units are not kept where a unit was spent and is still in a share.
 pub fn units_break()
     ensures { UnitsBreak }
+{}
+
+/// A new segment with its opener is kept: what holds between any two events holds of it.
+pub fn opening_is_kept()
+    ensures { OpeningIsKept }
+{}
+
+/// The flags of a kept state are set exactly where an actor has set them.
+pub fn kept_flags_are_set()
+    ensures { KeptFlagsAreSet }
 {}

@@ -5,3 +5,5 @@ pub mod SeatsSums
 pub mod Opening
 pub mod ImpliedFlags
 pub mod Pieces
+pub mod ListingGrowth
+pub mod ListingActors

@@ -5,3 +5,4 @@ pub mod SeatsSums
 pub mod Opening
 pub mod ImpliedFlags
 pub mod Pieces
+pub mod Stops

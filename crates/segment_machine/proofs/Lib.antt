@@ -6,3 +6,4 @@ pub mod Opening
 pub mod ImpliedFlags
 pub mod Pieces
 pub mod Stops
+pub mod Actors

@@ -223,7 +223,7 @@ module _ (actors : List Actor) (id : ℕ) (a : Actor) (mine : get_elem? actors i
 -- ---- what holds of what all of them did
 
 module _ (old new : List Actor) (same : SameDeeds old new) where
-  alone_along : (a : Actor) → IsAlone new a → IsAlone old a
+  pub alone_along : (a : Actor) → IsAlone new a → IsAlone old a
   alone_along a (opener, there, none, youngest) = (opener, sym same.opener ∙ there, none, youngest)
 
   pub within_along : (a : Actor) → All (IsWithinCounts old) a.snapshots → All (IsWithinCounts new) a.snapshots
@@ -278,13 +278,13 @@ module _ (old new : List Actor) (same : SameDeeds old new) where
   }
 
   -- units that are counted, sums and redundant units of a name
-  units_along : (name : List ℕ) (key : ℤ) → tally_units (all_counted old) name key ≡ tally_units (all_counted new) name key
+  pub units_along : (name : List ℕ) (key : ℤ) → tally_units (all_counted old) name key ≡ tally_units (all_counted new) name key
   units_along name key = ap (λ entries. tally_units entries name key) (sym same.counted)
 
-  sum_along : (name : List ℕ) → tally_sum (all_summed old) name ≡ tally_sum (all_summed new) name
+  pub sum_along : (name : List ℕ) → tally_sum (all_summed old) name ≡ tally_sum (all_summed new) name
   sum_along name = ap (λ entries. tally_sum entries name) (sym same.summed)
 
-  noted_along : (name : List ℕ) → tally_noted (all_noted old) name ≡ tally_noted (all_noted new) name
+  pub noted_along : (name : List ℕ) → tally_noted (all_noted old) name ≡ tally_noted (all_noted new) name
   noted_along name = ap (λ entries. tally_noted entries name) (sym same.noted)
 
   taken_along : (name : List ℕ) → taken_sum (all_taken new) name ≡ taken_sum (all_taken old) name

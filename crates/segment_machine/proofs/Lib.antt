@@ -7,3 +7,4 @@ pub mod ImpliedFlags
 pub mod Pieces
 pub mod Stops
 pub mod Actors
+pub mod Anatomies

@@ -1,9 +1,13 @@
 pub mod Alone
+pub mod ListingGrowth
+pub mod ListingActors
+pub mod ListingRecords
 pub mod Lists
 pub mod Mounted
 pub mod SeatsSums
 pub mod Opening
 pub mod ImpliedFlags
 pub mod Pieces
-pub mod ListingGrowth
-pub mod ListingActors
+pub mod Stops
+pub mod Actors
+pub mod Anatomies

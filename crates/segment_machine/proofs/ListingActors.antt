@@ -39,65 +39,23 @@ use Rattle.segment_machine.specs.Body.{Record, Counts, Sample, Body, queue, plai
 use Rattle.segment_machine.specs.Ledger.{form_at}
 use Rattle.segment_machine.specs.Seen.{HasPlain, HasOwn, HasRecord, IsNamed, IsFirst, IsFirstOf, IsCounterIn, WasCounter, Sees}
 use Rattle.segment_machine.specs.Kept.{LooksRight, LooksOff, StandsRight, HoldsOwn, CallsRight, HasKey, is_living, IsAlone, IsSettled, LooksBack, IsMoment, IsMomentOf, FinalsAreExact, Fits}
+use Rattle.segment_machine.proofs.Actors.{Doing, doing, doing_of, SameDeeds, alone_along, within_along, finals_along, finals_doing}
 use Rattle.segment_machine.proofs.ListingGrowth.{Grows, stop_grows, neighbours_grow, first_grows, first_of_longer, record_stays, record_came, sees_grow}
-
--- ---- an actor of which only this changes
-
-pub record Changes : Type 0 where
-  pub place : Place
-  pub own : List Own
-  pub claimed : List Claim
-  pub published : List Published
-  pub spoiled : Bool
-  pub filled : Bool
-  pub seen_free : ℕ
-  pub seen_tail : ℕ
-  pub seen_chain : List ℕ
-  pub seen_words : List Sighting
-
-abbrev pub moved : Actor → Changes → Actor
-moved x c = record x {
-  place = c.place;
-  own = c.own;
-  claimed = c.claimed;
-  published = c.published;
-  spoiled = c.spoiled;
-  filled = c.filled;
-  seen_free = c.seen_free;
-  seen_tail = c.seen_tail;
-  seen_chain = c.seen_chain;
-  seen_words = c.seen_words;
-}
-
--- nothing changes
-abbrev pub unmoved : Actor → Changes
-unmoved x = record {
-  place = x.place;
-  own = x.own;
-  claimed = x.claimed;
-  published = x.published;
-  spoiled = x.spoiled;
-  filled = x.filled;
-  seen_free = x.seen_free;
-  seen_tail = x.seen_tail;
-  seen_chain = x.seen_chain;
-  seen_words = x.seen_words;
-}
 
 -- ---- where it stands
 
 -- what a call rests on that goes on: the free pointer and the tail that it saw, the words that it saw, and its blocks
-pub record Follows (x : Actor) (c : Changes) : Type 0 where
+pub record Follows (x : Actor) (c : Doing) : Type 0 where
   pub free : c.seen_free ≡ x.seen_free
   pub tail : c.seen_tail ≡ x.seen_tail
   pub words : (s : Sighting) → Contains x.seen_words s → Contains c.seen_words s
   pub own : (block : Own) → Contains x.own block → (still : Own) × Contains c.own still × (still.at ≡ block.at) × (still.tag ≡ block.tag)
-  pub spent : x ≡ spent → moved x c ≡ spent
+  pub spent : x ≡ spent → doing x c ≡ spent
 
-pub follows_itself : (x : Actor) → Follows x (unmoved x)
+pub follows_itself : (x : Actor) → Follows x (doing_of x)
 follows_itself x = record { free = refl; tail = refl; words = λ s there. there; own = λ block there. (block, there, refl, refl); spent = λ is. is }
 
-looks_right : (x : Actor) (c : Changes) (look : Look) → Follows x c → LooksRight x look → LooksRight (moved x c) look
+looks_right : (x : Actor) (c : Doing) (look : Look) → Follows x c → LooksRight x look → LooksRight (doing x c) look
 looks_right x c look follows right = record {
   known = right.known;
   knows = right.knows;
@@ -106,9 +64,9 @@ looks_right x c look follows right = record {
 }
 
 module _ (shape : Dimensions) (old new : Anatomy) (added : ℕ → Body → Type 0) (grows : Grows old new added) where
-  module _ (id : ℕ) (plain_stays : (at : ℕ) (words : List ℕ) → HasPlain old.pieces id at words → HasPlain new.pieces id at words) (x : Actor) (c : Changes)
+  module _ (id : ℕ) (plain_stays : (at : ℕ) (words : List ℕ) → HasPlain old.pieces id at words → HasPlain new.pieces id at words) (x : Actor) (c : Doing)
       (follows : Follows x c) where
-    pub stands_grow : (place : Place) → StandsRight shape old id x place → StandsRight shape new id (moved x c) place
+    pub stands_grow : (place : Place) → StandsRight shape old id x place → StandsRight shape new id (doing x c) place
     stands_grow Spent stands = follows.spent stands
     stands_grow Idle stands = tt
     stands_grow FlagsLoaded stands = tt
@@ -132,24 +90,6 @@ module _ (shape : Dimensions) (old new : Anatomy) (added : ℕ → Body → Type
     stands_grow (CursorLoaded cursor at) stands = (stop_grows old new added grows at stands.0, stands.1)
     stands_grow (BehindCursor cursor at next) stands = (neighbours_grow old new added grows at next stands.0, stands.1)
 
--- ---- all actors together
-
--- what all actors counted and took is the same, the opener has made as many recorders, and those that live lived before
-pub record SameDeeds (actors actors' : List Actor) : Type 0 where
-  pub counted : all_counted actors' ≡ all_counted actors
-  pub summed : all_summed actors' ≡ all_summed actors
-  pub noted : all_noted actors' ≡ all_noted actors
-  pub taken : all_taken actors' ≡ all_taken actors
-  pub opener : (o' : Actor) → get_elem? actors' 0 ≡ some o' → (o : Actor) × (get_elem? actors 0 ≡ some o) × (o.made ≡ o'.made)
-  pub living : (who : ℕ) (c' : Actor) → get_elem? actors' who ≡ some c' → is_living c' ≡ true
-      → (c : Actor) × (get_elem? actors who ≡ some c) × (is_living c ≡ true) × (c.made ≡ c'.made)
-
-alone_before : (actors actors' : List Actor) (x y : Actor) → SameDeeds actors actors' → x.outstanding ≡ y.outstanding → x.made ≡ y.made
-    → IsAlone actors' y → IsAlone actors x
-alone_before actors actors' x y same out made (o', at, none_out, next) =
-    let (o, here, is) = same.opener o' at in
-    (o, here, out ∙ none_out, ap (λ (n : ℕ). n + 1) made ∙ (next ∙ sym is))
-
 -- a counter is a word of its block
 pub counter_within : (body : Body) (i : ℕ) → IsCounterIn body i → i < length (words_of body)
 counter_within (histogram r) i counter = ⊎_elim (λ a. let here : i < length (words_of (histogram r)) = omega (arith, a) in here) (λ b. let here : i < length (words_of (histogram r)) = omega (arith, b) in here) counter
@@ -168,14 +108,14 @@ counter_within (sample s) i counter = ⊎_elim (λ a. let here : i < length (wor
 
 -- What an actor has seen more: a longer front of the list, and words of records; none of them is a counts reference of a histogram
 -- that it knows. It has not loaded another sum.
-pub record SawMore (x : Actor) (c : Changes) : Type 0 where
+pub record SawMore (x : Actor) (c : Doing) : Type 0 where
   pub chain : (at : ℕ) → Contains x.seen_chain at → Contains c.seen_chain at
   pub words : (at word : ℕ) → word_seen x.seen_words at ≡ Some word → word_seen c.seen_words at ≡ Some word
   pub counts : (known : Known) (word : ℕ) → Contains x.names known → word_seen c.seen_words (known.reference + 8) ≡ Some word
       → word_seen x.seen_words (known.reference + 8) ≡ Some word
   pub loaded : (reference : ℕ) (sum : ℤ) → c.place ≡ SumLoaded reference sum → x.place ≡ SumLoaded reference sum
 
-pub saw_itself : (x : Actor) → SawMore x (unmoved x)
+pub saw_itself : (x : Actor) → SawMore x (doing_of x)
 saw_itself x = record {
   chain = λ at there. there;
   words = λ at word there. there;
@@ -184,7 +124,7 @@ saw_itself x = record {
 }
 
 module _ (shape : Dimensions) (old new : Anatomy) (added : ℕ → Body → Type 0) (grows : Grows old new added) (actors actors' : List Actor)
-    (same : SameDeeds actors actors') (x : Actor) (c : Changes) (more : SawMore x c)
+    (same : SameDeeds actors actors') (x : Actor) (c : Doing) (more : SawMore x c)
     (keyed : (entry : Entry) → Contains (x.inherited ++ counted_of x) entry → 0 < entry.units → HasKey old.records entry.name entry.key)
     (known_record : (known : Known) → Contains x.names known → (r : Record) × HasRecord old.pieces known.reference r)
     (loaded_record : (reference : ℕ) (sum : ℤ) → x.place ≡ SumLoaded reference sum → (r : Record) × HasRecord old.pieces reference r)
@@ -200,7 +140,7 @@ module _ (shape : Dimensions) (old new : Anatomy) (added : ℕ → Body → Type
       (subst (λ (records : List Listed). Contains records l) (sym is) (Contains-append_right front (l ∷ behind) l (0, omega arith, refl)))
       (kind, refl)
 
-  calls_grow : CallsRight old x → CallsRight new (moved x c)
+  calls_grow : CallsRight old x → CallsRight new (doing x c)
   calls_grow calls = record {
     ordered = calls.ordered;
     within = calls.within;
@@ -220,22 +160,19 @@ module _ (shape : Dimensions) (old new : Anatomy) (added : ℕ → Body → Type
   }
 
   -- what it saw of a bucket it had seen
-  saw_before : (known : Known) (bucket total : ℕ) → Contains x.names known → SawBucket (moved x c) known bucket total → SawBucket x known bucket total
+  saw_before : (known : Known) (bucket total : ℕ) → Contains x.names known → SawBucket (doing x c) known bucket total → SawBucket x known bucket total
   saw_before known bucket total named (word, single, inl on) = (word, single, inl on)
   saw_before known bucket total named (word, single, inr (off, (place, count, seen, saw, is))) =
       (word, single, inr (off, (place, count, more.counts known place named seen, saw, is)))
 
-  alone_was : IsAlone actors' (moved x c) → IsAlone actors x
-  alone_was = alone_before actors actors' x (moved x c) same refl refl
-
-  settled_before : (known : Known) (bucket : ℕ) → IsSettled new actors' (moved x c) known bucket → IsSettled old actors x known bucket
+  settled_before : (known : Known) (bucket : ℕ) → IsSettled new actors' (doing x c) known bucket → IsSettled old actors x known bucket
   settled_before known bucket (inl two) = inl (sym grows.version ∙ two)
-  settled_before known bucket (inr (inl alone)) = inr (inl (alone_was alone))
+  settled_before known bucket (inr (inl alone)) = inr (inl (alone_along actors actors' same x alone))
   settled_before known bucket (inr (inr apart)) = inr (inr (λ r there.
       let (n, still) = record_stays old new added grows known.reference r there in
       subst (λ (version : ℕ). packed_bucket (form_at version r) ≢ Some bucket) grows.version (apart (record r { next = n }) still)))
 
-  looks_grow : LooksBack old actors x → LooksBack new actors' (moved x c)
+  looks_grow : LooksBack old actors x → LooksBack new actors' (doing x c)
   looks_grow looks = record {
     most = λ known bucket total named below saw.
         subst (λ (entries : List Entry). total ≤ tally_units entries known.name (bucket_key (Some known) bucket)) (sym same.counted)
@@ -263,47 +200,17 @@ module _ (shape : Dimensions) (old new : Anatomy) (added : ℕ → Body → Type
     noted = looks.noted;
     sum = λ reference sum r stood alone there. ⊎_elim
         (λ t. let (r0, n, before, is) = t in
-        looks.sum reference sum r0 (more.loaded reference sum stood) (alone_was alone) before
+        looks.sum reference sum r0 (more.loaded reference sum stood) (alone_along actors actors' same x alone) before
         ∙ ap (λ (z : Record). cast_signed w64 z.sum) (sym is))
         (λ new_one. let (r1, was) = loaded_record reference sum (more.loaded reference sum stood) in
         absurd (no_record reference (histogram r) r1 (omega arith) new_one was))
         (record_came old new added grows reference r there);
   }
 
-  moment_stays : (opener : Actor) (id : ℕ) (m : Moment) → IsMoment actors opener id x m → IsMoment actors' opener id (moved x c) m
-  moment_stays opener id m is = record {
-    logged = is.logged;
-    before = is.before;
-    mine = is.mine;
-    eldest = λ none_out who c' at lives apart.
-        let (c0, here, lived, made) = same.living who c' at lives in
-        subst (λ (n : ℕ). m.before < n) made (is.eldest none_out who c0 here lived apart);
-  }
-
-  finals_stay : (opener : Actor) (id : ℕ) → FinalsAreExact actors opener id x → FinalsAreExact actors' opener id (moved x c)
-  finals_stay opener id finals = record {
-    deltas = λ t ended none_out youngest quiet.
-        let h = finals.deltas t ended none_out youngest quiet in (
-          λ key. ap (λ (list : List Taken). taken_units list t.name key) same.taken ∙ (h.0 key ∙ ap (λ (entries : List Entry). tally_units entries t.name key) (sym same.counted)),
-          ap (λ (list : List Taken). taken_sum list t.name) same.taken ∙ (h.1 ∙ ap (λ (entries : List Entry). tally_sum entries t.name) (sym same.summed)),
-        );
-    snapshots = λ s answered none_out youngest quiet.
-        let h = finals.snapshots s answered none_out youngest quiet in (
-          λ key. h.0 key ∙ ap (λ (entries : List Entry). tally_units entries s.name key) (sym same.counted),
-          h.1 ∙ ap (λ (entries : List Entry). tally_sum entries s.name) (sym same.summed),
-          h.2 ∙ ap (λ (entries : List Entry). tally_noted entries s.name) (sym same.noted),
-        );
-    moments = λ m is. moment_stays opener id m (finals.moments m is);
-    swapped = λ before last taking is swapped alone.
-        ap (λ (list : List Taken). taken_sum list last.name) same.taken
-        ∙ (finals.swapped before last taking is swapped (alone_was alone)
-        ∙ ap (λ (entries : List Entry). tally_sum entries last.name) (sym same.summed));
-  }
-
   -- all that holds of it
-  pub fits_grow : (cursors : List ℕ) (opener : Actor) (id : ℕ) → Sees new cursors (moved x c) → All (HoldsOwn shape new.pieces id) c.own
+  pub fits_grow : (cursors : List ℕ) (opener : Actor) (id : ℕ) → Sees new cursors (doing x c) → All (HoldsOwn shape new.pieces id) c.own
       → ((i j : ℕ) (y z : Own) → get_elem? c.own i ≡ some y → get_elem? c.own j ≡ some z → y.at ≡ z.at → i ≡ j)
-      → Fits shape old cursors actors opener id x → Fits shape new cursors actors' opener id (moved x c)
+      → Fits shape old cursors actors opener id x → Fits shape new cursors actors' opener id (doing x c)
   fits_grow cursors opener id sees own apart fits = record {
     shaped = fits.shaped;
     versioned = fits.versioned ∙ sym grows.version;
@@ -312,12 +219,8 @@ module _ (shape : Dimensions) (old new : Anatomy) (added : ℕ → Body → Type
     apart = apart;
     calls = calls_grow fits.calls;
     looks = λ records. looks_grow (fits.looks records);
-    finals = finals_stay opener id fits.finals;
-    snapshots = All-weaker (IsWithinCounts actors) (IsWithinCounts actors')
-        (λ answered within. All-weaker _ _
-        (λ count le. subst (λ (entries : List Entry). count.1 ≤ tally_units entries answered.name count.0) (sym same.counted) le)
-        answered.counts within)
-        x.snapshots fits.snapshots;
+    finals = finals_doing actors' opener id x c (finals_along actors actors' same opener id x fits.finals);
+    snapshots = within_along actors actors' same x fits.snapshots;
   }
 
 -- a block of another actor stays

@@ -8,3 +8,4 @@ pub mod Pieces
 pub mod Stops
 pub mod Actors
 pub mod Anatomies
+pub mod Goings

@@ -14,10 +14,11 @@ use Rattle.segment_machine.specs.declared.actor.Published.{Published}
 use Rattle.segment_machine.specs.declared.actor.Sighting.{Sighting}
 use Rattle.segment_machine.specs.declared.actor.Taken.{Taken}
 use Rattle.segment_machine.specs.declared.entry.Entry.{Entry}
+use Rattle.segment_machine.specs.declared.place.Look.{Look}
 use Rattle.segment_machine.specs.declared.place.Place.{Place}
 use Rattle.segment_machine.specs.declared.place.Place.TheVariants.{Spent, Idle, FlagsLoaded, FreeLoaded, Raised, Sized, Marked, TailLoaded, Beaten, Linked, Looking, Losing, Moving, CountLoaded, SampleLoaded, SumLoaded, CursorLoaded, BehindCursor}
 use Rattle.segment_machine.specs.Entry.{tally_units, tally_sum, tally_noted}
-use Rattle.segment_machine.specs.Actor.{log_of, counted_of, summed_of, noted_of, units_of, given_by, all_counted, all_summed, all_noted, all_taken, all_given, taken_units, taken_sum}
+use Rattle.segment_machine.specs.Actor.{is_bound, log_of, counted_of, summed_of, noted_of, units_of, given_by, all_counted, all_summed, all_noted, all_taken, all_given, taken_units, taken_sum}
 use Rattle.segment_machine.specs.Consistent.{units_taken, IsWithinCounts}
 use Rattle.segment_machine.specs.Ledger.{moving_at, all_moving}
 use Rattle.segment_machine.specs.Kept.{summed_cost, summed_costs, is_living, RolesAreKept, IsAlone, IsMomentOf, IsMoment, FinalsAreExact}
@@ -86,38 +87,49 @@ is_plain _ = true
 plain_lives : (p : Place) → is_plain p ≡ true → p ≢ Spent
 plain_lives p plain spent = cc (plain, ap is_plain spent)
 
-plain_rests : (a : Actor) (name : List ℕ) (key : ℤ) (p : Place) → is_plain p ≡ true → moving_at a name key p ≡ 0
-plain_rests a name key Spent plain = refl
-plain_rests a name key Idle plain = refl
-plain_rests a name key FlagsLoaded plain = refl
-plain_rests a name key (FreeLoaded free) plain = refl
-plain_rests a name key (Raised at size) plain = refl
-plain_rests a name key (Sized at size) plain = refl
-plain_rests a name key (Marked at size) plain = refl
-plain_rests a name key (TailLoaded tail) plain = refl
-plain_rests a name key (Beaten tail behind) plain = refl
-plain_rests a name key (Linked at tail) plain = refl
-plain_rests a name key (Looking look) plain = refl
-plain_rests a name key (Losing look at) plain = refl
-plain_rests a name key (Moving look bucket units) plain = cc plain
-plain_rests a name key (CountLoaded look bucket count) plain = refl
-plain_rests a name key (SampleLoaded sample count) plain = refl
-plain_rests a name key (SumLoaded reference sum) plain = refl
-plain_rests a name key (CursorLoaded cursor at) plain = refl
-plain_rests a name key (BehindCursor cursor at behind) plain = refl
+-- an actor that does not stand where units move moves none
+rests_at : (a : Actor) (name : List ℕ) (key : ℤ) (p : Place) → ((look : Look) (bucket units : ℕ) → p ≢ Moving look bucket units) → moving_at a name key p ≡ 0
+rests_at a name key Spent rests = refl
+rests_at a name key Idle rests = refl
+rests_at a name key FlagsLoaded rests = refl
+rests_at a name key (FreeLoaded free) rests = refl
+rests_at a name key (Raised at size) rests = refl
+rests_at a name key (Sized at size) rests = refl
+rests_at a name key (Marked at size) rests = refl
+rests_at a name key (TailLoaded tail) rests = refl
+rests_at a name key (Beaten tail behind) rests = refl
+rests_at a name key (Linked at tail) rests = refl
+rests_at a name key (Looking look) rests = refl
+rests_at a name key (Losing look at) rests = refl
+rests_at a name key (Moving look bucket units) rests = absurd (rests look bucket units refl)
+rests_at a name key (CountLoaded look bucket count) rests = refl
+rests_at a name key (SampleLoaded sample count) rests = refl
+rests_at a name key (SumLoaded reference sum) rests = refl
+rests_at a name key (CursorLoaded cursor at) rests = refl
+rests_at a name key (BehindCursor cursor at behind) rests = refl
+
+plain_rests : (p : Place) → is_plain p ≡ true → (look : Look) (bucket units : ℕ) → p ≢ Moving look bucket units
+plain_rests p plain look bucket units moving = cc (plain, ap is_plain moving)
 
 plain_sums : (p : Place) (at : ℕ) (sum : ℤ) → is_plain p ≡ true → p ≢ SumLoaded at sum
 plain_sums p at sum plain is = cc (plain, ap is_plain is)
 
--- from a place where it moves nothing to one that is plain
-pub turns_plain : (a : Actor) (p : Place) → a.place ≢ Spent → ((name : List ℕ) (key : ℤ) → moving_at a name key a.place ≡ 0)
+-- to a plain place it may turn from one where it lives and moves nothing: from another plain one, and from any where it is free to go on
+turns_to : (a : Actor) (p : Place) → a.place ≢ Spent → ((look : Look) (bucket units : ℕ) → a.place ≢ Moving look bucket units)
     → is_plain p ≡ true → TurnsTo a p
-turns_plain a p lived rests plain = record {
+turns_to a p lived rests plain = record {
   lived = lived;
   lives = plain_lives p plain;
-  moves = λ name key. plain_rests a name key p plain ∙ sym (rests name key);
+  moves = λ name key. rests_at a name key p (plain_rests p plain) ∙ sym (rests_at a name key a.place rests);
   sums = λ at sum is. absurd (plain_sums p at sum plain is);
 }
+
+pub turns_plain : (a : Actor) (p : Place) → is_plain a.place ≡ true → is_plain p ≡ true → TurnsTo a p
+turns_plain a p was = turns_to a p (plain_lives a.place was) (plain_rests a.place was)
+
+pub turns_unbound : (a : Actor) (p : Place) → is_bound a.place ≡ false → is_plain p ≡ true → TurnsTo a p
+turns_unbound a p unbound =
+    turns_to a p (λ spent. cc (unbound, ap is_bound spent)) (λ look bucket units moving. cc (unbound, ap is_bound moving))
 
 -- it stays where it stands
 pub turns_not : (a : Actor) → a.place ≢ Spent → TurnsTo a a.place

@@ -11,3 +11,4 @@ pub mod Pieces
 pub mod Stops
 pub mod Actors
 pub mod Anatomies
+pub mod Goings

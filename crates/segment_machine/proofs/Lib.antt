@@ -2,6 +2,8 @@ pub mod Alone
 pub mod ListingGrowth
 pub mod ListingActors
 pub mod ListingRecords
+pub mod ListingKept
+pub mod ListingWalks
 pub mod Lists
 pub mod Mounted
 pub mod SeatsSums

@@ -1,6 +1,6 @@
 -- How a segment grows while records are put on its list: published blocks stay but for their nexts, the list becomes longer at its
 -- end, and what was seen stays true.
-use Rattle.std.proofs.Common.{◌≡◌, ◌≢◌, ◌⊎◌, ℕ, zero, suc, ◌+◌, ◌<◌, ◌≤◌, ℤ, Bool, true, false, List, [], ◌∷◌, ◌++◌, map, length, All, Contains, inl, inr, ⊎_elim, refl, sym, ap, ◌∙◌, subst, arith, append_assoc, length-append}
+use Rattle.std.proofs.Common.{◌≡◌, ◌≢◌, ◌⊎◌, ℕ, zero, suc, ◌+◌, ◌<◌, ◌≤◌, ℤ, Bool, true, false, List, [], ◌∷◌, ◌++◌, map, length, All, Contains, inl, inr, ⊎_elim, refl, sym, ap, ◌∙◌, subst, arith, append_assoc, append-nil, length-append}
 use Rattle.std.specs.Prelude.{slice_index, Some, take, get_or}
 use Rattle.std.proofs.lemmas.List.{get_or_append_left}
 use Rattle.std.proofs.lemmas.List.Elements.{All-weaker}
@@ -21,6 +21,7 @@ use Rattle.segment_machine.specs.declared.actor.Made.TheVariants as made
 use Rattle.segment_machine.specs.Form.{is_off, Leads}
 use Rattle.segment_machine.specs.Body.{Record, Counts, Sample, Body, queue, plain, held, histogram, counts, sample, other, words_of, is_claimed, Piece, Listed, Anatomy, order_of, free_of}
 use Rattle.segment_machine.specs.Seen.{Stands, HasPlain, HasOwn, HasRecord, HasCounts, HasSample, IsNamed, IsFirst, IsFirstOf, IsFixedIn, IsCounterIn, WasFixed, WasCounter, WasInUse, WasSingle, IsNoLater, Knows, Sees}
+use Rattle.segment_machine.proofs.Anatomies.{reshaped, Stays}
 
 -- ---- the next of a block
 
@@ -65,6 +66,16 @@ beside_next (other size tag next payload) n (suc zero) ne = refl
 beside_next (other size tag next payload) n (suc (suc zero)) ne = refl
 beside_next (other size tag next payload) n (suc (suc (suc zero))) ne = absurd (ne refl)
 beside_next (other size tag next payload) n (suc (suc (suc (suc i)))) ne = refl
+
+-- a block with the next that it has
+pub same_next : (body : Body) → (n : ℕ) × (with_next body n ≡ body)
+same_next (queue next) = (next, refl)
+same_next (plain words) = (0, refl)
+same_next (held block) = (0, refl)
+same_next (histogram r) = (r.next, refl)
+same_next (counts c) = (0, refl)
+same_next (sample s) = (s.next, refl)
+same_next (other size tag next payload) = (next, refl)
 
 -- what is fixed, or a counter, is no next
 fixed_apart : (body : Body) (n i : ℕ) → IsFixedIn body i → (i ≢ 3) × IsFixedIn (with_next body n) i × (is_claimed body ≡ true)
@@ -135,13 +146,11 @@ first_of_longer records more of at value (front, behind, is, none_before) =
 -- ---- how a segment grows
 
 -- Published blocks stay, but for their nexts; those that come beside them are `added`, and lie where no published one was. The list
--- becomes longer at its end, and the tail goes on.
+-- becomes longer at its end.
 pub record Grows (old new : Anatomy) (added : ℕ → Body → Type 0) : Type 0 where
   pub version : new.version ≡ old.version
-  pub free : free_of new ≡ free_of old
   pub more : List Listed
   pub records : new.records ≡ old.records ++ more
-  pub tail : (seen : ℕ) → IsNoLater (order_of old) seen old.tail → IsNoLater (order_of new) seen new.tail
   pub stays : (at : ℕ) (body : Body) → is_claimed body ≡ true → Stands old.pieces at none body
       → (n : ℕ) × Stands new.pieces at none (with_next body n)
   pub came : (at : ℕ) (body : Body) → is_claimed body ≡ true → Stands new.pieces at none body
@@ -154,6 +163,21 @@ pub record Grows (old new : Anatomy) (added : ℕ → Body → Type 0) : Type 0 
   pub first_of_came : (of at : ℕ) (value : ℤ) → IsFirstOf new.records of value at
       → IsFirstOf old.records of value at
       ⊎ ((s : Sample) × added at (sample s) × All (λ (l : Listed). l.made ≢ Some (made.Sample of value)) old.records)
+
+-- where what was published stays, and the list too
+pub grows_not : (anatomy : Anatomy) (pieces : List Piece) (spare : ℕ) (corrupt full : Bool) (tail : ℕ) → Stays anatomy.pieces pieces
+    → Grows anatomy (reshaped anatomy pieces spare corrupt full tail) (λ at body. ⊥)
+grows_not anatomy pieces spare corrupt full tail stays = record {
+  version = refl;
+  more = [];
+  records = sym (append-nil anatomy.records);
+  stays = λ at body claimed there. let (n, is) = same_next body in (n, subst (Stands pieces at none) (sym is) (stays.there at body there));
+  came = λ at body claimed there. let (n, is) = same_next body in inl (body, n, stays.back at body there, sym is);
+  apart = λ at place i j body before none_added. absurd none_added;
+  off = λ at c none_added. absurd none_added;
+  first_came = λ name spec at first. inl first;
+  first_of_came = λ of at value first. inl first;
+}
 
 -- nothing is a record, counts or a sample with another next but such a one
 is_record : (before : Body) (n : ℕ) (r : Record) → histogram r ≡ with_next before n → (r0 : Record) × (before ≡ histogram r0) × (r ≡ record r0 { next = n })
@@ -265,11 +289,12 @@ module _ (old new : Anatomy) (added : ℕ → Body → Type 0) (grows : Grows ol
   }
 
   -- all that an actor has seen
-  pub sees_grow : (cursors : List ℕ) (a : Actor) → Sees old cursors a → Sees new cursors a
-  sees_grow cursors a sees = record {
-    free = subst (Behind a.seen_free) (sym grows.free) sees.free;
+  pub sees_grow : (cursors : List ℕ) (a : Actor) → Behind a.seen_free (free_of new) → IsNoLater (order_of new) a.seen_tail new.tail
+      → Sees old cursors a → Sees new cursors a
+  sees_grow cursors a free tail sees = record {
+    free = free;
     walked = subst (IsPrefix a.seen_chain) (sym order_grows) (prefix_of_prefix a.seen_chain (order_of old) _ sees.walked (_, refl));
-    tail = grows.tail a.seen_tail sees.tail;
+    tail = tail;
     singles = All-weaker (WasSingle old.version old.pieces) (WasSingle new.version new.pieces) single_stays a.seen_singles sees.singles;
     counters = All-weaker (WasCounter old.pieces) (WasCounter new.pieces) counter_stays a.seen_counts sees.counters;
     in_use = All-weaker (WasInUse old.pieces) (WasInUse new.pieces) in_use_stays a.seen_counts sees.in_use;

@@ -9,3 +9,4 @@ pub mod Stops
 pub mod Actors
 pub mod Anatomies
 pub mod Goings
+pub mod Acting

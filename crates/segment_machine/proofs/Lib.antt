@@ -10,3 +10,4 @@ pub mod Actors
 pub mod Anatomies
 pub mod Goings
 pub mod Acting
+pub mod Making

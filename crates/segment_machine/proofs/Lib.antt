@@ -14,3 +14,5 @@ pub mod Stops
 pub mod Actors
 pub mod Anatomies
 pub mod Goings
+pub mod Acting
+pub mod Making

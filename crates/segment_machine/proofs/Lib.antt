@@ -4,6 +4,7 @@ pub mod ListingActors
 pub mod ListingRecords
 pub mod ListingKept
 pub mod ListingWalks
+pub mod ListingEvents
 pub mod Lists
 pub mod Mounted
 pub mod SeatsSums

@@ -114,11 +114,12 @@ module _ (shape : Dimensions) (opened : Anatomy) (state : State) (kept : Kept sh
 
   module _ (id : ℕ) (a : Actor) (mine : get_elem? state.actors id ≡ some a) (records : a.opener ≡ 0) where
     -- where it stands, its blocks, the tail, the chain and the words that it saw
-    abbrev walking : Place → List Own → ℕ → List ℕ → List Sighting → Doing
+    abbrev pub walking : Place → List Own → ℕ → List ℕ → List Sighting → Doing
     walking place own tail chain words =
         record (doing_of a) { place = place; own = own; seen_tail = tail; seen_chain = chain; seen_words = words }
 
-    reference_is : (at : ℕ) → a.place ≢ Spent → IsStop order at → IsReference a at
+    -- a stop is a reference that it may find
+    pub reference_is : (at : ℕ) → a.place ≢ Spent → IsStop order at → IsReference a at
     reference_is at lives stop =
         subst (λ (s : Dimensions). is_reference s.size at ≡ true) (sym (kept.each id a mine lives).shaped) (stop_reference at stop)
 

@@ -5,6 +5,7 @@ pub mod ListingRecords
 pub mod ListingKept
 pub mod ListingWalks
 pub mod ListingEvents
+pub mod ListingReads
 pub mod Lists
 pub mod Mounted
 pub mod SeatsSums

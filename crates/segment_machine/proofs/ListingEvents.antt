@@ -116,7 +116,7 @@ module _ (shape : Dimensions) (opened : Anatomy) (state : State) (kept : Kept sh
   after_is at v b = Kept shape opened (record { words = set state.words at v; cursors = state.cursors; actors = set state.actors id b })
 
   -- a load changes no word
-  loaded : (at : ℕ) (b : Actor) → Kept shape opened (record { words = state.words; cursors = state.cursors; actors = set state.actors id b })
+  pub loaded : (at : ℕ) (b : Actor) → Kept shape opened (record { words = state.words; cursors = state.cursors; actors = set state.actors id b })
       → after_is at (word_at state.words at) b
   loaded at b is = subst (λ (ws : List ℕ). Kept shape opened (record { words = ws; cursors = state.cursors; actors = set state.actors id b }))
       (sym (set-get_or state.words at 0)) is

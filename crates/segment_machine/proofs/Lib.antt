@@ -6,6 +6,8 @@ pub mod ListingKept
 pub mod ListingWalks
 pub mod ListingEvents
 pub mod ListingReads
+pub mod ListingBodies
+pub mod ListingPublishes
 pub mod Lists
 pub mod Mounted
 pub mod SeatsSums

@@ -11,3 +11,4 @@ pub mod Anatomies
 pub mod Goings
 pub mod Acting
 pub mod Making
+pub mod Allocating

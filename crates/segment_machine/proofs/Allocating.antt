@@ -27,7 +27,7 @@ use Rattle.segment_machine.specs.Ready.{Ready}
 use Rattle.segment_machine.specs.Learned.{Learned}
 use Rattle.segment_machine.specs.Body.{Anatomy, layout_of, free_of}
 use Rattle.segment_machine.specs.Kept.{StandsRight, IsSetBy, Kept}
-use Rattle.segment_machine.proofs.Lists.{any_there}
+use Rattle.segment_machine.proofs.Lists.{any_there, column}
 use Rattle.segment_machine.proofs.Pieces.{raw_piece, grown_by, stands_last, free_least, free_within}
 use Rattle.segment_machine.proofs.Actors.{Doing, doing, doing_of, TurnsTo, is_plain, turns_plain, turns_unbound}
 use Rattle.segment_machine.proofs.Goings.{after_word}
@@ -148,3 +148,28 @@ module _ (shape : Dimensions) (opened : Anatomy) (state : State) (kept : Kept sh
             (leaves 7 found _ refl (waits shape opened state kept id a mine records Idle found turns (inl free_is) tt))),
         (subst (λ n. Behind n found) seen learned.0, learned.1),
       )
+
+  -- a flag is set: the corrupt one, and the full one
+  pub corrupt_set : is_bound a.place ≡ false → Keeps (set_flag 1)
+  corrupt_set turn =
+      let b : Actor = record a { place = Idle; spoiled = true } in (
+        flags_set shape opened state kept id a mine records true anatomy.full (bit_or (word_at state.words 6) 1) Idle true a.filled
+            (turns_unbound a Idle turn refl) (shown_corrupt shape state.words (layout_of anatomy) kept.shown)
+            (set_now opened.corrupt state.actors id a b (λ (x : Actor). x.spoiled) mine refl)
+            (kept.full ∙ ap (λ set. opened.full || fold ◌||◌ false set) (sym (column (λ (x : Actor). x.filled) state.actors id a b mine refl))) tt,
+        tt,
+      )
+
+  pub full_set : is_bound a.place ≡ false → Keeps (set_flag 2)
+  full_set turn =
+      let b : Actor = record a { place = Idle; filled = true } in (
+        flags_set shape opened state kept id a mine records anatomy.corrupt true (bit_or (word_at state.words 6) 2) Idle a.spoiled true
+            (turns_unbound a Idle turn refl) (shown_full shape state.words (layout_of anatomy) kept.shown)
+            (kept.corrupt ∙ ap (λ set. opened.corrupt || fold ◌||◌ false set) (sym (column (λ (x : Actor). x.spoiled) state.actors id a b mine refl)))
+            (set_now opened.full state.actors id a b (λ (x : Actor). x.filled) mine refl) tt,
+        tt,
+      )
+
+  pub flag_set : (flag : ℕ) → Ready a (set_flag flag) → Keeps (set_flag flag)
+  flag_set flag (turn, inl corrupt) = subst (λ n. Keeps (set_flag n)) (sym corrupt) (corrupt_set turn)
+  flag_set flag (turn, inr (full, loaded)) = subst (λ n. Keeps (set_flag n)) (sym full) (full_set turn)

@@ -12,3 +12,4 @@ pub mod Goings
 pub mod Acting
 pub mod Making
 pub mod Allocating
+pub mod Storing

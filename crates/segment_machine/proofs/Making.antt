@@ -59,13 +59,13 @@ module _ (shape : Dimensions) (opened : Anatomy) (state : State) (kept : Kept sh
       IsPermutation (claims_of pieces) (claims_of opened.pieces ++ flat_map (λ (a : Actor). a.claimed) (set state.actors id (doing a (unlisted a d))))
 
   -- the claims are those that they were
-  claims_kept : (pieces : List Piece) (d : Doing) → claims_of pieces ≡ claims_of anatomy.pieces → d.claimed ≡ a.claimed → Claims pieces d
+  pub claims_kept : (pieces : List Piece) (d : Doing) → claims_of pieces ≡ claims_of anatomy.pieces → d.claimed ≡ a.claimed → Claims pieces d
   claims_kept pieces d same claimed =
       subst (λ (c : List Claim × List Claim). IsPermutation c.0 (claims_of opened.pieces ++ c.1))
       (λ i. (sym same i, sym (rows (λ (a : Actor). a.claimed) state.actors id a (doing a (unlisted a d)) mine claimed) i)) kept.claims
 
   -- or one more
-  claims_longer : (pieces : List Piece) (d : Doing) (claim : Claim) → IsPermutation (claims_of pieces) (claims_of anatomy.pieces ++ claim ∷ [])
+  pub claims_longer : (pieces : List Piece) (d : Doing) (claim : Claim) → IsPermutation (claims_of pieces) (claims_of anatomy.pieces ++ claim ∷ [])
       → d.claimed ≡ a.claimed ++ claim ∷ [] → Claims pieces d
   claims_longer pieces d claim more claimed =
       let all : List Claim = flat_map (λ (a : Actor). a.claimed) state.actors in

@@ -13,3 +13,4 @@ pub mod Acting
 pub mod Making
 pub mod Allocating
 pub mod Storing
+pub mod Filling

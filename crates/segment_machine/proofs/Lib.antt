@@ -14,3 +14,4 @@ pub mod Making
 pub mod Allocating
 pub mod Storing
 pub mod Filling
+pub mod AllocatingKeeps

@@ -1,4 +1,6 @@
 pub mod Alone
+pub mod ImpliedFlags
+pub mod Lists
 pub mod Mounted
 pub mod Opening
-pub mod ImpliedFlags
+pub mod Pieces

@@ -4,3 +4,4 @@ pub mod Lists
 pub mod Mounted
 pub mod Opening
 pub mod Pieces
+pub mod Pairs

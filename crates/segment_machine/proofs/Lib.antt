@@ -1,4 +1,5 @@
 pub mod Alone
+pub mod ImpliedBlocks
 pub mod ImpliedFlags
 pub mod Lists
 pub mod Mounted

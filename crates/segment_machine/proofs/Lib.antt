@@ -1,5 +1,6 @@
 pub mod Alone
 pub mod ImpliedBlocks
+pub mod ImpliedChain
 pub mod ImpliedFlags
 pub mod Lists
 pub mod Mounted

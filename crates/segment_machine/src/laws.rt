@@ -4,7 +4,7 @@
 //! `specs/Examples.antt`.
 
 ghost use Rattle.segment_machine.specs.Promises.{StepsChangeOne};
-ghost use Rattle.segment_machine.specs.Keeps.{OpeningIsKept, KeptFlagsAreSet};
+ghost use Rattle.segment_machine.specs.Keeps.{OpeningIsKept, KeptFlagsAreSet, KeptIsChain};
 ghost use Rattle.segment_machine.specs.Examples.{Keys, PackedThenMounted, StoppedInTransit, PackingLimit, DeltasAndMarks, TwoTakers, PackedRun, MountingRun, TakerRuns, TakingRun, SparseSamples, Batches, MountedIsConsistent, ListBreaks, RecordsBreak, TotalsBreak, MarksBreak, SumsBreak, TransitBreaks, FlagsBreak, UnitsBreak};
 
 /// A step changes one word and one actor at most.
@@ -127,4 +127,9 @@ pub fn opening_is_kept()
 /// The flags of a kept state are set exactly where an actor has set them.
 pub fn kept_flags_are_set()
     ensures { KeptFlagsAreSet }
+{}
+
+/// The list of a kept state is the chain.
+pub fn kept_is_chain()
+    ensures { KeptIsChain }
 {}

@@ -34,10 +34,11 @@ use Rattle.segment_machine.specs.Body.{is_claimed, Piece, extent_of, block_of, L
 use Rattle.segment_machine.specs.Seen.{IsNoLater, Sees}
 use Rattle.segment_machine.specs.Kept.{StandsAs, Kept}
 use Rattle.segment_machine.specs.Keeps.{KeptIsChain}
-use Rattle.segment_machine.proofs.Lists.{from_map, at_from, contains_at, all_at}
+use Rattle.segment_machine.proofs.Lists.{at_from, contains_at}
 use Rattle.segment_machine.proofs.Pieces.{piece_word, some_first, first_piece}
 use Rattle.segment_machine.proofs.Pairs.{any_two_permuted}
 use Rattle.segment_machine.proofs.Alone.{below_three}
+use Rattle.segment_machine.proofs.ImpliedRecords.{listed_there}
 use Rattle.segment_machine.proofs.ImpliedBlocks.{claim_of, all_claims_of, claim_there, claimed_piece, lawful_piece, claims_apart, claims_few}
 
 -- ---- the header
@@ -142,9 +143,8 @@ module _ (shape : Dimensions) (version id : ℕ) (state : State) (lawful : IsSha
   record_block : (at : ℕ) → Contains chain at
       → (k : ℕ) × (p : Piece) × (get_elem? anatomy.pieces k ≡ some p) × (is_claimed p.body ≡ true) × (p.at ≡ at)
   record_block at there =
-      let place = at_from chain at there in
-      let listed = from_map (λ (l : Listed). l.reference) anatomy.records place.0 at place.1 in
-      stands listed.0 listed.0.made at (all_at (λ l. StandsAs anatomy.pieces l l.made) anatomy.records place.0 listed.0 kept.list.standing listed.1) listed.2
+      let (l, among, place, standing) = listed_there words (blank version id shape.size) anatomy state.actors at kept.list there in
+      stands l l.made at standing place
     where
       stands : (l : Listed) (made : std.Option Made) (at : ℕ) → StandsAs anatomy.pieces l made → l.reference ≡ at
           → (k : ℕ) × (p : Piece) × (get_elem? anatomy.pieces k ≡ some p) × (is_claimed p.body ≡ true) × (p.at ≡ at)

@@ -2,6 +2,8 @@ pub mod Alone
 pub mod ImpliedBlocks
 pub mod ImpliedChain
 pub mod ImpliedFlags
+pub mod ImpliedRecords
+pub mod ImpliedUnits
 pub mod Lists
 pub mod Mounted
 pub mod Opening

@@ -1,5 +1,5 @@
 -- Lists of which one element changes: what is the same of all of them, and what is one more.
-use Rattle.std.proofs.Common.{◌≡◌, ℕ, zero, suc, ◌+◌, ◌<◌, Bool, true, false, ◌||◌, List, [], ◌∷◌, ◌++◌, map, length, set, fold, sum_by, flat_map, All, Contains, IsPermutation, append_assoc, refl, sym, ap, ◌∙◌, subst, arith}
+use Rattle.std.proofs.Common.{◌≡◌, ℕ, zero, suc, ◌+◌, ◌<◌, Bool, true, false, ◌||◌, List, [], ◌∷◌, ◌++◌, map, length, set, get_or, fold, sum_by, flat_map, All, Contains, IsPermutation, append_assoc, refl, sym, ap, ◌∙◌, subst, arith}
 use Rattle.std.proofs.lemmas.List.Sorted.{IsPermutation-refl, IsPermutation-append, IsPermutation-append_comm}
 use Rattle.std.proofs.lemmas.List.Sums.{sum_by-cons}
 use mathlib.Core.Option.{some, some-injective, some-ne-none}
@@ -98,3 +98,14 @@ pub from_map : {A B : Type 0} (f : A → B) (l : List A) (i : ℕ) (y : B) → g
 from_map f [] i y e = absurd (some-ne-none y (sym e))
 from_map f (x ∷ xs) zero y e = (x, refl, some-injective (f x) y e)
 from_map f (x ∷ xs) (suc i) y e = from_map f xs i y e
+
+-- below the length there is an element, and the index finds it
+pub there_below : {A : Type 0} (l : List A) (i : ℕ) → i < length l → (x : A) × (get_elem? l i ≡ some x)
+there_below [] i lt = absurd (omega (arith, lt))
+there_below (x ∷ xs) zero lt = (x, refl)
+there_below (x ∷ xs) (suc i) lt = there_below xs i (omega (arith, lt))
+
+pub index_at : {A : Type 0} (l : List A) (i : ℕ) (x d : A) → get_elem? l i ≡ some x → get_or l i d ≡ x
+index_at [] i x d e = absurd (some-ne-none x (sym e))
+index_at (y ∷ ys) zero x d e = some-injective y x e
+index_at (y ∷ ys) (suc i) x d e = index_at ys i x d e

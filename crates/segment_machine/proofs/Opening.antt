@@ -1,7 +1,7 @@
 -- A new segment with its opener is kept: it has the queue block alone, and its one actor has done nothing.
 use Rattle.std.proofs.Common.{◌≡◌, ◌≢◌, ◌⊎◌, true, ℕ, zero, suc, ◌+◌, ◌<◌, List, [], ◌∷◌, ◌++◌, length, replicate, inl, inr, refl, sym, ap, subst, arith, length-append}
 use Rattle.std.specs.Prelude.{slice_index}
-use Rattle.std.specs.List.{Contains}
+use Rattle.std.specs.List.{Contains, All}
 use Rattle.std.proofs.lemmas.List.{get_or-replicate, length-replicate}
 use Rattle.std.proofs.lemmas.List.Elements.{All-nil}
 use Rattle.std.proofs.lemmas.List.Sorted.{IsPermutation-refl}
@@ -131,6 +131,7 @@ module _ (shape : Dimensions) (version id cursors : ℕ) (lawful : IsShape shape
         let within : k < cursors = omega (arith, below, length-replicate {A = ℕ} cursors 12) in
         (0, omega arith, sym (get_or-replicate cursors k 12 0 within), IsPermutation-refl []);
     ordered = one_at opener (λ k a. a.opener ≡ 0 → _) (λ records. absurd (omega (arith, records)));
+    given = one_at opener (λ k a. All (λ g. Contains [] g.reference) a.given) (All-nil _);
   }
 
   sees : Sees opened (replicate cursors 12) opener

@@ -1,2 +1,3 @@
+pub mod Follow
 pub mod Alone
 pub mod Mounted

@@ -20,4 +20,5 @@ pub mod Promises
 pub mod Learned
 pub mod Kept
 pub mod Keeps
+pub mod Follows
 pub mod Examples

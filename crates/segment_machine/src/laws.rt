@@ -1,14 +1,25 @@
-//! The laws of the machine: what its definitions say of worked examples.
+//! The laws of the machine: what follows from its definitions, and what they say of worked examples.
 //!
 //! The functions do nothing. What each promises is a law of the definitions in `specs/`; the examples are in
 //! `specs/Examples.antt`.
 
 ghost use Rattle.segment_machine.specs.Promises.{StepsChangeOne};
+ghost use Rattle.segment_machine.specs.Follows.{StepsFollow, TablesFollow};
 ghost use Rattle.segment_machine.specs.Examples.{Keys, PackedThenMounted, StoppedInTransit, PackingLimit, DeltasAndMarks, TwoTakers, PackedRun, MountingRun, TakerRuns, TakingRun, SparseSamples, Batches, MountedIsConsistent, ListBreaks, RecordsBreak, TotalsBreak, MarksBreak, SumsBreak, TransitBreaks, FlagsBreak, UnitsBreak};
 
 /// A step changes one word and one actor at most.
 pub fn steps_change_one()
     ensures { StepsChangeOne }
+{}
+
+/// A step whose event and whose notes keep what holds keeps it, and its actor learns of the number that was found.
+pub fn steps_follow()
+    ensures { StepsFollow }
+{}
+
+/// A table, whose slots have values of a type, may do a step on a segment's words that is an event which keeps what holds.
+pub fn tables_follow<S>()
+    ensures { TablesFollow S }
 {}
 
 /// The keys of values, with buckets and without.

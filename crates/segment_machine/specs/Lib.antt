@@ -22,3 +22,4 @@ pub mod Kept
 pub mod Keeps
 pub mod Follows
 pub mod Examples
+pub mod Accounts

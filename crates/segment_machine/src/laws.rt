@@ -5,6 +5,7 @@
 
 ghost use Rattle.segment_machine.specs.Promises.{StepsChangeOne};
 ghost use Rattle.segment_machine.specs.Follows.{StepsFollow, TablesFollow};
+ghost use Rattle.segment_machine.specs.Accounts.{MountedAgrees, TakersAgree, SparseAgrees, BatchAgrees};
 ghost use Rattle.segment_machine.specs.Examples.{Keys, PackedThenMounted, StoppedInTransit, PackingLimit, DeltasAndMarks, TwoTakers, PackedRun, MountingRun, TakerRuns, TakingRun, SparseSamples, Batches, MountedIsConsistent, ListBreaks, RecordsBreak, TotalsBreak, MarksBreak, SumsBreak, TransitBreaks, FlagsBreak, UnitsBreak};
 
 /// A step changes one word and one actor at most.
@@ -87,6 +88,27 @@ pub fn batches()
 /// The segment that was packed and then mounted is consistent, with who recorded 1, 1 and 0.
 pub fn mounted_is_consistent()
     ensures { MountedIsConsistent }
+{}
+
+/// The ledger of the segment that was packed and then mounted, settled and while its units are in transit: what the blocks hold and
+/// what is in transit is what the actors counted.
+pub fn mounted_agrees()
+    ensures { MountedAgrees }
+{}
+
+/// The ledger beside deltas, of one taker and of two: the marks that blocks hold are what was taken.
+pub fn takers_agree()
+    ensures { TakersAgree }
+{}
+
+/// The ledger of a sparse histogram.
+pub fn sparse_agrees()
+    ensures { SparseAgrees }
+{}
+
+/// The ledger of a batch.
+pub fn batch_agrees()
+    ensures { BatchAgrees }
 {}
 
 /// The list is no chain where a word behind the free pointer is not 0.

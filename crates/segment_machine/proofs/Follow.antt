@@ -143,7 +143,7 @@ cursors_of_memory s n m size is = sym (ap (λ (p : ℕ). drop p m) size) ∙ (ap
 
 pub steps_follow : StepsFollow
 steps_follow shape opened old new id event step event_keeps notes_kept kept =
-    let before = notes_keep shape opened step.before old id step.actor step.at kept step.there step.records step.notes_before
+    let before = notes_keep shape opened step.before old id step.actor step.at kept step.there step.is_recorder step.notes_before
     (λ n c. notes_kept n (Contains-append_left step.before step.behind n c)) in
     let did = event_keeps shape opened (with_actor old id step.at) id step.at before.0 (set_at old.actors id step.actor step.at step.there) before.1 step.ready in
     let size = length old.words in

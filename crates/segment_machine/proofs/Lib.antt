@@ -1,3 +1,4 @@
 pub mod Follow
+pub mod Keys
 pub mod Alone
 pub mod Mounted

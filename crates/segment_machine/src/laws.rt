@@ -3,7 +3,7 @@
 //! The functions do nothing. What each promises is a law of the definitions in `specs/`; the examples are in
 //! `specs/Examples.antt`.
 
-ghost use Rattle.segment_machine.specs.Promises.{StepsChangeOne};
+ghost use Rattle.segment_machine.specs.Promises.{StepsChangeOne, KeysAreLeast};
 ghost use Rattle.segment_machine.specs.Follows.{StepsFollow, TablesFollow};
 ghost use Rattle.segment_machine.specs.Accounts.{MountedAgrees, TakersAgree, SparseAgrees, BatchAgrees};
 ghost use Rattle.segment_machine.specs.Examples.{Keys, PackedThenMounted, StoppedInTransit, PackingLimit, DeltasAndMarks, TwoTakers, PackedRun, MountingRun, TakerRuns, TakingRun, SparseSamples, Batches, MountedIsConsistent, ListBreaks, RecordsBreak, TotalsBreak, MarksBreak, SumsBreak, TransitBreaks, FlagsBreak, UnitsBreak};
@@ -21,6 +21,11 @@ pub fn steps_follow()
 /// A table, whose slots have values of a type, may do a step on a segment's words that is an event which keeps what holds.
 pub fn tables_follow<S>()
     ensures { TablesFollow S }
+{}
+
+/// The key of a value is the least value of its bucket.
+pub fn keys_are_least()
+    ensures { KeysAreLeast }
 {}
 
 /// The keys of values, with buckets and without.

@@ -1,5 +1,5 @@
 -- What follows at once for those who step a segment.
-use Rattle.std.proofs.Common.{◌≡◌, ℕ, suc, Bool, true, false, eqb, ◌+◌, ◌<◌, List, [], ◌∷◌, ◌++◌, take, drop, length, get_or, set, refl, sym, ap, subst, ◌∙◌, arith}
+use Rattle.std.proofs.Common.{◌≡◌, ℕ, suc, Bool, true, false, eqb, ◌+◌, List, [], ◌∷◌, take, drop, length, get_or, set, refl, sym, ap, subst, ◌∙◌, arith}
 use Rattle.std.specs.Prelude.{if◌then◌else◌}
 use Rattle.std.specs.List.{Contains}
 use Rattle.std.proofs.lemmas.List.{take-append-drop, set-set}
@@ -12,19 +12,16 @@ use Rattle.atomic_table.proofs.Lists.{set_again}
 use Rattle.alloc_core.proofs.Owners.{set_at}
 use Rattle.alloc_core.proofs.Layouts.{length_shown}
 use Rattle.segment_image.specs.Shape.{Dimensions}
-use Rattle.segment_image.specs.Words.{word_at}
 use Rattle.segment_machine.specs.declared.actor.Actor.{Actor}
 use Rattle.segment_machine.specs.declared.place.Place.TheVariants.{Idle}
 use Rattle.segment_machine.specs.Event.{Event, load_flags, load_free, exchange_free, store_size, store_cookie, store_type, store_payload, set_flag, store_own_next, load_tail, link, move_tail, load_next, load_published, load_counts, add_count, add_sum, add_redundant, load_count, raise_mark, load_sum, swap_sum_mark, load_redundant, load_single, pack, mount_counts, purge_block, disable, add_moved, raise_single_mark, load_cursor, move_cursor, spot, change, after}
 use Rattle.segment_machine.specs.Next.{next, after_free, after_link, after_pack, after_mount, after_disable, after_cursor}
-use Rattle.segment_machine.specs.Ready.{Ready}
-use Rattle.segment_machine.specs.Note.{Note, Notes, MayNote, noted, begins, amounts, asks, knows, takes, has_taken, looks, answers, ends, refused}
-use Rattle.segment_machine.specs.State.{State, memory, IsStep}
+use Rattle.segment_machine.specs.Note.{Note, Notes, noted, begins, amounts, asks, knows, takes, has_taken, looks, answers, ends, refused}
+use Rattle.segment_machine.specs.State.{State, memory}
 use Rattle.segment_machine.specs.Body.{Anatomy, layout_of}
-use Rattle.segment_machine.specs.Learned.{Learned}
 use Rattle.segment_machine.specs.Kept.{Kept}
-use Rattle.segment_machine.specs.Keeps.{EventKeeps, found_at, happened}
-use Rattle.segment_machine.specs.Follows.{NoteKeeps, StepsFollow, Running, Told, TablesFollow}
+use Rattle.segment_machine.specs.Keeps.{found_at, happened}
+use Rattle.segment_machine.specs.Follows.{NoteKeeps, StepsFollow, Told, TablesFollow}
 
 -- ---- notes
 

@@ -1,11 +1,10 @@
 -- The key of a value is the least value of its bucket.
-use Rattle.std.proofs.Common.{◌≡◌, ℕ, zero, suc, ◌+◌, ◌<◌, ◌≤◌, max, Bool, true, false, nat_le, nat_lt, ℤ, pos, if◌then◌else◌, List, [], ◌∷◌, length, inl, inr, refl, sym, ap, ◌∙◌, subst, arith}
+use Rattle.std.proofs.Common.{◌≡◌, ℕ, zero, suc, ◌+◌, ◌<◌, ◌≤◌, max, Bool, true, false, nat_le, nat_lt, pos, if◌then◌else◌, List, [], ◌∷◌, length, inl, inr, refl, ap, ◌∙◌, arith}
 use Rattle.std.specs.Prelude.{slice_index, fold}
 use Rattle.std.specs.List.{filter}
 use Rattle.std.proofs.lemmas.Bool.{le-leb, leb-true, leb-false, cases_order}
 use Rattle.bucket_ranges.specs.Ranges.{clamped, AreBoundaries, IsBucketOf}
 use Rattle.bucket_ranges.proofs.Buckets.{ascends}
-use Rattle.segment_machine.specs.Entry.{key_of}
 use Rattle.segment_machine.specs.Promises.{KeysAreLeast}
 
 -- the greatest number of a list that is not above a value, and no less than another

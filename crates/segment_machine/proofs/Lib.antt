@@ -1,4 +1,5 @@
 pub mod Follow
 pub mod Keys
+pub mod Taking
 pub mod Alone
 pub mod Mounted

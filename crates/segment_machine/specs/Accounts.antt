@@ -1,5 +1,5 @@
 -- The ledger of the worked examples: what the blocks hold is what the actors did.
-use Rattle.std.specs.Prelude.{◌≡◌, ◌^◌, ℕ, ◌+◌, ℤ, pos, negsuc, List, [], ◌∷◌, map, replicate, slice_set}
+use Rattle.std.specs.Prelude.{◌≡◌, ◌^◌, ℕ, ◌+◌, ℤ, pos, negsuc, List, [], ◌∷◌, map}
 use mathlib.Core.Option.{none}
 use Rattle.alloc_core.specs.Layout.{render}
 use Rattle.bucket_ranges.specs.declared.spec.Spec.TheVariants as spec
@@ -7,9 +7,9 @@ use Rattle.segment_machine.specs.declared.actor.Actor.{Actor}
 use Rattle.segment_machine.specs.declared.actor.Made.TheVariants as made
 use Rattle.segment_machine.specs.Entry.{sample_entry, batch_entries, tally_units, tally_sum, tally_noted}
 use Rattle.segment_machine.specs.Actor.{all_counted, all_summed, all_noted, all_taken, taken_units, taken_sum}
-use Rattle.segment_machine.specs.Body.{Body, queue, histogram, counts, sample, Piece, Listed, listed, Anatomy, layout_of, blank}
+use Rattle.segment_machine.specs.Body.{Body, queue, histogram, counts, sample, Piece, listed, Anatomy, layout_of, blank}
 use Rattle.segment_machine.specs.Ledger.{units_held, marks_held, sum_held, sum_mark_held, noted_held, all_held, all_amounts, all_moving}
-use Rattle.segment_machine.specs.Examples.{shape, letter_a, boolean, maker, mounter, mover, whole, taken_at, three_deltas, mounted, in_transit, mounted_segment, sparse_segment}
+use Rattle.segment_machine.specs.Examples.{shape, letter_a, boolean, maker, mounter, mover, whole, taken_at, three_deltas, mounted, in_transit, sparse_segment}
 
 -- ---- what is compared
 
@@ -83,12 +83,12 @@ MountedAgrees =
 abbrev pub TakersAgree : Type 0
 TakersAgree =
     Agree letter_a keys
-        (mounted_pieces 9223372036854775809 2 2 2 3 (1 ∷ 2 ∷ 0 ∷ []) (1 ∷ 0 ∷ 0 ∷ []))
-        (record (mounter (1 ∷ 1 ∷ 0 ∷ [])) { taken = three_deltas } ∷ [])
+    (mounted_pieces 9223372036854775809 2 2 2 3 (1 ∷ 2 ∷ 0 ∷ []) (1 ∷ 0 ∷ 0 ∷ []))
+    (record (mounter (1 ∷ 1 ∷ 0 ∷ [])) { taken = three_deltas } ∷ [])
     × Agree letter_a keys
-        (mounted_pieces 9223372036854775809 3 3 3 4 (1 ∷ 3 ∷ 0 ∷ []) (1 ∷ 0 ∷ 0 ∷ []))
-        (record (mounter (1 ∷ 1 ∷ 0 ∷ 1 ∷ [])) { taken = taken_at 4 ((pos 0, 1) ∷ (pos 1, 3) ∷ []) (pos 3) ∷ [] }
-        ∷ record (maker []) { taken = taken_at 0 [] (pos 0) ∷ [] } ∷ [])
+    (mounted_pieces 9223372036854775809 3 3 3 4 (1 ∷ 3 ∷ 0 ∷ []) (1 ∷ 0 ∷ 0 ∷ []))
+    (record (mounter (1 ∷ 1 ∷ 0 ∷ 1 ∷ [])) { taken = taken_at 4 ((pos 0, 1) ∷ (pos 1, 3) ∷ []) (pos 3) ∷ [] }
+    ∷ record (maker []) { taken = taken_at 0 [] (pos 0) ∷ [] } ∷ [])
 
 -- ---- sparse samples
 
@@ -143,5 +143,5 @@ SparseAgrees =
 abbrev pub BatchAgrees : Type 0
 BatchAgrees =
     Agree letter_a keys
-        (mounted_pieces (2 ^ 63 + 65535) 0 3 0 5 (2 ∷ 3 ∷ 0 ∷ []) (0 ∷ 0 ∷ 0 ∷ []))
-        (record (mounter []) { log = map whole (batch_entries letter_a boolean ((pos 0, 2) ∷ (pos 1, 3) ∷ []) (pos 3)) } ∷ [])
+    (mounted_pieces (2 ^ 63 + 65535) 0 3 0 5 (2 ∷ 3 ∷ 0 ∷ []) (0 ∷ 0 ∷ 0 ∷ []))
+    (record (mounter []) { log = map whole (batch_entries letter_a boolean ((pos 0, 2) ∷ (pos 1, 3) ∷ []) (pos 3)) } ∷ [])

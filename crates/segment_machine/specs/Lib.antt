@@ -23,3 +23,4 @@ pub mod Keeps
 pub mod Follows
 pub mod Examples
 pub mod Accounts
+pub mod Lives

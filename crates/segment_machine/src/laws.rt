@@ -5,6 +5,7 @@
 
 ghost use Rattle.segment_machine.specs.Promises.{StepsChangeOne, KeysAreLeast};
 ghost use Rattle.segment_machine.specs.Follows.{StepsFollow, TablesFollow};
+ghost use Rattle.segment_machine.specs.Lives.{RecorderIsJoined, LinksLengthen, DeltaOwes, SnapshotOwes};
 ghost use Rattle.segment_machine.specs.Accounts.{MountedAgrees, TakersAgree, SparseAgrees, BatchAgrees};
 ghost use Rattle.segment_machine.specs.Examples.{Keys, PackedThenMounted, StoppedInTransit, PackingLimit, DeltasAndMarks, TwoTakers, PackedRun, MountingRun, TakerRuns, TakingRun, SparseSamples, Batches, MountedIsConsistent, ListBreaks, RecordsBreak, TotalsBreak, MarksBreak, SumsBreak, TransitBreaks, FlagsBreak, UnitsBreak};
 
@@ -114,6 +115,26 @@ pub fn sparse_agrees()
 /// The ledger of a batch.
 pub fn batch_agrees()
     ensures { BatchAgrees }
+{}
+
+/// A recorder that is made, lent units and joined: the opener has all units again, and has seen what the recorder saw.
+pub fn recorder_is_joined()
+    ensures { RecorderIsJoined }
+{}
+
+/// A link that finds the end of the list makes the chain longer by its record.
+pub fn links_lengthen()
+    ensures { LinksLengthen }
+{}
+
+/// A delta of a packed word took what had been accepted.
+pub fn delta_owes()
+    ensures { DeltaOwes }
+{}
+
+/// A snapshot of a packed word has what had been accepted.
+pub fn snapshot_owes()
+    ensures { SnapshotOwes }
 {}
 
 /// The list is no chain where a word behind the free pointer is not 0.

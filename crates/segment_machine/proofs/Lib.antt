@@ -2,12 +2,14 @@ pub mod Acting
 pub mod Actors
 pub mod Alone
 pub mod Anatomies
+pub mod Follow
 pub mod Goings
 pub mod ImpliedBlocks
 pub mod ImpliedChain
 pub mod ImpliedFlags
 pub mod ImpliedRecords
 pub mod ImpliedUnits
+pub mod Keys
 pub mod Lists
 pub mod Making
 pub mod Mounted
@@ -16,3 +18,4 @@ pub mod Pairs
 pub mod Pieces
 pub mod SeatsSums
 pub mod Stops
+pub mod Taking

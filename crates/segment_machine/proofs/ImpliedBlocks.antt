@@ -21,12 +21,8 @@ use Rattle.segment_machine.specs.Consistent.{run_of}
 use Rattle.segment_machine.specs.Body.{Body, queue, plain, held, histogram, counts, sample, other, words_of, is_claimed, Piece, extent_of, block_of, Anatomy, layout_of, claims_of}
 use Rattle.segment_machine.specs.Kept.{ClaimedRight}
 use Rattle.segment_machine.proofs.Lists.{from_map, all_from, at_from, contains_at, below_length}
-use Rattle.segment_machine.proofs.Pieces.{piece_word, first_piece, some_first, one_piece, pieces_apart, piece_from, piece_ends}
+use Rattle.segment_machine.proofs.Pieces.{claim_of, piece_word, first_piece, some_first, one_piece, pieces_apart, piece_from, piece_ends}
 use Rattle.segment_machine.proofs.Pairs.{AnyTwo, element_at}
-
--- the claim of a block
-abbrev pub claim_of : Piece → Claim
-claim_of piece = record { at = piece.at; size = extent_of piece }
 
 -- a claimed block has the cookie behind its size
 pub cookie_of : (body : Body) → is_claimed body ≡ true → slice_index (words_of body) 1 ≡ 0xC8799269

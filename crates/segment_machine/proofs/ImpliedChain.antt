@@ -35,11 +35,11 @@ use Rattle.segment_machine.specs.Seen.{IsNoLater, Sees}
 use Rattle.segment_machine.specs.Kept.{StandsAs, Kept}
 use Rattle.segment_machine.specs.Keeps.{KeptIsChain}
 use Rattle.segment_machine.proofs.Lists.{at_from, contains_at}
-use Rattle.segment_machine.proofs.Pieces.{piece_word, some_first, first_piece}
+use Rattle.segment_machine.proofs.Pieces.{claim_of, piece_word, some_first, first_piece}
 use Rattle.segment_machine.proofs.Pairs.{any_two_permuted}
 use Rattle.segment_machine.proofs.Alone.{below_three}
 use Rattle.segment_machine.proofs.ImpliedRecords.{listed_there}
-use Rattle.segment_machine.proofs.ImpliedBlocks.{claim_of, all_claims_of, claim_there, claimed_piece, lawful_piece, claims_apart, claims_few}
+use Rattle.segment_machine.proofs.ImpliedBlocks.{all_claims_of, claim_there, claimed_piece, lawful_piece, claims_apart, claims_few}
 
 -- ---- the header
 

@@ -31,8 +31,7 @@ pub listed_there : (words : List ℕ) (opened anatomy : Anatomy) (actors : List 
     → (l : Listed) × Contains anatomy.records l × (l.reference ≡ at) × StandsAs anatomy.pieces l l.made
 listed_there words opened anatomy actors at list there =
     let place = at_from (order_of anatomy) at there in
-    let from = from_map (λ (l : Listed). l.reference) anatomy.records place.0 at place.1 in
-    (
+    let from = from_map (λ (l : Listed). l.reference) anatomy.records place.0 at place.1 in (
       from.0,
       contains_at anatomy.records place.0 from.0 from.1,
       from.2,

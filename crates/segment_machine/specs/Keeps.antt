@@ -1,6 +1,6 @@
 -- What is to be shown of what holds between any two events: it holds of a new segment, each event keeps it, recorders that are made
 -- and joined keep it, and it has the parts of consistency in it.
-use Rattle.std.specs.Prelude.{◌≡◌, ◌⊎◌, ℕ, List, [], take, drop, length, slice_set, ⊤}
+use Rattle.std.specs.Prelude.{◌≡◌, ◌⊎◌, ℕ, [], take, drop, length, slice_set, ⊤}
 use mathlib.Core.Option.{some}
 use lib.ListN.{get_elem?}
 use Rattle.segment_image.specs.Shape.{Dimensions}

@@ -18,6 +18,8 @@ pub mod ListingBodies
 pub mod ListingEvents
 pub mod ListingGrowth
 pub mod ListingKept
+pub mod ListingLists
+pub mod ListingOwn
 pub mod ListingPublishes
 pub mod ListingReads
 pub mod ListingRecords

@@ -18,6 +18,7 @@ pub mod ListingBodies
 pub mod ListingEvents
 pub mod ListingGrowth
 pub mod ListingKept
+pub mod ListingLinked
 pub mod ListingLists
 pub mod ListingOwn
 pub mod ListingPublishes

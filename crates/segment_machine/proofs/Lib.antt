@@ -15,6 +15,7 @@ pub mod ImpliedUnits
 pub mod Keys
 pub mod ListingActors
 pub mod ListingBodies
+pub mod ListingCases
 pub mod ListingEvents
 pub mod ListingGrowth
 pub mod ListingKept

@@ -19,6 +19,7 @@ pub mod ListingCases
 pub mod ListingEvents
 pub mod ListingGrowth
 pub mod ListingKept
+pub mod ListingKeeps
 pub mod ListingLinked
 pub mod ListingLists
 pub mod ListingOwn

@@ -66,7 +66,8 @@ module _ (shape : Dimensions) (opened : Anatomy) (state : State) (kept : Kept sh
   abbrev anatomy : Anatomy
   anatomy = kept.anatomy
 
-  abbrev Onward : Type 0
+  -- the state with the record on the list
+  abbrev pub Onward : Type 0
   Onward = Kept shape opened (record {
     words = set state.words (tail + 3) own.at;
     cursors = state.cursors;

@@ -1,11 +1,11 @@
 -- A block of one's own that may be published holds just the words of what it is published as: a lawful record or sample that counts
 -- nothing, and a counts block of zeros.
-use Rattle.std.proofs.Common.{◌≡◌, ◌≢◌, ◌⊎◌, ℕ, zero, suc, ◌+◌, ◌-◌, ◌*◌, ◌<◌, ◌≤◌, ◌^◌, ◌==◌, ◌&&◌, ℤ, pos, Bool, true, false, List, [], ◌∷◌, ◌++◌, length, replicate, get_or, sum_by, All, inl, inr, ⊎_elim, refl, sym, ap, ◌∙◌, subst, arith, length-append, append_assoc}
+use Rattle.std.proofs.Common.{◌≡◌, ◌≢◌, ◌⊎◌, ℕ, zero, suc, ◌+◌, ◌-◌, ◌*◌, ◌≤◌, ◌&&◌, ℤ, pos, Bool, true, false, List, [], ◌∷◌, ◌++◌, length, replicate, sum_by, All, inl, inr, ⊎_elim, refl, sym, ap, ◌∙◌, subst, arith, length-append, append_assoc}
 use Rattle.std.specs.Prelude.{slice_index, if◌then◌else◌, Some, None, nat_le}
 use Rattle.std.specs.Prelude as std
 use Rattle.std.specs.Ordering.{int_eq}
 use Rattle.std.specs.List.{range_with_len}
-use Rattle.std.specs.Int.{w64, cast_signed, cast_unsigned}
+use Rattle.std.specs.Int.{w64, cast_unsigned}
 use Rattle.std.proofs.lemmas.Bool.{leb-true}
 use Rattle.std.proofs.lemmas.List.{length-replicate, replicate-append-replicate}
 use Rattle.std.proofs.lemmas.List.Elements.{All-replicate}
@@ -14,7 +14,7 @@ use Rattle.segment_image.proofs.ReadWords.{length-bytes_of_words}
 use Rattle.bucket_ranges.specs.declared.spec.Spec.{Spec}
 use Rattle.bucket_ranges.specs.declared.spec.Spec.TheVariants.{Linear, Boolean, Custom, Sparse}
 use Rattle.bucket_ranges.specs.declared.single.SingleWord.{SingleWord}
-use Rattle.bucket_ranges.specs.declared.single.SingleWord.TheVariants.{Empty, Packed, Disabled}
+use Rattle.bucket_ranges.specs.declared.single.SingleWord.TheVariants.{Empty, Disabled}
 use Rattle.bucket_ranges.specs.Spec.{buckets_of, spec_fault}
 use Rattle.bucket_ranges.specs.Reading.{is_name, is_i32}
 use Rattle.bucket_ranges.specs.Single.{packed_bucket}
@@ -100,7 +100,7 @@ module _ (own : Own) (name : List ℕ) (spec : Spec) (counts single : ℕ) (lett
   record_words_are tag =
       let more : List ℕ = counts ∷ single ∷ 0 ∷ 0 ∷ 0 ∷ 0 ∷ length name ∷ (letters ++ spec_ranges spec) in
       let whole : own.payload ≡ spec_field spec 0 ∷ spec_field spec 1 ∷ spec_field spec 2 ∷ spec_field spec 3 ∷ more =
-          payload_is ∙ ap (λ (fields : List ℕ). fields ++ more) (fields_are spec) in
+      payload_is ∙ ap (λ (fields : List ℕ). fields ++ more) (fields_are spec) in
       sym (λ i. own.size ∷ 0xC8799269 ∷ tag i ∷ own.next ∷ (whole i ++ replicate (own.size - 4 - length own.payload) 0))
 
   pub payload_long : length own.payload ≡ 11 + (length letters + length (spec_ranges spec))
@@ -177,9 +177,9 @@ module _ (block : Own) (at : ℕ) (name : List ℕ) (spec : Spec) (tag : block.t
       let none : length block.payload ≡ 0 = ap length bare in
       let all : block.size - 4 - length block.payload ≡ n + n + rest = omega (arith, none, room) in
       let zeros : replicate {A = ℕ} (block.size - 4 - length block.payload) 0 ≡ replicate {A = ℕ} n 0 ++ replicate {A = ℕ} n 0 ++ replicate {A = ℕ} rest 0 =
-          ap (λ (k : ℕ). replicate {A = ℕ} k 0) all
-          ∙ (sym (replicate-append-replicate (n + n) rest 0)
-          ∙ ap (λ (l : List ℕ). l ++ replicate {A = ℕ} rest 0) (sym (replicate-append-replicate n n 0))) in
+      ap (λ (k : ℕ). replicate {A = ℕ} k 0) all
+      ∙ (sym (replicate-append-replicate (n + n) rest 0)
+      ∙ ap (λ (l : List ℕ). l ++ replicate {A = ℕ} rest 0) (sym (replicate-append-replicate n n 0))) in
       sym (λ i. block.size ∷ 0xC8799269 ∷ tag i ∷ block.next ∷ ((ap (λ (l : List ℕ). l ++ replicate {A = ℕ} (block.size - 4 - length block.payload) 0) bare ∙ zeros) i))
 
   pub counts_zeros : All (λ n. n ≡ 0) c.units × All (λ n. n ≡ 0) c.marks
@@ -232,10 +232,10 @@ module _ (own : Own) (name : List ℕ) (histogram : ℕ) (value : ℤ) (k : ℕ)
       let rest : ℕ = own.size - 8 in
       let split : own.size - 4 - length own.payload ≡ k + suc (suc rest) = omega (arith, both, e, f, room) in
       let whole : own.payload ++ replicate {A = ℕ} (own.size - 4 - length own.payload) 0 ≡ histogram ∷ cast_unsigned w64 value ∷ 0 ∷ 0 ∷ replicate {A = ℕ} rest 0 =
-          ap (λ (n : ℕ). own.payload ++ replicate {A = ℕ} n 0) split
-          ∙ (ap (λ (l : List ℕ). own.payload ++ l) (sym (replicate-append-replicate k (suc (suc rest)) 0))
-          ∙ (sym (append_assoc own.payload (replicate {A = ℕ} k 0) (replicate {A = ℕ} (suc (suc rest)) 0))
-          ∙ ap (λ (l : List ℕ). l ++ replicate {A = ℕ} (suc (suc rest)) 0) payload_is)) in
+      ap (λ (n : ℕ). own.payload ++ replicate {A = ℕ} n 0) split
+      ∙ (ap (λ (l : List ℕ). own.payload ++ l) (sym (replicate-append-replicate k (suc (suc rest)) 0))
+      ∙ (sym (append_assoc own.payload (replicate {A = ℕ} k 0) (replicate {A = ℕ} (suc (suc rest)) 0))
+      ∙ ap (λ (l : List ℕ). l ++ replicate {A = ℕ} (suc (suc rest)) 0) payload_is)) in
       sym (λ i. own.size ∷ 0xC8799269 ∷ tag i ∷ own.next ∷ whole i)
 
   pub sample_lawful : is_i32 value ≡ true → IsLawfulSample s

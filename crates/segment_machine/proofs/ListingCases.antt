@@ -1,12 +1,9 @@
 -- What a link publishes: a record without counts, a record with its counts block, or a sample.
-use Rattle.std.proofs.Common.{◌≡◌, ◌≢◌, ◌⊎◌, ℕ, zero, suc, ◌+◌, ◌*◌, ◌<◌, ◌≤◌, ◌==◌, ℤ, Bool, true, false, List, [], ◌∷◌, ◌++◌, length, replicate, set, All, Contains, inl, inr, ⊎_elim, refl, sym, ap, ◌∙◌, subst, arith, eq-eqb}
-use Rattle.std.specs.Prelude.{slice_index, Some, None, if◌then◌else◌}
-use Rattle.std.specs.Prelude as std
+use Rattle.std.proofs.Common.{◌≡◌, ◌≢◌, ◌⊎◌, ℕ, ◌+◌, ◌*◌, ◌≤◌, ℤ, true, List, [], ◌∷◌, ◌++◌, length, replicate, set, Contains, inl, inr, ⊎_elim, refl, sym, ap, ◌∙◌, subst, arith}
+use Rattle.std.specs.Prelude.{slice_index, Some, None}
 use Rattle.std.specs.Int.{w64, cast_unsigned}
 use Rattle.std.proofs.lemmas.List.Elements.{All-contains, Contains-push}
-use mathlib.Core.Option.{Option, some, none, some-injective, some-ne-none}
-use mathlib.Core.Logic.{dite}
-use native.Mathlib.Decide.{ℕ_discrete}
+use mathlib.Core.Option.{some, none, some-injective}
 use lib.ListN.{get_elem?}
 use Rattle.segment_image.specs.Shape.{Dimensions}
 use Rattle.segment_image.specs.Words.{word_at}
@@ -20,27 +17,22 @@ use Rattle.segment_machine.specs.declared.actor.Known.{Known}
 use Rattle.segment_machine.specs.declared.actor.Made.{Made}
 use Rattle.segment_machine.specs.declared.actor.Made.TheVariants as made
 use Rattle.segment_machine.specs.declared.actor.Own.{Own}
-use Rattle.segment_machine.specs.declared.place.Place.TheVariants.{TailLoaded, Linked}
-use Rattle.segment_machine.specs.Form.{is_off, off_word}
-use Rattle.segment_machine.specs.Made.{spec_fields, spec_ranges, AreNameWords, SameSpec, IsPayload}
+use Rattle.segment_machine.specs.declared.place.Place.TheVariants.{TailLoaded}
+use Rattle.segment_machine.specs.Form.{off_word}
+use Rattle.segment_machine.specs.Made.{spec_fields, spec_ranges, AreNameWords}
 use Rattle.segment_machine.specs.State.{State}
-use Rattle.segment_machine.specs.Event.{link}
-use Rattle.segment_machine.specs.Next.{own_at, counts_named, after_link}
-use Rattle.segment_machine.specs.Ready.{Ready, MayPublish, IsBlankCounts}
-use Rattle.segment_machine.specs.Body.{Record, Counts, Sample, Body, held, histogram, counts, sample, words_of, Piece, Listed, Anatomy, layout_of, order_of}
+use Rattle.segment_machine.specs.Next.{counts_named, after_link}
+use Rattle.segment_machine.specs.Body.{Record, Counts, Sample, Body, held, histogram, counts, sample, Piece, Listed, Anatomy, layout_of}
 use Rattle.segment_machine.specs.Ledger.{form_at}
 use Rattle.segment_machine.specs.Seen.{Stands, HasOwn, HasRecord, HasCounts, HasSample, IsFirst, Knows}
 use Rattle.segment_machine.specs.Kept.{StandsAs, IsListed, IsLawfulRecord, IsCountsOf, IsLawfulSample, CountsNothing, HoldsOwn, Fits, Kept}
-use Rattle.segment_machine.proofs.Lists.{at_from, all_at}
+use Rattle.segment_machine.proofs.Lists.{all_at}
 use Rattle.segment_machine.proofs.Pieces.{piece_from, one_stands}
-use Rattle.segment_machine.proofs.Goings.{happens}
 use Rattle.segment_machine.proofs.ListingRecords.{AreZeros, AddedRight}
 use Rattle.segment_machine.proofs.ListingLists.{snoc_split, own_found}
-use Rattle.segment_machine.proofs.ListingEvents.{Goes, link_beaten}
-use Rattle.segment_machine.proofs.ListingWalks.{stop_within, reference_is}
 use Rattle.segment_machine.proofs.ListingBodies.{IsBlank, record_of, record_words_are, counts_are, is_blank, record_nothing, record_off, record_lawful, counts_of, counts_words_are, counts_zeros, counts_lawful, sample_of, sample_words_are, sample_lawful, keyed_zeros}
 use Rattle.segment_machine.proofs.ListingPublishes.{next_owned, record_held, counts_held, sample_held, Publishes, Only, one_published, both_published}
-use Rattle.segment_machine.proofs.ListingLinked.{Adds, stop, turns, mine_fits, holds, stored, halfway, links_on}
+use Rattle.segment_machine.proofs.ListingLinked.{mine_fits, holds, stored, halfway, links_on}
 
 -- a record of a name is no other body
 same_record : (r r' : Record) → histogram r' ≡ histogram r → r' ≡ r
@@ -340,7 +332,7 @@ module _ (shape : Dimensions) (opened : Anatomy) (state : State) (kept : Kept sh
           subst (λ (p : List Listed × ℕ). IsFirst p.0 known.name Sparse p.1) (λ j. (t.1 j, same_of j)) sparse_first,
           λ s' stands.
               let one = one_stands shape (set state.words (tail + 3) own.at) (record anatomy { pieces = pieces_of (sample s) }) shown own.at none none (sample s') (sample s)
-                  (subst (λ (n : ℕ). HasSample (pieces_of (sample s)) n s') (sym at_is) stands) sample_here in
+              (subst (λ (n : ℕ). HasSample (pieces_of (sample s)) n s') (sym at_is) stands) sample_here in
               ap (λ (z : Sample). z.name) (same_sample s s' one.1),
         ))
         (snoc_split anatomy.records front behind (record { reference = own.at; made = Some given }) (record { reference = at; made = Some (made.Sample of' value') }) is)

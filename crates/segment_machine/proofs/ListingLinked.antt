@@ -1,14 +1,12 @@
 -- A record is put on the list: the block at the tail gets its next, the actor's own block and the counts block that it names are
 -- published, and all that holds is kept.
-use Rattle.std.proofs.Common.{◌≡◌, ◌≢◌, ◌⊎◌, ℕ, zero, suc, ◌+◌, ◌<◌, ◌≤◌, ◌==◌, ℤ, Bool, true, false, List, [], ◌∷◌, ◌++◌, map, length, set, take, flat_map, All, Contains, IsPermutation, inl, inr, ⊎_elim, refl, sym, ap, ◌∙◌, subst, arith, append_assoc, length-append}
+use Rattle.std.proofs.Common.{◌≡◌, ◌≢◌, ℕ, suc, ◌+◌, ◌<◌, ◌≤◌, ℤ, Bool, true, false, List, [], ◌∷◌, ◌++◌, map, length, set, All, Contains, IsPermutation, inl, inr, ⊎_elim, refl, sym, ap, ◌∙◌, subst, arith, append_assoc}
 use Rattle.std.specs.Prelude.{slice_index, Some, None}
 use Rattle.std.specs.Prelude as std
 use Rattle.std.proofs.lemmas.List.{map-append}
-use Rattle.std.proofs.lemmas.List.Elements.{All-weaker, All-push, Contains-append_left, Contains-push}
+use Rattle.std.proofs.lemmas.List.Elements.{All-weaker, All-push, Contains-append_left}
 use Rattle.std.proofs.lemmas.List.Sorted.{IsPermutation-refl, IsPermutation-sym, IsPermutation-trans, IsPermutation-append, IsPermutation-map}
-use mathlib.Core.Option.{Option, some, none, some-injective, some-ne-none}
-use mathlib.Core.Logic.{dite}
-use native.Mathlib.Decide.{ℕ_discrete}
+use mathlib.Core.Option.{some, none, some-injective, some-ne-none}
 use lib.ListN.{get_elem?}
 use Rattle.atomic_table.proofs.Lists.{at_set, at_longer}
 use Rattle.segment_image.specs.Shape.{Dimensions}
@@ -16,7 +14,7 @@ use Rattle.segment_image.specs.Words.{word_at}
 use Rattle.alloc_core.specs.Layout.{IsShown}
 use Rattle.alloc_core.specs.Laws.{Behind}
 use Rattle.bucket_ranges.specs.declared.spec.Spec.{Spec}
-use Rattle.list_core.specs.Chain.{stops, IsLinked}
+use Rattle.list_core.specs.Chain.{IsLinked}
 use Rattle.list_core.specs.Laws.{IsStop, AreNeighbours}
 use Rattle.list_core.proofs.Chains.{one_place}
 use Rattle.list_core.proofs.EventKinds.{link_through}
@@ -30,22 +28,23 @@ use Rattle.segment_machine.specs.declared.actor.Own.{Own}
 use Rattle.segment_machine.specs.declared.actor.Published.{Published}
 use Rattle.segment_machine.specs.declared.actor.Taken.{Taken}
 use Rattle.segment_machine.specs.declared.place.Place.TheVariants.{Spent, TailLoaded, Linked}
-use Rattle.segment_machine.specs.Actor.{all_published, given_by}
+use Rattle.segment_machine.specs.Actor.{all_published}
+use Rattle.segment_machine.specs.Form.{is_off}
 use Rattle.segment_machine.specs.State.{State}
 use Rattle.segment_machine.specs.Next.{without, own_at, published_as, counts_named, left_behind}
-use Rattle.segment_machine.specs.Body.{Record, Counts, Sample, Body, queue, plain, held, histogram, counts, sample, other, words_of, own_words, is_claimed, Piece, extent_of, Listed, listed, Anatomy, layout_of, order_of, free_of, claims_of}
-use Rattle.segment_machine.specs.Seen.{Stands, HasPlain, HasOwn, HasRecord, IsFirst, IsFirstOf, IsNoLater, Sees}
-use Rattle.segment_machine.specs.Kept.{StandsAs, IsListed, ListIsKept, StandsRight, HoldsOwn, Fits, CursorsAreKept, IsSetBy, ClaimedRight, StandStill, Kept}
-use Rattle.segment_machine.proofs.Lists.{rows, rows_more, column, at_from, contains_at, below_length, index_at}
+use Rattle.segment_machine.specs.Body.{Record, Counts, Sample, Body, queue, plain, held, histogram, counts, sample, other, words_of, is_claimed, Piece, extent_of, Listed, listed, Anatomy, layout_of, order_of, free_of, claims_of}
+use Rattle.segment_machine.specs.Seen.{Stands, HasRecord, Sees, IsNamed}
+use Rattle.segment_machine.specs.Kept.{StandsAs, IsListed, ListIsKept, StandsRight, HoldsOwn, Fits, CursorsAreKept, IsSetBy, ClaimedRight, Kept}
+use Rattle.segment_machine.proofs.Lists.{rows, rows_more, column, at_from, below_length, index_at, all_at}
 use Rattle.segment_machine.proofs.Pieces.{piece_word, first_piece, some_first, one_index, one_piece, with_piece, piece_stored, free_with, queue_piece, queue_stored, claims_same}
 use Rattle.segment_machine.proofs.Stops.{stop_open}
 use Rattle.segment_machine.proofs.Actors.{Doing, doing, doing_of, TurnsTo, turns_plain, is_plain, SameDeeds, same_deeds, roles_along}
 use Rattle.segment_machine.proofs.Goings.{not_opener}
-use Rattle.segment_machine.proofs.Acting.{still_put, AllClaimedRight, right_put}
-use Rattle.segment_machine.proofs.ListingGrowth.{with_next, beside_next, Grows, order_longer, order_grows, stop_at, longer_by, stop_grows, no_later_grows, sees_grow}
-use Rattle.segment_machine.proofs.ListingActors.{follows_itself, stands_grow, SawMore, saw_itself, own_stays}
+use Rattle.segment_machine.proofs.Acting.{still_put, right_put}
+use Rattle.segment_machine.proofs.ListingGrowth.{with_next, beside_next, Grows, order_longer, stop_at, longer_by, stop_grows, no_later_grows, sees_grow}
+use Rattle.segment_machine.proofs.ListingActors.{follows_itself, stands_grow, saw_itself, own_stays}
 use Rattle.segment_machine.proofs.ListingRecords.{AddedRight, records_grow, key_grows, sums_grow}
-use Rattle.segment_machine.proofs.ListingKept.{SameHoldings, balanced_same, loaded_record, fits_on}
+use Rattle.segment_machine.proofs.ListingKept.{balanced_same, loaded_record, fits_on}
 use Rattle.segment_machine.proofs.ListingLists.{snoc_split, take_longer, distinct_filter, all_without, own_found, published_is}
 use Rattle.segment_machine.proofs.ListingWalks.{stop_stands, stop_within}
 use Rattle.segment_machine.proofs.ListingPublishes.{SameHeld, next_held, unclaimed_held, holdings_set, holdings_both, next_stays, next_came, next_owned, next_was_owned, Publishes}
@@ -152,7 +151,7 @@ module _ (shape : Dimensions) (opened : Anatomy) (state : State) (kept : Kept sh
 
 pub record Adds (page : ℕ) (a : Actor) (own : Own) (given : Made) (old new : Anatomy) (added : ℕ → Body → Type 0) : Type 0 where
   pub right : AddedRight page old new added
-  pub off : (at : ℕ) (c : Counts) → added at (counts c) → (r : Record) × HasRecord new.pieces c.of r × (Rattle.segment_machine.specs.Form.is_off r.single ≡ true)
+  pub off : (at : ℕ) (c : Counts) → added at (counts c) → (r : Record) × HasRecord new.pieces c.of r × (is_off r.single ≡ true)
   pub new_record : (name : List ℕ) (spec : Spec) → given ≡ made.Histogram name spec → (r : Record) × added own.at (histogram r)
   pub new_sample : (of : ℕ) (value : ℤ) → given ≡ made.Sample of value → (s : Sample) × added own.at (sample s)
   pub stands : StandsAs new.pieces (record { reference = own.at; made = Some given }) (Some given)
@@ -222,7 +221,7 @@ module _ (words chain more cursors : List ℕ) (actors : List Actor) (id : ℕ) 
   one_grows : (b : Actor) → All (λ g. Contains chain g.reference) b.given → OneCursor chain b → OneCursor (chain ++ more) b
   one_grows b given ordered i j k l x y lt one two cursor here there =
       let has : (m : ℕ) (g : Given) → get_elem? b.given m ≡ some g → Contains chain g.reference =
-          λ m g at. Rattle.segment_machine.proofs.Lists.all_at (λ g. Contains chain g.reference) b.given m g given at in
+      λ m g at. all_at (λ g. Contains chain g.reference) b.given m g given at in
       ordered i j k l x y lt one two cursor (at_before words chain more k x.reference linked here (has i x one))
       (at_before words chain more l y.reference linked there (has j y two))
 
@@ -272,7 +271,7 @@ module _ (shape : Dimensions) (opened : Anatomy) (state : State) (kept : Kept sh
   mine_fits = kept.each id a mine turns.lived
 
   pub holds : HoldsOwn shape anatomy.pieces id own
-  holds = Rattle.segment_machine.proofs.Lists.all_at (HoldsOwn shape anatomy.pieces id) a.own i own mine_fits.own there
+  holds = all_at (HoldsOwn shape anatomy.pieces id) a.own i own mine_fits.own there
 
   pub stored : NextStored shape anatomy words' own.at
   stored = next_stored shape opened state kept tail own.at stop
@@ -316,7 +315,7 @@ module _ (shape : Dimensions) (opened : Anatomy) (state : State) (kept : Kept sh
       records = refl;
       stays = λ at body is here.
           let (n, still) = next_stays anatomy.pieces stored.index stored.piece stored.turned stored.there stored.free stored.still_free stored.place own.at
-              stored.claimed stored.kind at body is here in
+          stored.claimed stored.kind at body is here in
           (n, publishes.stays at (with_next body n) still);
       came = λ at body is here. ⊎_elim
           (λ before. inl (next_came anatomy.pieces stored.index stored.piece stored.turned stored.there stored.free stored.still_free stored.place own.at
@@ -326,7 +325,7 @@ module _ (shape : Dimensions) (opened : Anatomy) (state : State) (kept : Kept sh
       apart = λ at place j k body before new_one stands lt below same.
           let (block, was, long) = publishes.was at body new_one in
           let stood = next_was_owned anatomy.pieces stored.index stored.piece stored.turned stored.there stored.free stored.still_free stored.place own.at
-              stored.claimed stored.kind id at (held block) was in
+          stored.claimed stored.kind id at (held block) was in
           let index = one_index shape state.words anatomy kept.shown stood.0 stands.0 _ _ j k stood.1 stands.1 (omega (arith, lt, long)) below same in
           some-ne-none id (ap (λ (p : Piece). p.owner) (some-injective _ _ (sym stood.1 ∙ (ap (get_elem? anatomy.pieces) index ∙ stands.1))));
       off = adds.off;
@@ -337,8 +336,11 @@ module _ (shape : Dimensions) (opened : Anatomy) (state : State) (kept : Kept sh
           (λ t.
           let asked_for : given ≡ made.Histogram name spec = cc (ap (λ (z : Listed). z.made) t.0) in
           let (r, new_one) = adds.new_record name spec asked_for in
-          inr (r, subst (λ (n : ℕ). added n (histogram r)) (ap (λ (z : Listed). z.reference) t.0) new_one,
-          subst (λ (rs : List Listed). All (λ l. ¬ (Rattle.segment_machine.specs.Seen.IsNamed name l)) rs) (sym t.1) others))
+          inr (
+            r,
+            subst (λ (n : ℕ). added n (histogram r)) (ap (λ (z : Listed). z.reference) t.0) new_one,
+            subst (λ (rs : List Listed). All (λ l. ¬ (IsNamed name l)) rs) (sym t.1) others,
+          ))
           (snoc_split anatomy.records front behind l (record { reference = at; made = Some (made.Histogram name spec) }) is);
       first_of_came = λ of at value first.
           let (front, behind, is, others) = first in
@@ -347,8 +349,11 @@ module _ (shape : Dimensions) (opened : Anatomy) (state : State) (kept : Kept sh
           (λ t.
           let asked_for : given ≡ made.Sample of value = cc (ap (λ (z : Listed). z.made) t.0) in
           let (s, new_one) = adds.new_sample of value asked_for in
-          inr (s, subst (λ (n : ℕ). added n (sample s)) (ap (λ (z : Listed). z.reference) t.0) new_one,
-          subst (λ (rs : List Listed). All (λ (l : Listed). l.made ≢ Some (made.Sample of value)) rs) (sym t.1) others))
+          inr (
+            s,
+            subst (λ (n : ℕ). added n (sample s)) (ap (λ (z : Listed). z.reference) t.0) new_one,
+            subst (λ (rs : List Listed). All (λ (l : Listed). l.made ≢ Some (made.Sample of value)) rs) (sym t.1) others,
+          ))
           (snoc_split anatomy.records front behind l (record { reference = at; made = Some (made.Sample of value) }) is);
     }
 
@@ -471,8 +476,10 @@ module _ (shape : Dimensions) (opened : Anatomy) (state : State) (kept : Kept sh
       blocks = publishes.blocks (right_put anatomy.pieces stored.index stored.turned stored.right kept.blocks);
       list = list_now;
       claims = subst (λ (p : List Claim × List Claim). IsPermutation p.0 (claims_of opened.pieces ++ p.1))
-          (λ j. (sym (publishes.claims ∙ claims_same anatomy.pieces stored.index stored.piece stored.turned stored.there stored.claimed stored.place stored.long) j,
-          sym (rows (λ (b : Actor). b.claimed) state.actors id a (doing a d) mine refl) j)) kept.claims;
+          (λ j. (
+            sym (publishes.claims ∙ claims_same anatomy.pieces stored.index stored.piece stored.turned stored.there stored.claimed stored.place stored.long) j,
+            sym (rows (λ (b : Actor). b.claimed) state.actors id a (doing a d) mine refl) j,
+          )) kept.claims;
       records = records_grow shape.page anatomy new added grows adds.right kept.list.standing kept.list.alone kept.records;
       balanced = balanced_same anatomy.version opened.pieces anatomy.pieces pieces state.actors actors'
           (holdings_both anatomy.version anatomy.pieces halfway.pieces pieces

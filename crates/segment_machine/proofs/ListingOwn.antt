@@ -1,5 +1,5 @@
 -- The next of a block of one's own is stored: it waits for its link.
-use Rattle.std.proofs.Common.{◌≡◌, ℕ, ◌+◌, ◌<◌, ◌==◌, List, length, set, inl, inr, refl, sym, ap, ◌∙◌, subst, arith, eq-eqb, eqb-true}
+use Rattle.std.proofs.Common.{◌≡◌, ℕ, ◌+◌, ◌==◌, List, set, inr, refl, sym, ◌∙◌, subst, arith, eq-eqb, eqb-true}
 use mathlib.Core.Option.{some}
 use lib.ListN.{get_elem?}
 use Rattle.alloc_core.proofs.Layouts.{length_shown}
@@ -26,8 +26,8 @@ module _ (shape : Dimensions) (opened : Anatomy) (state : State) (kept : Kept sh
       let is = all_at (HoldsOwn shape kept.anatomy.pieces id) a.own i x fits.own there in
       let y : Own = record x { next = 12 } in
       let changed : change_own at (λ own. record own { next = 12 }) a.own ≡ set a.own i y =
-          change_one (λ (own : Own). own.at == at) (λ (own : Own). record own { next = 12 }) a.own i x there
-          (eq-eqb x.at at place) (λ j z here passes. fits.apart j i z x here there (eqb-true z.at at passes ∙ sym place)) in
+      change_one (λ (own : Own). own.at == at) (λ (own : Own). record own { next = 12 }) a.own i x there
+      (eq-eqb x.at at place) (λ j z here passes. fits.apart j i z x here there (eqb-true z.at at passes ∙ sym place)) in
       let size = length_shown shape state.words (layout_of kept.anatomy) kept.shown in
       let within = is.placed.within in
       let room = is.room in

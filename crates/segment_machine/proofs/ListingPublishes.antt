@@ -1,10 +1,10 @@
 -- Blocks among others: one gets its next, and blocks of one's own are published.
-use Rattle.std.proofs.Common.{◌≡◌, ◌≢◌, ◌⊎◌, ℕ, zero, suc, ◌+◌, ◌<◌, ◌≤◌, ◌==◌, ℤ, pos, Bool, true, false, List, [], ◌∷◌, ◌++◌, length, set, inl, inr, ⊎_elim, refl, sym, ap, ◌∙◌, subst, arith}
-use Rattle.std.specs.Prelude.{slice_index, if◌then◌else◌, Some, None}
+use Rattle.std.proofs.Common.{◌≡◌, ◌≢◌, ◌⊎◌, ℕ, ◌+◌, ◌<◌, ◌≤◌, ℤ, true, false, List, length, set, inl, inr, ⊎_elim, refl, sym, ap, ◌∙◌, subst, arith}
+use Rattle.std.specs.Prelude.{slice_index}
 use Rattle.std.specs.Str.{bytes_eq}
 use Rattle.std.specs.Ordering.{int_eq}
 use Rattle.std.specs.Int.{w64, cast_signed}
-use mathlib.Core.Option.{Option, some, none, some-injective, some-ne-none}
+use mathlib.Core.Option.{some, none, some-injective, some-ne-none}
 use mathlib.Core.Logic.{dite}
 use native.Mathlib.Decide.{ℕ_discrete}
 use lib.ListN.{get_elem?}
@@ -12,21 +12,18 @@ use lib.Seq.{set-get_or}
 use Rattle.atomic_table.proofs.Lists.{at_set, set_else}
 use Rattle.alloc_core.proofs.Owners.{set_at}
 use Rattle.segment_image.specs.Shape.{Dimensions}
-use Rattle.segment_image.specs.Words.{word_at}
 use Rattle.alloc_core.specs.Layout.{IsShown}
-use Rattle.bucket_ranges.specs.Spec.{buckets_of}
-use Rattle.bucket_ranges.specs.Single.{packed_bucket}
 use Rattle.segment_machine.specs.declared.actor.Own.{Own}
 use Rattle.segment_machine.specs.Form.{units_in}
 use Rattle.segment_machine.specs.Body.{Record, Counts, Sample, Body, queue, plain, held, histogram, counts, sample, other, own_words, words_of, is_claimed, Piece, extent_of, Anatomy, layout_of, free_of, claims_of}
-use Rattle.segment_machine.specs.Ledger.{units_held, marks_held, sum_held, sum_mark_held, noted_held, form_at, of_name, at_bucket, keyed}
+use Rattle.segment_machine.specs.Ledger.{units_held, marks_held, sum_held, sum_mark_held, noted_held, form_at, at_bucket, keyed}
 use Rattle.segment_machine.specs.Seen.{Stands}
-use Rattle.segment_machine.specs.Kept.{StandStill, ClaimedRight}
+use Rattle.segment_machine.specs.Kept.{StandStill}
 use Rattle.segment_machine.proofs.Pieces.{piece_word, not_first, with_piece, piece_stored, free_with, stands_beside, stood_beside, claims_same, held_same, amounts_same}
 use Rattle.segment_machine.proofs.Acting.{still_put, AllClaimedRight, right_put}
 use Rattle.segment_machine.proofs.ListingGrowth.{with_next, same_next}
 use Rattle.segment_machine.proofs.ListingKept.{SameHoldings}
-use Rattle.segment_machine.proofs.ListingBodies.{IsBlank, none_of, no_amount, keyed_zeros}
+use Rattle.segment_machine.proofs.ListingBodies.{IsBlank, none_of, no_amount}
 
 -- ---- what blocks hold
 
@@ -124,7 +121,7 @@ module _ (pieces : List Piece) (k : ℕ) (p q : Piece) (there : get_elem? pieces
       let one : p ≡ x = some-injective p x (sym there ∙ (ap (get_elem? pieces) (sym same) ∙ here)) in
       let at_is : q.at ≡ at = place ∙ ap (λ (z : Piece). z.at) one in
       let body_is : q.body ≡ with_next body n =
-          kind (ap (λ (z : Piece). is_claimed z.body) one ∙ is) ∙ ap (λ (z : Piece). with_next z.body n) one in
+      kind (ap (λ (z : Piece). is_claimed z.body) one ∙ is) ∙ ap (λ (z : Piece). with_next z.body n) one in
       (n, (k, set_at pieces k p q there ∙ (λ j. some (record { at = at_is j; owner = still_free j; body = body_is j })))))
       (λ ne. let (m, next_is) = same_next body in
       (m, subst (λ (b : Body). Stands (set pieces k q) at none b) (sym next_is) (i, set_else pieces k i q ne ∙ here)))
@@ -134,9 +131,12 @@ module _ (pieces : List Piece) (k : ℕ) (p q : Piece) (there : get_elem? pieces
   next_came at body is (i, here) = ⊎_elim
       (λ t.
       let at_is : p.at ≡ at = sym place ∙ ap (λ (z : Piece). z.at) t.1 in
-      let body_is : q.body ≡ body = ap (λ (z : Piece). z.body) t.1 in
-      (p.body, n, (k, there ∙ (λ j. some (record { at = at_is j; owner = free j; body = p.body }))),
-      sym body_is ∙ kind (sym claimed ∙ (ap is_claimed body_is ∙ is))))
+      let body_is : q.body ≡ body = ap (λ (z : Piece). z.body) t.1 in (
+        p.body,
+        n,
+        (k, there ∙ (λ j. some (record { at = at_is j; owner = free j; body = p.body }))),
+        sym body_is ∙ kind (sym claimed ∙ (ap is_claimed body_is ∙ is)),
+      ))
       (λ t. let (m, next_is) = same_next body in (body, m, (i, t.1), sym next_is))
       (at_set pieces k i q (record { at = at; owner = none; body = body }) here)
 

@@ -1,27 +1,20 @@
 -- Events that put nothing on the list: the tail is loaded and moved on, a next is loaded, and a link finds another record.
-use Rattle.std.proofs.Common.{◌≡◌, ◌≢◌, ◌⊎◌, ℕ, zero, suc, ◌+◌, ◌<◌, ◌≤◌, ◌==◌, ◌&&◌, ◌||◌, not, Bool, true, false, List, [], ◌∷◌, ◌++◌, map, length, set, get_or, All, Contains, inl, inr, ⊎_elim, refl, sym, ap, ◌∙◌, subst, arith, append_assoc, length-append, eq-eqb, ne_eqb}
+use Rattle.std.proofs.Common.{◌≡◌, ◌≢◌, ◌⊎◌, ℕ, zero, suc, ◌+◌, ◌<◌, ◌≤◌, ◌==◌, true, List, ◌++◌, length, set, get_or, All, inl, inr, refl, sym, ap, ◌∙◌, subst, arith, eq-eqb}
 use Rattle.std.specs.Prelude as std
 use Rattle.std.specs.Prelude.{slice_index, Some, None, nat_le, if◌then◌else◌, IsPermutation}
-use Rattle.std.specs.List.{flat_map}
 use Rattle.std.proofs.lemmas.Bool.{le-leb, and_from, or_left, or_right}
-use Rattle.std.proofs.lemmas.List.{get_or_append_left, get_or_push, length-map}
-use Rattle.std.proofs.lemmas.List.Elements.{Contains-append_left}
-use mathlib.Core.Option.{Option, some, none, some-injective, some-ne-none}
-use mathlib.Core.Logic.{dite}
-use native.Mathlib.Decide.{ℕ_discrete}
+use Rattle.std.proofs.lemmas.List.{length-map}
+use mathlib.Core.Option.{some, none}
 use lib.ListN.{get_elem?}
-use lib.Seq.{set-get_or}
 use Rattle.atomic_table.proofs.Lists.{at_map}
 use Rattle.segment_image.specs.Shape.{Dimensions}
 use Rattle.segment_image.specs.Words.{word_at}
 use Rattle.alloc_core.specs.Layout.{IsShown}
 use Rattle.alloc_core.specs.Laws.{Behind}
-use Rattle.alloc_core.proofs.Layouts.{shown_tail, length_shown}
-use Rattle.list_core.specs.Chain.{is_reference, stops, IsLinked}
-use Rattle.list_core.specs.Laws.{IsStop, AreNeighbours}
+use Rattle.alloc_core.proofs.Layouts.{length_shown}
+use Rattle.list_core.specs.Chain.{is_reference, IsLinked}
+use Rattle.list_core.specs.Laws.{IsStop}
 use Rattle.list_core.specs.Walk.{IsPrefix}
-use Rattle.list_core.proofs.Chains.{one_place, next_last}
-use Rattle.list_core.proofs.EventKinds.{link_missed, behind_stop}
 use Rattle.segment_machine.specs.declared.actor.Actor.{Actor}
 use Rattle.segment_machine.specs.declared.actor.Claim.{Claim}
 use Rattle.segment_machine.specs.declared.actor.Own.{Own}
@@ -29,26 +22,20 @@ use Rattle.segment_machine.specs.declared.actor.Made.{Made}
 use Rattle.segment_machine.specs.declared.actor.Made.TheVariants as made
 use Rattle.segment_machine.specs.declared.actor.Sighting.{Sighting}
 use Rattle.segment_machine.specs.declared.place.Place.{Place}
-use Rattle.segment_machine.specs.declared.place.Place.TheVariants.{Spent, Idle, TailLoaded, Beaten, Linked, CursorLoaded, BehindCursor}
-use Rattle.segment_machine.specs.Actor.{is_bound}
+use Rattle.segment_machine.specs.declared.place.Place.TheVariants.{Spent}
 use Rattle.segment_machine.specs.State.{State}
-use Rattle.segment_machine.specs.Event.{Event, load_tail, link, move_tail, load_next}
-use Rattle.segment_machine.specs.Next.{next, behind, extended, after_link}
-use Rattle.segment_machine.specs.Ready.{Ready, MayFollow}
-use Rattle.segment_machine.specs.Learned.{Learned, IsReference}
-use Rattle.segment_machine.specs.Keeps.{happened, found_at, EventKeeps}
-use Rattle.segment_machine.specs.Body.{Body, histogram, sample, other, words_of, is_claimed, Piece, extent_of, Listed, Anatomy, layout_of, order_of, free_of, claims_of}
+use Rattle.segment_machine.specs.Learned.{IsReference}
+use Rattle.segment_machine.specs.Body.{Body, histogram, sample, other, words_of, is_claimed, Piece, Listed, Anatomy, layout_of, order_of, free_of, claims_of}
 use Rattle.segment_machine.specs.Seen.{Stands, WasFixed, IsNoLater, Sees}
 use Rattle.segment_machine.specs.Kept.{StandsAs, StandsRight, HoldsOwn, IsSetBy, StandStill, Kept}
 use Rattle.segment_machine.proofs.Lists.{rows, column, there_below, index_at, all_at}
 use Rattle.segment_machine.proofs.Pieces.{piece_from, piece_ends, free_within}
-use Rattle.segment_machine.proofs.Stops.{linked_beside_head}
-use Rattle.segment_machine.proofs.Actors.{Doing, doing, doing_of, TurnsTo, is_plain, turns_plain, turns_unbound, turns_not, SameDeeds, same_deeds}
+use Rattle.segment_machine.proofs.Actors.{Doing, doing, doing_of, TurnsTo, same_deeds}
 use Rattle.segment_machine.proofs.Anatomies.{reshaped, Stays, sees_along}
-use Rattle.segment_machine.proofs.Goings.{Goes, not_opener, goes_on, after_word, happens}
+use Rattle.segment_machine.proofs.Goings.{not_opener, goes_on}
 use Rattle.segment_machine.proofs.Acting.{AllClaimedRight, stays_same, still_same}
 use Rattle.segment_machine.proofs.ListingGrowth.{with_next, grows_not}
-use Rattle.segment_machine.proofs.ListingActors.{Follows, stands_grow, SawMore}
+use Rattle.segment_machine.proofs.ListingActors.{SawMore}
 use Rattle.segment_machine.proofs.ListingKept.{fits_on}
 
 -- ---- the stops of a kept list
@@ -155,8 +142,8 @@ module _ (shape : Dimensions) (opened : Anatomy) (state : State) (kept : Kept sh
         let fits = kept.each id a mine turns.lived in
         let same = same_deeds state.actors id a mine d turns (not_opener shape opened state kept id a mine records) in
         let old_sees : Sees new state.cursors a =
-            sees_along anatomy pieces anatomy.spare anatomy.corrupt anatomy.full present stays state.cursors a
-            (subst (Behind a.seen_free) (sym free) fits.sees.free) (later a.seen_tail fits.sees.tail) fits.sees in
+        sees_along anatomy pieces anatomy.spare anatomy.corrupt anatomy.full present stays state.cursors a
+        (subst (Behind a.seen_free) (sym free) fits.sees.free) (later a.seen_tail fits.sees.tail) fits.sees in
         let sees : Sees new state.cursors (doing a d) = record {
           free = old_sees.free;
           walked = prefix;
@@ -169,7 +156,7 @@ module _ (shape : Dimensions) (opened : Anatomy) (state : State) (kept : Kept sh
           names = old_sees.names;
         } in
         let on = fits_on shape opened state kept new (λ at body. ⊥)
-            (grows_not anatomy pieces anatomy.spare anatomy.corrupt anatomy.full present stays) (set state.actors id (doing a d)) same id a d mine turns.lived more sees holds apart in
+        (grows_not anatomy pieces anatomy.spare anatomy.corrupt anatomy.full present stays) (set state.actors id (doing a d)) same id a d mine turns.lived more sees holds apart in
         goes_on shape opened state kept id a mine records d turns pieces anatomy.spare anatomy.corrupt anatomy.full present words'
         (record {
           shown = shown;

@@ -1,3 +1,4 @@
 pub mod Alone
 pub mod Mounted
+pub mod SeatsDeeds
 pub mod SeatsSums

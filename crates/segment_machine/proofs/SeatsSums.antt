@@ -2,6 +2,7 @@
 -- what two others had may stand in their place, and one more with an element that together have what that one had.
 use Rattle.std.proofs.Common.{◌≡◌, ℕ, ◌+◌, ◌≤◌, Bool, true, false, ◌||◌, ℤ, pos, negsuc, ◌+ℤ◌, ◌-ℤ◌, List, [], ◌∷◌, ◌++◌, map, sym, refl, ap, ◌∙◌, subst, append_assoc, append-nil, arith}
 use Rattle.std.specs.Prelude.{fold, sum_by, IsPermutation}
+use Rattle.std.proofs.Math.IntN.{+ℤ_assoc, +ℤ_comm, +ℤ_idl, +ℤ_idr}
 use Rattle.std.specs.List.{flat_map}
 use Rattle.std.proofs.lemmas.List.{map-append}
 use Rattle.std.proofs.lemmas.List.Sums.{fold-append, sum_by-append, sum_by-cons}
@@ -73,6 +74,16 @@ numbers = record {
   order = λ x y. omega arith;
 }
 
+pub amounts : IsAddition {M = ℤ} ◌≡◌ ◌+ℤ◌
+amounts = record {
+  itself = λ x. refl;
+  back = λ x y e. sym e;
+  along = λ x y z e f. e ∙ f;
+  both = λ x x' y y' e f. ap (λ (z : ℤ). z +ℤ y) e ∙ ap (λ (z : ℤ). x' +ℤ z) f;
+  brackets = +ℤ_assoc;
+  order = +ℤ_comm;
+}
+
 or_brackets : (x y z : Bool) → ((x || y) || z) ≡ (x || (y || z))
 or_brackets true y z = refl
 or_brackets false y z = refl
@@ -112,3 +123,12 @@ flags_total f xs ys = ap (fold ◌||◌ false) (map-append f xs ys) ∙ fold-app
     onward true [] = refl
     onward false [] = refl
     onward b (z ∷ zs) = onward (b || z) zs ∙ or_brackets b z (fold ◌||◌ false zs) ∙ ap (λ (x : Bool). b || x) (sym (onward z zs))
+
+pub amounts_total : {X : Type 0} (g : X → ℤ) → IsTotal ◌+ℤ◌ (λ xs. fold ◌+ℤ◌ (pos 0) (map g xs))
+amounts_total g xs ys = ap (fold ◌+ℤ◌ (pos 0)) (map-append g xs ys) ∙ fold-append ◌+ℤ◌ (pos 0) (map g xs) (map g ys) ∙ onward (fold ◌+ℤ◌ (pos 0) (map g xs)) (map g ys)
+  where
+    onward : (c : ℤ) (zs : List ℤ) → fold ◌+ℤ◌ c zs ≡ c +ℤ fold ◌+ℤ◌ (pos 0) zs
+    onward c [] = sym (+ℤ_idr c)
+    onward c (z ∷ zs) =
+        onward (c +ℤ z) zs ∙ +ℤ_assoc c z (fold ◌+ℤ◌ (pos 0) zs)
+        ∙ ap (λ (x : ℤ). c +ℤ x) (sym (onward z zs) ∙ ap (λ (x : ℤ). fold ◌+ℤ◌ x zs) (sym (+ℤ_idl z)))

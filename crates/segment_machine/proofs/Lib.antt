@@ -1,4 +1,6 @@
 pub mod Alone
 pub mod Mounted
 pub mod SeatsDeeds
+pub mod SeatsFrames
+pub mod SeatsLists
 pub mod SeatsSums

@@ -111,7 +111,7 @@ module _ (old new : List Actor) (same : Deeds old new) where
   units_noted name = sym (sum_by-IsPermutation _ (all_noted new) (all_noted old) same.noted)
 
 -- what was taken in all, whenever
-took_all : (actors : List Actor) → flat_map took actors ≡ map timeless (all_taken actors)
+pub took_all : (actors : List Actor) → flat_map took actors ≡ map timeless (all_taken actors)
 took_all [] = refl
 took_all (a ∷ actors) = ap (λ (list : List Taken). took a ++ list) (took_all actors) ∙ sym (map-append timeless a.taken (all_taken actors))
 

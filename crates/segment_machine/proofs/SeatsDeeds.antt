@@ -1,5 +1,7 @@
 -- What actors did together, whoever of them did it.
-use Rattle.std.proofs.Common.{◌≡◌, ℕ, ◌+◌, ◌≤◌, Bool, true, false, ◌||◌, ℤ, pos, negsuc, ◌+ℤ◌, ◌-ℤ◌, suc, List, [], ◌∷◌, ◌++◌, map, sym, refl, ap, ◌∙◌, subst, arith}
+use Rattle.std.proofs.Common.{◌≡◌, ℕ, ◌+◌, ◌≤◌, Bool, true, false, ◌||◌, ℤ, pos, negsuc, ◌+ℤ◌, ◌-ℤ◌, suc, List, [], ◌∷◌, ◌++◌, map, sym, refl, ap, ◌∙◌, subst, subst₂, ◌≢◌, zero, set, arith}
+use mathlib.Core.Option.{some, some-injective, some-ne-none}
+use lib.ListN.{get_elem?}
 use Rattle.std.specs.Prelude.{fold, sum_by, if◌then◌else◌, IsPermutation}
 use Rattle.std.specs.Str.{bytes_eq}
 use Rattle.std.specs.List.{flat_map, Contains}
@@ -14,6 +16,7 @@ use Rattle.segment_machine.specs.Entry.{is_of, tally_units, tally_sum, tally_not
 use Rattle.segment_machine.specs.Actor.{counted_of, summed_of, noted_of, given_by, units_listed, taken_units, taken_sum, units_of, all_counted, all_summed, all_noted, all_taken, all_published, all_given}
 use Rattle.segment_machine.specs.Ledger.{all_moving, moving_at}
 use Rattle.segment_machine.specs.Kept.{summed_cost, summed_costs}
+use Rattle.segment_machine.proofs.SeatsLists.{split_at}
 use Rattle.segment_machine.proofs.SeatsSums.{IsTotal, exchanged, added, numbers, amounts, flags, lists, amounts_total, flags_total}
 
 -- what was taken, whenever that was
@@ -100,6 +103,24 @@ deeds_added a a' n rest same = record {
   filled = added _ _ is_filled flags (flags_total (λ (a : Actor). a.filled)) a a' n rest same.filled;
 }
 
+
+-- the first of some actors and another became others
+pub deeds_set : (actors : List Actor) (other : ℕ) (a b a' b' : Actor) → 0 ≢ other → get_elem? actors 0 ≡ some a → get_elem? actors other ≡ some b
+    → Deeds (a ∷ b ∷ []) (a' ∷ b' ∷ []) → Deeds actors (set (set actors 0 a') other b')
+deeds_set [] other a b a' b' apart first last same = absurd (some-ne-none a (sym first))
+deeds_set (x ∷ xs) zero a b a' b' apart first last same = absurd (apart refl)
+deeds_set (x ∷ xs) (suc j) a b a' b' apart first last same =
+    let parts = split_at xs j b last in
+    let old : a ∷ (parts.0 ++ b ∷ parts.1) ≡ x ∷ xs = ap (λ (y : Actor). y ∷ (parts.0 ++ b ∷ parts.1)) (sym (some-injective x a first)) ∙ ap (λ (list : List Actor). x ∷ list) (sym parts.2) in
+    let new : a' ∷ (parts.0 ++ b' ∷ parts.1) ≡ a' ∷ set xs j b' = ap (λ (list : List Actor). a' ∷ list) (sym (parts.3 b')) in
+    subst₂ Deeds old new (deeds_exchanged a b a' b' parts.0 parts.1 same)
+
+-- the first of some actors became another, and there is one more
+pub deeds_more : (actors : List Actor) (a a' n : Actor) → get_elem? actors 0 ≡ some a → Deeds (a ∷ []) (a' ∷ n ∷ [])
+    → Deeds actors (set actors 0 a' ++ n ∷ [])
+deeds_more [] a a' n first same = absurd (some-ne-none a (sym first))
+deeds_more (x ∷ xs) a a' n first same =
+    subst (λ (y : Actor). Deeds (y ∷ xs) (a' ∷ (xs ++ n ∷ []))) (sym (some-injective x a first)) (deeds_added a a' n xs same)
 
 -- ---- what follows for tallies
 

@@ -5,6 +5,9 @@ use Rattle.std.proofs.lemmas.List.{get_or-map, length-map}
 use Rattle.std.proofs.lemmas.List.Elements.{All-weaker, All-contains, All-map, All-contains_itself, Contains-append_left}
 use mathlib.Core.Option.{some, some-injective, some-ne-none}
 use lib.ListN.{get_elem?}
+use Rattle.std.specs.Prelude.{sum_by}
+use Rattle.std.proofs.lemmas.List.Sums.{sum_by-cons}
+use Rattle.atomic_table.proofs.Lists.{at_set}
 
 module _ {X Y : Type 0} (f : X → Y) where
   pub contains_map : (xs : List X) (x : X) → Contains xs x → Contains (map f xs) (f x)
@@ -35,3 +38,35 @@ module _ {X : Type 0} where
   split_at (z ∷ zs) (suc i) x e =
       let rest = split_at zs i x e in
       (z ∷ rest.0, rest.1, ap (λ (list : List X). z ∷ list) rest.2, λ y. ap (λ (list : List X). z ∷ list) (rest.3 y))
+
+  -- after two elements became others, each is one of these two or stood there before
+  pub at_two : (xs : List X) (i j k : ℕ) (x y z : X) → get_elem? (set (set xs i x) j y) k ≡ some z
+      → ((k ≡ j) × (y ≡ z)) ⊎ ((k ≡ i) × (x ≡ z)) ⊎ ((k ≢ j) × (k ≢ i) × (get_elem? xs k ≡ some z))
+  at_two xs i j k x y z e = ⊎_elim
+      (λ last. inl last)
+      (λ rest. inr (⊎_elim (λ first. inl first) (λ old. inr (rest.0, old.0, old.1)) (at_set xs i k x z rest.1)))
+      (at_set (set xs i x) j k y z e)
+
+  -- there is an element at a place only within the list
+  pub place_within : (xs : List X) (i : ℕ) (x : X) → get_elem? xs i ≡ some x → i < length xs
+  place_within [] i x e = absurd (some-ne-none x (sym e))
+  place_within (z ∷ zs) zero x e = omega arith
+  place_within (z ∷ zs) (suc i) x e = let below = place_within zs i x e in omega (arith, below)
+
+  -- there is one element at a place
+  pub one_at : (xs : List X) (i : ℕ) (x y : X) → get_elem? xs i ≡ some x → get_elem? xs i ≡ some y → x ≡ y
+  one_at xs i x y first last = some-injective x y (sym first ∙ last)
+
+  -- a sum after one of its elements became another
+  pub sum_at_set : (f : X → ℕ) (xs : List X) (i : ℕ) (x y : X) → get_elem? xs i ≡ some x → sum_by f (set xs i y) + f x ≡ sum_by f xs + f y
+  sum_at_set f [] i x y e = absurd (some-ne-none x (sym e))
+  sum_at_set f (z ∷ zs) zero x y e =
+      let now = sum_by-cons f y zs in
+      let before = sum_by-cons f z zs in
+      let same : f z ≡ f x = ap f (some-injective z x e) in
+      omega (arith, now, before, same)
+  sum_at_set f (z ∷ zs) (suc i) x y e =
+      let now = sum_by-cons f z (set zs i y) in
+      let before = sum_by-cons f z zs in
+      let rest = sum_at_set f zs i x y e in
+      omega (arith, now, before, rest)

@@ -1,8 +1,10 @@
 pub mod Alone
 pub mod Mounted
+pub mod SeatsBooks
 pub mod SeatsDeeds
 pub mod SeatsFrames
 pub mod SeatsLend
 pub mod SeatsLists
+pub mod SeatsRoles
 pub mod SeatsSums
 pub mod SeatsTurned

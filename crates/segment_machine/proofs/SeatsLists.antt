@@ -1,5 +1,5 @@
 -- What is in a list, beside a map of it, a front of it and a longer one; and what a fold over appended logs is.
-use Rattle.std.proofs.Common.{◌≡◌, ◌≢◌, ◌⊎◌, ℕ, zero, suc, ◌+◌, ◌-◌, ◌<◌, ◌≤◌, Bool, true, false, cond, List, [], ◌∷◌, ◌++◌, map, length, take, drop, get_or, set, inl, inr, ⊎_elim, sym, refl, ap, ◌∙◌, subst, take-append-drop, arith}
+use Rattle.std.proofs.Common.{◌≡◌, ◌≢◌, ◌⊎◌, ℕ, zero, suc, ◌+◌, ◌-◌, ◌<◌, ◌≤◌, Bool, true, false, cond, List, [], ◌∷◌, ◌++◌, map, length, take, drop, get_or, set, inl, inr, ⊎_elim, sym, refl, ap, ◌∙◌, subst, subst₂, length-set, take-append-drop, arith}
 use Rattle.std.specs.List.{Contains, All}
 use Rattle.std.proofs.lemmas.List.{get_or-map, length-map}
 use Rattle.std.proofs.lemmas.List.Elements.{All-weaker, All-contains, All-map, All-contains_itself, Contains-append_left}
@@ -70,3 +70,34 @@ module _ {X : Type 0} where
       let before = sum_by-cons f z zs in
       let rest = sum_at_set f zs i x y e in
       omega (arith, now, before, rest)
+
+  -- so what holds of both, and of all that stood there and was not changed, holds of each
+  pub each_of_two : (holds : ℕ → X → Type 0) (xs : List X) (i j : ℕ) (x y : X) → holds i x → holds j y
+      → ((k : ℕ) (z : X) → k ≢ j → k ≢ i → get_elem? xs k ≡ some z → holds k z)
+      → (k : ℕ) (z : X) → get_elem? (set (set xs i x) j y) k ≡ some z → holds k z
+  each_of_two holds xs i j x y first last rest k z e = ⊎_elim
+      (λ t. subst₂ holds (sym t.0) t.1 last)
+      (λ other. ⊎_elim (λ t. subst₂ holds (sym t.0) t.1 first) (λ t. rest k z t.0 t.1 t.2) other)
+      (at_two xs i j k x y z e)
+
+  -- and what holds of one that was changed, of one more, and of the others, holds of each
+  pub each_of_more : (holds : ℕ → X → Type 0) (xs : List X) (i : ℕ) (x y : X) → holds i x → ((k : ℕ) → length xs ≤ k → holds k y)
+      → ((k : ℕ) (z : X) → k < length xs → k ≢ i → get_elem? xs k ≡ some z → holds k z)
+      → (k : ℕ) (z : X) → get_elem? (set xs i x ++ y ∷ []) k ≡ some z → holds k z
+  each_of_more holds xs i x y first last rest k z e = ⊎_elim
+      (λ t. ⊎_elim
+      (λ same. subst₂ holds (sym same.0) same.1 first)
+      (λ old. rest k z (place_within xs k z old.1) old.0 old.1)
+      (at_set xs i k x z t.0))
+      (λ t. subst (holds k) t.1 (last k (let long = length-set xs i x in let behind = t.0 in omega (arith, long, behind))))
+      (at_end (set xs i x) y z k e)
+    where
+      at_end : (xs : List X) (x y : X) (k : ℕ) → get_elem? (xs ++ x ∷ []) k ≡ some y
+          → ((get_elem? xs k ≡ some y) × (k < length xs)) ⊎ ((length xs ≤ k) × (x ≡ y))
+      at_end [] x y zero e = inr (omega arith, some-injective x y e)
+      at_end [] x y (suc k) e = absurd (some-ne-none y (sym e))
+      at_end (z ∷ zs) x y zero e = inl (e, omega arith)
+      at_end (z ∷ zs) x y (suc k) e = ⊎_elim
+          (λ t. let below = t.1 in inl (t.0, omega (arith, below)))
+          (λ t. let behind = t.0 in inr (omega (arith, behind), t.1))
+          (at_end zs x y k e)

@@ -1,0 +1,61 @@
+-- Openers and recorders, where the recorders that live now lived before.
+use Rattle.std.proofs.Common.{◌≡◌, ◌≢◌, ◌⊎◌, ℕ, zero, suc, ◌+◌, ◌<◌, ◌≤◌, Bool, true, false, List, [], ◌∷◌, inl, inr, refl, sym, ap, ◌∙◌, subst, true≢false, arith}
+use Rattle.std.specs.Prelude.{◌==◌}
+use mathlib.Core.Option.{some}
+use lib.ListN.{get_elem?}
+use Rattle.segment_machine.specs.declared.entry.Entry.{Entry}
+use Rattle.segment_machine.specs.declared.place.Place.TheVariants.{Spent}
+use Rattle.segment_machine.specs.declared.actor.Actor.{Actor}
+use Rattle.segment_machine.specs.Kept.{is_living, RolesAreKept, IsAlone}
+use Rattle.segment_machine.proofs.SeatsLists.{one_at}
+
+-- an opener is no recorder that lives
+pub opens_nothing : (a : Actor) → a.opener ≡ 1 → is_living a ≡ true → ⊥
+opens_nothing a opens lives = absurd (true≢false (sym lives ∙ no_recorder a.opener opens))
+  where
+    no_recorder : (n : ℕ) → n ≡ 1 → is_living (record a { opener = n }) ≡ false
+    no_recorder n e = subst (λ (k : ℕ). is_living (record a { opener = k }) ≡ false) (sym e) refl
+
+-- a recorder that lives has lived, made when it is said to be, with what it is said to have inherited
+pub record Stood (old : List Actor) (k : ℕ) (c : Actor) : Type 0 where
+  pub was : Actor
+  pub at : get_elem? old k ≡ some was
+  pub lives : is_living was ≡ true
+  pub made : was.made ≡ c.made
+  pub outstanding : was.outstanding ≡ c.outstanding
+  pub inherited : was.inherited ≡ c.inherited
+
+abbrev pub AllStood : List Actor → List Actor → Type 0
+AllStood old new = (k : ℕ) (c : Actor) → get_elem? new k ≡ some c → is_living c ≡ true → Stood old k c
+
+module _ (old new : List Actor) (roles : RolesAreKept old) (stood : AllStood old new) where
+  pub still_younger : (made : ℕ) → roles.opener.made ≤ made → (id : ℕ) (a : Actor) → get_elem? new id ≡ some a → is_living a ≡ true → a.made < made
+  still_younger made more id a at lives =
+      let s = stood id a at lives in
+      let younger = roles.younger id s.was s.at s.lives in
+      let e = s.made in
+      omega (arith, younger, e, more)
+
+  pub still_apart : (i j : ℕ) (a b : Actor) → get_elem? new i ≡ some a → get_elem? new j ≡ some b → is_living a ≡ true → is_living b ≡ true
+      → i ≢ j → a.made ≢ b.made
+  still_apart i j a b first last lives alive ne same =
+      let s = stood i a first lives in
+      let t = stood j b last alive in
+      roles.apart i j s.was t.was s.at t.at s.lives t.lives ne (s.made ∙ same ∙ sym t.made)
+
+  pub still_eldest : (i j : ℕ) (a b : Actor) → get_elem? new i ≡ some a → get_elem? new j ≡ some b → is_living a ≡ true → is_living b ≡ true
+      → i ≢ j → a.outstanding ≡ 0 → a.made < b.made
+  still_eldest i j a b first last lives alive ne none =
+      let s = stood i a first lives in
+      let t = stood j b last alive in
+      let below = roles.eldest i j s.was t.was s.at t.at s.lives t.lives ne (s.outstanding ∙ none) in
+      let e = s.made in
+      let f = t.made in
+      omega (arith, below, e, f)
+
+-- what is said of the opener where only one is alone is said of it as it was
+pub alone_before : (old new : List Actor) (opener later a : Actor) → get_elem? old 0 ≡ some opener → get_elem? new 0 ≡ some later
+    → later.made ≡ opener.made → IsAlone new a → IsAlone old a
+alone_before old new opener later a first last e alone =
+    let same = one_at new 0 alone.0 later alone.1 last in
+    (opener, first, alone.2, alone.3 ∙ ap (λ (c : Actor). c.made) same ∙ e)

@@ -1,6 +1,7 @@
 -- Openers and recorders, where the recorders that live now lived before.
 use Rattle.std.proofs.Common.{◌≡◌, ◌≢◌, ◌⊎◌, ℕ, zero, suc, ◌+◌, ◌<◌, ◌≤◌, Bool, true, false, List, [], ◌∷◌, inl, inr, refl, sym, ap, ◌∙◌, subst, true≢false, arith}
 use Rattle.std.specs.Prelude.{◌==◌}
+use native.Mathlib.Decide.{ℕ_discrete}
 use mathlib.Core.Option.{some}
 use lib.ListN.{get_elem?}
 use Rattle.segment_machine.specs.declared.entry.Entry.{Entry}
@@ -59,3 +60,14 @@ pub alone_before : (old new : List Actor) (opener later a : Actor) → get_elem?
 alone_before old new opener later a first last e alone =
     let same = one_at new 0 alone.0 later alone.1 last in
     (opener, first, alone.2, alone.3 ∙ ap (λ (c : Actor). c.made) same ∙ e)
+
+-- whoever opens is the first
+pub opens_first : (actors : List Actor) (roles : RolesAreKept actors) (id : ℕ) (a : Actor) → get_elem? actors id ≡ some a → a.opener ≡ 1
+    → (id ≡ 0) × (roles.opener ≡ a)
+opens_first actors roles id a at opens =
+    let front = front_of (ℕ_discrete id 0) in
+    (front, one_at actors 0 roles.opener a roles.stands (subst (λ (k : ℕ). get_elem? actors k ≡ some a) front at))
+  where
+    front_of : Dec (id ≡ 0) → id ≡ 0
+    front_of (yes e) = e
+    front_of (no ne) = let records = (roles.only id a at ne).0 in absurd (omega (arith, records, opens))

@@ -6,5 +6,6 @@ pub mod SeatsFrames
 pub mod SeatsLend
 pub mod SeatsLists
 pub mod SeatsRoles
+pub mod SeatsSplit
 pub mod SeatsSums
 pub mod SeatsTurned

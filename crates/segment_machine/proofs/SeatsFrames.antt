@@ -134,7 +134,7 @@ moment old new opener later id a m since is = record {
 }
 
 pub finals : (old new : List Actor) (opener later : Actor) (id : ℕ) (a : Actor) → Deeds old new → IsLater old new opener later
-    → (IsAlone new a → IsAlone old a) → FinalsAreExact old opener id a → FinalsAreExact new later id a
+    → (a.taking ≡ true → IsAlone new a → IsAlone old a) → FinalsAreExact old opener id a → FinalsAreExact new later id a
 finals old new opener later id a same since alone exact = record {
   deltas = λ t there none youngest quiet.
       let began = exact.moments t.moment (ended_began a t there) in
@@ -147,12 +147,12 @@ finals old new opener later id a same since alone exact = record {
       (λ key. was.0 key ∙ sym (units_counted old new same s.name key), was.1 ∙ sym (same.summed s.name), was.2 ∙ sym (units_noted old new same s.name));
   moments = λ m of. moment old new opener later id a m since (exact.moments m of);
   swapped = λ before last taking is swapped only.
-      same.taken_sums last.name ∙ exact.swapped before last taking is swapped (alone only) ∙ sym (same.summed last.name);
+      same.taken_sums last.name ∙ exact.swapped before last taking is swapped (alone taking only) ∙ sym (same.summed last.name);
 }
 
--- an actor that fits beside some fits beside others that did the same
+-- an actor that fits beside some fits beside others that did the same; a recorder, or one that takes, may not be alone only since
 pub fits : (shape : Dimensions) (anatomy : Anatomy) (cursors : List ℕ) (old new : List Actor) (opener later : Actor) (id : ℕ) (a : Actor)
-    → Deeds old new → IsLater old new opener later → (IsAlone new a → IsAlone old a)
+    → Deeds old new → IsLater old new opener later → ((a.opener ≡ 0) ⊎ (a.taking ≡ true) → IsAlone new a → IsAlone old a)
     → Fits shape anatomy cursors old opener id a → Fits shape anatomy cursors new later id a
 fits shape anatomy cursors old new opener later id a same since alone fit = record {
   shaped = fit.shaped;
@@ -161,7 +161,7 @@ fits shape anatomy cursors old new opener later id a same since alone fit = reco
   own = fit.own;
   apart = fit.apart;
   calls = fit.calls;
-  looks = λ records. looks_back anatomy old new a same alone (fit.looks records);
-  finals = finals old new opener later id a same since alone fit.finals;
+  looks = λ records. looks_back anatomy old new a same (alone (inl records)) (fit.looks records);
+  finals = finals old new opener later id a same since (λ taking. alone (inr taking)) fit.finals;
   snapshots = All-weaker (IsWithinCounts old) (IsWithinCounts new) (λ s. within old new s same) a.snapshots fit.snapshots;
 }

@@ -121,7 +121,7 @@ module _ (shape : Dimensions) (opened : Anatomy) (old : State) (kept : Kept shap
 
   beside : (k : ℕ) (c : Actor) → Fits shape kept.anatomy old.cursors old.actors opener k c → Fits shape kept.anatomy old.cursors lent later k c
   beside k c fit = fits shape kept.anatomy old.cursors old.actors lent opener later k c deeds since
-      (alone_before old.actors lent opener later c kept.roles.stands first refl) fit
+      (λ either. alone_before old.actors lent opener later c kept.roles.stands first refl) fit
 
   each : (k : ℕ) (c : Actor) → get_elem? lent k ≡ some c → c.place ≢ Spent → Fits shape kept.anatomy old.cursors lent later k c
   each = each_of_two (λ k c. c.place ≢ Spent → Fits shape kept.anatomy old.cursors lent later k c) old.actors 0 other later (borrower b units)

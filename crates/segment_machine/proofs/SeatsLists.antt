@@ -1,8 +1,8 @@
 -- What is in a list, beside a map of it, a front of it and a longer one; and what a fold over appended logs is.
-use Rattle.std.proofs.Common.{◌≡◌, ◌≢◌, ◌⊎◌, ℕ, zero, suc, ◌+◌, ◌-◌, ◌<◌, ◌≤◌, Bool, true, false, cond, List, [], ◌∷◌, ◌++◌, map, length, take, drop, get_or, set, inl, inr, ⊎_elim, sym, refl, ap, ◌∙◌, subst, subst₂, length-set, take-append-drop, arith}
-use Rattle.std.specs.List.{Contains, All}
+use Rattle.std.proofs.Common.{◌≡◌, ◌≢◌, ◌⊎◌, ℕ, zero, suc, ◌+◌, ◌-◌, ◌<◌, ◌≤◌, Bool, true, false, cond, List, [], ◌∷◌, ◌++◌, map, length, take, drop, get_or, set, inl, inr, ⊎_elim, sym, refl, ap, ◌∙◌, subst, subst₂, true≢false, length-set, take-append-drop, arith}
+use Rattle.std.specs.List.{filter, Contains, All}
 use Rattle.std.proofs.lemmas.List.{get_or-map, length-map}
-use Rattle.std.proofs.lemmas.List.Elements.{All-weaker, All-contains, All-map, All-contains_itself, Contains-append_left}
+use Rattle.std.proofs.lemmas.List.Elements.{All-weaker, All-contains, All-map, All-contains_itself, All-nil, All-cons, Contains-append_left, Contains-append_right}
 use mathlib.Core.Option.{some, some-injective, some-ne-none}
 use lib.ListN.{get_elem?}
 use Rattle.std.specs.Prelude.{sum_by}
@@ -81,23 +81,48 @@ module _ {X : Type 0} where
       (at_two xs i j k x y z e)
 
   -- and what holds of one that was changed, of one more, and of the others, holds of each
-  pub each_of_more : (holds : ℕ → X → Type 0) (xs : List X) (i : ℕ) (x y : X) → holds i x → ((k : ℕ) → length xs ≤ k → holds k y)
+  pub each_of_more : (holds : ℕ → X → Type 0) (xs : List X) (i : ℕ) (x y : X) → holds i x → holds (length xs) y
       → ((k : ℕ) (z : X) → k < length xs → k ≢ i → get_elem? xs k ≡ some z → holds k z)
       → (k : ℕ) (z : X) → get_elem? (set xs i x ++ y ∷ []) k ≡ some z → holds k z
   each_of_more holds xs i x y first last rest k z e = ⊎_elim
       (λ t. ⊎_elim
       (λ same. subst₂ holds (sym same.0) same.1 first)
       (λ old. rest k z (place_within xs k z old.1) old.0 old.1)
-      (at_set xs i k x z t.0))
-      (λ t. subst (holds k) t.1 (last k (let long = length-set xs i x in let behind = t.0 in omega (arith, long, behind))))
+      (at_set xs i k x z t))
+      (λ t. subst₂ holds (sym (t.0 ∙ length-set xs i x)) t.1 last)
       (at_end (set xs i x) y z k e)
     where
       at_end : (xs : List X) (x y : X) (k : ℕ) → get_elem? (xs ++ x ∷ []) k ≡ some y
-          → ((get_elem? xs k ≡ some y) × (k < length xs)) ⊎ ((length xs ≤ k) × (x ≡ y))
-      at_end [] x y zero e = inr (omega arith, some-injective x y e)
+          → (get_elem? xs k ≡ some y) ⊎ ((k ≡ length xs) × (x ≡ y))
+      at_end [] x y zero e = inr (refl, some-injective x y e)
       at_end [] x y (suc k) e = absurd (some-ne-none y (sym e))
-      at_end (z ∷ zs) x y zero e = inl (e, omega arith)
-      at_end (z ∷ zs) x y (suc k) e = ⊎_elim
-          (λ t. let below = t.1 in inl (t.0, omega (arith, below)))
-          (λ t. let behind = t.0 in inr (omega (arith, behind), t.1))
-          (at_end zs x y k e)
+      at_end (z ∷ zs) x y zero e = inl e
+      at_end (z ∷ zs) x y (suc k) e = ⊎_elim (λ t. inl t) (λ t. inr (ap suc t.0, t.1)) (at_end zs x y k e)
+
+  -- a sum is no less than one of its summands
+  pub sum_at_least : (f : X → ℕ) (xs : List X) (i : ℕ) (x : X) → get_elem? xs i ≡ some x → f x ≤ sum_by f xs
+  sum_at_least f [] i x e = absurd (some-ne-none x (sym e))
+  sum_at_least f (z ∷ zs) zero x e =
+      let all = sum_by-cons f z zs in
+      let same : f z ≡ f x = ap f (some-injective z x e) in
+      omega (arith, all, same)
+  sum_at_least f (z ∷ zs) (suc i) x e = let all = sum_by-cons f z zs in let rest = sum_at_least f zs i x e in omega (arith, all, rest)
+
+  -- what passes a test is among what passes it
+  pub contains_filter : (test : X → Bool) (xs : List X) (x : X) → Contains xs x → test x ≡ true → Contains (filter test xs) x
+  contains_filter test xs x there passes = All-contains (λ (y : X). test y ≡ true → Contains (filter test xs) y) xs x (all_kept xs) there passes
+    where
+      first_kept : (b : Bool) (y : X) (ys : List X) → b ≡ true → Contains (cond b (y ∷ ys) ys) y
+      first_kept true y ys e = (0, omega arith, refl)
+      first_kept false y ys e = absurd (true≢false (sym e))
+
+      rest_kept : (b : Bool) (y z : X) (ys : List X) → Contains ys z → Contains (cond b (y ∷ ys) ys) z
+      rest_kept true y z ys there = Contains-append_right (y ∷ []) ys z there
+      rest_kept false y z ys there = there
+
+      all_kept : (ys : List X) → All (λ (y : X). test y ≡ true → Contains (filter test ys) y) ys
+      all_kept [] = All-nil (λ (y : X). test y ≡ true → Contains [] y)
+      all_kept (y ∷ ys) = All-cons (λ (z : X). test z ≡ true → Contains (filter test (y ∷ ys)) z) y ys
+          (λ passes. first_kept (test y) y (filter test ys) passes)
+          (All-weaker (λ (z : X). test z ≡ true → Contains (filter test ys) z) (λ (z : X). test z ≡ true → Contains (filter test (y ∷ ys)) z)
+          (λ z is passes. rest_kept (test y) y z (filter test ys) (is passes)) ys (all_kept ys))

@@ -1,5 +1,5 @@
 -- An actor whose share, or whose recorders, are other ones has seen and done what it had.
-use Rattle.std.proofs.Common.{◌≡◌, ◌≢◌, ℕ, zero, suc, List, [], ◌∷◌, ◌++◌, refl, sym, ap, ◌∙◌, subst}
+use Rattle.std.proofs.Common.{◌≡◌, ◌≢◌, ℕ, zero, suc, List, [], ◌∷◌, ◌++◌, true, false, true≢false, refl, sym, ap, ◌∙◌, subst, arith}
 use Rattle.segment_image.specs.Shape.{Dimensions}
 use Rattle.segment_machine.specs.declared.place.Look.{Look}
 use Rattle.segment_machine.specs.declared.place.Place.{Place}
@@ -93,5 +93,34 @@ module _ (shape : Dimensions) (anatomy : Anatomy) (cursors : List ℕ) (actors :
     calls = turned_calls anatomy a share a.made a.outstanding fit.calls;
     looks = λ records. shared_looks (fit.looks records);
     finals = shared_finals fit.finals;
+    snapshots = fit.snapshots;
+  }
+
+-- with other recorders, an opener that takes nothing fits as before
+module _ (shape : Dimensions) (anatomy : Anatomy) (cursors : List ℕ) (actors : List Actor) (opener : Actor) (id : ℕ) (a : Actor)
+    (share made outstanding : ℕ) (opens : a.opener ≡ 1) (rests : a.taking ≡ false) where
+  opener_finals : FinalsAreExact actors opener id a → FinalsAreExact actors opener id (turned a share made outstanding)
+  opener_finals exact = record {
+    deltas = exact.deltas;
+    snapshots = exact.snapshots;
+    moments = λ m of. let is = exact.moments m of in record {
+      logged = is.logged;
+      before = is.before;
+      mine = λ records. absurd (omega (arith, records, opens));
+      eldest = is.eldest;
+    };
+    swapped = λ before last taking. absurd (true≢false (sym taking ∙ rests));
+  }
+
+  pub opener_fits : Fits shape anatomy cursors actors opener id a → Fits shape anatomy cursors actors opener id (turned a share made outstanding)
+  opener_fits fit = record {
+    shaped = fit.shaped;
+    versioned = fit.versioned;
+    sees = turned_sees anatomy a share made outstanding cursors fit.sees;
+    own = fit.own;
+    apart = fit.apart;
+    calls = turned_calls anatomy a share made outstanding fit.calls;
+    looks = λ records. absurd (omega (arith, records, opens));
+    finals = opener_finals fit.finals;
     snapshots = fit.snapshots;
   }

@@ -5,7 +5,7 @@
 
 ghost use Rattle.segment_machine.specs.Promises.{StepsChangeOne};
 ghost use Rattle.segment_machine.specs.Examples.{Keys, PackedThenMounted, StoppedInTransit, PackingLimit, DeltasAndMarks, TwoTakers, PackedRun, MountingRun, TakerRuns, TakingRun, SparseSamples, Batches, MountedIsConsistent, ListBreaks, RecordsBreak, TotalsBreak, MarksBreak, SumsBreak, TransitBreaks, FlagsBreak, UnitsBreak};
-ghost use Rattle.segment_machine.specs.Keeps.{LendsKeep};
+ghost use Rattle.segment_machine.specs.Keeps.{SplitsKeep, LendsKeep};
 
 /// A step changes one word and one actor at most.
 pub fn steps_change_one()
@@ -117,6 +117,11 @@ pub fn flags_break()
 /// Units are not kept where a unit was spent and is still in a share.
 pub fn units_break()
     ensures { UnitsBreak }
+{}
+
+/// What holds between any two events holds on where an opener makes a recorder.
+pub fn splits_keep()
+    ensures { SplitsKeep }
 {}
 
 /// What holds between any two events holds on where an opener lends units to a recorder.

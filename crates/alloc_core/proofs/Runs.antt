@@ -21,7 +21,7 @@ use Rattle.alloc_core.proofs.Beside.{words_long}
 use Rattle.alloc_core.proofs.Keeping.{step_keeps, fill_keeps, corrupt_keeps, start_keeps}
 
 -- the layout without blocks is one of a segment
-fresh_sound : (shape : Dimensions) (version id : ℕ) → IsShape shape → IsSound shape (fresh shape version id)
+pub fresh_sound : (shape : Dimensions) (version id : ℕ) → IsShape shape → IsSound shape (fresh shape version id)
 fresh_sound shape version id lawful =
     let wide = lawful.wide in
     let one = lawful.one in

@@ -1,4 +1,5 @@
 pub mod Alone
+pub mod Lists
 pub mod Mounted
 pub mod SeatsBooks
 pub mod SeatsDeeds
@@ -9,3 +10,10 @@ pub mod SeatsRoles
 pub mod SeatsSplit
 pub mod SeatsSums
 pub mod SeatsTurned
+pub mod Opening
+pub mod ImpliedFlags
+pub mod Pieces
+pub mod Stops
+pub mod Actors
+pub mod Anatomies
+pub mod Goings

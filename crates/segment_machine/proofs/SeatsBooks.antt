@@ -3,7 +3,7 @@ use Rattle.std.proofs.Common.{◌≡◌, ◌≢◌, ◌⊎◌, ℕ, zero, suc, �
 use Rattle.std.specs.Prelude.{sum_by, slice_index, IsPermutation}
 use mathlib.Core.Option.{some}
 use lib.ListN.{get_elem?}
-use Rattle.std.specs.List.{flat_map, Contains}
+use Rattle.std.specs.List.{flat_map, Contains, All}
 use Rattle.std.proofs.lemmas.List.Sorted.{IsPermutation-trans, IsPermutation-sym, IsPermutation-append_right, IsPermutation-map, Contains-permutation}
 use Rattle.segment_image.specs.Shape.{Dimensions}
 use Rattle.alloc_core.specs.Layout.{IsShown}
@@ -15,9 +15,9 @@ use Rattle.segment_machine.specs.declared.actor.Given.{Given}
 use Rattle.segment_machine.specs.declared.actor.Taken.{Taken}
 use Rattle.segment_machine.specs.Actor.{all_counted, all_taken, all_published, all_given, units_of}
 use Rattle.segment_machine.specs.State.{State}
-use Rattle.segment_machine.specs.Body.{Anatomy, layout_of, order_of, claims_of, listed}
+use Rattle.segment_machine.specs.Body.{Piece, Anatomy, layout_of, order_of, claims_of, listed}
 use Rattle.segment_machine.specs.Ledger.{IsBalanced}
-use Rattle.segment_machine.specs.Kept.{HasKey, ListIsKept, RecordsAreKept, SumsAreNear, IsSetBy, StandStill, RolesAreKept, StandsRight, Fits, Kept}
+use Rattle.segment_machine.specs.Kept.{ClaimedRight, HasKey, ListIsKept, RecordsAreKept, SumsAreNear, IsSetBy, StandStill, RolesAreKept, StandsRight, Fits, Kept}
 use Rattle.segment_machine.proofs.SeatsDeeds.{Deeds}
 use Rattle.segment_machine.proofs.SeatsFrames.{balanced, sums_near, taken_keys}
 
@@ -37,6 +37,7 @@ pub record Books (shape : Dimensions) (opened anatomy : Anatomy) (words cursors 
   pub same : (anatomy.version ≡ opened.version) × (anatomy.id ≡ opened.id)
   pub versions : (anatomy.version ≡ 1) ⊎ (anatomy.version ≡ 2)
   pub still : StandStill opened.pieces anatomy.pieces
+  pub blocks : (k : ℕ) (piece : Piece) → get_elem? anatomy.pieces k ≡ some piece → ClaimedRight piece
   pub list : ListIsKept words opened anatomy actors
   pub claims : IsPermutation (claims_of anatomy.pieces) (claims_of opened.pieces ++ flat_map (λ a. a.claimed) actors)
   pub records : RecordsAreKept shape.page anatomy
@@ -57,6 +58,7 @@ books_of shape opened state kept = record {
   same = kept.same;
   versions = kept.versions;
   still = kept.still;
+  blocks = kept.blocks;
   list = kept.list;
   claims = kept.claims;
   records = kept.records;
@@ -74,15 +76,17 @@ books_of shape opened state kept = record {
 pub kept_by : (shape : Dimensions) (opened anatomy : Anatomy) (words cursors : List ℕ) (actors : List Actor)
     → Books shape opened anatomy words cursors actors → (roles : RolesAreKept actors)
     → ((id : ℕ) (a : Actor) → get_elem? actors id ≡ some a → a.opener ≡ 0 → GivenInOrder (order_of anatomy) a.given)
+    → ((id : ℕ) (a : Actor) → get_elem? actors id ≡ some a → All (λ g. Contains (order_of anatomy) g.reference) a.given)
     → ((id : ℕ) (a : Actor) → get_elem? actors id ≡ some a → StandsRight shape anatomy id a a.place)
     → ((id : ℕ) (a : Actor) → get_elem? actors id ≡ some a → a.place ≢ Spent → Fits shape anatomy cursors actors roles.opener id a)
     → Kept shape opened (record { words = words; cursors = cursors; actors = actors })
-kept_by shape opened anatomy words cursors actors books roles ordered standing each = record {
+kept_by shape opened anatomy words cursors actors books roles ordered given standing each = record {
   anatomy = anatomy;
   shown = books.shown;
   same = books.same;
   versions = books.versions;
   still = books.still;
+  blocks = books.blocks;
   list = books.list;
   claims = books.claims;
   records = books.records;
@@ -94,7 +98,7 @@ kept_by shape opened anatomy words cursors actors books roles ordered standing e
   corrupt = books.corrupt;
   full = books.full;
   roles = roles;
-  cursors = record { stand = books.stand; ordered = ordered };
+  cursors = record { stand = books.stand; ordered = ordered; given = given };
   standing = standing;
   each = each;
 }
@@ -128,6 +132,7 @@ books_by shape opened anatomy words cursors old new same loaded books = record {
   same = books.same;
   versions = books.versions;
   still = books.still;
+  blocks = books.blocks;
   list = listed_by words opened anatomy old new same books.list;
   claims = IsPermutation-trans _ _ _ books.claims
       (IsPermutation-append_right (claims_of opened.pieces) _ _ (IsPermutation-sym _ _ same.claimed));

@@ -3,7 +3,7 @@ use Rattle.std.proofs.Common.{◌≡◌, ◌≢◌, ◌⊎◌, ℕ, zero, suc, �
 use Rattle.std.specs.Prelude.{sum_by, if◌then◌else◌}
 use mathlib.Core.Option.{some}
 use lib.ListN.{get_elem?}
-use Rattle.std.specs.List.{flat_map, Contains}
+use Rattle.std.specs.List.{flat_map, Contains, All}
 use Rattle.std.proofs.lemmas.List.Sorted.{IsPermutation-refl, IsPermutation-trans, Contains-permutation, IsPermutation-map, IsPermutation-sym}
 use Rattle.atomic_table.proofs.Lists.{set_else, set_here}
 use Rattle.segment_image.specs.Shape.{Dimensions}
@@ -106,6 +106,12 @@ module _ (shape : Dimensions) (opened : Anatomy) (old : State) (kept : Kept shap
       (kept.cursors.ordered other b there)
       (λ k c past front at. kept.cursors.ordered k c at)
 
+  given : (k : ℕ) (c : Actor) → get_elem? lent k ≡ some c → All (λ g. Contains (order_of kept.anatomy) g.reference) c.given
+  given = each_of_two (λ k c. All (λ g. Contains (order_of kept.anatomy) g.reference) c.given) old.actors 0 other later (borrower b units)
+      (kept.cursors.given 0 opener kept.roles.stands)
+      (kept.cursors.given other b there)
+      (λ k c past front at. kept.cursors.given k c at)
+
   standing : (k : ℕ) (c : Actor) → get_elem? lent k ≡ some c → StandsRight shape kept.anatomy k c c.place
   standing = each_of_two (λ k c. StandsRight shape kept.anatomy k c c.place) old.actors 0 other later (borrower b units)
       (subst (StandsRight shape kept.anatomy 0 later) (sym kept.roles.idle) tt)
@@ -141,7 +147,7 @@ module _ (shape : Dimensions) (opened : Anatomy) (old : State) (kept : Kept shap
   unfolding roles
   lent_kept = kept_by shape opened kept.anatomy old.words old.cursors lent
       (books_by shape opened kept.anatomy old.words old.cursors old.actors lent deeds loaded (books_of shape opened old kept))
-      roles ordered standing each
+      roles ordered given standing each
 
 pub lends_keep : LendsKeep
 lends_keep shape opened old new id other units kept lending =

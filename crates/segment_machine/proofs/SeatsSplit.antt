@@ -15,6 +15,7 @@ use Rattle.segment_machine.specs.declared.entry.Counting.{Counting}
 use Rattle.segment_machine.specs.declared.place.Place.TheVariants.{Spent, Idle, SumLoaded}
 use Rattle.segment_machine.specs.declared.actor.Actor.{Actor}
 use Rattle.segment_machine.specs.declared.actor.Answered.{Answered}
+use Rattle.segment_machine.specs.declared.actor.Given.{Given}
 use Rattle.segment_machine.specs.declared.actor.Known.{Known}
 use Rattle.segment_machine.specs.declared.actor.Own.{Own}
 use Rattle.segment_machine.specs.declared.actor.Sighting.{Sighting}
@@ -255,6 +256,12 @@ module _ (shape : Dimensions) (opened : Anatomy) (old : State) (kept : Kept shap
       (λ records i j k l x y below here. absurd (none_at i x here))
       (λ k c within front at. kept.cursors.ordered k c at)
 
+  given : (k : ℕ) (c : Actor) → get_elem? split k ≡ some c → All (λ g. Contains (order_of kept.anatomy) g.reference) c.given
+  given = each_of_more (λ k c. All (λ g. Contains (order_of kept.anatomy) g.reference) c.given) old.actors 0 later made
+      (kept.cursors.given 0 opener kept.roles.stands)
+      (All-nil (λ (g : Given). Contains (order_of kept.anatomy) g.reference))
+      (λ k c within front at. kept.cursors.given k c at)
+
   standing : (k : ℕ) (c : Actor) → get_elem? split k ≡ some c → StandsRight shape kept.anatomy k c c.place
   standing = each_of_more (λ k c. StandsRight shape kept.anatomy k c c.place) old.actors 0 later made
       (subst (StandsRight shape kept.anatomy 0 later) (sym kept.roles.idle) tt)
@@ -313,7 +320,7 @@ module _ (shape : Dimensions) (opened : Anatomy) (old : State) (kept : Kept shap
   unfolding roles
   split_kept = kept_by shape opened kept.anatomy old.words old.cursors split
       (books_by shape opened kept.anatomy old.words old.cursors old.actors split deeds loaded (books_of shape opened old kept))
-      roles ordered standing each
+      roles ordered given standing each
 
 pub splits_keep : SplitsKeep
 splits_keep shape opened old new id units kept splitting =

@@ -42,13 +42,14 @@ use Rattle.segment_machine.specs.Promises.{accepted_by}
 use Rattle.segment_machine.specs.Consistent.{units_taken, IsWithinCounts}
 use Rattle.segment_machine.specs.Seats.{spent}
 use Rattle.segment_machine.specs.State.{State}
-use Rattle.segment_machine.specs.Body.{Record, Counts, Sample, Body, queue, plain, held, histogram, counts, sample, other, Piece, Listed, listed, Anatomy, layout_of, order_of, free_of, claims_of}
+use Rattle.segment_machine.specs.Body.{Record, Counts, Sample, Body, queue, plain, held, histogram, counts, sample, other, words_of, is_claimed, Piece, extent_of, Listed, listed, Anatomy, layout_of, order_of, free_of, claims_of}
 use Rattle.segment_machine.specs.Ledger.{form_at, key_of_bucket, IsBalanced}
 use Rattle.segment_machine.specs.Seen.{Stands, HasPlain, HasOwn, HasRecord, HasCounts, HasSample, IsFirst, IsFirstOf, Sees}
 
 -- ---- the list
 
--- a listed record stands as what it was given
+-- a listed record stands as what it was given; one of another type is neither a histogram's nor a sample, and has five words at
+-- least, as each claimed block
 abbrev pub StandsAs : List Piece → Listed → Option Made → Type 0
 StandsAs pieces l (Some (made.Histogram name spec)) =
     (r : Record) × HasRecord pieces l.reference r × (r.name ≡ name) × (r.spec ≡ spec)
@@ -56,6 +57,7 @@ StandsAs pieces l (Some (made.Sample of value)) =
     (s : Sample) × HasSample pieces l.reference s × (s.of ≡ of) × (s.value ≡ value)
 StandsAs pieces l None =
     (size tag next : ℕ) × (payload : List ℕ) × Stands pieces l.reference none (other size tag next payload)
+    × (tag ≢ 1) × (tag ≢ 3) × (1 ≤ length payload)
 
 -- a published block is on the list
 abbrev pub IsListed : List Listed → ℕ → Body → Type 0
@@ -358,17 +360,25 @@ pub record Fits (shape : Dimensions) (anatomy : Anatomy) (cursors : List ℕ) (a
   pub finals : FinalsAreExact actors opener id a
   pub snapshots : All (IsWithinCounts actors) a.snapshots
 
--- a shared cursor stands on the list, and has given the records up to there, each once, to each recorder in their order
+-- a shared cursor stands on the list, and has given the records up to there, each once, to each recorder in their order; what it
+-- gave is on the list
 pub record CursorsAreKept (chain cursors : List ℕ) (actors : List Actor) : Type 0 where
   pub stand : (k : ℕ) → k < length cursors → (place : ℕ) × (place ≤ length chain)
       × (slice_index (stops chain) place ≡ slice_index cursors k) × IsPermutation (all_given actors k) (take place chain)
   pub ordered : (id : ℕ) (a : Actor) → get_elem? actors id ≡ some a → a.opener ≡ 0 → (i j k l : ℕ) (x y : Given) → i < j
       → get_elem? a.given i ≡ some x → get_elem? a.given j ≡ some y → x.cursor ≡ y.cursor
       → get_elem? chain k ≡ some x.reference → get_elem? chain l ≡ some y.reference → k < l
+  pub given : (id : ℕ) (a : Actor) → get_elem? actors id ≡ some a → All (λ g. Contains chain g.reference) a.given
 
 -- a flag is set where it was at the opening or an actor has set it
 abbrev pub IsSetBy : Bool → Bool → List Bool → Type 0
 IsSetBy now opened set = now ≡ (opened || fold ◌||◌ false set)
+
+-- a claimed block says its size, which is five words at least; it is its claimer's own, or nobody's any more
+abbrev pub ClaimedRight : Piece → Type 0
+ClaimedRight piece = is_claimed piece.body ≡ true
+    → (slice_index (words_of piece.body) 0 ≡ extent_of piece) × (5 ≤ extent_of piece)
+    × ((piece.owner ≡ none) ⊎ ((block : Own) × (piece.body ≡ held block)))
 
 -- the blocks of the opening stand where they stood
 abbrev pub StandStill : List Piece → List Piece → Type 0
@@ -381,6 +391,7 @@ pub record Kept (shape : Dimensions) (opened : Anatomy) (state : State) : Type 0
   pub same : (anatomy.version ≡ opened.version) × (anatomy.id ≡ opened.id)
   pub versions : (anatomy.version ≡ 1) ⊎ (anatomy.version ≡ 2)
   pub still : StandStill opened.pieces anatomy.pieces
+  pub blocks : (k : ℕ) (piece : Piece) → get_elem? anatomy.pieces k ≡ some piece → ClaimedRight piece
   pub list : ListIsKept state.words opened anatomy state.actors
   pub claims : IsPermutation (claims_of anatomy.pieces) (claims_of opened.pieces ++ flat_map (λ a. a.claimed) state.actors)
   pub records : RecordsAreKept shape.page anatomy

@@ -4,8 +4,8 @@
 //! `specs/Examples.antt`.
 
 ghost use Rattle.segment_machine.specs.Promises.{StepsChangeOne};
+ghost use Rattle.segment_machine.specs.Keeps.{OpeningIsKept, SplitsKeep, LendsKeep, KeptFlagsAreSet};
 ghost use Rattle.segment_machine.specs.Examples.{Keys, PackedThenMounted, StoppedInTransit, PackingLimit, DeltasAndMarks, TwoTakers, PackedRun, MountingRun, TakerRuns, TakingRun, SparseSamples, Batches, MountedIsConsistent, ListBreaks, RecordsBreak, TotalsBreak, MarksBreak, SumsBreak, TransitBreaks, FlagsBreak, UnitsBreak};
-ghost use Rattle.segment_machine.specs.Keeps.{SplitsKeep, LendsKeep};
 
 /// A step changes one word and one actor at most.
 pub fn steps_change_one()
@@ -119,6 +119,11 @@ pub fn units_break()
     ensures { UnitsBreak }
 {}
 
+/// A new segment with its opener is kept: what holds between any two events holds of it.
+pub fn opening_is_kept()
+    ensures { OpeningIsKept }
+{}
+
 /// What holds between any two events holds on where an opener makes a recorder.
 pub fn splits_keep()
     ensures { SplitsKeep }
@@ -127,4 +132,9 @@ pub fn splits_keep()
 /// What holds between any two events holds on where an opener lends units to a recorder.
 pub fn lends_keep()
     ensures { LendsKeep }
+{}
+
+/// The flags of a kept state are set exactly where an actor has set them.
+pub fn kept_flags_are_set()
+    ensures { KeptFlagsAreSet }
 {}

@@ -1,0 +1,257 @@
+-- What holds of an anatomy, where blocks in the making change and what was published stays.
+use Rattle.std.proofs.Common.{◌≡◌, ◌≢◌, ◌⊎◌, ℕ, zero, suc, ◌+◌, ◌<◌, ◌≤◌, ℤ, pos, Bool, true, false, List, [], ◌∷◌, ◌++◌, map, length, set, All, Contains, inl, inr, ⊎_elim, refl, sym, ap, ◌∙◌, subst, arith}
+use Rattle.std.specs.Prelude.{slice_index, unsigned_abs, ◌*◌, ◌-ℤ◌, IsPermutation}
+use Rattle.std.specs.Prelude as std
+use Rattle.std.proofs.lemmas.List.Elements.{All-weaker}
+use mathlib.Core.Option.{Option, some, none, some-injective, some-ne-none}
+use lib.ListN.{get_elem?}
+use Rattle.segment_image.specs.Shape.{Dimensions}
+use Rattle.alloc_core.specs.Laws.{Behind}
+use Rattle.list_core.specs.Chain.{IsLinked}
+use Rattle.list_core.specs.Laws.{IsStop}
+use Rattle.segment_machine.specs.declared.actor.Actor.{Actor}
+use Rattle.segment_machine.specs.declared.actor.Known.{Known}
+use Rattle.segment_machine.specs.declared.actor.Made.{Made}
+use Rattle.segment_machine.specs.declared.actor.Made.TheVariants as made
+use Rattle.segment_machine.specs.declared.actor.Own.{Own}
+use Rattle.segment_machine.specs.declared.actor.Sighting.{Sighting}
+use Rattle.segment_machine.specs.declared.place.Place.{Place}
+use Rattle.segment_machine.specs.declared.place.Place.TheVariants.{Spent, Idle, FlagsLoaded, FreeLoaded, Raised, Sized, Marked, TailLoaded, Beaten, Linked, Looking, Losing, Moving, CountLoaded, SampleLoaded, SumLoaded, CursorLoaded, BehindCursor}
+use Rattle.segment_machine.specs.Entry.{tally_units, tally_sum, tally_noted}
+use Rattle.segment_machine.specs.Actor.{all_counted, all_taken, all_published, taken_units, taken_sum, bucket_key}
+use Rattle.segment_machine.specs.Body.{Body, queue, plain, held, Piece, Listed, listed, Anatomy, order_of, free_of}
+use Rattle.segment_machine.specs.Ledger.{units_held, marks_held, sum_held, sum_mark_held, noted_held, all_held, all_amounts, all_moving, IsBalanced}
+use Rattle.segment_machine.specs.Seen.{Stands, HasRecord, WasFixed, WasCounter, WasInUse, WasSingle, IsNoLater, Knows, Sees}
+use Rattle.segment_machine.specs.Kept.{StandsAs, IsListed, ListIsKept, RecordsAreKept, SumsAreNear, IsSumOf, StandsRight, HoldsOwn, CallsRight, LooksBack, IsSettled}
+use Rattle.segment_machine.proofs.Actors.{Doing, doing, TurnsTo, SameDeeds, alone_along, units_along, sum_along}
+
+-- the anatomy with other blocks, other flags and another tail, and the same records
+abbrev pub reshaped : Anatomy → List Piece → ℕ → Bool → Bool → ℕ → Anatomy
+reshaped anatomy pieces spare corrupt full tail =
+    record anatomy { pieces = pieces; spare = spare; corrupt = corrupt; full = full; tail = tail }
+
+-- a number that blocks in the making, one's own blocks and the queue block do not have
+abbrev pub IsSilent : {X : Type 0} → X → (Body → X) → Type 0
+IsSilent nothing holds =
+    ((words : List ℕ) → holds (plain words) ≡ nothing) × ((block : Own) → holds (held block) ≡ nothing)
+    × ((next : ℕ) → holds (queue next) ≡ nothing)
+
+-- What was published stays: a block without owner stands where it stood, and no other has come; and together they hold what they held.
+pub record Stays (old new : List Piece) : Type 0 where
+  pub there : (at : ℕ) (body : Body) → Stands old at none body → Stands new at none body
+  pub back : (at : ℕ) (body : Body) → Stands new at none body → Stands old at none body
+  pub held : (holds : Body → ℕ) → IsSilent 0 holds → all_held holds new ≡ all_held holds old
+  pub amounts : (holds : Body → ℤ) → IsSilent (pos 0) holds → all_amounts holds new ≡ all_amounts holds old
+
+module _ (anatomy : Anatomy) (pieces : List Piece) (spare : ℕ) (corrupt full : Bool) (tail : ℕ) (stays : Stays anatomy.pieces pieces) where
+  abbrev later : Anatomy
+  later = reshaped anatomy pieces spare corrupt full tail
+
+  -- the ledger
+  pub balanced_along : (opened : List Piece) (before after : List Actor) → SameDeeds before after
+      → IsBalanced anatomy.version opened anatomy.pieces before → IsBalanced anatomy.version opened pieces after
+  balanced_along opened before after same is =
+      let units_same : (name : List ℕ) (key : ℤ) → tally_units (all_counted before) name key ≡ tally_units (all_counted after) name key =
+          units_along before after same in
+      let taken_same : (name : List ℕ) (key : ℤ) → taken_units (all_taken before) name key ≡ taken_units (all_taken after) name key =
+          λ name key. ap (λ taken. taken_units taken name key) (sym same.taken) in
+      record {
+        units = λ name key.
+            let held = stays.held (units_held anatomy.version name key) (λ words. refl, λ block. refl, λ next. refl) in
+            let moving = same.moving name key in
+            ap (λ n. n + all_moving name key after) held
+            ∙ (ap (λ n. all_held (units_held anatomy.version name key) anatomy.pieces + n) moving ∙ (is.units name key ∙ units_same name key));
+        marks = λ name key.
+            stays.held (marks_held anatomy.version name key) (λ words. refl, λ block. refl, λ next. refl)
+            ∙ (is.marks name key ∙ taken_same name key);
+        sums = λ name.
+            stays.amounts (sum_held name) (λ words. refl, λ block. refl, λ next. refl)
+            ∙ (is.sums name ∙ sum_along before after same name);
+        sum_marks = λ name.
+            stays.amounts (sum_mark_held name) (λ words. refl, λ block. refl, λ next. refl)
+            ∙ (is.sum_marks name ∙ ap (λ taken. taken_sum taken name) (sym same.taken));
+        noted = λ name.
+            stays.held (noted_held name) (λ words. refl, λ block. refl, λ next. refl)
+            ∙ (is.noted name ∙ ap (λ entries. all_held (noted_held name) opened + tally_noted entries name) (sym same.noted));
+        taken = λ name key.
+            subst (λ (p : ℕ × ℕ). p.0 ≤ p.1) (λ i. (taken_same name key i, units_same name key i)) (is.taken name key);
+      }
+
+  -- the list
+  stands_as_along : (l : Listed) (given : std.Option Made) → StandsAs anatomy.pieces l given → StandsAs pieces l given
+  stands_as_along l (std.Some (made.Histogram name spec)) (r, has, named, is) = (r, stays.there _ _ has, named, is)
+  stands_as_along l (std.Some (made.Sample of value)) (s, has, named, is) = (s, stays.there _ _ has, named, is)
+  stands_as_along l std.None (size, tag, next, payload, has, first, third, long) = (size, tag, next, payload, stays.there _ _ has, first, third, long)
+
+  pub list_along : (words words' : List ℕ) (opened : Anatomy) (before after : List Actor) → IsLinked words' (order_of anatomy)
+      → all_published after ≡ all_published before → IsStop (order_of anatomy) tail
+      → ListIsKept words opened anatomy before → ListIsKept words' opened later after
+  list_along words words' opened before after linked same stop list = record {
+    linked = linked;
+    once = (
+      list.once.0,
+      list.once.1,
+      subst (λ made. IsPermutation list.once.0 (map listed made)) (sym same) list.once.2,
+    );
+    standing = All-weaker (λ l. StandsAs anatomy.pieces l l.made) (λ l. StandsAs pieces l l.made) (λ l. stands_as_along l l.made)
+        anatomy.records list.standing;
+    alone = λ at body has. list.alone at body (stays.back at body has);
+    tail = stop;
+  }
+
+  -- the records
+  pub records_along : (page : ℕ) → RecordsAreKept page anatomy → RecordsAreKept page later
+  records_along page records = record {
+    lawful = λ at r has. records.lawful at r (stays.back at _ has);
+    mounted = λ at r has mounts.
+        let (c, counts, is) = records.mounted at r (stays.back at _ has) mounts in (c, stays.there _ _ counts, is);
+    named = λ at c has. let (r, record_of, is) = records.named at c (stays.back at _ has) in (r, stays.there _ _ record_of, is);
+    packed = λ at r has. records.packed at r (stays.back at _ has);
+    valued = λ at s has. records.valued at s (stays.back at _ has);
+    sampled = λ front behind at of value is.
+        let (name, first, named) = records.sampled front behind at of value is in
+        (name, first, λ s has. named s (stays.back at _ has));
+    later = λ at other r first has is ne.
+        let (nothing, none_counted) = records.later at other r first (stays.back at _ has) is ne in
+        (nothing, λ c counts. none_counted c (stays.back _ _ counts));
+    later_samples = λ at other s has. records.later_samples at other s (stays.back at _ has);
+  }
+
+  -- sums
+  pub sums_along : (before after : List Actor) → SameDeeds before after → SumsAreNear anatomy.pieces before → SumsAreNear pieces after
+  sums_along before after same near at r x y has one two =
+      subst (λ n. unsigned_abs (x -ℤ y) ≤ 2147483648 * n) (sym (same.costs r.name))
+      (near at r x y (stays.back at _ has) (sum_of x one) (sum_of y two))
+    where
+      sum_of : (x : ℤ) → IsSumOf after at r x → IsSumOf before at r x
+      sum_of x (inl nothing) = inl nothing
+      sum_of x (inr (inl now)) = inr (inl now)
+      sum_of x (inr (inr (inl mark))) = inr (inr (inl mark))
+      sum_of x (inr (inr (inr (id, a, there, loaded)))) =
+          let (b, was, is) = same.loaded id a at x there loaded in inr (inr (inr (id, b, was, is)))
+
+  -- what an actor has seen
+  pub sees_along : (cursors : List ℕ) (a : Actor) → Behind a.seen_free (free_of later) → IsNoLater (order_of anatomy) a.seen_tail tail
+      → Sees anatomy cursors a → Sees later cursors a
+  sees_along cursors a free no_later sees = record {
+    free = free;
+    walked = sees.walked;
+    tail = no_later;
+    singles = All-weaker (WasSingle anatomy.version anatomy.pieces) (WasSingle anatomy.version pieces)
+        (λ s was. (was.0, was.1, stays.there _ _ was.2, was.3, was.4)) a.seen_singles sees.singles;
+    counters = All-weaker (WasCounter anatomy.pieces) (WasCounter pieces)
+        (λ s was. (was.0, was.1, was.2, stays.there _ _ was.3, was.4, was.5, was.6)) a.seen_counts sees.counters;
+    in_use = All-weaker (WasInUse anatomy.pieces) (WasInUse pieces)
+        (λ s was at i c has here from to.
+        let (r, record_of, off) = was at i c (stays.back _ _ has) here from to in (r, stays.there _ _ record_of, off))
+        a.seen_counts sees.in_use;
+    fixed = All-weaker (WasFixed anatomy.pieces) (WasFixed pieces)
+        (λ s was. (was.0, was.1, was.2, stays.there _ _ was.3, was.4, was.5, was.6)) a.seen_words sees.fixed;
+    shared = sees.shared;
+    names = All-weaker (Knows anatomy) (Knows later)
+        (λ known knows. record { first_spec = knows.first_spec; first = knows.first; same = knows.same }) a.names sees.names;
+  }
+
+  -- running calls
+  pub calls_along : (a : Actor) → CallsRight anatomy a → CallsRight later a
+  calls_along a calls = record {
+    ordered = calls.ordered;
+    within = calls.within;
+    held = calls.held;
+    ended = calls.ended;
+    met = calls.met;
+    taking = calls.taking;
+  }
+
+  -- what was seen since a delta or a snapshot began
+  settled_along : (before after : List Actor) (a : Actor) (known : Known) (bucket : ℕ) → SameDeeds before after
+      → IsSettled later after a known bucket → IsSettled anatomy before a known bucket
+  settled_along before after a known bucket same (inl second) = inl second
+  settled_along before after a known bucket same (inr (inl alone)) = inr (inl (alone_along before after same a alone))
+  settled_along before after a known bucket same (inr (inr apart)) = inr (inr (λ r has. apart r (stays.there _ _ has)))
+
+  pub looks_along : (before after : List Actor) (a : Actor) → SameDeeds before after → LooksBack anatomy before a → LooksBack later after a
+  looks_along before after a same looks = record {
+    most = λ known bucket total there below saw.
+        subst (λ entries. total ≤ tally_units entries known.name (bucket_key (std.Some known) bucket)) (sym same.counted)
+        (looks.most known bucket total there below saw);
+    packed = looks.packed;
+    counted = λ known bucket counts count r there below saw counted has settled.
+        looks.counted known bucket counts count r there below saw counted (stays.back _ _ has)
+        (settled_along before after a known bucket same settled);
+    samples = looks.samples;
+    rising = looks.rising;
+    noted = looks.noted;
+    sum = λ reference sum r loaded alone has. looks.sum reference sum r loaded (alone_along before after same a alone) (stays.back _ _ has);
+  }
+
+  -- a block of somebody who stores nothing now
+  module _ (shape : Dimensions) (id : ℕ) (others : (at : ℕ) (body : Body) → Stands anatomy.pieces at (some id) body → Stands pieces at (some id) body) where
+    pub own_along : (own : List Own) → All (HoldsOwn shape anatomy.pieces id) own → All (HoldsOwn shape pieces id) own
+    own_along own holds =
+        All-weaker (HoldsOwn shape anatomy.pieces id) (HoldsOwn shape pieces id)
+        (λ block is. record { stands = others _ _ is.stands; placed = is.placed; room = is.room; tagged = is.tagged; ends = is.ends })
+        own holds
+
+    -- and where somebody stands who does nothing now
+    pub standing_along : (a : Actor) (p : Place) → StandsRight shape anatomy id a p → StandsRight shape later id a p
+    standing_along a Spent is = is
+    standing_along a Idle is = is
+    standing_along a FlagsLoaded is = is
+    standing_along a (FreeLoaded free) is = is
+    standing_along a (Raised at size) (placed, has) = (placed, others _ _ has)
+    standing_along a (Sized at size) (placed, has) = (placed, others _ _ has)
+    standing_along a (Marked at size) (placed, has) = (placed, others _ _ has)
+    standing_along a (TailLoaded tail) is = is
+    standing_along a (Beaten tail behind) is = is
+    standing_along a (Linked at tail) is = is
+    standing_along a (Looking look) is = is
+    standing_along a (Losing look at) is = is
+    standing_along a (Moving look bucket units) (right, first, counts, least, most, (r, has, packed, off), fresh) =
+        (right, first, counts, least, most, (r, stays.there _ _ has, packed, off), fresh)
+    standing_along a (CountLoaded look bucket count) is = is
+    standing_along a (SampleLoaded reference count) is = is
+    standing_along a (SumLoaded reference sum) is = is
+    standing_along a (CursorLoaded cursor at) is = is
+    standing_along a (BehindCursor cursor at behind) is = is
+
+-- ---- the actor that goes on
+
+-- what it saw and looks back at, where it sees nothing but the free pointer
+abbrev pub sees_no_more : Actor → Doing → Doing
+sees_no_more a d = record d { seen_chain = a.seen_chain; seen_tail = a.seen_tail; seen_words = a.seen_words }
+
+module _ (anatomy : Anatomy) (a : Actor) (d : Doing) where
+  pub sees_doing : (cursors : List ℕ) → Behind d.seen_free (free_of anatomy) → Sees anatomy cursors a → Sees anatomy cursors (doing a (sees_no_more a d))
+  sees_doing cursors free sees = record {
+    free = free;
+    walked = sees.walked;
+    tail = sees.tail;
+    singles = sees.singles;
+    counters = sees.counters;
+    in_use = sees.in_use;
+    fixed = sees.fixed;
+    shared = sees.shared;
+    names = sees.names;
+  }
+
+  pub calls_doing : CallsRight anatomy a → CallsRight anatomy (doing a (sees_no_more a d))
+  calls_doing calls = record {
+    ordered = calls.ordered;
+    within = calls.within;
+    held = calls.held;
+    ended = calls.ended;
+    met = calls.met;
+    taking = calls.taking;
+  }
+
+  pub looks_doing : (actors : List Actor) → TurnsTo a d.place → LooksBack anatomy actors a → LooksBack anatomy actors (doing a (sees_no_more a d))
+  looks_doing actors turns looks = record {
+    most = looks.most;
+    packed = looks.packed;
+    counted = looks.counted;
+    samples = looks.samples;
+    rising = looks.rising;
+    noted = looks.noted;
+    sum = λ reference sum r loaded. looks.sum reference sum r (turns.sums reference sum loaded);
+  }

@@ -3,9 +3,13 @@ pub mod Lists
 pub mod Mounted
 pub mod SeatsBooks
 pub mod SeatsDeeds
+pub mod SeatsFinals
 pub mod SeatsFrames
+pub mod SeatsJoin
+pub mod SeatsJoined
 pub mod SeatsLend
 pub mod SeatsLists
+pub mod SeatsPassed
 pub mod SeatsRoles
 pub mod SeatsSplit
 pub mod SeatsSums

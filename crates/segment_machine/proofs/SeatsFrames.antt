@@ -113,7 +113,8 @@ looks_back anatomy old new a same alone looks = record {
   sum = λ reference sum r stands only there. looks.sum reference sum r stands (alone only) there;
 }
 
-ended_among : (taking : Bool) (list : List Taken) (t : Taken) → Contains (if taking then take (length list - 1) list else list) t → Contains list t
+-- a delta that has ended is one of all deltas
+pub ended_among : (taking : Bool) (list : List Taken) (t : Taken) → Contains (if taking then take (length list - 1) list else list) t → Contains list t
 ended_among true list t there = contains_take (length list - 1) list t there
 ended_among false list t there = there
 

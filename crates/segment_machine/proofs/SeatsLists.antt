@@ -23,6 +23,11 @@ module _ {X Y : Type 0} (f : X → Y) where
       (All-map holds f xs (All-weaker (Contains xs) (λ x. holds (f x)) (λ x is. (x, is, refl)) xs (All-contains_itself xs)))
       there
 
+-- a map of what a map did not change is the same
+pub map_after : {X Y : Type 0} (h : X → X) (g : X → Y) → ((x : X) → g (h x) ≡ g x) → (xs : List X) → map g (map h xs) ≡ map g xs
+map_after {X} {Y} h g same [] = refl
+map_after {X} {Y} h g same (x ∷ xs) = ap (λ (y : Y). y ∷ map g (map h xs)) (same x) ∙ ap (λ (list : List Y). g x ∷ list) (map_after h g same xs)
+
 module _ {X : Type 0} where
   pub none_in : (x : X) → Contains [] x → ⊥
   none_in x there = let below = there.1 in omega (arith, below)
@@ -126,3 +131,43 @@ module _ {X : Type 0} where
           (λ passes. first_kept (test y) y (filter test ys) passes)
           (All-weaker (λ (z : X). test z ≡ true → Contains (filter test ys) z) (λ (z : X). test z ≡ true → Contains (filter test (y ∷ ys)) z)
           (λ z is passes. rest_kept (test y) y z (filter test ys) (is passes)) ys (all_kept ys))
+
+  -- an element of two lists in a row is one of the first or one of the second
+  pub at_either : (xs ys : List X) (i : ℕ) (x : X) → get_elem? (xs ++ ys) i ≡ some x
+      → (get_elem? xs i ≡ some x) ⊎ ((j : ℕ) × (i ≡ length xs + j) × (get_elem? ys j ≡ some x))
+  at_either [] ys i x e = inr (i, omega arith, e)
+  at_either (z ∷ zs) ys zero x e = inl e
+  at_either (z ∷ zs) ys (suc i) x e = ⊎_elim
+      (λ first. inl first)
+      (λ t. let behind = t.1 in inr (t.0, omega (arith, behind), t.2))
+      (at_either zs ys i x e)
+
+  -- what holds of all of two lists in a row holds of all of the first, and of all that is behind it
+  pub all_left : (holds : X → Type 0) (xs ys : List X) → All holds (xs ++ ys) → All holds xs
+  all_left holds xs ys all = All-weaker (Contains xs) holds (λ x there. All-contains holds (xs ++ ys) x all (Contains-append_left xs ys x there)) xs (All-contains_itself xs)
+
+  pub drop_left : (n : ℕ) (xs ys : List X) → (rest : List X) × (drop n (xs ++ ys) ≡ drop n xs ++ rest)
+  drop_left zero xs ys = (ys, refl)
+  drop_left (suc n) [] ys = (drop (suc n) ys, refl)
+  drop_left (suc n) (x ∷ xs) ys = drop_left n xs ys
+
+  pub drop_right : (n : ℕ) (xs ys : List X) → drop (length xs + n) (xs ++ ys) ≡ drop n ys
+  drop_right n [] ys = ap (λ (k : ℕ). drop k ys) (let e : 0 + n ≡ n = omega arith in e)
+  drop_right n (x ∷ xs) ys =
+      ap (λ (k : ℕ). drop k (x ∷ (xs ++ ys))) (let e : suc (length xs) + n ≡ suc (length xs + n) = omega arith in e) ∙ drop_right n xs ys
+
+  -- of two fronts of one list the shorter one is a front of the other
+  pub front_of_front : (xs more ys rest : List X) → xs ++ more ≡ ys ++ rest → length xs ≤ length ys → (others : List X) × (ys ≡ xs ++ others)
+  front_of_front [] more ys rest same short = (ys, refl)
+  front_of_front (x ∷ xs) more [] rest same short = absurd (omega (arith, short))
+  front_of_front (x ∷ xs) more (y ∷ ys) rest same short =
+      let behind = front_of_front xs more ys rest (ap (tail_of xs) same) (omega (arith, short)) in
+      (behind.0, λ i. head_of x (sym same i) ∷ behind.1 i)
+    where
+      tail_of : List X → List X → List X
+      tail_of none [] = none
+      tail_of none (z ∷ zs) = zs
+
+      head_of : X → List X → X
+      head_of none [] = none
+      head_of none (z ∷ zs) = z

@@ -4,7 +4,7 @@
 //! `specs/Examples.antt`.
 
 ghost use Rattle.segment_machine.specs.Promises.{StepsChangeOne};
-ghost use Rattle.segment_machine.specs.Keeps.{OpeningIsKept, SplitsKeep, LendsKeep, KeptFlagsAreSet};
+ghost use Rattle.segment_machine.specs.Keeps.{OpeningIsKept, SplitsKeep, JoinsKeep, LendsKeep, KeptFlagsAreSet};
 ghost use Rattle.segment_machine.specs.Examples.{Keys, PackedThenMounted, StoppedInTransit, PackingLimit, DeltasAndMarks, TwoTakers, PackedRun, MountingRun, TakerRuns, TakingRun, SparseSamples, Batches, MountedIsConsistent, ListBreaks, RecordsBreak, TotalsBreak, MarksBreak, SumsBreak, TransitBreaks, FlagsBreak, UnitsBreak};
 
 /// A step changes one word and one actor at most.
@@ -127,6 +127,11 @@ pub fn opening_is_kept()
 /// What holds between any two events holds on where an opener makes a recorder.
 pub fn splits_keep()
     ensures { SplitsKeep }
+{}
+
+/// What holds between any two events holds on where an opener joins a recorder.
+pub fn joins_keep()
+    ensures { JoinsKeep }
 {}
 
 /// What holds between any two events holds on where an opener lends units to a recorder.

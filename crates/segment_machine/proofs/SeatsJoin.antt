@@ -23,7 +23,8 @@ use Rattle.segment_machine.specs.Keeps.{JoinsKeep}
 use Rattle.segment_machine.specs.Body.{Anatomy, order_of}
 use Rattle.segment_machine.specs.Kept.{is_living, RolesAreKept, StandsRight, Fits, Kept}
 use Rattle.segment_machine.proofs.Anatomies.{standing_along}
-use Rattle.segment_machine.proofs.SeatsLists.{each_of_two, place_within, sum_at_set}
+use Rattle.segment_machine.proofs.Lists.{sum_beside, below_length}
+use Rattle.segment_machine.proofs.SeatsLists.{each_of_two, none_at}
 use Rattle.segment_machine.proofs.SeatsDeeds.{Deeds, deeds_set}
 use Rattle.segment_machine.proofs.SeatsFrames.{IsLater, fits}
 use Rattle.segment_machine.proofs.SeatsBooks.{GivenInOrder, LoadedBefore, books_of, books_by, kept_by}
@@ -31,9 +32,6 @@ use Rattle.segment_machine.proofs.SeatsRoles.{opens_nothing, lives_on, Stood, Al
 use Rattle.segment_machine.proofs.SeatsPassed.{handed, stays_passed, stands_left, books_passed, sees_passed, calls_passed, fits_passed}
 use Rattle.segment_machine.proofs.SeatsJoined.{Joins, joined_deeds, joined_sees, joined_calls}
 use Rattle.segment_machine.proofs.SeatsFinals.{joined_finals, joined_own, joined_apart}
-
-none_at : {X : Type 0} (i : ℕ) (x : X) → get_elem? {A = X} [] i ≡ some x → ⊥
-none_at i x e = some-ne-none x (sym e)
 
 module _ (shape : Dimensions) (opened : Anatomy) (old : State) (kept : Kept shape opened old) (other : ℕ) (b : Actor)
     (apart : 0 ≢ other) (there : get_elem? old.actors other ≡ some b) (may : MayJoin kept.roles.opener b) where
@@ -76,7 +74,7 @@ module _ (shape : Dimensions) (opened : Anatomy) (old : State) (kept : Kept shap
 
   first : get_elem? merged 0 ≡ some later
   first = set_else (set old.actors 0 later) other 0 spent apart
-      ∙ set_here old.actors 0 later (place_within old.actors 0 opener kept.roles.stands)
+      ∙ set_here old.actors 0 later (below_length old.actors 0 opener kept.roles.stands)
 
   behind : get_elem? (set old.actors 0 later) other ≡ some b
   behind = set_else old.actors 0 other later away ∙ there
@@ -123,8 +121,8 @@ module _ (shape : Dimensions) (opened : Anatomy) (old : State) (kept : Kept shap
         (λ k c past front at ne. kept.roles.only k c at ne);
     living = (
       let one : Actor → ℕ = λ c. if is_living c then 1 else 0 in
-      let now = sum_at_set one (set old.actors 0 later) other b spent behind in
-      let before = sum_at_set one old.actors 0 opener later kept.roles.stands in
+      let now = sum_beside one (set old.actors 0 later) other b spent behind in
+      let before = sum_beside one old.actors 0 opener later kept.roles.stands in
       let was = kept.roles.living in
       let this : one b ≡ 1 = ap (λ (alive : Bool). if alive then 1 else 0) lives in
       omega (arith, now, before, was, this));

@@ -33,6 +33,7 @@ use Rattle.segment_machine.specs.Body.{Body, queue, plain, held, histogram, coun
 use Rattle.segment_machine.specs.Seen.{WasSingle, WasCounter, WasInUse, WasFixed, IsFixedIn, IsNoLater, IsFirstOf, Knows, Sees}
 use Rattle.segment_machine.proofs.Pieces.{one_index}
 use Rattle.segment_machine.proofs.SeatsLists.{map_after, front_of_front}
+use Rattle.segment_machine.proofs.SeatsSums.{or_false}
 use Rattle.segment_machine.proofs.SeatsDeeds.{Deeds, timeless, took}
 
 -- ---- entries
@@ -101,10 +102,6 @@ rests_cost name a rests =
     let nothing : (if length (filter (λ c. c.summed) a.running) == 0 then 0 else cost_of a.held name) ≡ 0 =
         ap (λ (run : List Counting). if length (filter (λ c. c.summed) run) == 0 then 0 else cost_of a.held name) rests in
     omega (arith, nothing)
-
-or_false : (b : Bool) → (b || false) ≡ b
-or_false true = refl
-or_false false = refl
 
 -- a recorder that may be joined, and an opener that joins it
 pub record Joins (a b : Actor) : Type 0 where

@@ -17,7 +17,8 @@ use Rattle.segment_machine.specs.Seats.{MayLend, lender, borrower}
 use Rattle.segment_machine.specs.Keeps.{LendsKeep}
 use Rattle.segment_machine.specs.Body.{Anatomy, order_of}
 use Rattle.segment_machine.specs.Kept.{is_living, RolesAreKept, CursorsAreKept, StandsRight, Fits, Kept}
-use Rattle.segment_machine.proofs.SeatsLists.{each_of_two, place_within, one_at, sum_at_set}
+use Rattle.segment_machine.proofs.Lists.{sum_beside, below_length}
+use Rattle.segment_machine.proofs.SeatsLists.{each_of_two, one_at}
 use Rattle.segment_machine.proofs.SeatsDeeds.{Deeds, took, deeds_set}
 use Rattle.segment_machine.proofs.SeatsFrames.{IsLater, fits}
 use Rattle.segment_machine.proofs.SeatsBooks.{GivenInOrder, LoadedBefore, books_of, books_by, kept_by}
@@ -61,7 +62,7 @@ module _ (shape : Dimensions) (opened : Anatomy) (old : State) (kept : Kept shap
 
   first : get_elem? lent 0 ≡ some later
   first = set_else (set old.actors 0 later) other 0 (borrower b units) apart
-      ∙ set_here old.actors 0 later (place_within old.actors 0 opener kept.roles.stands)
+      ∙ set_here old.actors 0 later (below_length old.actors 0 opener kept.roles.stands)
 
   behind : get_elem? (set old.actors 0 later) other ≡ some b
   behind = set_else old.actors 0 other later (λ e. apart (sym e)) ∙ there
@@ -85,8 +86,8 @@ module _ (shape : Dimensions) (opened : Anatomy) (old : State) (kept : Kept shap
         (λ k c past front at away. kept.roles.only k c at away);
     living = (
       let one : Actor → ℕ = λ c. if is_living c then 1 else 0 in
-      let now = sum_at_set one (set old.actors 0 later) other b (borrower b units) behind in
-      let before = sum_at_set one old.actors 0 opener later kept.roles.stands in
+      let now = sum_beside one (set old.actors 0 later) other b (borrower b units) behind in
+      let before = sum_beside one old.actors 0 opener later kept.roles.stands in
       let was = kept.roles.living in
       omega (arith, now, before, was));
     few = kept.roles.few;

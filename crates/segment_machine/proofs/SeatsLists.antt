@@ -8,6 +8,7 @@ use lib.ListN.{get_elem?}
 use Rattle.std.specs.Prelude.{sum_by}
 use Rattle.std.proofs.lemmas.List.Sums.{sum_by-cons}
 use Rattle.atomic_table.proofs.Lists.{at_set}
+use Rattle.segment_machine.proofs.Lists.{below_length}
 
 module _ {X Y : Type 0} (f : X → Y) where
   pub contains_map : (xs : List X) (x : X) → Contains xs x → Contains (map f xs) (f x)
@@ -32,6 +33,9 @@ module _ {X : Type 0} where
   pub none_in : (x : X) → Contains [] x → ⊥
   none_in x there = let below = there.1 in omega (arith, below)
 
+  pub none_at : (i : ℕ) (x : X) → get_elem? {A = X} [] i ≡ some x → ⊥
+  none_at i x e = some-ne-none x (sym e)
+
   pub contains_take : (n : ℕ) (xs : List X) (x : X) → Contains (take n xs) x → Contains xs x
   contains_take n xs x there = subst (λ (list : List X). Contains list x) (take-append-drop n xs) (Contains-append_left (take n xs) (drop n xs) x there)
 
@@ -52,29 +56,9 @@ module _ {X : Type 0} where
       (λ rest. inr (⊎_elim (λ first. inl first) (λ old. inr (rest.0, old.0, old.1)) (at_set xs i k x z rest.1)))
       (at_set (set xs i x) j k y z e)
 
-  -- there is an element at a place only within the list
-  pub place_within : (xs : List X) (i : ℕ) (x : X) → get_elem? xs i ≡ some x → i < length xs
-  place_within [] i x e = absurd (some-ne-none x (sym e))
-  place_within (z ∷ zs) zero x e = omega arith
-  place_within (z ∷ zs) (suc i) x e = let below = place_within zs i x e in omega (arith, below)
-
   -- there is one element at a place
   pub one_at : (xs : List X) (i : ℕ) (x y : X) → get_elem? xs i ≡ some x → get_elem? xs i ≡ some y → x ≡ y
   one_at xs i x y first last = some-injective x y (sym first ∙ last)
-
-  -- a sum after one of its elements became another
-  pub sum_at_set : (f : X → ℕ) (xs : List X) (i : ℕ) (x y : X) → get_elem? xs i ≡ some x → sum_by f (set xs i y) + f x ≡ sum_by f xs + f y
-  sum_at_set f [] i x y e = absurd (some-ne-none x (sym e))
-  sum_at_set f (z ∷ zs) zero x y e =
-      let now = sum_by-cons f y zs in
-      let before = sum_by-cons f z zs in
-      let same : f z ≡ f x = ap f (some-injective z x e) in
-      omega (arith, now, before, same)
-  sum_at_set f (z ∷ zs) (suc i) x y e =
-      let now = sum_by-cons f z (set zs i y) in
-      let before = sum_by-cons f z zs in
-      let rest = sum_at_set f zs i x y e in
-      omega (arith, now, before, rest)
 
   -- so what holds of both, and of all that stood there and was not changed, holds of each
   pub each_of_two : (holds : ℕ → X → Type 0) (xs : List X) (i j : ℕ) (x y : X) → holds i x → holds j y
@@ -92,7 +76,7 @@ module _ {X : Type 0} where
   each_of_more holds xs i x y first last rest k z e = ⊎_elim
       (λ t. ⊎_elim
       (λ same. subst₂ holds (sym same.0) same.1 first)
-      (λ old. rest k z (place_within xs k z old.1) old.0 old.1)
+      (λ old. rest k z (below_length xs k z old.1) old.0 old.1)
       (at_set xs i k x z t))
       (λ t. subst₂ holds (sym (t.0 ∙ length-set xs i x)) t.1 last)
       (at_end (set xs i x) y z k e)

@@ -29,7 +29,9 @@ use Rattle.segment_machine.specs.Keeps.{SplitsKeep}
 use Rattle.segment_machine.specs.Body.{Anatomy, order_of}
 use Rattle.segment_machine.specs.Seen.{Sees, Knows}
 use Rattle.segment_machine.specs.Kept.{is_living, HoldsOwn, CallsRight, IsAlone, LooksBack, FinalsAreExact, RolesAreKept, StandsRight, Fits, Kept}
-use Rattle.segment_machine.proofs.SeatsLists.{each_of_more, none_in, contains_map, contains_mapped, contains_filter, place_within, one_at, sum_at_set, sum_at_least}
+use Rattle.segment_machine.proofs.Lists.{sum_beside, below_length}
+use Rattle.segment_machine.proofs.SeatsLists.{each_of_more, none_in, contains_map, contains_mapped, contains_filter, one_at, sum_at_least, none_at}
+use Rattle.segment_machine.proofs.SeatsSums.{or_false}
 use Rattle.segment_machine.proofs.SeatsDeeds.{Deeds, took, deeds_more}
 use Rattle.segment_machine.proofs.SeatsFrames.{IsLater, fits}
 use Rattle.segment_machine.proofs.SeatsBooks.{GivenInOrder, LoadedBefore, books_of, books_by, kept_by}
@@ -37,10 +39,6 @@ use Rattle.segment_machine.proofs.SeatsRoles.{opens_nothing, lives_on, opens_fir
 use Rattle.segment_machine.proofs.SeatsTurned.{opener_fits}
 
 -- ---- what both did together
-
-or_false : (b : Bool) → (b || false) ≡ b
-or_false true = refl
-or_false false = refl
 
 split_deeds : (a : Actor) (units : ℕ) → units ≤ a.share → Deeds (a ∷ []) (parent a units ∷ newcomer a units ∷ [])
 split_deeds a units enough = record {
@@ -60,9 +58,6 @@ split_deeds a units enough = record {
 }
 
 -- ---- the newcomer
-
-none_at : {X : Type 0} (i : ℕ) (x : X) → get_elem? {A = X} [] i ≡ some x → ⊥
-none_at i x e = some-ne-none x (sym e)
 
 and_first : (x y : Bool) → (x && y) ≡ true → x ≡ true
 and_first true y e = refl
@@ -170,7 +165,7 @@ module _ (shape : Dimensions) (opened : Anatomy) (old : State) (kept : Kept shap
   deeds = deeds_more old.actors opener later made kept.roles.stands (split_deeds opener units may.2)
 
   first : get_elem? split 0 ≡ some later
-  first = at_longer (set old.actors 0 later) (made ∷ []) 0 later (set_here old.actors 0 later (place_within old.actors 0 opener kept.roles.stands))
+  first = at_longer (set old.actors 0 later) (made ∷ []) 0 later (set_here old.actors 0 later (below_length old.actors 0 opener kept.roles.stands))
 
   -- who was made before was made earlier
   earlier : (k : ℕ) (c : Actor) → get_elem? old.actors k ≡ some c → is_living c ≡ true → c.made < made.made
@@ -229,7 +224,7 @@ module _ (shape : Dimensions) (opened : Anatomy) (old : State) (kept : Kept shap
     living = (
       let one : Actor → ℕ = λ c. if is_living c then 1 else 0 in
       let all = sum_by-append one (set old.actors 0 later) (made ∷ []) in
-      let now = sum_at_set one old.actors 0 opener later kept.roles.stands in
+      let now = sum_beside one old.actors 0 opener later kept.roles.stands in
       let was = kept.roles.living in
       omega (arith, all, now, was));
     few = (let below = may.3 in omega (arith, below));

@@ -94,6 +94,10 @@ or_order true false = refl
 or_order false true = refl
 or_order false false = refl
 
+pub or_false : (x : Bool) → (x || false) ≡ x
+or_false true = refl
+or_false false = refl
+
 pub flags : IsAddition {M = Bool} ◌≡◌ ◌||◌
 flags = record {
   itself = λ x. refl;

@@ -1,5 +1,5 @@
 -- What an invariant says of all actors together, and of the blocks: the books of a segment.
-use Rattle.std.proofs.Common.{◌≡◌, ◌≢◌, ◌⊎◌, ℕ, zero, suc, ◌+◌, ◌<◌, ◌≤◌, ◌*◌, Bool, ◌||◌, ℤ, List, [], ◌∷◌, ◌++◌, map, take, length, inl, inr, ⊎_elim, refl, sym, ap, ◌∙◌, subst, arith}
+use Rattle.std.proofs.Common.{◌≡◌, ◌≢◌, ◌⊎◌, ℕ, ◌<◌, ◌≤◌, Bool, ◌||◌, ℤ, List, ◌++◌, map, take, length, sym, ap, ◌∙◌}
 use Rattle.std.specs.Prelude.{sum_by, slice_index, IsPermutation}
 use mathlib.Core.Option.{some}
 use lib.ListN.{get_elem?}
@@ -13,7 +13,7 @@ use Rattle.segment_machine.specs.declared.place.Place.TheVariants.{Spent, SumLoa
 use Rattle.segment_machine.specs.declared.actor.Actor.{Actor}
 use Rattle.segment_machine.specs.declared.actor.Given.{Given}
 use Rattle.segment_machine.specs.declared.actor.Taken.{Taken}
-use Rattle.segment_machine.specs.Actor.{all_counted, all_taken, all_published, all_given, units_of}
+use Rattle.segment_machine.specs.Actor.{all_counted, all_taken, all_given, units_of}
 use Rattle.segment_machine.specs.State.{State}
 use Rattle.segment_machine.specs.Body.{Piece, Anatomy, layout_of, order_of, claims_of, listed}
 use Rattle.segment_machine.specs.Ledger.{IsBalanced}

@@ -1,14 +1,14 @@
 -- What actors did together, whoever of them did it.
-use Rattle.std.proofs.Common.{◌≡◌, ℕ, ◌+◌, ◌≤◌, Bool, true, false, ◌||◌, ℤ, pos, negsuc, ◌+ℤ◌, ◌-ℤ◌, suc, List, [], ◌∷◌, ◌++◌, map, sym, refl, ap, ◌∙◌, subst, subst₂, ◌≢◌, zero, set, arith}
+use Rattle.std.proofs.Common.{◌≡◌, ℕ, Bool, false, ◌||◌, ℤ, pos, ◌+ℤ◌, suc, List, [], ◌∷◌, ◌++◌, map, sym, refl, ap, ◌∙◌, subst, subst₂, ◌≢◌, zero, set, arith}
 use mathlib.Core.Option.{some, some-injective, some-ne-none}
 use lib.ListN.{get_elem?}
 use Rattle.std.specs.Prelude.{fold, sum_by, if◌then◌else◌, IsPermutation}
 use Rattle.std.specs.Str.{bytes_eq}
-use Rattle.std.specs.List.{flat_map, Contains}
+use Rattle.std.specs.List.{flat_map}
 use Rattle.std.proofs.lemmas.Grind.{flat_map-append}
 use Rattle.std.proofs.lemmas.List.{map-append}
 use Rattle.std.proofs.lemmas.List.Sums.{sum_by-append, sum_by-cons}
-use Rattle.std.proofs.lemmas.List.Sorted.{IsPermutation-sym, IsPermutation-trans, IsPermutation-map, Contains-permutation, sum_by-IsPermutation}
+use Rattle.std.proofs.lemmas.List.Sorted.{sum_by-IsPermutation}
 use Rattle.segment_machine.specs.declared.entry.Entry.{Entry}
 use Rattle.segment_machine.specs.declared.actor.Actor.{Actor}
 use Rattle.segment_machine.specs.declared.actor.Taken.{Taken}
@@ -102,7 +102,6 @@ deeds_added a a' n rest same = record {
   spoiled = added _ _ is_spoiled flags (flags_total (λ (a : Actor). a.spoiled)) a a' n rest same.spoiled;
   filled = added _ _ is_filled flags (flags_total (λ (a : Actor). a.filled)) a a' n rest same.filled;
 }
-
 
 -- the first of some actors and another became others
 pub deeds_set : (actors : List Actor) (other : ℕ) (a b a' b' : Actor) → 0 ≢ other → get_elem? actors 0 ≡ some a → get_elem? actors other ≡ some b

@@ -1,5 +1,5 @@
 -- The final deltas and snapshots of an opener that has joined a recorder, and its blocks: those of both.
-use Rattle.std.proofs.Common.{◌≡◌, ◌≢◌, ◌⊎◌, ℕ, zero, suc, ◌+◌, ◌-◌, ◌<◌, ◌≤◌, ℤ, Bool, true, false, true≢false, List, [], ◌∷◌, ◌++◌, map, length, take, drop, inl, inr, ⊎_elim, refl, sym, ap, ◌∙◌, subst, append_assoc, length-append, arith}
+use Rattle.std.proofs.Common.{◌≡◌, ◌≢◌, ◌⊎◌, ℕ, ◌+◌, ◌-◌, ℤ, Bool, true, false, true≢false, List, ◌++◌, map, length, take, drop, inl, inr, ⊎_elim, refl, sym, ap, ◌∙◌, subst, append_assoc, length-append, arith}
 use Rattle.std.specs.Prelude.{if◌then◌else◌}
 use mathlib.Core.Option.{some, some-injective}
 use lib.ListN.{get_elem?}
@@ -27,7 +27,7 @@ use Rattle.segment_machine.proofs.Lists.{all_at}
 use Rattle.segment_machine.proofs.Pieces.{one_stands}
 use Rattle.segment_machine.proofs.SeatsLists.{contains_mapped, all_left, drop_left, drop_right, at_either}
 use Rattle.segment_machine.proofs.SeatsFrames.{ended_among}
-use Rattle.segment_machine.proofs.SeatsPassed.{pass, handed, stands_given, stands_left}
+use Rattle.segment_machine.proofs.SeatsPassed.{handed, stands_given, stands_left}
 use Rattle.segment_machine.proofs.SeatsJoined.{Joins}
 
 -- a delta, a snapshot of a recorder whose log comes behind another
@@ -58,25 +58,28 @@ module _ (actors : List Actor) (opener : Actor) (other : ℕ) (a b : Actor) (may
 
   quiet_first : (name : List ℕ) (n : ℕ) → IsQuiet both name n → IsQuiet a name n
   quiet_first name n quiet =
-      let parts = drop_left n (log_of a) (log_of b) in
-      (all_left (λ (entry : Entry). is_of name entry ≡ false) (drop n (log_of a)) parts.0
-      (subst (All (λ (entry : Entry). is_of name entry ≡ false)) (ap (drop n) log_joined ∙ parts.1) quiet.0), quiet.1)
+      let parts = drop_left n (log_of a) (log_of b) in (
+        all_left (λ (entry : Entry). is_of name entry ≡ false) (drop n (log_of a)) parts.0
+            (subst (All (λ (entry : Entry). is_of name entry ≡ false)) (ap (drop n) log_joined ∙ parts.1) quiet.0),
+        quiet.1,
+      )
 
   quiet_second : (name : List ℕ) (n : ℕ) → IsQuiet both name (before + n) → IsQuiet b name n
-  quiet_second name n quiet =
-      (subst (All (λ (entry : Entry). is_of name entry ≡ false)) (ap (drop (before + n)) log_joined ∙ drop_right n (log_of a) (log_of b)) quiet.0,
-      subst (All (λ (c : Counting). (is_of name c.entry ≡ false) ⊎ (is_untouched c ≡ true))) (sym may.rests)
-      (All-nil (λ (c : Counting). (is_of name c.entry ≡ false) ⊎ (is_untouched c ≡ true))))
+  quiet_second name n quiet = (
+    subst (All (λ (entry : Entry). is_of name entry ≡ false)) (ap (drop (before + n)) log_joined ∙ drop_right n (log_of a) (log_of b)) quiet.0,
+    subst (All (λ (c : Counting). (is_of name c.entry ≡ false) ⊎ (is_untouched c ≡ true))) (sym may.rests)
+        (All-nil (λ (c : Counting). (is_of name c.entry ≡ false) ⊎ (is_untouched c ≡ true))),
+  )
 
   -- ---- moments
 
   moment_first : (m : Moment) → IsMoment actors opener 0 a m → IsMoment actors opener 0 both m
   moment_first m is = record {
     logged = (
-      let low = is.logged in
-      let long = ap length log_joined in
-      let all = length-append (log_of a) (log_of b) in
-      omega (arith, low, long, all));
+        let low = is.logged in
+        let long = ap length log_joined in
+        let all = length-append (log_of a) (log_of b) in
+        omega (arith, low, long, all));
     before = is.before;
     mine = λ records. absurd (omega (arith, records, opens));
     eldest = is.eldest;
@@ -85,10 +88,10 @@ module _ (actors : List Actor) (opener : Actor) (other : ℕ) (a b : Actor) (may
   moment_second : (m : Moment) → IsMoment actors opener other b m → IsMoment actors opener 0 both (shifted before m)
   moment_second m is = record {
     logged = (
-      let low = is.logged in
-      let long = ap length log_joined in
-      let all = length-append (log_of a) (log_of b) in
-      omega (arith, low, long, all));
+        let low = is.logged in
+        let long = ap length log_joined in
+        let all = length-append (log_of a) (log_of b) in
+        omega (arith, low, long, all));
     before = is.before;
     mine = λ records. absurd (omega (arith, records, opens));
     eldest = λ nobody k c at lives apart. is.eldest nobody k c at lives

@@ -1,6 +1,6 @@
 -- What holds of actors together, and of one beside the others, holds on where others did the same together.
-use Rattle.std.proofs.Common.{◌≡◌, ◌⊎◌, ℕ, ◌+◌, ◌<◌, ◌≤◌, Some, ℤ, Bool, true, false, List, [], ◌∷◌, ◌++◌, ◌-◌, map, length, take, inl, inr, ⊎_elim, sym, refl, ap, ◌∙◌, subst, arith}
-use Rattle.std.specs.List.{Contains, All}
+use Rattle.std.proofs.Common.{◌≡◌, ◌⊎◌, ℕ, ◌+◌, ◌<◌, ◌≤◌, Some, ℤ, Bool, true, false, List, ◌-◌, length, take, inl, inr, ⊎_elim, sym, refl, ap, ◌∙◌, subst, arith}
+use Rattle.std.specs.List.{Contains}
 use Rattle.std.specs.Prelude.{if◌then◌else◌}
 use mathlib.Core.Option.{some}
 use lib.ListN.{get_elem?}
@@ -139,9 +139,10 @@ pub finals : (old new : List Actor) (opener later : Actor) (id : ℕ) (a : Actor
 finals old new opener later id a same since alone exact = record {
   deltas = λ t there none youngest quiet.
       let began = exact.moments t.moment (ended_began a t there) in
-      let was = exact.deltas t there none (since.last t.moment.before began.before youngest) quiet in
-      (λ key. units_took old new same t.name key ∙ was.0 key ∙ sym (units_counted old new same t.name key),
-      same.taken_sums t.name ∙ was.1 ∙ sym (same.summed t.name));
+      let was = exact.deltas t there none (since.last t.moment.before began.before youngest) quiet in (
+        λ key. units_took old new same t.name key ∙ was.0 key ∙ sym (units_counted old new same t.name key),
+        same.taken_sums t.name ∙ was.1 ∙ sym (same.summed t.name),
+      );
   snapshots = λ s there none youngest quiet.
       let began = exact.moments s.moment (inr (s, there, refl)) in
       let was = exact.snapshots s there none (since.last s.moment.before began.before youngest) quiet in

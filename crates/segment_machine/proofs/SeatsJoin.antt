@@ -1,17 +1,16 @@
 -- A recorder that is joined keeps what holds.
-use Rattle.std.proofs.Common.{◌≡◌, ◌≢◌, ◌⊎◌, ℕ, zero, suc, ◌+◌, ◌-◌, ◌<◌, ◌≤◌, Bool, true, false, true≢false, List, [], ◌∷◌, ◌++◌, map, set, length, inl, inr, ⊎_elim, refl, sym, ap, ◌∙◌, subst, subst₂, append_assoc, arith}
-use Rattle.std.specs.Prelude.{sum_by, if◌then◌else◌}
-use mathlib.Core.Option.{some, some-ne-none}
+use Rattle.std.proofs.Common.{◌≡◌, ◌≢◌, ℕ, ◌+◌, Bool, true, true≢false, List, [], ◌++◌, map, set, length, inl, refl, sym, ap, ◌∙◌, subst, subst₂, append_assoc, arith}
+use Rattle.std.specs.Prelude.{if◌then◌else◌}
+use mathlib.Core.Option.{some}
 use lib.ListN.{get_elem?}
 use Rattle.std.specs.List.{Contains, All}
 use Rattle.std.proofs.lemmas.List.{map-append}
-use Rattle.std.proofs.lemmas.List.Elements.{All-nil, All-append, All-map, All-weaker}
+use Rattle.std.proofs.lemmas.List.Elements.{All-nil, All-append, All-map}
 use Rattle.atomic_table.proofs.Lists.{set_else, set_here}
 use Rattle.segment_image.specs.Shape.{Dimensions}
 use Rattle.segment_machine.specs.declared.entry.Entry.{Entry}
 use Rattle.segment_machine.specs.declared.entry.Counting.{Counting}
-use Rattle.segment_machine.specs.declared.place.Place.{Place}
-use Rattle.segment_machine.specs.declared.place.Place.TheVariants.{Spent, Idle, SumLoaded}
+use Rattle.segment_machine.specs.declared.place.Place.TheVariants.{Spent, SumLoaded}
 use Rattle.segment_machine.specs.declared.actor.Actor.{Actor}
 use Rattle.segment_machine.specs.declared.actor.Answered.{Answered}
 use Rattle.segment_machine.specs.declared.actor.Given.{Given}
@@ -120,12 +119,12 @@ module _ (shape : Dimensions) (opened : Anatomy) (old : State) (kept : Kept shap
         (λ ne. (refl, refl))
         (λ k c past front at ne. kept.roles.only k c at ne);
     living = (
-      let one : Actor → ℕ = λ c. if is_living c then 1 else 0 in
-      let now = sum_beside one (set old.actors 0 later) other b spent behind in
-      let before = sum_beside one old.actors 0 opener later kept.roles.stands in
-      let was = kept.roles.living in
-      let this : one b ≡ 1 = ap (λ (alive : Bool). if alive then 1 else 0) lives in
-      omega (arith, now, before, was, this));
+        let one : Actor → ℕ = λ c. if is_living c then 1 else 0 in
+        let now = sum_beside one (set old.actors 0 later) other b spent behind in
+        let before = sum_beside one old.actors 0 opener later kept.roles.stands in
+        let was = kept.roles.living in
+        let this : one b ≡ 1 = ap (λ (alive : Bool). if alive then 1 else 0) lives in
+        omega (arith, now, before, was, this));
     few = (let few = kept.roles.few in omega (arith, few));
     younger = still_younger old.actors merged kept.roles stood later.made (omega arith);
     apart = still_apart old.actors merged kept.roles stood;
@@ -138,10 +137,11 @@ module _ (shape : Dimensions) (opened : Anatomy) (old : State) (kept : Kept shap
         (λ alive. absurd (true≢false (sym alive)))
         (λ k c past front at alive.
         let was = kept.roles.heirs k c at alive in
-        let entries = map (λ (x : Counting). x.entry) b.log in
-        (was.0 ++ entries,
-        log_longer ∙ ap (λ (list : List Entry). list ++ entries) was.1 ∙ append_assoc c.inherited was.0 entries,
-        λ nobody last. absurd (not_alone k c at alive past nobody last)));
+        let entries = map (λ (x : Counting). x.entry) b.log in (
+          was.0 ++ entries,
+          log_longer ∙ ap (λ (list : List Entry). list ++ entries) was.1 ∙ append_assoc c.inherited was.0 entries,
+          λ nobody last. absurd (not_alone k c at alive past nobody last),
+        ));
   }
 
   since : IsLater old.actors merged opener later

@@ -1,8 +1,8 @@
 -- What an opener has that has joined a recorder: what both had.
-use Rattle.std.proofs.Common.{◌≡◌, ◌≢◌, ◌⊎◌, ℕ, zero, suc, ◌+◌, ◌-◌, ◌<◌, ◌≤◌, max, ℤ, pos, ◌+ℤ◌, Bool, true, false, true≢false, not, ◌||◌, List, [], ◌∷◌, ◌++◌, map, length, drop, inl, inr, ⊎_elim, refl, sym, ap, ap₂, ◌∙◌, subst, append_assoc, append-nil, eqb-true, ltb-true, ltb-false, arith}
-use Rattle.std.specs.Prelude.{fold, sum_by, if◌then◌else◌, ◌==◌, nat_lt, slice_index, unwrap_or, Option, Some, None, IsPermutation}
+use Rattle.std.proofs.Common.{◌≡◌, ℕ, ◌+◌, ◌<◌, ◌≤◌, max, ℤ, pos, ◌+ℤ◌, Bool, true, false, true≢false, ◌||◌, List, [], ◌∷◌, ◌++◌, map, length, inl, inr, ⊎_elim, refl, sym, ap, ap₂, ◌∙◌, subst, append_assoc, append-nil, eqb-true, ltb-true, ltb-false, arith}
+use Rattle.std.specs.Prelude.{fold, if◌then◌else◌, ◌==◌, nat_lt, slice_index, unwrap_or, Option, Some, IsPermutation}
 use Rattle.std.specs.Str.{bytes_eq}
-use Rattle.std.specs.List.{filter, flat_map, Contains, All}
+use Rattle.std.specs.List.{filter, Contains}
 use Rattle.std.proofs.lemmas.List.{map-append}
 use Rattle.std.proofs.lemmas.List.Elements.{filter-append, All-append, All-contains, Contains-append_left, Contains-append_right, Contains-append_cases}
 use Rattle.std.proofs.lemmas.List.Sums.{sum_by-append}
@@ -19,8 +19,8 @@ use Rattle.segment_machine.specs.declared.actor.Cost.{Cost}
 use Rattle.segment_machine.specs.declared.actor.Given.{Given}
 use Rattle.segment_machine.specs.declared.actor.Taken.{Taken}
 use Rattle.segment_machine.specs.Entry.{is_counted, is_summed, is_noted, has_ended, tally_sum}
-use Rattle.segment_machine.specs.Actor.{is_bound, word_seen, log_of, counted_of, summed_of, noted_of, given_by, taken_sum, cost_of, cost_total, all_counted, all_summed, all_noted, all_taken}
-use Rattle.segment_machine.specs.Seats.{MayJoin, joined, spent, longer, shifted_taken, shifted}
+use Rattle.segment_machine.specs.Actor.{is_bound, word_seen, log_of, counted_of, summed_of, given_by, cost_of, cost_total}
+use Rattle.segment_machine.specs.Seats.{joined, spent, longer, shifted_taken, shifted}
 use Rattle.segment_machine.specs.Made.{SawSample}
 use Rattle.segment_machine.specs.Ledger.{moving_at}
 use Rattle.segment_machine.specs.Kept.{summed_cost, CallsRight}
@@ -34,7 +34,7 @@ use Rattle.segment_machine.specs.Seen.{WasSingle, WasCounter, WasInUse, WasFixed
 use Rattle.segment_machine.proofs.Pieces.{one_index}
 use Rattle.segment_machine.proofs.SeatsLists.{map_after, front_of_front}
 use Rattle.segment_machine.proofs.SeatsSums.{or_false}
-use Rattle.segment_machine.proofs.SeatsDeeds.{Deeds, timeless, took}
+use Rattle.segment_machine.proofs.SeatsDeeds.{Deeds, timeless}
 
 -- ---- entries
 
@@ -100,7 +100,7 @@ moves_nothing a name key (BehindCursor cursor at behind) free = refl
 rests_cost : (name : List ℕ) (a : Actor) → a.running ≡ [] → summed_cost name a ≡ cost_of a.costs name
 rests_cost name a rests =
     let nothing : (if length (filter (λ c. c.summed) a.running) == 0 then 0 else cost_of a.held name) ≡ 0 =
-        ap (λ (run : List Counting). if length (filter (λ c. c.summed) run) == 0 then 0 else cost_of a.held name) rests in
+    ap (λ (run : List Counting). if length (filter (λ c. c.summed) run) == 0 then 0 else cost_of a.held name) rests in
     omega (arith, nothing)
 
 -- a recorder that may be joined, and an opener that joins it
@@ -150,9 +150,9 @@ module _ (a b : Actor) (may : Joins a b) where
         let all = sum_by-append (λ (cost : Cost). if bytes_eq cost.name name then cost.units else 0) a.costs b.costs in
         omega (arith, now, first, second, all);
     units = (
-      let all = sum_by-append (λ (cost : Cost). cost.units) a.costs b.costs in
-      let nothing : cost_total b.held ≡ 0 = ap cost_total may.holds in
-      omega (arith, all, nothing));
+        let all = sum_by-append (λ (cost : Cost). cost.units) a.costs b.costs in
+        let nothing : cost_total b.held ≡ 0 = ap cost_total may.holds in
+        omega (arith, all, nothing));
     spoiled = or_false (a.spoiled || b.spoiled);
     filled = or_false (a.filled || b.filled);
   }
@@ -268,7 +268,7 @@ one_word shape words anatomy shown s t first second same =
     let q : Piece = record { at = second.0; owner = none; body = second.2 } in
     let place : first.0 + first.1 ≡ second.0 + second.1 = sym first.4 ∙ same ∙ second.4 in
     let index = one_index shape words anatomy shown first.3.0 second.3.0 p q first.1 second.1 first.3.1 second.3.1
-        (fixed_within first.2 first.1 first.5) (fixed_within second.2 second.1 second.5) place in
+    (fixed_within first.2 first.1 first.5) (fixed_within second.2 second.1 second.5) place in
     let piece : p ≡ q = some-injective p q (sym first.3.1 ∙ ap (get_elem? anatomy.pieces) index ∙ second.3.1) in
     let begins = ap (λ (piece : Piece). piece.at) piece in
     let offset : first.1 ≡ second.1 = omega (arith, place, begins) in

@@ -1,24 +1,23 @@
 -- Units that are lent keep what holds.
-use Rattle.std.proofs.Common.{◌≡◌, ◌≢◌, ◌⊎◌, ℕ, zero, suc, ◌+◌, ◌-◌, ◌*◌, ◌<◌, ◌≤◌, Bool, true, false, ℤ, List, [], ◌∷◌, ◌++◌, map, set, inl, inr, ⊎_elim, refl, sym, ap, ◌∙◌, subst, subst₂, arith}
-use Rattle.std.specs.Prelude.{sum_by, if◌then◌else◌}
+use Rattle.std.proofs.Common.{◌≡◌, ◌≢◌, ℕ, ◌+◌, ◌-◌, ◌≤◌, true, List, [], ◌∷◌, ◌++◌, set, inl, refl, sym, ap, ◌∙◌, subst, subst₂, arith}
+use Rattle.std.specs.Prelude.{if◌then◌else◌}
 use mathlib.Core.Option.{some}
 use lib.ListN.{get_elem?}
 use Rattle.std.specs.List.{flat_map, Contains, All}
-use Rattle.std.proofs.lemmas.List.Sorted.{IsPermutation-refl, IsPermutation-trans, Contains-permutation, IsPermutation-map, IsPermutation-sym}
+use Rattle.std.proofs.lemmas.List.Sorted.{IsPermutation-refl}
 use Rattle.atomic_table.proofs.Lists.{set_else, set_here}
 use Rattle.segment_image.specs.Shape.{Dimensions}
 use Rattle.segment_machine.specs.declared.entry.Entry.{Entry}
 use Rattle.segment_machine.specs.declared.place.Place.TheVariants.{Spent, SumLoaded}
 use Rattle.segment_machine.specs.declared.actor.Actor.{Actor}
-use Rattle.segment_machine.specs.declared.actor.Given.{Given}
-use Rattle.segment_machine.specs.Actor.{all_counted, all_noted, all_published, all_given, units_of}
+use Rattle.segment_machine.specs.Actor.{all_counted, all_noted, all_published, all_given}
 use Rattle.segment_machine.specs.State.{State}
 use Rattle.segment_machine.specs.Seats.{MayLend, lender, borrower}
 use Rattle.segment_machine.specs.Keeps.{LendsKeep}
 use Rattle.segment_machine.specs.Body.{Anatomy, order_of}
-use Rattle.segment_machine.specs.Kept.{is_living, RolesAreKept, CursorsAreKept, StandsRight, Fits, Kept}
+use Rattle.segment_machine.specs.Kept.{is_living, RolesAreKept, StandsRight, Fits, Kept}
 use Rattle.segment_machine.proofs.Lists.{sum_beside, below_length}
-use Rattle.segment_machine.proofs.SeatsLists.{each_of_two, one_at}
+use Rattle.segment_machine.proofs.SeatsLists.{each_of_two}
 use Rattle.segment_machine.proofs.SeatsDeeds.{Deeds, took, deeds_set}
 use Rattle.segment_machine.proofs.SeatsFrames.{IsLater, fits}
 use Rattle.segment_machine.proofs.SeatsBooks.{GivenInOrder, LoadedBefore, books_of, books_by, kept_by}
@@ -85,20 +84,22 @@ module _ (shape : Dimensions) (opened : Anatomy) (old : State) (kept : Kept shap
         (λ away. kept.roles.only other b there away)
         (λ k c past front at away. kept.roles.only k c at away);
     living = (
-      let one : Actor → ℕ = λ c. if is_living c then 1 else 0 in
-      let now = sum_beside one (set old.actors 0 later) other b (borrower b units) behind in
-      let before = sum_beside one old.actors 0 opener later kept.roles.stands in
-      let was = kept.roles.living in
-      omega (arith, now, before, was));
+        let one : Actor → ℕ = λ c. if is_living c then 1 else 0 in
+        let now = sum_beside one (set old.actors 0 later) other b (borrower b units) behind in
+        let before = sum_beside one old.actors 0 opener later kept.roles.stands in
+        let was = kept.roles.living in
+        omega (arith, now, before, was));
     few = kept.roles.few;
     younger = still_younger old.actors lent kept.roles stood later.made (omega arith);
     apart = still_apart old.actors lent kept.roles stood;
     eldest = still_eldest old.actors lent kept.roles stood;
     heirs = λ id c at lives.
         let s = stood id c at lives in
-        let was = kept.roles.heirs id s.was s.at s.lives in
-        (was.0, was.1 ∙ ap (λ (list : List Entry). list ++ was.0) s.inherited,
-        λ none last. was.2 (s.outstanding ∙ none) (ap (λ (n : ℕ). n + 1) s.made ∙ last));
+        let was = kept.roles.heirs id s.was s.at s.lives in (
+          was.0,
+          was.1 ∙ ap (λ (list : List Entry). list ++ was.0) s.inherited,
+          λ none last. was.2 (s.outstanding ∙ none) (ap (λ (n : ℕ). n + 1) s.made ∙ last),
+        );
   }
 
   ordered : (k : ℕ) (c : Actor) → get_elem? lent k ≡ some c → c.opener ≡ 0 → GivenInOrder (order_of kept.anatomy) c.given

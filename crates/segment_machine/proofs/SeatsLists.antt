@@ -1,5 +1,5 @@
 -- What is in a list, beside a map of it, a front of it and a longer one; and what a fold over appended logs is.
-use Rattle.std.proofs.Common.{◌≡◌, ◌≢◌, ◌⊎◌, ℕ, zero, suc, ◌+◌, ◌-◌, ◌<◌, ◌≤◌, Bool, true, false, cond, List, [], ◌∷◌, ◌++◌, map, length, take, drop, get_or, set, inl, inr, ⊎_elim, sym, refl, ap, ◌∙◌, subst, subst₂, true≢false, length-set, take-append-drop, arith}
+use Rattle.std.proofs.Common.{◌≡◌, ◌≢◌, ◌⊎◌, ℕ, zero, suc, ◌+◌, ◌<◌, ◌≤◌, Bool, true, false, cond, List, [], ◌∷◌, ◌++◌, map, length, take, drop, set, inl, inr, ⊎_elim, sym, refl, ap, ◌∙◌, subst, subst₂, true≢false, length-set, take-append-drop, arith}
 use Rattle.std.specs.List.{filter, Contains, All}
 use Rattle.std.proofs.lemmas.List.{get_or-map, length-map}
 use Rattle.std.proofs.lemmas.List.Elements.{All-weaker, All-contains, All-map, All-contains_itself, All-nil, All-cons, Contains-append_left, Contains-append_right}

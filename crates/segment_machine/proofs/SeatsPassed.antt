@@ -1,7 +1,7 @@
 -- Blocks that pass from one owner to another: their words and places stay, and so does all that is said of others.
-use Rattle.std.proofs.Common.{◌≡◌, ◌≢◌, ◌⊎◌, ℕ, zero, suc, ◌+◌, ◌<◌, ◌≤◌, ℤ, pos, ◌+ℤ◌, Bool, true, false, cond, List, [], ◌∷◌, ◌++◌, map, replicate, ◌%◌, IsPermutation, inl, inr, ⊎_elim, refl, sym, ap, ◌∙◌, subst, eq-eqb, ne_eqb, arith}
+use Rattle.std.proofs.Common.{◌≡◌, ◌≢◌, ℕ, ◌+◌, ◌≤◌, pos, ◌+ℤ◌, Bool, true, false, cond, List, [], ◌∷◌, ◌++◌, map, replicate, ◌%◌, IsPermutation, inl, inr, ⊎_elim, refl, sym, ap, ◌∙◌, subst, eq-eqb, ne_eqb}
 use Rattle.std.specs.Prelude.{fold, if◌then◌else◌, ◌==◌}
-use Rattle.std.specs.List.{filter, flat_map}
+use Rattle.std.specs.List.{flat_map}
 use Rattle.std.proofs.lemmas.List.Folds.{fold-map}
 use mathlib.Core.Option.{Option, some, none, some-ne-none}
 use lib.ListN.{get_elem?}
@@ -103,10 +103,12 @@ module _ (from to : ℕ) where
     sound = record {
       lawful = shown.sound.lawful;
       queue = (
-        let queue = shown.sound.queue in
-        let first = from_map block_of anatomy.pieces 0 (queue_block queue.0) queue.1 in
-        (queue.0, at_map block_of _ 0 (pass from to first.0) (at_map (pass from to) anatomy.pieces 0 first.0 first.1)
-        ∙ ap some (ap (λ (b : Block). record b { owner = passed from to b.owner }) first.2)));
+          let queue = shown.sound.queue in
+          let first = from_map block_of anatomy.pieces 0 (queue_block queue.0) queue.1 in (
+            queue.0,
+            at_map block_of _ 0 (pass from to first.0) (at_map (pass from to) anatomy.pieces 0 first.0 first.1)
+                ∙ ap some (ap (λ (b : Block). record b { owner = passed from to b.owner }) first.2),
+          ));
       laid = laid_passed shape.page 12 anatomy.pieces shown.sound.laid;
       ends = ap (λ (free : ℕ). free + anatomy.spare) (free_passed anatomy) ∙ shown.sound.ends;
       leaves = subst (λ (free : ℕ). free % shape.page + 5 ≤ shape.page) (sym (free_passed anatomy)) shown.sound.leaves;

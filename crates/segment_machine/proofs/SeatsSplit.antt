@@ -1,7 +1,7 @@
 -- A recorder that is made keeps what holds.
-use Rattle.std.proofs.Common.{◌≡◌, ◌≢◌, ◌⊎◌, ℕ, zero, suc, ◌+◌, ◌-◌, ◌*◌, ◌<◌, ◌≤◌, Bool, true, false, ◌||◌, ◌&&◌, true≢false, Some, ℤ, List, [], ◌∷◌, ◌++◌, map, set, drop, length, inl, inr, ⊎_elim, refl, sym, ap, ◌∙◌, subst, subst₂, append-nil, arith}
-use Rattle.std.specs.Prelude.{sum_by, if◌then◌else◌}
-use mathlib.Core.Option.{some, some-ne-none}
+use Rattle.std.proofs.Common.{◌≡◌, ◌≢◌, ◌⊎◌, ℕ, ◌+◌, ◌-◌, ◌<◌, ◌≤◌, Bool, true, false, ◌&&◌, true≢false, List, [], ◌∷◌, ◌++◌, map, set, length, inl, inr, ⊎_elim, refl, sym, ap, ◌∙◌, subst, subst₂, append-nil, arith}
+use Rattle.std.specs.Prelude.{if◌then◌else◌}
+use mathlib.Core.Option.{some}
 use lib.ListN.{get_elem?}
 use Rattle.std.specs.List.{flat_map, Contains, All}
 use Rattle.std.proofs.lemmas.List.{drop_all}
@@ -12,14 +12,10 @@ use Rattle.atomic_table.proofs.Lists.{at_longer, set_here}
 use Rattle.segment_image.specs.Shape.{Dimensions}
 use Rattle.segment_machine.specs.declared.entry.Entry.{Entry}
 use Rattle.segment_machine.specs.declared.entry.Counting.{Counting}
-use Rattle.segment_machine.specs.declared.place.Place.TheVariants.{Spent, Idle, SumLoaded}
+use Rattle.segment_machine.specs.declared.place.Place.TheVariants.{Spent, SumLoaded}
 use Rattle.segment_machine.specs.declared.actor.Actor.{Actor}
-use Rattle.segment_machine.specs.declared.actor.Answered.{Answered}
 use Rattle.segment_machine.specs.declared.actor.Given.{Given}
-use Rattle.segment_machine.specs.declared.actor.Known.{Known}
-use Rattle.segment_machine.specs.declared.actor.Own.{Own}
 use Rattle.segment_machine.specs.declared.actor.Sighting.{Sighting}
-use Rattle.segment_machine.specs.declared.actor.Taken.{Taken}
 use Rattle.segment_machine.specs.Entry.{is_counted, is_summed, is_noted, has_ended, counted_among}
 use Rattle.segment_machine.specs.Actor.{log_of, counted_of, all_counted, all_noted, all_published, all_given}
 use Rattle.segment_machine.specs.Consistent.{IsWithinCounts}
@@ -222,11 +218,11 @@ module _ (shape : Dimensions) (opened : Anatomy) (old : State) (kept : Kept shap
         (λ away. (refl, refl))
         (λ k c within front at away. kept.roles.only k c at away);
     living = (
-      let one : Actor → ℕ = λ c. if is_living c then 1 else 0 in
-      let all = sum_by-append one (set old.actors 0 later) (made ∷ []) in
-      let now = sum_beside one old.actors 0 opener later kept.roles.stands in
-      let was = kept.roles.living in
-      omega (arith, all, now, was));
+        let one : Actor → ℕ = λ c. if is_living c then 1 else 0 in
+        let all = sum_by-append one (set old.actors 0 later) (made ∷ []) in
+        let now = sum_beside one old.actors 0 opener later kept.roles.stands in
+        let was = kept.roles.living in
+        omega (arith, all, now, was));
     few = (let below = may.3 in omega (arith, below));
     younger = each_of_more (λ k c. is_living c ≡ true → c.made < later.made) old.actors 0 later made
         (λ lives. absurd (opens_nothing later kept.roles.opens lives))

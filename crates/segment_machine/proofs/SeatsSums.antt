@@ -1,12 +1,11 @@
 -- Sums over lists, of whatever is added: numbers, flags, or lists whose order is of no account. Two elements that together have
 -- what two others had may stand in their place, and one more with an element that together have what that one had.
-use Rattle.std.proofs.Common.{◌≡◌, ℕ, ◌+◌, ◌≤◌, Bool, true, false, ◌||◌, ℤ, pos, negsuc, ◌+ℤ◌, ◌-ℤ◌, List, [], ◌∷◌, ◌++◌, map, sym, refl, ap, ◌∙◌, subst, append_assoc, append-nil, arith}
-use Rattle.std.specs.Prelude.{fold, sum_by, IsPermutation}
+use Rattle.std.proofs.Common.{◌≡◌, ℕ, ◌+◌, Bool, true, false, ◌||◌, ℤ, pos, ◌+ℤ◌, List, [], ◌∷◌, ◌++◌, map, sym, refl, ap, ◌∙◌, subst, append_assoc, append-nil, arith}
+use Rattle.std.specs.Prelude.{fold, IsPermutation}
 use Rattle.std.proofs.Math.IntN.{+ℤ_assoc, +ℤ_comm, +ℤ_idl, +ℤ_idr}
-use Rattle.std.specs.List.{flat_map}
 use Rattle.std.proofs.lemmas.List.{map-append}
-use Rattle.std.proofs.lemmas.List.Sums.{fold-append, sum_by-append, sum_by-cons}
-use Rattle.std.proofs.lemmas.List.Sorted.{IsPermutation-refl, IsPermutation-sym, IsPermutation-trans, IsPermutation-append, IsPermutation-append_comm, sum_by-IsPermutation}
+use Rattle.std.proofs.lemmas.List.Sums.{fold-append}
+use Rattle.std.proofs.lemmas.List.Sorted.{IsPermutation-refl, IsPermutation-sym, IsPermutation-trans, IsPermutation-append, IsPermutation-append_comm}
 
 -- an addition, up to a relation: neither order nor brackets are of any account
 pub record IsAddition {M : Type 0} (same : M → M → Type 0) (add : M → M → M) : Type 0 where
@@ -43,8 +42,8 @@ module _ {A M : Type 0} (same : M → M → Type 0) (add : M → M → M) (total
       let n : M = total behind in
       let whole : total (a ∷ (mid ++ b ∷ behind)) ≡ add x (add m (add y n)) = first ∙ ap (add x) (rest ∙ ap (add m) last) in
       let inner : same (add m (add y n)) (add y (add m n)) =
-          is.along _ _ _ (equal _ _ (sym (is.brackets m y n)))
-          (is.along _ _ _ (is.both _ _ _ _ (is.order m y) (is.itself n)) (equal _ _ (is.brackets y m n))) in
+      is.along _ _ _ (equal _ _ (sym (is.brackets m y n)))
+      (is.along _ _ _ (is.both _ _ _ _ (is.order m y) (is.itself n)) (equal _ _ (is.brackets y m n))) in
       is.along _ _ _ (equal _ _ whole)
       (is.along _ _ _ (is.both _ _ _ _ (is.itself x) inner)
       (equal _ _ (sym (is.brackets x y (add m n)) ∙ ap (λ (z : M). add z (add m n)) (sym two) ∙ ap (add (total (a ∷ b ∷ []))) (sym others))))

@@ -386,3 +386,5 @@ FORGED = {
     "samples": (samples, [MIB, 2 * MIB, 4 * MIB, 8 * MIB]),
 }
 FAMILIES = {**LAWFUL, **FORGED}
+# Those whose time grows as a machine's waits for memory do, which no program can help.
+WAITING = ["alike", "scattered"]

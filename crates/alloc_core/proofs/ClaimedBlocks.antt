@@ -32,14 +32,14 @@ word_of words at n j ws is lt =
     sym (get_or-drop at words j 0) ∙ (sym (get_or-take n (drop at words) j 0 lt) ∙ ap (λ (l : List ℕ). get_or l j 0) is)
 
 -- what is known of a claimed block: its first words, where it lies, and its page
-record IsClaimedAt (shape : Dimensions) (words : List ℕ) (reference size : ℕ) : Type 0 where
-  size_word : field_at words reference 0 ≡ size
-  cookie_word : field_at words reference 1 ≡ 0xC8799269
-  from : 16 ≤ reference
-  five : 5 ≤ size
-  below : reference + size ≤ word_at words 7
-  page : word_at words 3 ≡ shape.page
-  in_page : reference % shape.page + size ≤ shape.page
+pub record IsClaimedAt (shape : Dimensions) (words : List ℕ) (reference size : ℕ) : Type 0 where
+  pub size_word : field_at words reference 0 ≡ size
+  pub cookie_word : field_at words reference 1 ≡ 0xC8799269
+  pub from : 16 ≤ reference
+  pub five : 5 ≤ size
+  pub below : reference + size ≤ word_at words 7
+  pub page : word_at words 3 ≡ shape.page
+  pub in_page : reference % shape.page + size ≤ shape.page
 
 claimed_at : (shape : Dimensions) (state : State) (owner : ℕ) (a : Allocation) (reference size : ℕ) → StateKeeps shape state
     → get_elem? state.allocations owner ≡ some a → a.stage ≡ Claimed reference size → IsClaimedAt shape state.words reference size
@@ -64,23 +64,28 @@ claimed_at shape state owner a reference size keeps mine stage =
       in_page = subst (λ (s : Dimensions). reference % s.page + size ≤ s.page) fits.shaped aimed.one_page;
     }
 
-pub block_lawful : (shape : Dimensions) (state : State) (reference : ℕ) → StateKeeps shape state → IsRecord state.allocations reference
-    → (is_placed (head_of state.words) reference && is_claimed state.words (head_of state.words) reference) ≡ true
-block_lawful shape state reference keeps (owner, a, size, mine, stage) =
-    let is = claimed_at shape state owner a reference size keeps mine stage in
+-- so it is a lawful block
+pub lawful_at : (shape : Dimensions) (words : List ℕ) (reference size : ℕ) → IsClaimedAt shape words reference size
+    → (is_placed (head_of words) reference && is_claimed words (head_of words) reference) ≡ true
+lawful_at shape words reference size is =
     let five = is.five in
     let below = is.below in
     let size_word = is.size_word in
     let in_page = is.in_page in
     let last : reference + (size - 1) ≡ reference + size - 1 = omega (arith, five) in
-    let same : reference / word_at state.words 3 ≡ (reference + field_at state.words reference 0 - 1) / word_at state.words 3 =
+    let same : reference / word_at words 3 ≡ (reference + field_at words reference 0 - 1) / word_at words 3 =
     rw (is.page, size_word) (one_page reference (size - 1) shape.page (omega (arith, five, in_page)) ∙ ap (λ (n : ℕ). n / shape.page) last) in
-    and_from (is_placed (head_of state.words) reference) _
-    (and_from (nat_le 16 reference) _ (le-leb 16 reference is.from) (le-leb (reference + 5) (word_at state.words 7) (omega (arith, below, five))))
-    (and_from _ _ (and_from _ _ (and_from _ _ (eq-eqb (field_at state.words reference 1) 0xC8799269 is.cookie_word)
-    (le-leb 5 (field_at state.words reference 0) (omega (arith, size_word, five))))
-    (le-leb (reference + field_at state.words reference 0) (word_at state.words 7) (omega (arith, size_word, below))))
+    and_from (is_placed (head_of words) reference) _
+    (and_from (nat_le 16 reference) _ (le-leb 16 reference is.from) (le-leb (reference + 5) (word_at words 7) (omega (arith, below, five))))
+    (and_from _ _ (and_from _ _ (and_from _ _ (eq-eqb (field_at words reference 1) 0xC8799269 is.cookie_word)
+    (le-leb 5 (field_at words reference 0) (omega (arith, size_word, five))))
+    (le-leb (reference + field_at words reference 0) (word_at words 7) (omega (arith, size_word, below))))
     (eq-eqb _ _ same))
+
+pub block_lawful : (shape : Dimensions) (state : State) (reference : ℕ) → StateKeeps shape state → IsRecord state.allocations reference
+    → (is_placed (head_of state.words) reference && is_claimed state.words (head_of state.words) reference) ≡ true
+block_lawful shape state reference keeps (owner, a, size, mine, stage) =
+    lawful_at shape state.words reference size (claimed_at shape state owner a reference size keeps mine stage)
 
 -- two claimed blocks do not overlap, by the sizes that their first words say
 pub records_apart : (shape : Dimensions) (state : State) (one other : ℕ) → StateKeeps shape state → IsRecord state.allocations one

@@ -11,7 +11,7 @@ use Rattle.segment_image.specs.Shape.{Dimensions}
 use Rattle.segment_image.specs.Words.{word_at}
 use Rattle.alloc_core.specs.declared.alloc.Stage.{Stage}
 use Rattle.alloc_core.specs.declared.alloc.Stage.TheVariants.{LoadFlags, LoadFree, ExchangeFree, StoreSize, StoreCookie, StoreType, SetFull, Claimed, Full, Corrupt}
-use Rattle.alloc_core.specs.Layout.{free_of, IsShape, IsSound, fresh}
+use Rattle.alloc_core.specs.Layout.{Layout, free_of, IsShape, IsSound, IsShown, fresh}
 use Rattle.alloc_core.specs.Planned.{room_at, is_pointer}
 use Rattle.alloc_core.specs.Event.{Event, load_flags, load_free, exchange_free, store_size, store_cookie, store_type, set_flag, after}
 use Rattle.alloc_core.specs.Alloc.{Allocation, event_at, cookie_of, IsAimed}
@@ -53,21 +53,25 @@ pub run_keeps : (shape : Dimensions) (moves : List Move) (old new : State) → S
 run_keeps shape [] old new keeps same = subst (StateKeeps shape) (sym same) keeps
 run_keeps shape (move ∷ moves) old new keeps (next, first, rest) = run_keeps shape moves next new (move_keeps shape move old next keeps first) rest
 
+-- the free pointer of words that are shown is lawful
+pub free_is_pointer : (shape : Dimensions) (words : List ℕ) (layout : Layout) → IsShown shape words layout → is_pointer shape (word_at words 7) ≡ true
+free_is_pointer shape words layout shown =
+    let ends = shown.sound.ends in
+    let leaves = shown.sound.leaves in
+    let from = free_from shape words layout shown in
+    let free : ℕ = free_of layout in
+    let room : 5 ≤ room_at shape free = omega arith in
+    subst (λ (n : ℕ). is_pointer shape n ≡ true) (sym (free_word shape words layout shown))
+    (and_from (nat_le 16 free && nat_le free shape.size) (nat_le 5 (room_at shape free))
+    (and_from (nat_le 16 free) (nat_le free shape.size) (le-leb 16 free from) (le-leb free shape.size (omega arith))) (le-leb 5 (room_at shape free) room))
+
 -- the free pointer of words that are kept
 pub free_lawful : (shape : Dimensions) (state : State) (owner : ℕ) (a : Allocation) → StateKeeps shape state → get_elem? state.allocations owner ≡ some a
     → Behind a.seen (word_at state.words 7) × (is_pointer shape (word_at state.words 7) ≡ true)
-free_lawful shape state owner a keeps mine =
-    let is = free_word shape state.words keeps.layout keeps.shown in
-    let sound = keeps.shown.sound in
-    let ends = sound.ends in
-    let leaves = sound.leaves in
-    let from = free_from shape state.words keeps.layout keeps.shown in
-    let free : ℕ = free_of keeps.layout in
-    let room : 5 ≤ room_at shape free = omega arith in
-    let lawful : is_pointer shape free ≡ true =
-    and_from (nat_le 16 free && nat_le free shape.size) (nat_le 5 (room_at shape free))
-    (and_from (nat_le 16 free) (nat_le free shape.size) (le-leb 16 free from) (le-leb free shape.size (omega arith))) (le-leb 5 (room_at shape free) room) in
-    (subst (Behind a.seen) (sym is) (keeps.each owner a mine).behind, subst (λ (n : ℕ). is_pointer shape n ≡ true) (sym is) lawful)
+free_lawful shape state owner a keeps mine = (
+  subst (Behind a.seen) (sym (free_word shape state.words keeps.layout keeps.shown)) (keeps.each owner a mine).behind,
+  free_is_pointer shape state.words keeps.layout keeps.shown,
+)
 
 -- a word that an event does not act on
 beside : (words : List ℕ) (i v : ℕ) → i ≢ 6 → word_at (set words i v) 6 ≡ word_at words 6

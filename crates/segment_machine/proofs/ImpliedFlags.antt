@@ -1,5 +1,5 @@
 -- The flags of a kept state are set exactly where an actor has set them.
-use Rattle.std.proofs.Common.{◌≡◌, ◌⊎◌, Bool, true, false, ◌||◌, ℕ, zero, suc, ◌/◌, List, [], ◌∷◌, fold, inr, refl, sym, ap, subst, ◌∙◌, arith, ⊎_elim}
+use Rattle.std.proofs.Common.{◌≡◌, ◌⊎◌, Bool, true, false, ◌||◌, ℕ, suc, ◌/◌, List, [], ◌∷◌, fold, inr, refl, sym, ap, subst, ◌∙◌, arith, ⊎_elim}
 use Rattle.std.specs.Prelude.{◌↔◌, bit_and}
 use Rattle.std.specs.List.{Contains}
 use Rattle.segment_image.specs.Words.{word_at}
@@ -8,12 +8,7 @@ use Rattle.alloc_core.proofs.Layouts.{flags_word}
 use Rattle.segment_machine.specs.Body.{layout_of}
 use Rattle.segment_machine.specs.Kept.{IsSetBy}
 use Rattle.segment_machine.specs.Keeps.{KeptFlagsAreSet}
-use Rattle.segment_machine.proofs.Opening.{none_in}
-
--- a truth that stands in front stays
-or_stays : (list : List Bool) → fold ◌||◌ true list ≡ true
-or_stays [] = refl
-or_stays (b ∷ list) = or_stays list
+use Rattle.segment_machine.proofs.Lists.{at_from, any_there}
 
 -- one of a list of truth values is true where all of them together are
 one_of : (list : List Bool) → fold ◌||◌ false list ≡ true → Contains list true
@@ -22,10 +17,7 @@ one_of (true ∷ list) e = (0, omega arith, refl)
 one_of (false ∷ list) e = let (k, below, is) = one_of list e in (suc k, omega (arith, below), is)
 
 all_of : (list : List Bool) → Contains list true → fold ◌||◌ false list ≡ true
-all_of [] there = absurd (none_in true there)
-all_of (true ∷ list) there = or_stays list
-all_of (false ∷ list) (zero, below, e) = cc e
-all_of (false ∷ list) (suc k, below, e) = all_of list (k, omega (arith, below), e)
+all_of list there = let place = at_from list true there in any_there list place.0 false place.1
 
 -- a flag that was not set at the opening is set where an actor has set it
 set_by : (now : Bool) (set : List Bool) → IsSetBy now false set → (now ≡ true) ↔ Contains set true

@@ -11,7 +11,6 @@ use Rattle.segment_image.specs.Shape.{Dimensions}
 use Rattle.segment_image.specs.Words.{word_at}
 use Rattle.alloc_core.specs.Layout.{IsShape}
 use Rattle.alloc_core.proofs.Runs.{fresh_sound}
-use Rattle.bucket_ranges.specs.declared.spec.Spec.{Spec}
 use Rattle.list_core.specs.Chain.{stops}
 use Rattle.segment_machine.specs.declared.actor.Actor.{Actor}
 use Rattle.segment_machine.specs.declared.actor.Moment.{Moment}
@@ -19,32 +18,30 @@ use Rattle.segment_machine.specs.declared.place.Place.TheVariants.{Spent}
 use Rattle.segment_machine.specs.Promises.{new_state}
 use Rattle.segment_machine.specs.Seats.{opener_of}
 use Rattle.segment_machine.specs.Body.{Body, queue, histogram, counts, sample, Record, Counts, Sample, Piece, Anatomy, blank}
-use Rattle.segment_machine.specs.Seen.{Stands, HasRecord, HasCounts, HasSample, IsFirst, Sees}
+use Rattle.segment_machine.specs.Seen.{Stands, HasRecord, HasCounts, HasSample, Sees}
 use Rattle.segment_machine.specs.Kept.{ListIsKept, IsListed, RecordsAreKept, RolesAreKept, CursorsAreKept, CallsRight, IsMomentOf, FinalsAreExact, Fits, Kept, ClaimedRight, StandsRight, is_living}
 use Rattle.segment_machine.specs.Keeps.{OpeningIsKept}
+use Rattle.segment_machine.proofs.Mounted.{none_in}
 
 -- ---- lists of none and of one
 
-pub none_in : {X : Type 0} (x : X) → Contains {X = X} [] x → ⊥
-none_in x (k, below, e) = omega (arith, below)
-
-pub none_at : {X : Type 0} (k : ℕ) (x : X) → get_elem? {A = X} [] k ≡ some x → ⊥
+none_at : {X : Type 0} (k : ℕ) (x : X) → get_elem? {A = X} [] k ≡ some x → ⊥
 none_at k x e = some-ne-none x (sym e)
 
 -- nothing stands in the middle of a list of none
-pub none_between : {X : Type 0} (front behind : List X) (x : X) → [] ≡ front ++ x ∷ behind → ⊥
+none_between : {X : Type 0} (front behind : List X) (x : X) → [] ≡ front ++ x ∷ behind → ⊥
 none_between front behind x e =
     let n = ap length e in
     let m = length-append front (x ∷ behind) in
     omega (arith, n, m)
 
 -- what holds of the one of a list, and its place, holds of each
-pub one_at : {X : Type 0} (one : X) (holds : ℕ → X → Type 0) → holds 0 one → (k : ℕ) (x : X) → get_elem? (one ∷ []) k ≡ some x → holds k x
+one_at : {X : Type 0} (one : X) (holds : ℕ → X → Type 0) → holds 0 one → (k : ℕ) (x : X) → get_elem? (one ∷ []) k ≡ some x → holds k x
 one_at one holds it zero x e = subst (holds 0) (some-injective one x e) it
 one_at one holds it (suc k) x e = absurd (none_at k x e)
 
 -- there are no two of it
-pub no_two : {X : Type 0} (one : X) (i j : ℕ) (x y : X) → get_elem? (one ∷ []) i ≡ some x → get_elem? (one ∷ []) j ≡ some y → i ≢ j → ⊥
+no_two : {X : Type 0} (one : X) (i j : ℕ) (x y : X) → get_elem? (one ∷ []) i ≡ some x → get_elem? (one ∷ []) j ≡ some y → i ≢ j → ⊥
 no_two one zero zero x y a b apart = apart refl
 no_two one zero (suc j) x y a b apart = none_at j y b
 no_two one (suc i) j x y a b apart = none_at i x a
@@ -69,9 +66,6 @@ no_counts at c there = cc (stands_queue at none (counts c) there)
 
 no_sample : (at : ℕ) (s : Sample) → HasSample only at s → ⊥
 no_sample at s there = cc (stands_queue at none (sample s) there)
-
-no_first : (name : List ℕ) (spec : Spec) (at : ℕ) → IsFirst [] name spec at → ⊥
-no_first name spec at first = none_between first.0 first.1 _ first.2
 
 module _ (shape : Dimensions) (version id cursors : ℕ) (lawful : IsShape shape) where
   abbrev opened : Anatomy

@@ -198,7 +198,7 @@ module _ (pieces : List Piece) (q : Piece) where
 
 -- ---- the claims
 
-abbrev claim_of : Piece → Claim
+abbrev pub claim_of : Piece → Claim
 claim_of piece = record { at = piece.at; size = extent_of piece }
 
 abbrev claims_with : Bool → Claim → List Claim → List Claim

@@ -91,11 +91,6 @@ tally_sum entries name = fold ◌+ℤ◌ (pos 0) (map (λ entry. if is_of name e
 abbrev pub tally_noted : List Entry → List ℕ → ℕ
 tally_noted entries name = sum_by (λ entry. if is_of name entry then entry.units else 0) entries
 
--- two lists of entries have the same tally for every name
-pub record SameTally (a b : List Entry) : Type 0 where
-  pub units : (name : List ℕ) (key : ℤ) → tally_units a name key ≡ tally_units b name key
-  pub sums : (name : List ℕ) → tally_sum a name ≡ tally_sum b name
-
 -- entries of a call within its cost: the cost has a unit for each of theirs, one of them at most has an amount, and that is
 -- at most 2^31 times the cost in size
 pub record AreWithin (name : List ℕ) (cost : ℕ) (entries : List Entry) : Type 0 where

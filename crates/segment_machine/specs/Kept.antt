@@ -2,14 +2,12 @@
 -- It says what each block is, and has one part for each thing that is looked after. No part mentions how an event goes.
 use Rattle.std.specs.Prelude.{◌≡◌, ◌≢◌, ◌⊎◌, Bool, true, false, not, ◌&&◌, ◌||◌, ◌==◌, max, ℕ, ◌+◌, ◌-◌, ◌*◌, ◌^◌, ◌<◌, ◌≤◌, ℤ, pos, ◌-ℤ◌, unsigned_abs, if◌then◌else◌, List, [], ◌∷◌, ◌++◌, map, fold, take, drop, length, replicate, sum_by, slice_index, Option, Some, None, IsPermutation, ⊤}
 use Rattle.std.specs.Int.{w64, cast_signed}
-use Rattle.std.specs.Str.{bytes_eq}
 use Rattle.std.specs.List.{filter, Contains, All, flat_map}
 use mathlib.Core.Option.{some, none}
 use lib.ListN.{get_elem?}
 use Rattle.segment_image.specs.Shape.{Dimensions}
 use Rattle.alloc_core.specs.Layout.{IsShown}
-use Rattle.alloc_core.specs.Alloc.{IsPlace, IsRise}
-use Rattle.bucket_ranges.specs.declared.single.SingleWord.{SingleWord}
+use Rattle.alloc_core.specs.Alloc.{IsPlace}
 use Rattle.bucket_ranges.specs.declared.spec.Spec.{Spec}
 use Rattle.bucket_ranges.specs.declared.spec.Spec.TheVariants as spec
 use Rattle.bucket_ranges.specs.Spec.{buckets_of, spec_fault}
@@ -24,7 +22,6 @@ use Rattle.segment_machine.specs.declared.place.Place.{Place}
 use Rattle.segment_machine.specs.declared.place.Place.TheVariants.{Spent, Idle, FlagsLoaded, FreeLoaded, Raised, Sized, Marked, TailLoaded, Beaten, Linked, Looking, Losing, Moving, CountLoaded, SampleLoaded, SumLoaded, CursorLoaded, BehindCursor}
 use Rattle.segment_machine.specs.declared.actor.Actor.{Actor}
 use Rattle.segment_machine.specs.declared.actor.Answered.{Answered}
-use Rattle.segment_machine.specs.declared.actor.Cost.{Cost}
 use Rattle.segment_machine.specs.declared.actor.Given.{Given}
 use Rattle.segment_machine.specs.declared.actor.Known.{Known}
 use Rattle.segment_machine.specs.declared.actor.Made.{Made}
@@ -33,16 +30,16 @@ use Rattle.segment_machine.specs.declared.actor.Made.TheVariants as made
 use Rattle.segment_machine.specs.declared.actor.Own.{Own}
 use Rattle.segment_machine.specs.declared.actor.Sighting.{Sighting}
 use Rattle.segment_machine.specs.declared.actor.Taken.{Taken}
-use Rattle.segment_machine.specs.Entry.{is_counted, is_summed, is_noted, has_ended, AreWithin, is_of, tally_units, tally_sum, tally_noted}
-use Rattle.segment_machine.specs.Form.{is_off, form_of, off_word, units_in, Leads}
-use Rattle.segment_machine.specs.Actor.{Each, Buckets, Sparse, log_of, counted_of, word_seen, known_at, bucket_key, units_listed, taken_sum, all_counted, all_summed, all_noted, all_taken, all_published, all_given, cost_of, cost_total, units_of, IsFinal}
-use Rattle.segment_machine.specs.Made.{spec_fields, spec_ranges, AreNameWords, SawSample, IsFirstSample}
+use Rattle.segment_machine.specs.Entry.{is_counted, is_summed, has_ended, AreWithin, is_of, tally_units, tally_sum, tally_noted}
+use Rattle.segment_machine.specs.Form.{is_off, form_of, off_word, units_in}
+use Rattle.segment_machine.specs.Actor.{Buckets, log_of, counted_of, word_seen, bucket_key, units_listed, taken_sum, all_counted, all_summed, all_noted, all_taken, all_published, all_given, cost_of, units_of}
+use Rattle.segment_machine.specs.Made.{spec_fields, spec_ranges, AreNameWords, SawSample}
 use Rattle.segment_machine.specs.Note.{is_untouched, SawSingle, SawCount, SawBucket}
 use Rattle.segment_machine.specs.Promises.{accepted_by}
 use Rattle.segment_machine.specs.Consistent.{units_taken, IsWithinCounts}
 use Rattle.segment_machine.specs.Seats.{spent}
 use Rattle.segment_machine.specs.State.{State}
-use Rattle.segment_machine.specs.Body.{Record, Counts, Sample, Body, queue, plain, held, histogram, counts, sample, other, words_of, is_claimed, Piece, extent_of, Listed, listed, Anatomy, layout_of, order_of, free_of, claims_of}
+use Rattle.segment_machine.specs.Body.{Record, Counts, Sample, Body, held, histogram, sample, other, words_of, is_claimed, Piece, extent_of, Listed, listed, Anatomy, layout_of, order_of, claims_of}
 use Rattle.segment_machine.specs.Ledger.{form_at, key_of_bucket, IsBalanced}
 use Rattle.segment_machine.specs.Seen.{Stands, HasPlain, HasOwn, HasRecord, HasCounts, HasSample, IsFirst, IsFirstOf, Sees}
 

@@ -1,5 +1,5 @@
 -- What an actor learns of the number that an event found: what a call needs that goes on with it.
-use Rattle.std.specs.Prelude.{◌≡◌, ◌≢◌, ◌⊎◌, true, ℕ, ◌+◌, ◌-◌, ◌*◌, ◌<◌, ◌≤◌, ℤ, unsigned_abs, Some, None, ⊤}
+use Rattle.std.specs.Prelude.{◌≡◌, ◌≢◌, true, ℕ, ◌+◌, ◌-◌, ◌*◌, ◌≤◌, unsigned_abs, Some, None, ⊤}
 use Rattle.std.specs.Int.{w64, cast_signed}
 use Rattle.std.specs.List.{Contains}
 use Rattle.alloc_core.specs.Planned.{is_pointer}
@@ -11,7 +11,7 @@ use Rattle.segment_machine.specs.declared.actor.Actor.{Actor}
 use Rattle.segment_machine.specs.declared.actor.Known.{Known}
 use Rattle.segment_machine.specs.Form.{form_of, Leads}
 use Rattle.segment_machine.specs.Actor.{Buckets, word_seen}
-use Rattle.segment_machine.specs.Event.{Event, load_flags, load_free, exchange_free, store_size, store_cookie, store_type, store_payload, set_flag, store_own_next, load_tail, link, move_tail, load_next, load_published, load_counts, add_count, add_sum, add_redundant, load_count, raise_mark, load_sum, swap_sum_mark, load_redundant, load_single, pack, mount_counts, purge_block, disable, add_moved, raise_single_mark, load_cursor, move_cursor}
+use Rattle.segment_machine.specs.Event.{Event, load_free, exchange_free, load_tail, link, move_tail, load_next, load_published, load_counts, add_count, add_redundant, load_count, raise_mark, load_sum, swap_sum_mark, load_redundant, load_single, pack, mount_counts, disable, add_moved, raise_single_mark, load_cursor, move_cursor}
 
 -- the end of the list, or a record within the segment
 abbrev pub IsReference : Actor → ℕ → Type 0

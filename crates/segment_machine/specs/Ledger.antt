@@ -1,6 +1,6 @@
 -- The ledger: for each name and key, what the blocks of a segment hold, what is in transit with actors, and what actors did. An
 -- event changes one block and one actor at most, so it keeps these sums where it keeps one equation between the two.
-use Rattle.std.specs.Prelude.{◌≡◌, Bool, ◌&&◌, ◌==◌, ℕ, ◌+◌, ◌≤◌, ℤ, pos, ◌+ℤ◌, if◌then◌else◌, List, map, fold, sum_by, length, slice_index, Option, Some, None}
+use Rattle.std.specs.Prelude.{◌≡◌, ℕ, ◌+◌, ◌≤◌, ℤ, pos, ◌+ℤ◌, if◌then◌else◌, List, map, fold, sum_by, length, slice_index, Option, Some, None}
 use Rattle.std.specs.Int.{w64, cast_signed}
 use Rattle.std.specs.List.{range_with_len}
 use Rattle.std.specs.Str.{bytes_eq}
@@ -17,7 +17,7 @@ use Rattle.segment_machine.specs.declared.place.Place.TheVariants.{Moving}
 use Rattle.segment_machine.specs.Entry.{tally_units, tally_sum, tally_noted}
 use Rattle.segment_machine.specs.Form.{form_of, units_in}
 use Rattle.segment_machine.specs.Actor.{known_at, bucket_key, all_counted, all_summed, all_noted, all_taken, taken_units, taken_sum}
-use Rattle.segment_machine.specs.Body.{Record, Counts, Sample, Body, queue, plain, held, histogram, counts, sample, other, Piece}
+use Rattle.segment_machine.specs.Body.{Record, Body, histogram, counts, sample, Piece}
 
 -- ---- what blocks hold
 

@@ -20,4 +20,7 @@ pub mod Promises
 pub mod Learned
 pub mod Kept
 pub mod Keeps
+pub mod Follows
 pub mod Examples
+pub mod Accounts
+pub mod Lives

@@ -2,26 +2,22 @@
 -- segment only grows: blocks keep their places, words that are fixed stay, counters rise, single words lead on, the list becomes
 -- longer at its end.
 use Rattle.std.specs.Prelude.{◌≡◌, ◌≢◌, ◌⊎◌, true, ℕ, ◌+◌, ◌<◌, ◌≤◌, ℤ, List, ◌∷◌, ◌++◌, length, slice_index, Some}
-use Rattle.std.specs.List.{Contains, All}
+use Rattle.std.specs.List.{All}
 use mathlib.Core.Option.{Option, some, none}
 use lib.ListN.{get_elem?}
 use Rattle.bucket_ranges.specs.declared.spec.Spec.{Spec}
-use Rattle.bucket_ranges.specs.declared.spec.Spec.TheVariants as spec
 use Rattle.bucket_ranges.specs.Spec.{buckets_of}
 use Rattle.alloc_core.specs.Laws.{Behind}
 use Rattle.list_core.specs.Chain.{stops}
-use Rattle.list_core.specs.Laws.{IsStop}
 use Rattle.list_core.specs.Walk.{IsPrefix}
 use Rattle.segment_machine.specs.declared.actor.Actor.{Actor}
-use Rattle.segment_machine.specs.declared.actor.Answered.{Answered}
 use Rattle.segment_machine.specs.declared.actor.Known.{Known}
 use Rattle.segment_machine.specs.declared.actor.Made.TheVariants as made
 use Rattle.segment_machine.specs.declared.actor.Own.{Own}
 use Rattle.segment_machine.specs.declared.actor.Sighting.{Sighting}
 use Rattle.segment_machine.specs.Form.{is_off, Leads}
-use Rattle.segment_machine.specs.Actor.{has_buckets}
 use Rattle.segment_machine.specs.Made.{SameSpec}
-use Rattle.segment_machine.specs.Body.{Record, Counts, Sample, Body, queue, plain, held, histogram, counts, sample, other, words_of, Piece, Listed, Anatomy, order_of, free_of}
+use Rattle.segment_machine.specs.Body.{Record, Counts, Sample, Body, plain, held, histogram, counts, sample, other, words_of, Piece, Listed, Anatomy, order_of, free_of}
 
 -- ---- blocks by their places
 

@@ -25,7 +25,7 @@ memory state = state.words ++ state.cursors
 pub record IsStep (version : ℕ) (old : State) (id : ℕ) (event : Event) (new : State) : Type 0 where
   pub actor : Actor
   pub there : get_elem? old.actors id ≡ some actor
-  pub records : actor.opener ≡ 0
+  pub is_recorder : actor.opener ≡ 0
   pub before : List Note
   pub at : Actor
   pub notes_before : Notes actor before at

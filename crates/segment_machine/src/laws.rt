@@ -1,15 +1,33 @@
-//! The laws of the machine: what its definitions say of worked examples.
+//! The laws of the machine: what follows from its definitions, and what they say of worked examples.
 //!
 //! The functions do nothing. What each promises is a law of the definitions in `specs/`; the examples are in
 //! `specs/Examples.antt`.
 
-ghost use Rattle.segment_machine.specs.Promises.{StepsChangeOne};
-ghost use Rattle.segment_machine.specs.Keeps.{OpeningIsKept, SplitsKeep, JoinsKeep, LendsKeep, KeptFlagsAreSet};
+ghost use Rattle.segment_machine.specs.Promises.{StepsChangeOne, KeysAreLeast};
+ghost use Rattle.segment_machine.specs.Follows.{StepsFollow, TablesFollow};
+ghost use Rattle.segment_machine.specs.Lives.{RecorderIsJoined, LinksLengthen, DeltaOwes, SnapshotOwes};
+ghost use Rattle.segment_machine.specs.Accounts.{MountedAgrees, TakersAgree, SparseAgrees, BatchAgrees};
+ghost use Rattle.segment_machine.specs.Keeps.{OpeningIsKept, SplitsKeep, JoinsKeep, LendsKeep, KeptFlagsAreSet, KeptIsChain, KeptUnitsAreKept};
 ghost use Rattle.segment_machine.specs.Examples.{Keys, PackedThenMounted, StoppedInTransit, PackingLimit, DeltasAndMarks, TwoTakers, PackedRun, MountingRun, TakerRuns, TakingRun, SparseSamples, Batches, MountedIsConsistent, ListBreaks, RecordsBreak, TotalsBreak, MarksBreak, SumsBreak, TransitBreaks, FlagsBreak, UnitsBreak};
 
 /// A step changes one word and one actor at most.
 pub fn steps_change_one()
     ensures { StepsChangeOne }
+{}
+
+/// A step whose event and whose notes keep what holds keeps it, and its actor learns of the number that was found.
+pub fn steps_follow()
+    ensures { StepsFollow }
+{}
+
+/// A table, whose slots have values of a type, may do a step on a segment's words that is an event which keeps what holds.
+pub fn tables_follow<S>()
+    ensures { TablesFollow S }
+{}
+
+/// The key of a value is the least value of its bucket.
+pub fn keys_are_least()
+    ensures { KeysAreLeast }
 {}
 
 /// The keys of values, with buckets and without.
@@ -79,6 +97,47 @@ pub fn mounted_is_consistent()
     ensures { MountedIsConsistent }
 {}
 
+/// The ledger of the segment that was packed and then mounted, settled and while its units are in transit: what the blocks hold and
+/// what is in transit is what the actors counted.
+pub fn mounted_agrees()
+    ensures { MountedAgrees }
+{}
+
+/// The ledger beside deltas, of one taker and of two: the marks that blocks hold are what was taken.
+pub fn takers_agree()
+    ensures { TakersAgree }
+{}
+
+/// The ledger of a sparse histogram.
+pub fn sparse_agrees()
+    ensures { SparseAgrees }
+{}
+
+/// The ledger of a batch.
+pub fn batch_agrees()
+    ensures { BatchAgrees }
+{}
+
+/// A recorder that is made, lent units and joined: the opener has all units again, and has seen what the recorder saw.
+pub fn recorder_is_joined()
+    ensures { RecorderIsJoined }
+{}
+
+/// A link that finds the end of the list makes the chain longer by its record.
+pub fn links_lengthen()
+    ensures { LinksLengthen }
+{}
+
+/// A delta of a packed word took what had been accepted.
+pub fn delta_owes()
+    ensures { DeltaOwes }
+{}
+
+/// A snapshot of a packed word has what had been accepted.
+pub fn snapshot_owes()
+    ensures { SnapshotOwes }
+{}
+
 /// The list is no chain where a word behind the free pointer is not 0.
 pub fn list_breaks()
     ensures { ListBreaks }
@@ -142,4 +201,14 @@ pub fn lends_keep()
 /// The flags of a kept state are set exactly where an actor has set them.
 pub fn kept_flags_are_set()
     ensures { KeptFlagsAreSet }
+{}
+
+/// The list of a kept state is the chain.
+pub fn kept_is_chain()
+    ensures { KeptIsChain }
+{}
+
+/// The units of a kept state are kept, and its sums are bounded by what was spent.
+pub fn kept_units_are_kept()
+    ensures { KeptUnitsAreKept }
 {}

@@ -1,0 +1,85 @@
+-- The units of a kept state are kept: its sums are near each other, by what was spent on their histogram.
+use Rattle.std.proofs.Common.{◌≡◌, ◌≢◌, Bool, true, false, ℕ, ◌+◌, ◌*◌, ◌≤◌, ℤ, pos, List, ◌∷◌, length, filter, inl, inr, refl, sym, ap, subst, ◌∙◌, arith, Some, None}
+use Rattle.std.specs.Prelude as std
+use Rattle.std.specs.Prelude.{unsigned_abs, ◌==◌, ◌-ℤ◌, if◌then◌else◌}
+use Rattle.std.specs.Int.{w64, cast_signed}
+use Rattle.std.specs.List.{Contains}
+use Rattle.std.proofs.Math.IntN.{+ℤ_idr}
+use Rattle.std.proofs.lemmas.List.Elements.{Contains-append_right}
+use Rattle.std.proofs.lemmas.List.Sums.{sum_by-le-sum_by}
+use Rattle.segment_image.specs.Shape.{Dimensions}
+use Rattle.segment_image.specs.Blocks.{field_at}
+use Rattle.segment_machine.specs.declared.actor.Actor.{Actor}
+use Rattle.segment_machine.specs.declared.actor.Made.{Made}
+use Rattle.segment_machine.specs.declared.actor.Made.TheVariants as made
+use Rattle.segment_machine.specs.State.{State}
+use Rattle.segment_machine.specs.Actor.{cost_of, all_costs}
+use Rattle.segment_machine.specs.Consistent.{IsHistogram, IsSum}
+use Rattle.segment_machine.specs.Body.{Record, Listed, order_of, blank}
+use Rattle.segment_machine.specs.Seen.{HasRecord}
+use Rattle.segment_machine.specs.Kept.{StandsAs, summed_cost, summed_costs, IsSumOf, Kept}
+use Rattle.segment_machine.specs.Keeps.{KeptUnitsAreKept}
+use Rattle.segment_machine.proofs.Lists.{at_from}
+use Rattle.segment_machine.proofs.ImpliedRecords.{listed_there, each_given, record_word, sample_type, record_name}
+
+-- what a sum has grown by was spent, or is held
+part_of : (b : Bool) (n : ℕ) → (if b then 0 else n) ≤ n
+part_of true n = omega arith
+part_of false n = omega arith
+
+summed_is_spent : (name : List ℕ) (actors : List Actor) → summed_costs name actors ≤ all_costs actors name
+summed_is_spent name actors =
+    sum_by-le-sum_by (summed_cost name) (λ a. cost_of a.costs name + cost_of a.held name) actors
+    (λ a. let part = part_of (length (filter (λ c. c.summed) a.running) == 0) (cost_of a.held name) in omega (arith, part))
+
+-- ---- a kept state of a new segment
+
+module _ (shape : Dimensions) (version id : ℕ) (state : State) (kept : Kept shape (blank version id shape.size) state) where
+  -- a histogram of the list is a record of its name
+  histogram_record : (name : List ℕ) (at : ℕ) → IsHistogram state.words (order_of kept.anatomy) name at
+      → (r : Record) × HasRecord kept.anatomy.pieces at r × (r.name ≡ name)
+  histogram_record name at is =
+      let there = subst (λ (chain : List ℕ). Contains chain at) (sym is.stands) (Contains-append_right is.front (at ∷ is.behind) at (0, omega arith, refl)) in
+      let (l, among, place, standing) = listed_there state.words (blank version id shape.size) kept.anatomy state.actors at kept.list there in
+      stands l l.made standing place (each_given state.words (blank version id shape.size) kept.anatomy state.actors l kept.list refl among)
+    where
+      stands : (l : Listed) (made : std.Option Made) → StandsAs kept.anatomy.pieces l made → l.reference ≡ at → made ≢ None
+          → (r : Record) × HasRecord kept.anatomy.pieces at r × (r.name ≡ name)
+      stands l (Some (made.Histogram other spec)) (r, has, named, specified) place given =
+          let here = subst (λ (at : ℕ). HasRecord kept.anatomy.pieces at r) place has in
+          (r, here, sym (record_name shape state.words kept.anatomy kept.shown kept.anatomy.version at r here (kept.records.lawful at r here)) ∙ is.named.1)
+      stands l (Some (made.Sample of value)) (s, has, mine, valued) place given =
+          let three = sample_type shape state.words kept.anatomy kept.shown l.reference s has in
+          let one = is.named.0 in
+          absurd (omega (arith, subst (λ (at : ℕ). field_at state.words at 2 ≡ 3) place three, one))
+      stands l None standing place given = absurd (given refl)
+
+  -- a sum of it is one of its record
+  sum_of_record : (at : ℕ) (r : Record) (sum : ℤ) → HasRecord kept.anatomy.pieces at r → IsSum state.words state.actors at sum → IsSumOf state.actors at r sum
+  sum_of_record at r sum there (inl now) = inr (inl (now ∙ ap (cast_signed w64) (record_word shape state.words kept.anatomy kept.shown at r 11 there (omega arith))))
+  sum_of_record at r sum there (inr (inl mark)) =
+      inr (inr (inl (mark ∙ ap (cast_signed w64) (record_word shape state.words kept.anatomy kept.shown at r 12 there (omega arith)))))
+  sum_of_record at r sum there (inr (inr (a, among, loaded))) =
+      let place = at_from state.actors a among in inr (inr (inr (place.0, a, place.1, loaded)))
+
+  -- any two sums of a histogram are near each other, and near to none
+  near : (name : List ℕ) (at : ℕ) (r : Record) (x y : ℤ) → HasRecord kept.anatomy.pieces at r → r.name ≡ name → IsSumOf state.actors at r x → IsSumOf state.actors at r y
+      → unsigned_abs (x -ℤ y) ≤ 2147483648 * all_costs state.actors name
+  near name at r x y there named first second =
+      let close = kept.sums at r x y there first second in
+      let less = summed_is_spent r.name state.actors in
+      let same = ap (λ (name : List ℕ). all_costs state.actors name) named in
+      omega (arith, close, less, same)
+
+pub units_are_kept : KeptUnitsAreKept
+units_are_kept shape version id state lawful kept = record {
+  pool = kept.pool;
+  sums = λ name at a is sum.
+      let (r, there, named) = histogram_record shape version id state kept name at is in
+      let h = near shape version id state kept name at r a (pos 0) there named (sum_of_record shape version id state kept at r a there sum) (inl refl) in
+      subst (λ (z : ℤ). unsigned_abs z ≤ 2147483648 * all_costs state.actors name) (+ℤ_idr a) h;
+  differences = λ name at a b is first second.
+      let (r, there, named) = histogram_record shape version id state kept name at is in
+      near shape version id state kept name at r a b there named (sum_of_record shape version id state kept at r a there first)
+      (sum_of_record shape version id state kept at r b there second);
+}

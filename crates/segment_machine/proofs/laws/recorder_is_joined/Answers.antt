@@ -1,0 +1,89 @@
+use Rattle.std.proofs.Common.{◌≡◌, ◌≢◌, ℕ, [], ◌∷◌, inl, refl, arith}
+use Rattle.alloc_core.specs.Layout.{IsShape}
+use Rattle.segment_machine.specs.declared.actor.Actor.{Actor}
+use Rattle.segment_machine.specs.Event.{load_flags, load_cursor}
+use Rattle.segment_machine.specs.Next.{next}
+use Rattle.segment_machine.specs.Seats.{opener_of, lender}
+use Rattle.segment_machine.specs.State.{State, IsStep}
+use Rattle.segment_machine.specs.Promises.{IsSplit, IsLent, IsJoin, IsReached, started, stepped, split, lent, joined_in}
+use Rattle.segment_machine.specs.Examples.{shape}
+use Rattle.segment_machine.specs.Lives as lives
+use Rattle.segment_machine.proofs.laws.recorder_is_joined.Goals as goal
+
+abbrev opener : Actor
+opener = lender lives.split_opener 3
+
+abbrev loaded : Actor
+loaded = next lives.lent load_flags 0
+
+-- the states one after the other
+abbrev made : State
+made = lives.with_actors (lives.split_opener ∷ lives.recorder ∷ [])
+
+abbrev holding : State
+holding = lives.with_actors (opener ∷ lives.lent ∷ [])
+
+abbrev flagged : State
+flagged = lives.with_actors (opener ∷ loaded ∷ [])
+
+abbrev looked : State
+looked = lives.with_actors (opener ∷ lives.looked ∷ [])
+
+splits : IsSplit lives.opened 0 5 made
+splits = (opener_of shape 1, refl, (refl, refl, omega arith, omega arith), refl)
+
+apart : (n : ℕ) → n ≡ 0 → n ≢ 1
+apart n is e = omega (arith, is, e)
+
+lends : IsLent made 0 1 3 holding
+lends = (lives.split_opener, lives.recorder, apart 0 refl, refl, refl, (refl, refl, (λ e. cc e), omega arith), refl)
+
+loads : IsStep 1 holding 1 load_flags flagged
+loads = record {
+  actor = lives.lent;
+  there = refl;
+  is_recorder = refl;
+  before = [];
+  at = lives.lent;
+  notes_before = refl;
+  ready = refl;
+  behind = [];
+  then_is = loaded;
+  notes_behind = refl;
+  size = refl;
+  memory_is = refl;
+  actors_are = refl;
+}
+
+looks : IsStep 1 flagged 1 (load_cursor 0) looked
+looks = record {
+  actor = loaded;
+  there = refl;
+  is_recorder = refl;
+  before = [];
+  at = loaded;
+  notes_before = refl;
+  ready = refl;
+  behind = [];
+  then_is = lives.looked;
+  notes_behind = refl;
+  size = refl;
+  memory_is = refl;
+  actors_are = refl;
+}
+
+joins : IsJoin looked 0 1 lives.joined_state
+joins = (opener, lives.looked, apart 0 refl, refl, refl, (refl, refl, omega arith, refl, refl, refl, refl, refl), refl)
+
+reached : IsReached 1 lives.opened lives.joined_state
+reached =
+    joined_in looked lives.joined_state 0 1
+    (stepped flagged looked 1 (load_cursor 0)
+    (stepped holding flagged 1 load_flags (lent made holding 0 1 3 (split lives.opened made 0 5 started splits) lends) loads) looks)
+    joins
+
+lawful : IsShape shape
+lawful = record { wide = omega arith; one = omega arith; many = omega arith; whole = refl }
+
+pub returns : goal.returns
+returns c = ((lawful, inl refl, omega arith, reached), (refl, refl), refl, refl, refl, refl, refl)

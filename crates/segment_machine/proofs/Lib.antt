@@ -1,7 +1,10 @@
 pub mod Acting
 pub mod Actors
+pub mod Allocating
+pub mod AllocatingKeeps
 pub mod Alone
 pub mod Anatomies
+pub mod Filling
 pub mod Follow
 pub mod Goings
 pub mod ImpliedBlocks
@@ -10,6 +13,13 @@ pub mod ImpliedFlags
 pub mod ImpliedRecords
 pub mod ImpliedUnits
 pub mod Keys
+pub mod ListingActors
+pub mod ListingEvents
+pub mod ListingGrowth
+pub mod ListingKept
+pub mod ListingReads
+pub mod ListingRecords
+pub mod ListingWalks
 pub mod Lists
 pub mod Making
 pub mod Mounted
@@ -30,4 +40,5 @@ pub mod SeatsSplit
 pub mod SeatsSums
 pub mod SeatsTurned
 pub mod Stops
+pub mod Storing
 pub mod Taking

@@ -1,11 +1,10 @@
 -- A state is kept where an actor that allocates changes nothing, stores into a block in its making, takes words for one, or sets a flag.
-use Rattle.std.proofs.Common.{◌≡◌, ◌≢◌, ◌⊎◌, ℕ, zero, suc, ◌+◌, ◌-◌, ◌<◌, ◌≤◌, Bool, true, false, true≢false, List, [], ◌∷◌, ◌++◌, map, length, replicate, set, All, inl, inr, ⊎_elim, refl, sym, ap, ◌∙◌, subst, append_assoc, arith}
+use Rattle.std.proofs.Common.{◌≡◌, ℕ, ◌+◌, ◌-◌, ◌≤◌, Bool, false, true≢false, List, [], ◌∷◌, ◌++◌, map, set, All, inl, inr, refl, sym, ap, ◌∙◌, subst, append_assoc, arith}
 use Rattle.std.specs.Prelude.{IsPermutation, fold, ◌||◌}
 use Rattle.std.specs.List.{flat_map}
-use Rattle.std.proofs.lemmas.List.{length-replicate}
 use Rattle.std.proofs.lemmas.List.Elements.{All-weaker}
 use Rattle.std.proofs.lemmas.List.Sorted.{IsPermutation-refl, IsPermutation-sym, IsPermutation-trans, IsPermutation-append}
-use mathlib.Core.Option.{Option, some, none, some-injective, some-ne-none}
+use mathlib.Core.Option.{some}
 use lib.ListN.{get_elem?}
 use Rattle.segment_image.specs.Shape.{Dimensions}
 use Rattle.alloc_core.specs.Layout.{IsShown}
@@ -18,14 +17,13 @@ use Rattle.segment_machine.specs.declared.actor.Claim.{Claim}
 use Rattle.segment_machine.specs.declared.actor.Own.{Own}
 use Rattle.segment_machine.specs.declared.place.Place.{Place}
 use Rattle.segment_machine.specs.State.{State}
-use Rattle.segment_machine.specs.Body.{Body, plain, held, is_claimed, Piece, extent_of, Anatomy, layout_of, order_of, free_of, claims_of}
-use Rattle.segment_machine.specs.Seen.{Stands}
+use Rattle.segment_machine.specs.Body.{held, is_claimed, Piece, extent_of, Anatomy, layout_of, order_of, free_of, claims_of}
 use Rattle.segment_machine.specs.Kept.{StandsRight, HoldsOwn, IsSetBy, ClaimedRight, Kept}
 use Rattle.segment_machine.proofs.Lists.{rows, rows_more, column}
-use Rattle.segment_machine.proofs.Pieces.{stands_beside, stands_longer, claims_same, claims_more, claims_grown, with_piece, free_with, raw_piece, grown_by, layout_grown, free_more}
+use Rattle.segment_machine.proofs.Pieces.{stands_beside, stands_longer, claims_same, claims_grown, with_piece, free_with, raw_piece, grown_by, layout_grown, free_more}
 use Rattle.segment_machine.proofs.Stops.{linked_beside_head}
 use Rattle.segment_machine.proofs.Actors.{Doing, doing, doing_of, TurnsTo}
-use Rattle.segment_machine.proofs.Acting.{IsMaking, stays_same, stays_put, others_put, stays_longer, still_same, still_put, still_longer, right_put, right_longer, Acts, unlisted, acts_on}
+use Rattle.segment_machine.proofs.Acting.{IsMaking, stays_same, stays_put, others_put, stays_longer, still_same, still_put, still_longer, right_put, right_longer, unlisted, acts_on}
 
 -- A block in the making, or one's own, becomes another of the same place, extent and owner, and the words are those with it.
 pub record IsStore (shape : Dimensions) (anatomy : Anatomy) (id k : ℕ) (p q : Piece) (words : List ℕ) : Type 0 where
@@ -59,13 +57,13 @@ module _ (shape : Dimensions) (opened : Anatomy) (state : State) (kept : Kept sh
       IsPermutation (claims_of pieces) (claims_of opened.pieces ++ flat_map (λ (a : Actor). a.claimed) (set state.actors id (doing a (unlisted a d))))
 
   -- the claims are those that they were
-  claims_kept : (pieces : List Piece) (d : Doing) → claims_of pieces ≡ claims_of anatomy.pieces → d.claimed ≡ a.claimed → Claims pieces d
+  pub claims_kept : (pieces : List Piece) (d : Doing) → claims_of pieces ≡ claims_of anatomy.pieces → d.claimed ≡ a.claimed → Claims pieces d
   claims_kept pieces d same claimed =
       subst (λ (c : List Claim × List Claim). IsPermutation c.0 (claims_of opened.pieces ++ c.1))
       (λ i. (sym same i, sym (rows (λ (a : Actor). a.claimed) state.actors id a (doing a (unlisted a d)) mine claimed) i)) kept.claims
 
   -- or one more
-  claims_longer : (pieces : List Piece) (d : Doing) (claim : Claim) → IsPermutation (claims_of pieces) (claims_of anatomy.pieces ++ claim ∷ [])
+  pub claims_longer : (pieces : List Piece) (d : Doing) (claim : Claim) → IsPermutation (claims_of pieces) (claims_of anatomy.pieces ++ claim ∷ [])
       → d.claimed ≡ a.claimed ++ claim ∷ [] → Claims pieces d
   claims_longer pieces d claim more claimed =
       let all : List Claim = flat_map (λ (a : Actor). a.claimed) state.actors in
@@ -209,5 +207,34 @@ module _ (shape : Dimensions) (opened : Anatomy) (state : State) (kept : Kept sh
               ends = is.ends;
             })
             a.own fits.own;
+        apart = fits.apart;
+      })
+
+  -- ---- a flag is set
+
+  pub flags_set : (corrupt full : Bool) (v : ℕ) (place : Place) (spoiled filled : Bool) → TurnsTo a place
+      → IsShown shape (set state.words 6 v) (layout_of (record anatomy { corrupt = corrupt; full = full }))
+      → IsSetBy corrupt opened.corrupt (map (λ a. a.spoiled) (set state.actors id (record a { place = place; spoiled = spoiled; filled = filled })))
+      → IsSetBy full opened.full (map (λ a. a.filled) (set state.actors id (record a { place = place; spoiled = spoiled; filled = filled })))
+      → StandsRight shape (record anatomy { corrupt = corrupt; full = full }) id (record a { place = place; spoiled = spoiled; filled = filled }) place
+      → GoesTo (set state.words 6 v) (record (doing_of a) { place = place; spoiled = spoiled; filled = filled })
+  flags_set corrupt full v place spoiled filled turns shown is_corrupt is_full stands =
+      let d : Doing = record (doing_of a) { place = place; spoiled = spoiled; filled = filled } in
+      let fits = kept.each id a mine turns.lived in
+      acts_on shape opened state kept id a mine records d turns anatomy.pieces anatomy.spare corrupt full (set state.words 6 v)
+      (record {
+        shown = shown;
+        stays = stays_same anatomy.pieces;
+        others = λ other at body ne has. has;
+        still = still_same anatomy.pieces;
+        blocks = kept.blocks;
+        linked = linked_beside_head shape state.words anatomy kept.shown kept.list.standing 6 v (omega arith) kept.list.linked;
+        claims = claims_kept anatomy.pieces d refl refl;
+        free = λ seen behind. behind;
+        corrupt = is_corrupt;
+        full = is_full;
+        stands = stands;
+        seen = fits.sees.free;
+        own = fits.own;
         apart = fits.apart;
       })

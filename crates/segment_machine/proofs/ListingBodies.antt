@@ -166,21 +166,30 @@ counts_of block at name spec = record {
   rest = replicate (block.size - 4 - (buckets_of spec + buckets_of spec)) 0;
 }
 
+-- zeros in three parts
+zeros_split : (n rest : ℕ) → replicate {A = ℕ} (n + n + rest) 0 ≡ replicate {A = ℕ} n 0 ++ replicate {A = ℕ} n 0 ++ replicate {A = ℕ} rest 0
+zeros_split n rest =
+    sym (replicate-append-replicate (n + n) rest 0)
+    ∙ ap (λ (l : List ℕ). l ++ replicate {A = ℕ} rest 0) (sym (replicate-append-replicate n n 0))
+
 module _ (block : Own) (at : ℕ) (name : List ℕ) (spec : Spec) (tag : block.tag ≡ 2) (bare : block.payload ≡ []) (room : 4 + 2 * buckets_of spec ≤ block.size) where
   abbrev c : Counts
   c = counts_of block at name spec
 
-  pub counts_words_are : counts_words c ≡ own_words block
-  counts_words_are =
-      let n : ℕ = buckets_of spec in
-      let rest : ℕ = block.size - 4 - (n + n) in
+  -- the zeros of the block are those of its counts, of its marks and of what stands behind
+  zeros_are : replicate {A = ℕ} (block.size - 4 - length block.payload) 0 ≡ c.units ++ c.marks ++ c.rest
+  zeros_are =
       let none : length block.payload ≡ 0 = ap length bare in
-      let all : block.size - 4 - length block.payload ≡ n + n + rest = omega (arith, none, room) in
-      let zeros : replicate {A = ℕ} (block.size - 4 - length block.payload) 0 ≡ replicate {A = ℕ} n 0 ++ replicate {A = ℕ} n 0 ++ replicate {A = ℕ} rest 0 =
-      ap (λ (k : ℕ). replicate {A = ℕ} k 0) all
-      ∙ (sym (replicate-append-replicate (n + n) rest 0)
-      ∙ ap (λ (l : List ℕ). l ++ replicate {A = ℕ} rest 0) (sym (replicate-append-replicate n n 0))) in
-      sym (λ i. block.size ∷ 0xC8799269 ∷ tag i ∷ block.next ∷ ((ap (λ (l : List ℕ). l ++ replicate {A = ℕ} (block.size - 4 - length block.payload) 0) bare ∙ zeros) i))
+      let all : block.size - 4 - length block.payload ≡ buckets_of spec + buckets_of spec + (block.size - 4 - (buckets_of spec + buckets_of spec)) =
+      omega (arith, none, room) in
+      ap (λ (k : ℕ). replicate {A = ℕ} k 0) all ∙ zeros_split (buckets_of spec) (block.size - 4 - (buckets_of spec + buckets_of spec))
+
+  -- its words are those of the block
+  pub counts_words_are : counts_words c ≡ own_words block
+  counts_words_are = sym (λ i. block.size ∷ 0xC8799269 ∷ tag i ∷ block.next ∷ (bare_zeros i))
+    where
+      bare_zeros : block.payload ++ replicate {A = ℕ} (block.size - 4 - length block.payload) 0 ≡ c.units ++ c.marks ++ c.rest
+      bare_zeros = ap (λ (l : List ℕ). l ++ replicate {A = ℕ} (block.size - 4 - length block.payload) 0) bare ∙ zeros_are
 
   pub counts_zeros : All (λ n. n ≡ 0) c.units × All (λ n. n ≡ 0) c.marks
   counts_zeros = (All-replicate (λ (n : ℕ). n ≡ 0) (buckets_of spec) 0 refl, All-replicate (λ (n : ℕ). n ≡ 0) (buckets_of spec) 0 refl)
@@ -219,24 +228,31 @@ sample_of own name histogram value = record {
   rest = replicate (own.size - 8) 0;
 }
 
+-- zeros behind a front that ends in zeros
+zeros_behind : (payload front : List ℕ) (k n : ℕ) → payload ++ replicate k 0 ≡ front → payload ++ replicate (k + n) 0 ≡ front ++ replicate n 0
+zeros_behind payload front k n is =
+    ap (λ (l : List ℕ). payload ++ l) (sym (replicate-append-replicate k n 0))
+    ∙ (sym (append_assoc payload (replicate {A = ℕ} k 0) (replicate {A = ℕ} n 0))
+    ∙ ap (λ (l : List ℕ). l ++ replicate {A = ℕ} n 0) is)
+
 module _ (own : Own) (name : List ℕ) (histogram : ℕ) (value : ℤ) (k : ℕ)
     (payload_is : own.payload ++ replicate k 0 ≡ histogram ∷ cast_unsigned w64 value ∷ []) (room : 8 ≤ own.size) where
   abbrev s : Sample
   s = sample_of own name histogram value
 
-  pub sample_words_are : own.tag ≡ 3 → sample_words s ≡ own_words own
-  sample_words_are tag =
+  -- behind what was stored of its payload are its count, its mark and what stands behind them
+  payload_whole : own.payload ++ replicate {A = ℕ} (own.size - 4 - length own.payload) 0 ≡ histogram ∷ cast_unsigned w64 value ∷ 0 ∷ 0 ∷ s.rest
+  payload_whole =
       let both = ap length payload_is in
       let e = length-append own.payload (replicate {A = ℕ} k 0) in
       let f = length-replicate {A = ℕ} k 0 in
-      let rest : ℕ = own.size - 8 in
-      let split : own.size - 4 - length own.payload ≡ k + suc (suc rest) = omega (arith, both, e, f, room) in
-      let whole : own.payload ++ replicate {A = ℕ} (own.size - 4 - length own.payload) 0 ≡ histogram ∷ cast_unsigned w64 value ∷ 0 ∷ 0 ∷ replicate {A = ℕ} rest 0 =
+      let split : own.size - 4 - length own.payload ≡ k + suc (suc (own.size - 8)) = omega (arith, both, e, f, room) in
       ap (λ (n : ℕ). own.payload ++ replicate {A = ℕ} n 0) split
-      ∙ (ap (λ (l : List ℕ). own.payload ++ l) (sym (replicate-append-replicate k (suc (suc rest)) 0))
-      ∙ (sym (append_assoc own.payload (replicate {A = ℕ} k 0) (replicate {A = ℕ} (suc (suc rest)) 0))
-      ∙ ap (λ (l : List ℕ). l ++ replicate {A = ℕ} (suc (suc rest)) 0) payload_is)) in
-      sym (λ i. own.size ∷ 0xC8799269 ∷ tag i ∷ own.next ∷ whole i)
+      ∙ zeros_behind own.payload (histogram ∷ cast_unsigned w64 value ∷ []) k (suc (suc (own.size - 8))) payload_is
+
+  -- its words are those of the block
+  pub sample_words_are : own.tag ≡ 3 → sample_words s ≡ own_words own
+  sample_words_are tag = sym (λ i. own.size ∷ 0xC8799269 ∷ tag i ∷ own.next ∷ payload_whole i)
 
   pub sample_lawful : is_i32 value ≡ true → IsLawfulSample s
   sample_lawful valued =

@@ -8,6 +8,8 @@ pub mod ImpliedBlocks
 pub mod ImpliedChain
 pub mod ImpliedFlags
 pub mod ImpliedRecords
+pub mod ImpliedSpecs
+pub mod ImpliedTransit
 pub mod ImpliedUnits
 pub mod Keys
 pub mod Lists
@@ -17,5 +19,6 @@ pub mod Opening
 pub mod Pairs
 pub mod Pieces
 pub mod SeatsSums
+pub mod Singled
 pub mod Stops
 pub mod Taking

@@ -56,10 +56,10 @@ boundaries_spelled (Custom values) = ap (λ (inner : List ℕ). 0 ∷ (inner ++ 
 boundaries_spelled Sparse = refl
 
 -- the fields of a spec and its ranges name it
-abbrev field_named : List ℕ → List ℕ → Spec
+abbrev pub field_named : List ℕ → List ℕ → Spec
 field_named fields inner = spec_named (slice_index fields 0) (slice_index fields 1) (slice_index fields 2) (slice_index fields 3) inner
 
-named_by : (spec : Spec) (inner : List ℕ) → (slice_index (spec_fields spec) 0 ≡ 3 → inner ≡ spec_ranges spec) → field_named (spec_fields spec) inner ≡ spelled spec
+pub named_by : (spec : Spec) (inner : List ℕ) → (slice_index (spec_fields spec) 0 ≡ 3 → inner ≡ spec_ranges spec) → field_named (spec_fields spec) inner ≡ spelled spec
 named_by (Linear min max n) inner ranges = refl
 named_by Boolean inner ranges = refl
 named_by (Custom values) inner ranges = ap Custom (ranges refl)

@@ -1,6 +1,6 @@
 -- Units of a kept state are in transit in version 1 alone, and in the packed bucket alone.
 use Rattle.std.proofs.Common.{◌≡◌, Bool, true, false, ◌&&◌, ◌==◌, ℕ, ◌<◌, if◌then◌else◌, sym, ap, subst, ◌∙◌, refl, arith, Some}
-use Rattle.std.proofs.lemmas.Bool.{eqb-true}
+use Rattle.std.proofs.lemmas.Bool.{eqb-true, and_parts}
 use Rattle.segment_image.specs.Shape.{Dimensions}
 use Rattle.bucket_ranges.specs.Single.{packed_bucket}
 use Rattle.segment_machine.specs.declared.actor.Actor.{Actor}
@@ -21,18 +21,13 @@ local_to : (b : Bool) (units : ℕ) → 0 < (if b then units else 0) → b ≡ t
 local_to true units above = refl
 local_to false units above = absurd (omega (arith, above))
 
-both_true : (b c : Bool) → (b && c) ≡ true → (b ≡ true) × (c ≡ true)
-both_true true true e = (refl, refl)
-both_true true false e = (refl, e)
-both_true false c e = (e, cc e)
-
 -- an actor that moves units of a bucket disabled the word of its record, in version 1
 moves : (shape : Dimensions) (version id who : ℕ) (state : State) (kept : Kept shape (blank version id shape.size) state) (a : Actor) (at i : ℕ) (place : Place)
     → StandsRight shape kept.anatomy who a place → 0 < transit_at place at i
     → (r : Record) × HasRecord kept.anatomy.pieces at r × (kept.anatomy.version ≡ 1) × (packed_bucket (form_at 1 r) ≡ Some i)
 moves shape version id who state kept a at i (Moving look bucket units) (looks, first, counts, least, most, (r, there, packed, off), unseen) above =
     let both = local_to ((look.histogram == at) && (bucket == i)) units above in
-    let same = both_true (look.histogram == at) (bucket == i) both in
+    let same = and_parts (look.histogram == at) (bucket == i) both in
     let here : look.histogram ≡ at = eqb-true look.histogram at same.0 in
     let this : bucket ≡ i = eqb-true bucket i same.1 in
     (r, subst (λ (at : ℕ). HasRecord kept.anatomy.pieces at r) here there, first, packed ∙ ap Some this)

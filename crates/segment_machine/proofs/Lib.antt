@@ -6,9 +6,12 @@ pub mod Follow
 pub mod Goings
 pub mod ImpliedBlocks
 pub mod ImpliedChain
+pub mod ImpliedFirsts
 pub mod ImpliedFlags
+pub mod ImpliedKeys
 pub mod ImpliedRecords
 pub mod ImpliedSpecs
+pub mod ImpliedSums
 pub mod ImpliedTransit
 pub mod ImpliedUnits
 pub mod Keys

@@ -1,5 +1,5 @@
 -- The blocks of the list: the queue block and the records stand as blocks without owner, so a store elsewhere leaves the list.
-use Rattle.std.proofs.Common.{◌≡◌, ℕ, zero, suc, ◌+◌, ◌<◌, ◌≤◌, List, set, All, inl, inr, refl, sym, ap, ◌∙◌, subst, arith}
+use Rattle.std.proofs.Common.{◌≡◌, ◌≢◌, ◌⊎◌, ℕ, zero, suc, ◌+◌, ◌<◌, ◌≤◌, List, ◌∷◌, map, length, set, get_or, All, inl, inr, refl, sym, ap, ◌∙◌, subst, arith}
 use Rattle.std.specs.Prelude.{slice_index}
 use Rattle.std.specs.Prelude as std
 use Rattle.std.proofs.lemmas.List.{length-map}
@@ -7,13 +7,14 @@ use mathlib.Core.Option.{some, none, some-injective, some-ne-none}
 use lib.ListN.{get_elem?}
 use Rattle.atomic_table.proofs.Lists.{at_map}
 use Rattle.segment_image.specs.Shape.{Dimensions}
+use Rattle.segment_image.specs.Words.{word_at}
 use Rattle.alloc_core.specs.Layout.{IsShown}
 use Rattle.list_core.specs.Chain.{stops, IsLinked}
 use Rattle.list_core.specs.Laws.{IsStop}
 use Rattle.list_core.proofs.Chains.{linked_beside}
 use Rattle.segment_machine.specs.declared.actor.Made.{Made}
 use Rattle.segment_machine.specs.declared.actor.Made.TheVariants as made
-use Rattle.segment_machine.specs.Body.{Piece, extent_of, Listed, Anatomy, layout_of, order_of}
+use Rattle.segment_machine.specs.Body.{Body, histogram, sample, other, Piece, extent_of, Listed, Anatomy, layout_of, order_of}
 use Rattle.segment_machine.specs.Kept.{StandsAs}
 use Rattle.segment_machine.proofs.Lists.{there_below, index_at, all_at}
 use Rattle.segment_machine.proofs.Pieces.{first_piece, some_first, piece_from, one_index}

@@ -7,7 +7,7 @@ ghost use Rattle.segment_machine.specs.Promises.{StepsChangeOne, KeysAreLeast};
 ghost use Rattle.segment_machine.specs.Follows.{StepsFollow, TablesFollow};
 ghost use Rattle.segment_machine.specs.Lives.{RecorderIsJoined, LinksLengthen, DeltaOwes, SnapshotOwes};
 ghost use Rattle.segment_machine.specs.Accounts.{MountedAgrees, TakersAgree, SparseAgrees, BatchAgrees};
-ghost use Rattle.segment_machine.specs.Keeps.{OpeningIsKept, KeptFlagsAreSet, KeptIsChain, KeptUnitsAreKept, KeptTransitIsLocal};
+ghost use Rattle.segment_machine.specs.Keeps.{OpeningIsKept, KeptFlagsAreSet, KeptIsChain, KeptUnitsAreKept, KeptTransitIsLocal, KeptSumsAreAmounts};
 ghost use Rattle.segment_machine.specs.Examples.{Keys, PackedThenMounted, StoppedInTransit, PackingLimit, DeltasAndMarks, TwoTakers, PackedRun, MountingRun, TakerRuns, TakingRun, SparseSamples, Batches, MountedIsConsistent, ListBreaks, RecordsBreak, TotalsBreak, MarksBreak, SumsBreak, TransitBreaks, FlagsBreak, UnitsBreak};
 
 /// A step changes one word and one actor at most.
@@ -201,4 +201,9 @@ pub fn kept_units_are_kept()
 /// Units of a kept state are in transit in version 1 alone, and in the packed bucket alone.
 pub fn kept_transit_is_local()
     ensures { KeptTransitIsLocal }
+{}
+
+/// The sums of a kept state are the amounts, and its redundant counts the units, of which nothing is left out or counted twice.
+pub fn kept_sums_are_amounts()
+    ensures { KeptSumsAreAmounts }
 {}

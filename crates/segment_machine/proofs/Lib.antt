@@ -5,6 +5,7 @@ pub mod Anatomies
 pub mod Follow
 pub mod Goings
 pub mod ImpliedBlocks
+pub mod ImpliedBooks
 pub mod ImpliedChain
 pub mod ImpliedFirsts
 pub mod ImpliedFlags
@@ -12,6 +13,7 @@ pub mod ImpliedKeys
 pub mod ImpliedRecords
 pub mod ImpliedSpecs
 pub mod ImpliedSums
+pub mod ImpliedTotals
 pub mod ImpliedTransit
 pub mod ImpliedUnits
 pub mod Keys

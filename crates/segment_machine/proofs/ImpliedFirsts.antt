@@ -24,7 +24,7 @@ use Rattle.segment_machine.specs.Seen.{HasRecord, HasSample, IsNamed, IsFirst, I
 use Rattle.segment_machine.specs.Kept.{StandsAs, Kept}
 use Rattle.segment_machine.proofs.Lists.{all_from, all_at, contains_at}
 use Rattle.segment_machine.proofs.Pieces.{piece_word}
-use Rattle.segment_machine.proofs.ImpliedRecords.{each_given, record_word, sample_type, record_name}
+use Rattle.segment_machine.proofs.ImpliedRecords.{listed_there, each_given, record_word, sample_type, record_name}
 
 -- ---- lists and what they map to
 
@@ -146,6 +146,16 @@ module _ (shape : Dimensions) (version id : ℕ) (state : State) (kept : Kept sh
   value_given l of value there is =
       let (s, has, mine, valued) = subst (StandsAs kept.anatomy.pieces l) is (standing_of l there) in
       subst (λ (p : ℕ × ℤ). IsSampleOf state.words p.0 p.1 l.reference) (λ i. (mine i, valued i)) (is_sample_of l.reference s has)
+
+  -- a histogram's record on the list
+  pub listed_record : (at : ℕ) → Contains (order_of kept.anatomy) at → field_at state.words at 2 ≡ 1
+      → (l : Listed) × (name : List ℕ) × (spec : Spec) × (r : Record) × Contains kept.anatomy.records l × (l.reference ≡ at)
+      × (l.made ≡ Some (made.Histogram name spec)) × Named name spec at r
+  listed_record at there one =
+      let (l, among, place, standing) = listed_there state.words (blank version id shape.size) kept.anatomy state.actors at kept.list there in
+      let name : List ℕ = name_of state.words l.reference in
+      let (spec, r, made, has) = given_name l name among (subst (λ (at : ℕ). field_at state.words at 2 ≡ 1) (sym place) one, refl) in
+      (l, name, spec, r, among, place, made, subst (λ (at : ℕ). Named name spec at r) place has)
 
   -- ---- the first ones
 

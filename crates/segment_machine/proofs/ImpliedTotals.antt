@@ -144,6 +144,14 @@ module _ (shape : Dimensions) (version id : ℕ) (state : State) (kept : Kept sh
       ∙ (get_or_append_left (c.units ++ c.marks) c.rest 0 (n + i) (omega (arith, below, long, units))
       ∙ (get_or-append_right c.units c.marks n (n + i) 0 units (omega arith) ∙ ap (slice_index c.marks) again))))
 
+  -- a total by the words
+  pub total_words : (at : ℕ) (r : Record) → HasRecord kept.anatomy.pieces at r → (v i : ℕ)
+      → bucket_total v state.words at i ≡ count_at state.words r.counts i + units_packed (form_at v r) i
+  total_words at r has v i =
+      let counts_ref = record_word shape state.words kept.anatomy kept.shown at r 8 has (omega arith) in
+      let form = form_is shape state.words kept.anatomy kept.shown kept.anatomy.version at r has (kept.records.lawful at r has) v in
+      (λ j. count_at state.words (counts_ref j) i + units_packed (form j) i)
+
   -- what has the key of a bucket, or is the value of a sample, has a place by the words
   pub placed : (name : List ℕ) (key : ℤ) → HasKey kept.anatomy.records name key → HasPlace state.words (order_of kept.anatomy) name key
   placed name key (kind, at, first, keyed_by) =
@@ -233,10 +241,7 @@ module _ (shape : Dimensions) (version id : ℕ) (state : State) (kept : Kept sh
               (λ bucket is. packed_within kept.anatomy.version (buckets_of r.spec) r.single bucket is)
 
           words_say : bucket_total kept.anatomy.version state.words at i ≡ count_at state.words r.counts i + units_packed (form_at kept.anatomy.version r) i
-          words_say =
-              let counts_ref = record_word shape state.words kept.anatomy kept.shown at r 8 has (omega arith) in
-              let form = form_is shape state.words kept.anatomy kept.shown kept.anatomy.version at r has (kept.records.lawful at r has) kept.anatomy.version in
-              (λ j. count_at state.words (counts_ref j) i + units_packed (form j) i)
+          words_say = total_words at r has kept.anatomy.version i
 
           by_counts : (b : Bool) → (b ≡ true → r.counts ≡ 0) → (b ≡ false → r.counts ≢ 0)
               → bucket_total kept.anatomy.version state.words at i ≡ all_held (units_held kept.anatomy.version name (key_of_bucket r.spec i)) kept.anatomy.pieces

@@ -10,6 +10,7 @@ pub mod ImpliedChain
 pub mod ImpliedFirsts
 pub mod ImpliedFlags
 pub mod ImpliedKeys
+pub mod ImpliedMarks
 pub mod ImpliedRecords
 pub mod ImpliedSpecs
 pub mod ImpliedSums

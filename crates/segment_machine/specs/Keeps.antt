@@ -11,7 +11,7 @@ use Rattle.segment_machine.specs.Event.{Event, load_flags, load_free, exchange_f
 use Rattle.segment_machine.specs.Next.{next}
 use Rattle.segment_machine.specs.Ready.{Ready}
 use Rattle.segment_machine.specs.State.{State, memory}
-use Rattle.segment_machine.specs.Consistent.{ListIsChain, FlagsAreSet, UnitsAreKept, TotalsAreCounted, SumsAreAmounts, TransitIsLocal, IsConsistent}
+use Rattle.segment_machine.specs.Consistent.{ListIsChain, FlagsAreSet, UnitsAreKept, TotalsAreCounted, MarksAreTaken, SumsAreAmounts, TransitIsLocal, IsConsistent}
 use Rattle.segment_machine.specs.Promises.{new_opening, new_state, IsState, IsSplit, IsJoin, IsLent}
 use Rattle.segment_machine.specs.Body.{Anatomy, blank, order_of}
 use Rattle.segment_machine.specs.Learned.{Learned}
@@ -103,6 +103,11 @@ KeptUnitsAreKept = (shape : Dimensions) (version id : ℕ) (state : State) → I
 abbrev pub KeptTransitIsLocal : Type 0
 KeptTransitIsLocal = (shape : Dimensions) (version id : ℕ) (state : State) → IsShape shape → (kept : Kept shape (blank version id shape.size) state)
     → TransitIsLocal (word_at (new_opening shape version id).words 1) state.words state.actors
+
+-- its marks are what was taken
+abbrev pub KeptMarksAreTaken : Type 0
+KeptMarksAreTaken = (shape : Dimensions) (version id : ℕ) (state : State) → IsShape shape → (kept : Kept shape (blank version id shape.size) state)
+    → MarksAreTaken (word_at (new_opening shape version id).words 1) state.words state.actors (order_of kept.anatomy)
 
 -- its sums are the amounts
 abbrev pub KeptSumsAreAmounts : Type 0

@@ -7,7 +7,7 @@ ghost use Rattle.segment_machine.specs.Promises.{StepsChangeOne, KeysAreLeast};
 ghost use Rattle.segment_machine.specs.Follows.{StepsFollow, TablesFollow};
 ghost use Rattle.segment_machine.specs.Lives.{RecorderIsJoined, LinksLengthen, DeltaOwes, SnapshotOwes};
 ghost use Rattle.segment_machine.specs.Accounts.{MountedAgrees, TakersAgree, SparseAgrees, BatchAgrees};
-ghost use Rattle.segment_machine.specs.Keeps.{OpeningIsKept, KeptFlagsAreSet, KeptIsChain, KeptUnitsAreKept, KeptTransitIsLocal, KeptSumsAreAmounts, KeptTotalsAreCounted};
+ghost use Rattle.segment_machine.specs.Keeps.{OpeningIsKept, KeptFlagsAreSet, KeptIsChain, KeptUnitsAreKept, KeptTransitIsLocal, KeptSumsAreAmounts, KeptTotalsAreCounted, KeptMarksAreTaken};
 ghost use Rattle.segment_machine.specs.Examples.{Keys, PackedThenMounted, StoppedInTransit, PackingLimit, DeltasAndMarks, TwoTakers, PackedRun, MountingRun, TakerRuns, TakingRun, SparseSamples, Batches, MountedIsConsistent, ListBreaks, RecordsBreak, TotalsBreak, MarksBreak, SumsBreak, TransitBreaks, FlagsBreak, UnitsBreak};
 
 /// A step changes one word and one actor at most.
@@ -211,4 +211,9 @@ pub fn kept_sums_are_amounts()
 /// The totals of a kept state, with the units in transit, are what was counted.
 pub fn kept_totals_are_counted()
     ensures { KeptTotalsAreCounted }
+{}
+
+/// The marks of a kept state are what was taken, and no more than was counted.
+pub fn kept_marks_are_taken()
+    ensures { KeptMarksAreTaken }
 {}

@@ -60,7 +60,7 @@ range_there a zero j lt = absurd (omega (arith, lt))
 range_there a (suc n) zero lt = let e : a ≡ a + 0 = omega arith in ap some e
 range_there a (suc n) (suc j) lt = let e : a + 1 + j ≡ a + suc j = omega arith in range_there (a + 1) n j (omega (arith, lt)) ∙ ap some e
 
-zero_index : (l : List ℕ) (i : ℕ) → All (λ n. n ≡ 0) l → slice_index l i ≡ 0
+pub zero_index : (l : List ℕ) (i : ℕ) → All (λ n. n ≡ 0) l → slice_index l i ≡ 0
 zero_index [] i zeros = refl
 zero_index (x ∷ xs) zero zeros = All-head (λ n. n ≡ 0) x xs zeros
 zero_index (x ∷ xs) (suc i) zeros = zero_index xs i (All-tail (λ n. n ≡ 0) x xs zeros)

@@ -9,6 +9,7 @@ pub mod ImpliedBooks
 pub mod ImpliedChain
 pub mod ImpliedFirsts
 pub mod ImpliedFlags
+pub mod ImpliedHeld
 pub mod ImpliedKeys
 pub mod ImpliedMarks
 pub mod ImpliedRecords

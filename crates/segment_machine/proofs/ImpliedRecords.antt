@@ -90,15 +90,21 @@ module _ (shape : Dimensions) (words : List ℕ) (anatomy : Anatomy) (shown : Is
   pub sample_type : (at : ℕ) (s : Sample) → HasSample anatomy.pieces at s → field_at words at 2 ≡ 3
   sample_type at s (k, there) = piece_word shape words anatomy shown k _ 2 there (omega arith)
 
-  -- a record has the name that it was given
-  pub record_name : (version : ℕ) (at : ℕ) (r : Record) → HasRecord anatomy.pieces at r → IsLawfulRecord version shape.page r → name_of words at ≡ r.name
-  record_name version at r there lawful =
+  -- the name of a record takes as many words as it has
+  pub name_long : (version : ℕ) (r : Record) → IsLawfulRecord version shape.page r → name_words (length r.name) ≡ length r.letters
+  name_long version r lawful =
       let (k, few, is) = lawful.lettered in
       let bytes = ap length is in
       let words_long = length-bytes_of_words r.letters in
       let name_long = length-append r.name (replicate k 0) in
       let zeros = length-replicate {A = ℕ} k 0 in
-      let count : name_words (length r.name) ≡ length r.letters = omega (arith, bytes, words_long, name_long, zeros, few) in
+      omega (arith, bytes, words_long, name_long, zeros, few)
+
+  -- a record has the name that it was given
+  pub record_name : (version : ℕ) (at : ℕ) (r : Record) → HasRecord anatomy.pieces at r → IsLawfulRecord version shape.page r → name_of words at ≡ r.name
+  record_name version at r there lawful =
+      let (k, few, is) = lawful.lettered in
+      let count = name_long version r lawful in
       let fields : List ℕ = take 15 (record_words r) in
       let part = piece_part there.0 (record { at = at; owner = none; body = histogram r }) fields r.letters (spec_ranges r.spec ++ r.rest) there.1
       (ap (λ (behind : List ℕ). fields ++ behind) (append_assoc r.letters (spec_ranges r.spec) r.rest)) in

@@ -8,9 +8,18 @@ pub mod Filling
 pub mod Follow
 pub mod Goings
 pub mod ImpliedBlocks
+pub mod ImpliedBooks
 pub mod ImpliedChain
+pub mod ImpliedFirsts
 pub mod ImpliedFlags
+pub mod ImpliedHeld
+pub mod ImpliedKeys
+pub mod ImpliedMarks
 pub mod ImpliedRecords
+pub mod ImpliedSpecs
+pub mod ImpliedSums
+pub mod ImpliedTotals
+pub mod ImpliedTransit
 pub mod ImpliedUnits
 pub mod Keys
 pub mod ListingActors
@@ -18,8 +27,8 @@ pub mod ListingBodies
 pub mod ListingCases
 pub mod ListingEvents
 pub mod ListingGrowth
-pub mod ListingKept
 pub mod ListingKeeps
+pub mod ListingKept
 pub mod ListingLinked
 pub mod ListingLists
 pub mod ListingOwn
@@ -46,6 +55,7 @@ pub mod SeatsRoles
 pub mod SeatsSplit
 pub mod SeatsSums
 pub mod SeatsTurned
+pub mod Singled
 pub mod Stops
 pub mod Storing
 pub mod Taking

@@ -11,7 +11,7 @@ use Rattle.segment_machine.specs.Event.{Event, load_flags, load_free, exchange_f
 use Rattle.segment_machine.specs.Next.{next}
 use Rattle.segment_machine.specs.Ready.{Ready}
 use Rattle.segment_machine.specs.State.{State, memory}
-use Rattle.segment_machine.specs.Consistent.{ListIsChain, FlagsAreSet, UnitsAreKept, IsConsistent}
+use Rattle.segment_machine.specs.Consistent.{ListIsChain, FlagsAreSet, UnitsAreKept, TotalsAreCounted, MarksAreTaken, SumsAreAmounts, TransitIsLocal, IsConsistent}
 use Rattle.segment_machine.specs.Promises.{new_opening, new_state, IsState, IsSplit, IsJoin, IsLent}
 use Rattle.segment_machine.specs.Body.{Anatomy, blank, order_of}
 use Rattle.segment_machine.specs.Learned.{Learned}
@@ -98,6 +98,26 @@ KeptFlagsAreSet = (shape : Dimensions) (version id : ℕ) (state : State) → Is
 abbrev pub KeptUnitsAreKept : Type 0
 KeptUnitsAreKept = (shape : Dimensions) (version id : ℕ) (state : State) → IsShape shape → (kept : Kept shape (blank version id shape.size) state)
     → UnitsAreKept state.words state.actors (order_of kept.anatomy)
+
+-- its units in transit are local
+abbrev pub KeptTransitIsLocal : Type 0
+KeptTransitIsLocal = (shape : Dimensions) (version id : ℕ) (state : State) → IsShape shape → (kept : Kept shape (blank version id shape.size) state)
+    → TransitIsLocal (word_at (new_opening shape version id).words 1) state.words state.actors
+
+-- its marks are what was taken
+abbrev pub KeptMarksAreTaken : Type 0
+KeptMarksAreTaken = (shape : Dimensions) (version id : ℕ) (state : State) → IsShape shape → (kept : Kept shape (blank version id shape.size) state)
+    → MarksAreTaken (word_at (new_opening shape version id).words 1) state.words state.actors (order_of kept.anatomy)
+
+-- its sums are the amounts
+abbrev pub KeptSumsAreAmounts : Type 0
+KeptSumsAreAmounts = (shape : Dimensions) (version id : ℕ) (state : State) → IsShape shape → (kept : Kept shape (blank version id shape.size) state)
+    → SumsAreAmounts (new_opening shape version id).words state.words state.actors (order_of kept.anatomy)
+
+-- its totals are what was counted
+abbrev pub KeptTotalsAreCounted : Type 0
+KeptTotalsAreCounted = (shape : Dimensions) (version id : ℕ) (state : State) → IsShape shape → (kept : Kept shape (blank version id shape.size) state)
+    → TotalsAreCounted (word_at (new_opening shape version id).words 1) state.words state.actors (order_of kept.anatomy)
 
 -- a kept state is consistent, in all its parts
 abbrev pub KeptIsConsistent : Type 0

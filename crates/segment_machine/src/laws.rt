@@ -7,7 +7,7 @@ ghost use Rattle.segment_machine.specs.Promises.{StepsChangeOne, KeysAreLeast};
 ghost use Rattle.segment_machine.specs.Follows.{StepsFollow, TablesFollow};
 ghost use Rattle.segment_machine.specs.Lives.{RecorderIsJoined, LinksLengthen, DeltaOwes, SnapshotOwes};
 ghost use Rattle.segment_machine.specs.Accounts.{MountedAgrees, TakersAgree, SparseAgrees, BatchAgrees};
-ghost use Rattle.segment_machine.specs.Keeps.{OpeningIsKept, AllocatingKeeps, ListingKeeps, SplitsKeep, JoinsKeep, LendsKeep, KeptFlagsAreSet, KeptIsChain, KeptUnitsAreKept};
+ghost use Rattle.segment_machine.specs.Keeps.{OpeningIsKept, AllocatingKeeps, ListingKeeps, SplitsKeep, JoinsKeep, LendsKeep, KeptFlagsAreSet, KeptIsChain, KeptUnitsAreKept, KeptTransitIsLocal, KeptSumsAreAmounts, KeptTotalsAreCounted, KeptMarksAreTaken};
 ghost use Rattle.segment_machine.specs.Examples.{Keys, PackedThenMounted, StoppedInTransit, PackingLimit, DeltasAndMarks, TwoTakers, PackedRun, MountingRun, TakerRuns, TakingRun, SparseSamples, Batches, MountedIsConsistent, ListBreaks, RecordsBreak, TotalsBreak, MarksBreak, SumsBreak, TransitBreaks, FlagsBreak, UnitsBreak};
 
 /// A step changes one word and one actor at most.
@@ -223,4 +223,24 @@ pub fn kept_is_chain()
 /// The units of a kept state are kept, and its sums are bounded by what was spent.
 pub fn kept_units_are_kept()
     ensures { KeptUnitsAreKept }
+{}
+
+/// Units of a kept state are in transit in version 1 alone, and in the packed bucket alone.
+pub fn kept_transit_is_local()
+    ensures { KeptTransitIsLocal }
+{}
+
+/// The sums of a kept state are the amounts, and its redundant counts the units, of which nothing is left out or counted twice.
+pub fn kept_sums_are_amounts()
+    ensures { KeptSumsAreAmounts }
+{}
+
+/// The totals of a kept state, with the units in transit, are what was counted.
+pub fn kept_totals_are_counted()
+    ensures { KeptTotalsAreCounted }
+{}
+
+/// The marks of a kept state are what was taken, and no more than was counted.
+pub fn kept_marks_are_taken()
+    ensures { KeptMarksAreTaken }
 {}

@@ -5,3 +5,11 @@ pub mod Elements
 pub mod LineLemmas
 pub mod Orders
 pub mod Readables
+pub mod Numbers
+pub mod FieldLemmas
+pub mod NameLemmas
+pub mod DraftLemmas
+pub mod Requests
+pub mod Rows
+pub mod Records
+pub mod ReadScripts

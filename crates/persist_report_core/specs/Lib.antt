@@ -5,3 +5,9 @@ pub mod Text
 pub mod Lines
 pub mod Readable
 pub mod Report
+pub mod Number
+pub mod Request
+pub mod Script
+pub mod Names
+pub mod Draft
+pub mod Rows

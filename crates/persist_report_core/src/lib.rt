@@ -9,11 +9,13 @@ mod fault;
 mod lines;
 mod order;
 mod reporting;
+mod script;
 mod text;
 mod words;
 
 pub use fault::CliFault;
 pub use reporting::report;
+pub use script::{CallKind, Script, ScriptCall, ScriptFault, ScriptHist, read_script};
 pub use text::text_of;
 
 #[cfg(test)]

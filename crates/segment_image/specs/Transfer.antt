@@ -1,4 +1,4 @@
--- What reading words takes from a reader, and why it fails.
+-- What reading bytes and words takes from a reader, and why it fails.
 use Rattle.std.specs.Prelude.{◌≢◌, ℕ, ◌*◌, ◌%◌, ◌<◌, ◌≤◌, List, length, Option, ⊤}
 use Rattle.std.specs.Io.KnownBytes.{Consumes}
 use Rattle.segment_image.specs.declared.fault.ReadFault.{ReadFault}
@@ -11,6 +11,13 @@ IsCausedBy limit bytes NoMemory = ⊤
 IsCausedBy limit bytes Device = ⊤
 IsCausedBy limit bytes TooLong = 8 * limit < length bytes
 IsCausedBy limit bytes NotWords = (length bytes ≤ 8 * limit) × (length bytes % 8 ≢ 0)
+
+-- The same of a call that reads at most `limit` bytes, which are any.
+abbrev pub IsByteFault : ℕ → List ℕ → ReadFault → Type 0
+IsByteFault limit bytes NoMemory = ⊤
+IsByteFault limit bytes Device = ⊤
+IsByteFault limit bytes TooLong = limit < length bytes
+IsByteFault limit bytes NotWords = ⊥
 
 -- a call took at most so many of the bytes that a reader had, which were `old` and are `new`
 abbrev pub TakesAtMost : ℕ → Option (List ℕ) → Option (List ℕ) → Type 0

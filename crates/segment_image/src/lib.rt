@@ -5,6 +5,7 @@
 //!
 //! - [`Shape::of`], [`header`] and [`block`] answer what the words say exactly where all checks hold, and otherwise
 //!   the first check that fails, in the order that [`ImageFault`] lists them. They take no memory.
+//! - [`read_bytes`] answers all bytes that a reader had left, up to a limit, and otherwise why there are none.
 //! - [`read_words`] answers the words whose bytes are all that a reader had left, and otherwise why there are none.
 //! - An [`Image`] has the words of a whole segment: those of a new one, or such as [`header`] accepts.
 //! - A [`Watched`] passes reads and writes on, and says whether one of them failed.
@@ -23,7 +24,7 @@ pub use fault::{ImageFault, ReadFault};
 pub use head::{QUEUE, SegmentHead, header};
 pub use image::{Image, blank_is_ready};
 pub use shape::Shape;
-pub use transfer::read_words;
+pub use transfer::{read_bytes, read_words};
 pub use watched::Watched;
 
 #[cfg(test)]

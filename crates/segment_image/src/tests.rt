@@ -1,7 +1,8 @@
 //! Tests of what no clause says: values from outside, texts, and readers and writers that fail.
 
 use crate::{
-    BlockHead, Image, ImageFault, ReadFault, SegmentHead, Shape, Watched, block, header, read_words,
+    BlockHead, Image, ImageFault, ReadFault, SegmentHead, Shape, Watched, block, header,
+    read_bytes, read_words,
 };
 use std::io;
 use std::io::{Read, Write};
@@ -107,6 +108,40 @@ fn words_of_large_inputs(rt: HostRuntime) -> Result<(), Fail> {
     let mut reader = Watched::new(io::repeat(0).take(8 * 1_048_576 + 1));
     let answer = read_words(rt.alloc(), &mut reader, 1_048_576);
     assert_eq!(rt; answer.err(), Some(ReadFault::TooLong));
+    Ok(())
+}
+
+#[test]
+fn bytes_up_to_a_limit(rt: HostRuntime) -> Result<(), Fail> {
+    for len in [0, 15, 16] {
+        let mut reader = Watched::new(FailsOnce::new(&BYTES[..len], None));
+        let bytes = read_bytes(rt.alloc(), &mut reader, 16)?;
+        assert_eq!(rt; bytes.as_slice(), &BYTES[..len]);
+        assert!(rt; !reader.failed());
+    }
+    // One byte past the limit is taken, and no more.
+    let mut reader = Watched::new(&BYTES[..24]);
+    assert_eq!(rt;
+        read_bytes(rt.alloc(), &mut reader, 16).err(),
+        Some(ReadFault::TooLong)
+    );
+    assert_eq!(rt; reader.into_inner().len(), 7);
+    let mut reader = Watched::new(io::repeat(7).take(16_777_216));
+    let bytes = read_bytes(rt.alloc(), &mut reader, 16_777_216)?;
+    assert_eq!(rt; bytes.len(), 16_777_216);
+    let mut reader = Watched::new(io::repeat(7).take(16_777_217));
+    assert_eq!(rt;
+        read_bytes(rt.alloc(), &mut reader, 16_777_216).err(),
+        Some(ReadFault::TooLong)
+    );
+    for good_calls in 0..17 {
+        let mut reader = Watched::new(FailsOnce::new(&BYTES[..16], Some(good_calls)));
+        assert_eq!(rt;
+            read_bytes(rt.alloc(), &mut reader, 16).err(),
+            Some(ReadFault::Device)
+        );
+        assert!(rt; reader.failed());
+    }
     Ok(())
 }
 

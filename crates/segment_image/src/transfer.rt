@@ -1,11 +1,11 @@
-//! Words from a device.
+//! Bytes and words from a device.
 
-ghost use Rattle.std.specs.Prelude.{◌≡◌, ◌↔◌, ◌+◌, ◌*◌, ◌<◌, ◌≤◌, ◌%◌, ◌++◌, true, false, length, take, IfSome, IfOk, IfErr, OnOk, OnErr, IsErrOf, MatchResult, vec_len};
+ghost use Rattle.std.specs.Prelude.{◌≡◌, ◌≢◌, ◌↔◌, ◌+◌, ◌*◌, ◌<◌, ◌≤◌, ◌%◌, ◌++◌, true, false, length, take, IfSome, IfOk, IfErr, OnOk, OnErr, IsErrOf, MatchResult, vec_len};
 ghost use Rattle.std.specs.Io.KnownBytes.{Consumes, IsAtEnd};
 ghost use Rattle.byteorder.specs.Endian.{little_bytes};
 ghost use Rattle.segment_image.specs.Words.{bytes_of_words};
 ghost use Rattle.segment_image.specs.Watched.{has_failed, watched_inner};
-ghost use Rattle.segment_image.specs.Transfer.{IsCausedBy, TakesAtMost};
+ghost use Rattle.segment_image.specs.Transfer.{IsCausedBy, IsByteFault, TakesAtMost};
 
 use crate::fault::ReadFault;
 use crate::watched::Watched;
@@ -37,6 +37,47 @@ fn fill<R: Read>(reader: &mut Watched<R>, block: &mut [u8]) -> Result<usize, Rea
         }
     }
     Ok(filled)
+}
+
+/// All bytes that a reader has left, `limit` of them at most.
+///
+/// The reader is one that has not failed before. `Device` where a read failed in this call, of whatever sort the
+/// failure is; `TooLong` where more than `limit` bytes come; `NoMemory` where there is none for the bytes, for which
+/// memory is asked only as they come. It is never `NotWords`. No more than `limit + 1` bytes are taken from the
+/// reader.
+pub fn read_bytes<R: Read>(
+    alloc: Global,
+    reader: &mut Watched<R>,
+    limit: usize,
+) -> Result<Vec<u8>, ReadFault>
+    requires { has_failed reader.old ≡ false }
+    ensures answer { IfSome (R.remaining (watched_inner reader.old)) (λ bytes. MatchResult result (λ read. read.items ≡ bytes) (IsByteFault limit bytes)) }
+    ensures within { IfOk result (λ read. vec_len read ≤ limit) }
+    ensures device { IsErrOf result ReadFault.Device ↔ (has_failed reader.new ≡ true) }
+    ensures other { IfErr result (λ fault. fault ≢ ReadFault.NotWords) }
+    ensures end { OnOk result (IsAtEnd (R.remaining (watched_inner reader.new))) }
+    ensures taken { TakesAtMost (limit + 1) (R.remaining (watched_inner reader.old)) (R.remaining (watched_inner reader.new)) }
+{
+    let mut bytes = Vec::new(alloc);
+    let mut block = [0u8; BLOCK_BYTES];
+    loop {
+        let room = limit - bytes.len();
+        let wanted = if room < BLOCK_BYTES {
+            room + 1
+        } else {
+            BLOCK_BYTES
+        };
+        let came = fill(reader, &mut block[..wanted])?;
+        if came > room {
+            return Err(ReadFault::TooLong);
+        }
+        bytes
+            .extend_from_slice(&block[..came])
+            .map_err(|_| ReadFault::NoMemory)?;
+        if came < wanted {
+            return Ok(bytes);
+        }
+    }
 }
 
 // The word whose eight bytes these are, the least first.

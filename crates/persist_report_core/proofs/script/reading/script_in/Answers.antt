@@ -1,0 +1,110 @@
+use Rattle.std.proofs.Common.{◌≡◌, ◌+◌, ◌++◌, ◌∷◌, [], ℕ, List, Bool, true, false, Some, Result, Ok, Err, IsErrAnd, MatchResult, Bor, refl, rules, sym, subst, arith}
+use Rattle.csv.specs.Reading.{Reached, default_config, reader_config, reader_state, reader_trim, strip_bom}
+use Rattle.csv.specs.Records.{fields_of}
+use Rattle.csv.specs.declared.parser.State.TheVariants as state
+use Rattle.csv.specs.declared.reader.Reader.{Reader}
+use Rattle.csv.specs.declared.reader.Trim.TheVariants as trim
+use Rattle.persist_report_core.specs.Request.{request_in}
+use Rattle.persist_report_core.specs.Rows.{IsBehind, IsNext, left_of}
+use Rattle.persist_report_core.specs.Script.{IsScriptFault, later_fault, opening_fault, script_view}
+use Rattle.persist_report_core.proofs.Records.{length-strip_bom, records-behind}
+use Rattle.persist_report_core.proofs.ReadScripts.{few_hists, fault_told, read-first, read-more, script_of-empty, script_of-first, script_of-later, script_of-read}
+use Rattle.persist_report_core.proofs.script.reading.script_in.Goals as goal
+
+-- a reader at the start of a text
+starts : (bytes : List ℕ) (reader : Reader (Bor (List ℕ))) → reader_trim reader ≡ trim.None → reader_config reader ≡ default_config
+    → reader_state reader ≡ state.StartRecord → left_of reader ≡ Some (strip_bom bytes) → IsBehind (strip_bom bytes) [] reader
+unfolding Reached
+starts bytes reader plain config start source = record {
+  plain = plain;
+  config = config;
+  between = rw start refl;
+  rest = strip_bom bytes;
+  source = source;
+  reached = (sym start, refl);
+  room = omega arith;
+}
+
+-- a fault that is passed on
+passed_on : {T E : Type 0} (result : Result T E) (P : T → Type 0) (Q : E → Type 0) (fault : E) → IsErrAnd result (λ passed. passed ≡ fault) → Q fault → MatchResult result P Q
+passed_on (Ok value) P Q fault same holds = absurd same
+passed_on (Err passed) P Q fault same holds = subst Q (sym same) holds
+
+-- what a read found, where it is known whether it found a record
+found_is : (text : List ℕ) (rows : List (List (List ℕ))) (old new : Reader (Bor (List ℕ))) (found known : Bool) (fields : List (List ℕ)) → found ≡ known
+    → IsNext text rows old new found fields → IsNext text rows old new known fields
+found_is text rows old new found known fields same next = subst (λ f. IsNext text rows old new f fields) same next
+
+pub returns-then-not-branch-clause-answer : goal.returns-then-not-branch-clause-answer
+returns-then-not-branch-clause-answer c =
+    let start = starts c.args.bytes.now c.from_reader-reader.result (search rules) (search rules) (search rules) (search rules) in
+    let next = c.in_ok-next_fields.ensures.next (strip_bom c.args.bytes.now) [] start in
+    (c.requires, script_of-empty c.args.pool c.args.bytes.now (found_is (strip_bom c.args.bytes.now) [] c.from_reader-reader.result c.next_fields.new.reader _ false (fields_of c.next_fields.new.fields) c.if-not-branch.true next))
+
+pub returns-in_err-draft-clause-answer : goal.returns-in_err-draft-clause-answer
+returns-in_err-draft-clause-answer c =
+    let start = starts c.args.bytes.now c.from_reader-reader.result (search rules) (search rules) (search rules) (search rules) in
+    let next = c.in_ok-next_fields.ensures.next (strip_bom c.args.bytes.now) [] start in
+    let fields = fields_of c.next_fields.new.fields in
+    let behind = (found_is (strip_bom c.args.bytes.now) [] c.from_reader-reader.result c.next_fields.new.reader _ true fields c.if-not-branch.false next).0 in
+    let (more, all) = records-behind (strip_bom c.args.bytes.now) (fields ∷ []) c.next_fields.new.reader behind in
+    passed_on c.from_residual-in_err-draft.result _ (IsScriptFault c.args.pool c.args.bytes.now) c.in_err-draft.field-0.0 c.from_residual-in_err-draft.ensures.1
+    (fault_told c.args.pool c.args.bytes.now (opening_fault (request_in fields)) c.in_err-draft.field-0.0 c.requires
+    (λ fault is. script_of-first c.args.pool c.args.bytes.now fields more fault all is) c.in_err-draft.ensures)
+
+pub records-init : goal.records-init
+records-init c =
+    let start = starts c.args.bytes.now c.from_reader-reader.result (search rules) (search rules) (search rules) (search rules) in
+    let next = c.in_ok-next_fields.ensures.next (strip_bom c.args.bytes.now) [] start in
+    let fields = fields_of c.next_fields.new.fields in
+    let behind = (found_is (strip_bom c.args.bytes.now) [] c.from_reader-reader.result c.next_fields.new.reader _ true fields c.if-not-branch.false next).0 in record {
+      flexible = c.in_ok-next_fields.ensures.flexible;
+      ready = c.in_ok-next_fields.ensures.ready c.if-not-branch.false;
+      read = (fields ∷ [], behind, read-first c.args.pool fields c.in_ok-draft.draft c.in_ok-draft.ensures);
+    }
+
+pub overflow_add-number : goal.overflow_add-number
+overflow_add-number c =
+    let (rows, behind, read) = c.records.invariant.read in
+    omega (arith, behind.room, read.numbered, length-strip_bom c.args.bytes.now)
+
+pub put-requires-clause-few : goal.put-requires-clause-few
+put-requires-clause-few c =
+    let (rows, behind, read) = c.records.invariant.read in
+    few_hists c.args.pool rows c.records.draft c.records.number read
+
+pub records-smaller : goal.records-smaller
+records-smaller c =
+    let (rows, behind, read) = c.records.invariant.read in
+    let next = c.in_ok-next_fields-2.ensures.next (strip_bom c.args.bytes.now) rows behind in
+    (found_is (strip_bom c.args.bytes.now) rows c.records.reader c.next_fields-in-records.new.reader _ true (fields_of c.next_fields-in-records.new.fields) c.if-branch.true next).1
+
+pub records-preserved : goal.records-preserved
+records-preserved c =
+    let (rows, behind, read) = c.records.invariant.read in
+    let fields = fields_of c.next_fields-in-records.new.fields in
+    let next = c.in_ok-next_fields-2.ensures.next (strip_bom c.args.bytes.now) rows behind in
+    let more = (found_is (strip_bom c.args.bytes.now) rows c.records.reader c.next_fields-in-records.new.reader _ true fields c.if-branch.true next).0 in record {
+      flexible = c.in_ok-next_fields-2.ensures.flexible;
+      ready = c.in_ok-next_fields-2.ensures.ready c.if-branch.true;
+      read = (rows ++ fields ∷ [], more, read-more c.args.pool rows c.records.draft c.put.new.self c.records.number fields read c.in_ok-put.ensures);
+    }
+
+pub returns-in_err-put-clause-answer : goal.returns-in_err-put-clause-answer
+returns-in_err-put-clause-answer c =
+    let (rows, behind, read) = c.records.invariant.read in
+    let fields = fields_of c.next_fields-in-records.new.fields in
+    let next = c.in_ok-next_fields-2.ensures.next (strip_bom c.args.bytes.now) rows behind in
+    let further = (found_is (strip_bom c.args.bytes.now) rows c.records.reader c.next_fields-in-records.new.reader _ true fields c.if-branch.true next).0 in
+    let (more, all) = records-behind (strip_bom c.args.bytes.now) (rows ++ fields ∷ []) c.next_fields-in-records.new.reader further in
+    let expected = later_fault c.records.draft.pool (c.records.number + 1) (script_view c.records.draft.script) (request_in fields) in
+    passed_on c.from_residual-in_err-put.result _ (IsScriptFault c.args.pool c.args.bytes.now) c.in_err-put.field-0.0 c.from_residual-in_err-put.ensures.1
+    (fault_told c.args.pool c.args.bytes.now expected c.in_err-put.field-0.0 c.requires
+    (λ fault is. script_of-later c.args.pool c.args.bytes.now rows c.records.draft c.records.number fields more fault read all is) c.in_err-put.ensures)
+
+pub returns-clause-answer : goal.returns-clause-answer
+returns-clause-answer c =
+    let (rows, behind, read) = c.records.invariant.read in
+    let next = c.in_ok-next_fields-2.ensures.next (strip_bom c.args.bytes.now) rows behind in
+    let all = found_is (strip_bom c.args.bytes.now) rows c.records.reader c.next_fields-in-records.new.reader _ false (fields_of c.next_fields-in-records.new.fields) c.if-branch.false next in
+    script_of-read c.args.pool c.args.bytes.now rows c.records.draft c.records.number all read

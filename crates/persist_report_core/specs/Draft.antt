@@ -1,0 +1,63 @@
+-- A script while it is read.
+use Rattle.std.specs.Prelude.{◌≡◌, true, false, if◌then◌else◌, ℕ, ◌≤◌, List, ◌∷◌, [], ◌++◌, Option, Some, None, option_to_list, Result, MatchResult, ⊤}
+use Rattle.persist_report_core.specs.declared.script.draft.Draft.{Draft}
+use Rattle.persist_report_core.specs.declared.script.fault.ScriptFault.{ScriptFault}
+use Rattle.persist_report_core.specs.declared.script.fault.ScriptFault.TheVariants.{Read, TooLong, NoMemory, BadLine, ZeroCount, NoUnits}
+use Rattle.persist_report_core.specs.Names.{found}
+use Rattle.persist_report_core.specs.Request.{Request, request_in}
+use Rattle.persist_report_core.specs.Script.{Script, HistRecord, is_known, place_of, units_of, hist_from, call_from, opening_fault, later_fault, script_along, script_view}
+
+-- the index of the first `hist` record of a name, if there is one
+abbrev pub known_place : List HistRecord → List ℕ → Option ℕ
+known_place hists name = if is_known name hists then Some (place_of name hists) else None
+
+-- a name is looked up: it is known and has this place, or the record that has it is a bad line
+abbrev pub FindsPlace : List HistRecord → List ℕ → ℕ → Result ℕ ScriptFault → Type 0
+FindsPlace hists name number result = MatchResult result
+    (λ place. (is_known name hists ≡ true) × (place_of name hists ≡ place))
+    (λ fault. (is_known name hists ≡ false) × (fault ≡ BadLine number))
+
+-- what a draft keeps beside its script: where each name stands first, and the units that were taken of the pool
+pub record IsDraft (draft : Draft) : Type 0 where
+  pub placed : (name : List ℕ) → found draft.names name ≡ known_place (script_view draft.script).hists name
+  pub taken : draft.taken ≡ units_of draft.script.calls.items
+  pub within : draft.taken ≤ draft.pool
+
+-- a script with one record more
+abbrev pub extended : ℕ → Script → Option Request → Script
+extended number script request = record script {
+  hists = script.hists ++ option_to_list (hist_from number request);
+  calls = script.calls ++ option_to_list (call_from script.hists number request);
+}
+
+-- a call that has this fault to tell answers it, or want of memory
+abbrev pub Tells : Option ScriptFault → ScriptFault → Type 0
+Tells fault Read = ⊥
+Tells fault TooLong = ⊥
+Tells fault NoMemory = ⊤
+Tells fault (BadLine number) = fault ≡ Some (BadLine number)
+Tells fault (ZeroCount number) = fault ≡ Some (ZeroCount number)
+Tells fault (NoUnits number) = fault ≡ Some (NoUnits number)
+
+-- a draft of one record without a fault
+pub record IsOpened (pool : ℕ) (fields : List (List ℕ)) (draft : Draft) : Type 0 where
+  pub lawful : opening_fault (request_in fields) ≡ None
+  pub script_is : script_view draft.script ≡ script_along (fields ∷ [])
+  pub keeps : IsDraft draft
+  pub pool_is : draft.pool ≡ pool
+
+-- the first record opens a draft, or its fault is told
+abbrev pub Opens : ℕ → List (List ℕ) → Result Draft ScriptFault → Type 0
+Opens pool fields result = MatchResult result (IsOpened pool fields) (Tells (opening_fault (request_in fields)))
+
+-- a draft with one more record, which has no fault
+pub record IsExtended (old new : Draft) (number : ℕ) (request : Option Request) : Type 0 where
+  pub lawful : later_fault old.pool number (script_view old.script) request ≡ None
+  pub script_is : script_view new.script ≡ extended number (script_view old.script) request
+  pub keeps : IsDraft new
+  pub pool_is : new.pool ≡ old.pool
+
+-- a record is put into a draft, or its fault is told
+abbrev pub Puts : Draft → Draft → ℕ → Option Request → Result (Unit {0}) ScriptFault → Type 0
+Puts old new number request result =
+    MatchResult result (λ _. IsExtended old new number request) (Tells (later_fault old.pool number (script_view old.script) request))

@@ -1,0 +1,28 @@
+-- Numbers in scripts.
+use Rattle.std.specs.Prelude.{Bool, not, ◌&&◌, ◌==◌, nat_le, if◌then◌else◌, ℕ, ℤ, pos, neg_ℤ, List, length, drop, Option, Some, None, option_map}
+use Rattle.std.specs.Char.{is_ascii_digit}
+use Rattle.std.specs.List.{list_all}
+use Rattle.std.specs.Str.Parse.{digits_value, starts_with_minus}
+
+-- one decimal digit or more, and nothing else; zeros may lead
+abbrev pub is_decimal : List ℕ → Bool
+is_decimal field = not (length field == 0) && list_all is_ascii_digit field
+
+-- the number that decimal digits write, where it is at most `most`
+abbrev pub whole_number : ℕ → List ℕ → Option ℕ
+whole_number most field =
+    if is_decimal field && nat_le (digits_value 10 field) most then Some (digits_value 10 field) else None
+
+-- a number of 32 bits
+abbrev pub unsigned_number : List ℕ → Option ℕ
+unsigned_number field = whole_number 4294967295 field
+
+-- a number of 64 bits
+abbrev pub long_number : List ℕ → Option ℕ
+long_number field = whole_number 18446744073709551615 field
+
+-- a number of 32 bits with a sign: one below 0, or 0 itself, behind a `-`
+abbrev pub signed_number : List ℕ → Option ℤ
+signed_number field =
+    if starts_with_minus field then option_map (λ size. neg_ℤ (pos size)) (whole_number 2147483648 (drop 1 field))
+    else option_map pos (whole_number 2147483647 field)

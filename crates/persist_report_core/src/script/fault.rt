@@ -1,0 +1,39 @@
+//! Why there is no script.
+
+use std::alloc::AllocError;
+use thiserror::Error;
+
+/// Why no script was read. The number is that of the faulty record, from 1.
+#[derive(Clone, Copy, Debug, PartialEq, Eq, Error)]
+pub enum ScriptFault {
+    /// A read of the script failed.
+    #[error("Read")]
+    Read,
+    /// The script has more than 16,777,216 bytes.
+    #[error("TooLong")]
+    TooLong,
+    /// There was no memory for the script.
+    #[error("NoMemory")]
+    NoMemory,
+    /// The record has no lawful form, a number out of its type, an unlawful shape or an unknown name, or stands out
+    /// of order.
+    #[error("BadLine {0}")]
+    BadLine(u64),
+    /// The record adds no unit.
+    #[error("ZeroCount {0}")]
+    ZeroCount(u64),
+    /// The record adds more units than the pool has left.
+    #[error("NoUnits {0}")]
+    NoUnits(u64),
+}
+
+impl From<AllocError> for ScriptFault {
+    ghost use Rattle.std.specs.Prelude.{◌≡◌};
+    ghost use Rattle.persist_report_core.specs.declared.script.fault.ScriptFault.TheVariants.{NoMemory};
+
+    ghost from_gives = { λ _ result. result ≡ NoMemory };
+
+    fn from(_: AllocError) -> ScriptFault {
+        ScriptFault::NoMemory
+    }
+}

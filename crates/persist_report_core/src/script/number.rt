@@ -1,0 +1,47 @@
+//! Numbers in scripts: decimal digits, behind a `-` where a number may be below 0.
+
+ghost use Rattle.std.specs.Prelude.{◌≡◌, ◌<◌, ◌^◌};
+ghost use Rattle.persist_report_core.specs.Number.{whole_number, unsigned_number as unsigned_number_of, signed_number as signed_number_of};
+
+// The number that the digits write, where it is at most `most`.
+pub(crate) fn number_up_to(most: u64, digits: &[u8]) -> Option<u64>
+    ensures { result ≡ whole_number most digits.now }
+{
+    if digits.is_empty() {
+        return None;
+    }
+    let mut value: u64 = 0;
+    for digit in digits {
+        if !digit.is_ascii_digit() {
+            return None;
+        }
+        value = value
+            .checked_mul(10)?
+            .checked_add(u64::from(*digit - b'0'))?;
+    }
+    if value <= most { Some(value) } else { None }
+}
+
+// A number of 32 bits without a sign.
+pub(crate) fn unsigned_number(field: &[u8]) -> Option<u32>
+    ensures { result ≡ unsigned_number_of field.now }
+{
+    let value = number_up_to(0xFFFF_FFFF, field)?;
+    Some(value as u32)
+}
+
+// A number of 32 bits with a sign.
+pub(crate) fn signed_number(field: &[u8]) -> Option<i32>
+    ensures { result ≡ signed_number_of field.now }
+{
+    match field {
+        [b'-', digits @ ..] => {
+            let size = number_up_to(0x8000_0000, digits)?;
+            Some((-(size as i64)) as i32)
+        }
+        _ => {
+            let value = number_up_to(0x7FFF_FFFF, field)?;
+            Some(value as i32)
+        }
+    }
+}

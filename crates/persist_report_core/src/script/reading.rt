@@ -1,0 +1,104 @@
+//! From bytes to a script.
+
+ghost use Rattle.std.specs.Prelude.{◌≡◌, ◌≢◌, ◌↔◌, ◌≤◌, ℕ, List, true, false, length, Ok, IfOk, IfErr, IfSome, OnOk, IsErrOf, MatchResult};
+ghost use Rattle.std.specs.Io.KnownBytes.{IsAtEnd};
+ghost use Rattle.csv.specs.Reading.{Ready, is_flexible};
+ghost use Rattle.csv.specs.Records.{fields_of};
+ghost use Rattle.segment_image.specs.Transfer.{TakesAtMost};
+ghost use Rattle.segment_image.specs.Watched.{has_failed, watched_inner};
+ghost use Rattle.persist_report_core.specs.Rows.{IsBehind, IsNext};
+ghost use Rattle.persist_report_core.specs.Script.{IsScriptFault, script_of, script_view};
+
+use crate::script::draft::open_draft;
+use crate::script::{Script, ScriptFault};
+use csv::{ByteRecord, ErrorKind, Reader, ReaderBuilder};
+use segment_image::{ReadFault, Watched, read_bytes};
+use std::alloc::Global;
+use std::io::Read;
+
+// A script has at most so many bytes.
+const MAX_BYTES: usize = 16_777_216;
+
+// The fields of the next record, and whether there is one. Bytes in memory never fail, and records may have any number
+// of fields, so a read fails for want of memory alone.
+fn next_fields(reader: &mut Reader<&[u8]>, fields: &mut ByteRecord) -> Result<bool, ScriptFault>
+    requires flexible { is_flexible reader.old ≡ true }
+    requires ready { Ready reader.old }
+    ensures next { IfOk result (λ found. (text : List ℕ) → (rows : List (List (List ℕ))) → IsBehind text rows reader.old → IsNext text rows reader.old reader.new found (fields_of fields.new)) }
+    ensures memory { IfErr result (λ fault. fault ≡ ScriptFault.NoMemory) }
+    ensures flexible { OnOk result (is_flexible reader.new ≡ true) }
+    ensures ready { IfOk result (λ found. found ≡ true → Ready reader.new) }
+{
+    match reader.read_byte_record(fields) {
+        Ok(found) => Ok(found),
+        Err(error) => match error.kind() {
+            ErrorKind::UnequalLengths { .. } => unreachable!(),
+            _ => Err(ScriptFault::NoMemory),
+        },
+    }
+}
+
+// The script that the bytes are.
+fn script_in(alloc: Global, bytes: &[u8], pool: u64) -> Result<Script, ScriptFault>
+    requires { length bytes.now ≤ 16777216 }
+    ensures answer { MatchResult result (λ script. script_of pool bytes.now ≡ Ok (script_view script)) (IsScriptFault pool bytes.now) }
+    ensures other { IfErr result (λ fault. fault ≢ ScriptFault.Read) }
+{
+    let mut reader = ReaderBuilder::new()
+        .has_headers(false)
+        .flexible(true)
+        .from_reader(alloc, bytes);
+    let mut fields = ByteRecord::new(alloc);
+    if !next_fields(&mut reader, &mut fields)? {
+        return Err(ScriptFault::BadLine(1));
+    }
+    let mut draft = open_draft(alloc, &fields, pool)?;
+    let mut number = 1;
+    'records: while next_fields(&mut reader, &mut fields)? {
+        number += 1;
+        draft.put(alloc, number, &fields)?;
+    }
+    Ok(draft.script)
+}
+
+// All bytes that the reader has left.
+fn bytes_of<R: Read>(alloc: Global, reader: &mut Watched<R>) -> Result<Vec<u8>, ScriptFault>
+    requires { has_failed reader.old ≡ false }
+    ensures bytes { IfSome (R.remaining (watched_inner reader.old)) (λ bytes. MatchResult result (λ read. (read.items ≡ bytes) × (length bytes ≤ 16777216)) (λ fault. (pool : ℕ) → IsScriptFault pool bytes fault)) }
+    ensures within { IfOk result (λ read. length read.items ≤ 16777216) }
+    ensures read { IsErrOf result ScriptFault.Read ↔ (has_failed reader.new ≡ true) }
+    ensures end { OnOk result (IsAtEnd (R.remaining (watched_inner reader.new))) }
+    ensures taken { TakesAtMost 16777217 (R.remaining (watched_inner reader.old)) (R.remaining (watched_inner reader.new)) }
+{
+    match read_bytes(alloc, reader, MAX_BYTES) {
+        Ok(bytes) => Ok(bytes),
+        Err(ReadFault::NoMemory) => Err(ScriptFault::NoMemory),
+        Err(ReadFault::TooLong) => Err(ScriptFault::TooLong),
+        Err(ReadFault::Device) => Err(ScriptFault::Read),
+        Err(ReadFault::NotWords) => unreachable!(),
+    }
+}
+
+/// The script that the reader has left. Its `add` records may take as many units as the pool has.
+///
+/// The reader is one that has not failed before, and all its bytes are read before any is looked at: `Read` where a
+/// read fails; `TooLong` where more than 16,777,216 bytes come, of which one more than these is taken at most. Then
+/// the first record that has a fault is told by its number: `BadLine` where it has no lawful form, a number out of its
+/// type, an unlawful shape or an unknown name, or stands out of order; otherwise `ZeroCount` where an `add` record
+/// adds no unit, and `NoUnits` where it passes the pool. A script without records is `BadLine` of record 1.
+/// `NoMemory` where there is none. Names and specs of `hist` records are taken as they are, lawful or not.
+pub fn read_script<R: Read>(
+    alloc: Global,
+    reader: &mut Watched<R>,
+    pool: u64,
+) -> Result<Script, ScriptFault>
+    requires { has_failed reader.old ≡ false }
+    ensures answer { IfSome (R.remaining (watched_inner reader.old)) (λ bytes. MatchResult result
+        (λ script. (length bytes ≤ 16777216) × (script_of pool bytes ≡ Ok (script_view script))) (IsScriptFault pool bytes)) }
+    ensures read { IsErrOf result ScriptFault.Read ↔ (has_failed reader.new ≡ true) }
+    ensures end { OnOk result (IsAtEnd (R.remaining (watched_inner reader.new))) }
+    ensures taken { TakesAtMost 16777217 (R.remaining (watched_inner reader.old)) (R.remaining (watched_inner reader.new)) }
+{
+    let bytes = bytes_of(alloc, reader)?;
+    script_in(alloc, &bytes, pool)
+}

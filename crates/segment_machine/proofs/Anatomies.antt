@@ -15,14 +15,15 @@ use Rattle.segment_machine.specs.declared.actor.Made.{Made}
 use Rattle.segment_machine.specs.declared.actor.Made.TheVariants as made
 use Rattle.segment_machine.specs.declared.actor.Own.{Own}
 use Rattle.segment_machine.specs.declared.actor.Sighting.{Sighting}
+use Rattle.segment_machine.specs.declared.place.Look.{Look}
 use Rattle.segment_machine.specs.declared.place.Place.{Place}
 use Rattle.segment_machine.specs.declared.place.Place.TheVariants.{Spent, Idle, FlagsLoaded, FreeLoaded, Raised, Sized, Marked, TailLoaded, Beaten, Linked, Looking, Losing, Moving, CountLoaded, SampleLoaded, SumLoaded, CursorLoaded, BehindCursor}
 use Rattle.segment_machine.specs.Entry.{tally_units, tally_sum, tally_noted}
 use Rattle.segment_machine.specs.Actor.{all_counted, all_taken, all_published, taken_units, taken_sum, bucket_key}
 use Rattle.segment_machine.specs.Body.{Body, queue, plain, held, Piece, Listed, listed, Anatomy, order_of, free_of}
 use Rattle.segment_machine.specs.Ledger.{units_held, marks_held, sum_held, sum_mark_held, noted_held, all_held, all_amounts, all_moving, IsBalanced}
-use Rattle.segment_machine.specs.Seen.{Stands, HasRecord, WasFixed, WasCounter, WasInUse, WasSingle, IsNoLater, Knows, Sees}
-use Rattle.segment_machine.specs.Kept.{StandsAs, IsListed, ListIsKept, RecordsAreKept, SumsAreNear, IsSumOf, StandsRight, HoldsOwn, CallsRight, LooksBack, IsSettled}
+use Rattle.segment_machine.specs.Seen.{Stands, HasPlain, HasRecord, WasFixed, WasCounter, WasInUse, WasSingle, IsNoLater, Knows, Sees}
+use Rattle.segment_machine.specs.Kept.{StandsAs, IsListed, ListIsKept, RecordsAreKept, SumsAreNear, IsSumOf, StandsRight, LooksRight, HoldsOwn, CallsRight, LooksBack, IsSettled}
 use Rattle.segment_machine.proofs.Actors.{Doing, doing, TurnsTo, SameDeeds, alone_along, units_along, sum_along}
 
 -- the anatomy with other blocks, other flags and another tail, and the same records
@@ -186,14 +187,15 @@ module _ (anatomy : Anatomy) (pieces : List Piece) (spare : ℕ) (corrupt full :
   }
 
   -- a block of somebody who stores nothing now
-  module _ (shape : Dimensions) (id : ℕ) (others : (at : ℕ) (body : Body) → Stands anatomy.pieces at (some id) body → Stands pieces at (some id) body) where
-    pub own_along : (own : List Own) → All (HoldsOwn shape anatomy.pieces id) own → All (HoldsOwn shape pieces id) own
-    own_along own holds =
-        All-weaker (HoldsOwn shape anatomy.pieces id) (HoldsOwn shape pieces id)
-        (λ block is. record { stands = others _ _ is.stands; placed = is.placed; room = is.room; tagged = is.tagged; ends = is.ends })
-        own holds
+  pub own_along : (shape : Dimensions) (id : ℕ) → ((at : ℕ) (body : Body) → Stands anatomy.pieces at (some id) body → Stands pieces at (some id) body)
+      → (own : List Own) → All (HoldsOwn shape anatomy.pieces id) own → All (HoldsOwn shape pieces id) own
+  own_along shape id others own holds =
+      All-weaker (HoldsOwn shape anatomy.pieces id) (HoldsOwn shape pieces id)
+      (λ block is. record { stands = others _ _ is.stands; placed = is.placed; room = is.room; tagged = is.tagged; ends = is.ends })
+      own holds
 
-    -- and where somebody stands who does nothing now
+  -- and where somebody stands whose words in the making stay
+  module _ (shape : Dimensions) (id : ℕ) (others : (at : ℕ) (words : List ℕ) → HasPlain anatomy.pieces id at words → HasPlain pieces id at words) where
     pub standing_along : (a : Actor) (p : Place) → StandsRight shape anatomy id a p → StandsRight shape later id a p
     standing_along a Spent is = is
     standing_along a Idle is = is
@@ -216,6 +218,38 @@ module _ (anatomy : Anatomy) (pieces : List Piece) (spare : ℕ) (corrupt full :
     standing_along a (BehindCursor cursor at behind) is = is
 
 -- ---- the actor that goes on
+
+-- It stands right with other blocks of its own, where it saw no less: each block that it had has one of the same place and type.
+module _ (shape : Dimensions) (anatomy : Anatomy) (id : ℕ) (a : Actor) (own : List Own)
+    (others : (x : Own) → Contains a.own x → (y : Own) × Contains own y × (y.at ≡ x.at) × (y.tag ≡ x.tag)) where
+  abbrev holder : Actor
+  holder = record a { own = own }
+
+  looks_right : (look : Look) → LooksRight a look → LooksRight holder look
+  looks_right look right = record { known = right.known; knows = right.knows; single = right.single; counts = right.counts }
+
+  pub standing_holder : (p : Place) → p ≢ Spent → StandsRight shape anatomy id a p → StandsRight shape anatomy id holder p
+  standing_holder Spent lives is = absurd (lives refl)
+  standing_holder Idle lives is = is
+  standing_holder FlagsLoaded lives is = is
+  standing_holder (FreeLoaded free) lives is = is
+  standing_holder (Raised at size) lives is = is
+  standing_holder (Sized at size) lives is = is
+  standing_holder (Marked at size) lives is = is
+  standing_holder (TailLoaded tail) lives is = is
+  standing_holder (Beaten tail behind) lives is = is
+  standing_holder (Linked at tail) lives is = is
+  standing_holder (Looking look) lives is = looks_right look is
+  standing_holder (Losing look at) lives (right, counts, other, (x, there, place, tag)) =
+      let (y, here, same_place, same_tag) = others x there in
+      (looks_right look right, counts, other, (y, here, same_place ∙ place, same_tag ∙ tag))
+  standing_holder (Moving look bucket units) lives (right, version, counts, least, most, has, fresh) =
+      (looks_right look right, version, counts, least, most, has, fresh)
+  standing_holder (CountLoaded look bucket count) lives ((right, counts, off), seen) = ((looks_right look right, counts, off), seen)
+  standing_holder (SampleLoaded reference count) lives is = is
+  standing_holder (SumLoaded reference sum) lives is = is
+  standing_holder (CursorLoaded cursor at) lives is = is
+  standing_holder (BehindCursor cursor at behind) lives is = is
 
 -- what it saw and looks back at, where it sees nothing but the free pointer
 abbrev pub sees_no_more : Actor → Doing → Doing

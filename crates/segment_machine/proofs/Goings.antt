@@ -23,7 +23,7 @@ use Rattle.segment_machine.specs.Event.{Event, spot, change}
 use Rattle.segment_machine.specs.Next.{next}
 use Rattle.segment_machine.specs.Learned.{Learned}
 use Rattle.segment_machine.specs.Keeps.{found_at, happened}
-use Rattle.segment_machine.specs.Body.{Body, Piece, Anatomy, layout_of, order_of, free_of, claims_of}
+use Rattle.segment_machine.specs.Body.{Body, plain, Piece, Anatomy, layout_of, order_of, free_of, claims_of}
 use Rattle.segment_machine.specs.Seen.{Stands, IsNoLater, Sees}
 use Rattle.segment_machine.specs.Kept.{StandsRight, HoldsOwn, CallsRight, LooksBack, RolesAreKept, Fits, CursorsAreKept, IsSetBy, ClaimedRight, StandStill, HasKey, Kept}
 use Rattle.segment_machine.proofs.Lists.{rows, column}
@@ -123,7 +123,7 @@ module _ (shape : Dimensions) (opened : Anatomy) (state : State) (kept : Kept sh
     stands_all : (other : ℕ) (b : Actor) → get_elem? actors other ≡ some b → StandsRight shape behind other b b.place
     stands_all other b there = elim (at_set state.actors id other (doing a d) b there) [
       | inl t ↦ subst (λ (p : ℕ × Actor). StandsRight shape behind p.0 p.1 p.1.place) (λ i. (sym t.0 i, t.1 i)) goes.stands
-      | inr t ↦ standing_along before pieces spare corrupt full tail goes.stays shape other (λ at body. goes.others other at body t.0) b b.place
+      | inr t ↦ standing_along before pieces spare corrupt full tail goes.stays shape other (λ at words. goes.others other at (plain words) t.0) b b.place
           (kept.standing other b t.1)
     ]
 

@@ -1,7 +1,10 @@
 pub mod Acting
 pub mod Actors
+pub mod Allocating
+pub mod AllocatingKeeps
 pub mod Alone
 pub mod Anatomies
+pub mod Filling
 pub mod Follow
 pub mod Goings
 pub mod ImpliedBlocks
@@ -18,4 +21,5 @@ pub mod Pairs
 pub mod Pieces
 pub mod SeatsSums
 pub mod Stops
+pub mod Storing
 pub mod Taking

@@ -1,5 +1,5 @@
 -- Lists of which one element changes: what is the same of all of them, and what is one more.
-use Rattle.std.proofs.Common.{◌≡◌, ℕ, zero, suc, ◌+◌, ◌<◌, Bool, true, false, ◌||◌, List, [], ◌∷◌, ◌++◌, map, length, set, get_or, fold, sum_by, flat_map, All, Contains, IsPermutation, append_assoc, refl, sym, ap, ◌∙◌, subst, arith}
+use Rattle.std.proofs.Common.{◌≡◌, ℕ, zero, suc, ◌+◌, ◌<◌, Bool, true, false, ◌||◌, List, [], ◌∷◌, ◌++◌, map, length, set, get_or, fold, sum_by, flat_map, All, Contains, IsPermutation, append_assoc, inl, inr, ◌⊎◌, refl, sym, ap, ◌∙◌, subst, arith}
 use Rattle.std.proofs.lemmas.List.Sorted.{IsPermutation-refl, IsPermutation-append, IsPermutation-append_comm}
 use Rattle.std.proofs.lemmas.List.Sums.{sum_by-cons}
 use mathlib.Core.Option.{some, some-injective, some-ne-none}
@@ -109,3 +109,10 @@ pub index_at : {A : Type 0} (l : List A) (i : ℕ) (x d : A) → get_elem? l i �
 index_at [] i x d e = absurd (some-ne-none x (sym e))
 index_at (y ∷ ys) zero x d e = some-injective y x e
 index_at (y ∷ ys) (suc i) x d e = index_at ys i x d e
+
+-- of a list with one more behind it: an element stands where it stood, or is that one
+pub at_snoc_index : {A : Type 0} (l : List A) (b x : A) (i : ℕ) → get_elem? (l ++ b ∷ []) i ≡ some x → (get_elem? l i ≡ some x) ⊎ ((i ≡ length l) × (b ≡ x))
+at_snoc_index [] b x zero e = inr (refl, some-injective b x e)
+at_snoc_index [] b x (suc i) e = absurd (some-ne-none x (sym e))
+at_snoc_index (y ∷ ys) b x zero e = inl e
+at_snoc_index (y ∷ ys) b x (suc i) e = elim (at_snoc_index ys b x i e) [ inl old ↦ inl old | inr new ↦ inr (ap suc new.0, new.1) ]

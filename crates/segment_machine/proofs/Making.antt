@@ -59,13 +59,13 @@ module _ (shape : Dimensions) (opened : Anatomy) (state : State) (kept : Kept sh
       IsPermutation (claims_of pieces) (claims_of opened.pieces ++ flat_map (λ (a : Actor). a.claimed) (set state.actors id (doing a (unlisted a d))))
 
   -- the claims are those that they were
-  claims_kept : (pieces : List Piece) (d : Doing) → claims_of pieces ≡ claims_of anatomy.pieces → d.claimed ≡ a.claimed → Claims pieces d
+  pub claims_kept : (pieces : List Piece) (d : Doing) → claims_of pieces ≡ claims_of anatomy.pieces → d.claimed ≡ a.claimed → Claims pieces d
   claims_kept pieces d same claimed =
       subst (λ (c : List Claim × List Claim). IsPermutation c.0 (claims_of opened.pieces ++ c.1))
       (λ i. (sym same i, sym (rows (λ (a : Actor). a.claimed) state.actors id a (doing a (unlisted a d)) mine claimed) i)) kept.claims
 
   -- or one more
-  claims_longer : (pieces : List Piece) (d : Doing) (claim : Claim) → IsPermutation (claims_of pieces) (claims_of anatomy.pieces ++ claim ∷ [])
+  pub claims_longer : (pieces : List Piece) (d : Doing) (claim : Claim) → IsPermutation (claims_of pieces) (claims_of anatomy.pieces ++ claim ∷ [])
       → d.claimed ≡ a.claimed ++ claim ∷ [] → Claims pieces d
   claims_longer pieces d claim more claimed =
       let all : List Claim = flat_map (λ (a : Actor). a.claimed) state.actors in
@@ -209,5 +209,34 @@ module _ (shape : Dimensions) (opened : Anatomy) (state : State) (kept : Kept sh
               ends = is.ends;
             })
             a.own fits.own;
+        apart = fits.apart;
+      })
+
+  -- ---- a flag is set
+
+  pub flags_set : (corrupt full : Bool) (v : ℕ) (place : Place) (spoiled filled : Bool) → TurnsTo a place
+      → IsShown shape (set state.words 6 v) (layout_of (record anatomy { corrupt = corrupt; full = full }))
+      → IsSetBy corrupt opened.corrupt (map (λ a. a.spoiled) (set state.actors id (record a { place = place; spoiled = spoiled; filled = filled })))
+      → IsSetBy full opened.full (map (λ a. a.filled) (set state.actors id (record a { place = place; spoiled = spoiled; filled = filled })))
+      → StandsRight shape (record anatomy { corrupt = corrupt; full = full }) id (record a { place = place; spoiled = spoiled; filled = filled }) place
+      → GoesTo (set state.words 6 v) (record (doing_of a) { place = place; spoiled = spoiled; filled = filled })
+  flags_set corrupt full v place spoiled filled turns shown is_corrupt is_full stands =
+      let d : Doing = record (doing_of a) { place = place; spoiled = spoiled; filled = filled } in
+      let fits = kept.each id a mine turns.lived in
+      acts_on shape opened state kept id a mine records d turns anatomy.pieces anatomy.spare corrupt full (set state.words 6 v)
+      (record {
+        shown = shown;
+        stays = stays_same anatomy.pieces;
+        others = λ other at body ne has. has;
+        still = still_same anatomy.pieces;
+        blocks = kept.blocks;
+        linked = linked_beside_head shape state.words anatomy kept.shown kept.list.standing 6 v (omega arith) kept.list.linked;
+        claims = claims_kept anatomy.pieces d refl refl;
+        free = λ seen behind. behind;
+        corrupt = is_corrupt;
+        full = is_full;
+        stands = stands;
+        seen = fits.sees.free;
+        own = fits.own;
         apart = fits.apart;
       })

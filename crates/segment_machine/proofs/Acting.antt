@@ -1,11 +1,9 @@
 -- A state is kept where one actor goes on that allocates: it sees nothing but the free pointer, and publishes nothing.
-use Rattle.std.proofs.Common.{◌≡◌, ◌≢◌, ◌⊎◌, ℕ, zero, suc, ◌+◌, ◌<◌, ◌≤◌, ℤ, pos, Bool, true, false, List, [], ◌∷◌, ◌++◌, map, length, set, All, inl, inr, ⊎_elim, refl, sym, ap, ◌∙◌, subst, arith}
+use Rattle.std.proofs.Common.{◌≡◌, ◌≢◌, ℕ, pos, Bool, List, [], ◌∷◌, ◌++◌, map, set, All, inl, inr, refl, sym, ap, ◌∙◌, subst}
 use Rattle.std.specs.Prelude.{IsPermutation, ⊤}
 use Rattle.std.specs.List.{flat_map}
-use Rattle.std.proofs.lemmas.List.Elements.{All-weaker}
-use Rattle.std.proofs.lemmas.List.Sorted.{IsPermutation-refl}
 use mathlib.Core.Logic.{dite}
-use mathlib.Core.Option.{Option, some, none, some-injective, some-ne-none}
+use mathlib.Core.Option.{some, none, some-injective, some-ne-none}
 use native.Mathlib.Decide.{ℕ_discrete}
 use lib.ListN.{get_elem?}
 use Rattle.atomic_table.proofs.Lists.{at_set, set_else, at_longer, at_snoc}
@@ -17,14 +15,13 @@ use Rattle.list_core.specs.Chain.{IsLinked}
 use Rattle.segment_machine.specs.declared.actor.Actor.{Actor}
 use Rattle.segment_machine.specs.declared.actor.Own.{Own}
 use Rattle.segment_machine.specs.State.{State}
-use Rattle.segment_machine.specs.Body.{Body, queue, plain, held, Piece, extent_of, Anatomy, layout_of, order_of, free_of, claims_of}
+use Rattle.segment_machine.specs.Body.{Body, queue, plain, held, Piece, Anatomy, layout_of, order_of, free_of, claims_of}
 use Rattle.segment_machine.specs.Seen.{Stands}
 use Rattle.segment_machine.specs.Kept.{StandsRight, HoldsOwn, IsSetBy, ClaimedRight, StandStill, Kept}
-use Rattle.segment_machine.proofs.Lists.{rows, column, from_map}
-use Rattle.segment_machine.proofs.Pieces.{stands_beside, stood_beside, stands_longer, stood_longer, held_same, amounts_same, held_grown, amounts_grown, with_piece, free_with, raw_piece, grown_by, free_more}
-use Rattle.segment_machine.proofs.Actors.{Doing, doing, doing_of, TurnsTo, SameDeeds, same_deeds}
+use Rattle.segment_machine.proofs.Pieces.{stands_beside, stood_beside, stands_longer, stood_longer, held_same, amounts_same, held_grown, amounts_grown}
+use Rattle.segment_machine.proofs.Actors.{Doing, doing, TurnsTo, SameDeeds, same_deeds}
 use Rattle.segment_machine.proofs.Anatomies.{reshaped, IsSilent, Stays, sees_along, calls_along, looks_along, sees_no_more, sees_doing, calls_doing, looks_doing}
-use Rattle.segment_machine.proofs.Goings.{Goes, not_opener, goes_on}
+use Rattle.segment_machine.proofs.Goings.{not_opener, goes_on}
 
 -- ---- blocks in the making
 

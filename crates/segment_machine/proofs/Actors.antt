@@ -1,10 +1,9 @@
 -- Actors together, where one goes on with a call and neither counts, takes nor gives back anything: what all of them did is the same.
-use Rattle.std.proofs.Common.{◌≡◌, ◌≢◌, ◌⊎◌, ℕ, zero, suc, ◌+◌, ◌<◌, ◌≤◌, ℤ, pos, Bool, true, false, List, [], ◌∷◌, ◌++◌, map, length, set, sum_by, All, Contains, inl, inr, ⊎_elim, refl, sym, ap, ◌∙◌, subst}
+use Rattle.std.proofs.Common.{◌≡◌, ◌≢◌, ◌⊎◌, ℕ, ◌+◌, ◌<◌, ◌≤◌, ℤ, Bool, true, false, List, ◌++◌, set, sum_by, All, inl, inr, refl, sym, ap, ◌∙◌, subst}
 use Rattle.std.specs.Prelude.{if◌then◌else◌}
-use mathlib.Core.Option.{some, some-injective}
+use mathlib.Core.Option.{some}
 use lib.ListN.{get_elem?}
 use Rattle.atomic_table.proofs.Lists.{at_set, set_else}
-use Rattle.alloc_core.proofs.Owners.{set_at}
 use Rattle.segment_machine.specs.declared.actor.Actor.{Actor}
 use Rattle.segment_machine.specs.declared.actor.Answered.{Answered}
 use Rattle.segment_machine.specs.declared.actor.Claim.{Claim}
@@ -12,16 +11,15 @@ use Rattle.segment_machine.specs.declared.actor.Moment.{Moment}
 use Rattle.segment_machine.specs.declared.actor.Own.{Own}
 use Rattle.segment_machine.specs.declared.actor.Published.{Published}
 use Rattle.segment_machine.specs.declared.actor.Sighting.{Sighting}
-use Rattle.segment_machine.specs.declared.actor.Taken.{Taken}
 use Rattle.segment_machine.specs.declared.entry.Entry.{Entry}
 use Rattle.segment_machine.specs.declared.place.Look.{Look}
 use Rattle.segment_machine.specs.declared.place.Place.{Place}
 use Rattle.segment_machine.specs.declared.place.Place.TheVariants.{Spent, Idle, FlagsLoaded, FreeLoaded, Raised, Sized, Marked, TailLoaded, Beaten, Linked, Looking, Losing, Moving, CountLoaded, SampleLoaded, SumLoaded, CursorLoaded, BehindCursor}
 use Rattle.segment_machine.specs.Entry.{tally_units, tally_sum, tally_noted}
-use Rattle.segment_machine.specs.Actor.{is_bound, log_of, counted_of, summed_of, noted_of, units_of, given_by, all_counted, all_summed, all_noted, all_taken, all_given, taken_units, taken_sum}
-use Rattle.segment_machine.specs.Consistent.{units_taken, IsWithinCounts}
+use Rattle.segment_machine.specs.Actor.{is_bound, counted_of, summed_of, noted_of, units_of, given_by, all_counted, all_summed, all_noted, all_taken, all_given, taken_units, taken_sum}
+use Rattle.segment_machine.specs.Consistent.{IsWithinCounts}
 use Rattle.segment_machine.specs.Ledger.{moving_at, all_moving}
-use Rattle.segment_machine.specs.Kept.{summed_cost, summed_costs, is_living, RolesAreKept, IsAlone, IsMomentOf, IsMoment, FinalsAreExact}
+use Rattle.segment_machine.specs.Kept.{summed_cost, summed_costs, is_living, RolesAreKept, IsAlone, IsMoment, FinalsAreExact}
 use Rattle.segment_machine.proofs.Lists.{rows, sum_same}
 
 -- ---- one actor
@@ -163,7 +161,7 @@ pub record SameDeeds (old new : List Actor) : Type 0 where
   pub opener : get_elem? new 0 ≡ get_elem? old 0
 
 -- of an actor that lives it is no matter where it stands
-living_at : (a : Actor) (p : Place) → p ≢ Spent → is_living (record a { place = p }) ≡ is_living (record a { place = Idle })
+pub living_at : (a : Actor) (p : Place) → p ≢ Spent → is_living (record a { place = p }) ≡ is_living (record a { place = Idle })
 living_at a Spent lives = absurd (lives refl)
 living_at a Idle lives = refl
 living_at a FlagsLoaded lives = refl

@@ -1,35 +1,33 @@
 -- Each event that allocates a block or sets a flag keeps what holds, and its actor learns of the free pointer.
-use Rattle.std.proofs.Common.{◌≡◌, ◌≢◌, ◌⊎◌, ℕ, zero, suc, ◌+◌, ◌-◌, ◌%◌, ◌<◌, ◌≤◌, ◌==◌, Bool, true, false, true≢false, List, [], ◌∷◌, ◌++◌, map, length, replicate, set, All, inl, inr, ⊎_elim, refl, sym, ap, ◌∙◌, subst, eq-eqb, ne_eqb, le-leb, arith}
-use Rattle.std.specs.Prelude.{bit_and, bit_or, nat_le, ◌&&◌, ◌||◌, fold, if◌then◌else◌, ⊤}
+use Rattle.std.proofs.Common.{◌≡◌, ◌≢◌, ℕ, ◌-◌, ◌==◌, Bool, true, false, List, map, length, set, inl, inr, refl, sym, ap, ◌∙◌, subst, eq-eqb, ne_eqb, le-leb, arith}
+use Rattle.std.specs.Prelude.{bit_and, bit_or, nat_le, ◌&&◌, ◌||◌, fold, if◌then◌else◌}
 use Rattle.std.proofs.lemmas.Bool.{and_from}
 use mathlib.Core.Logic.{dite}
-use mathlib.Core.Option.{some, none}
+use mathlib.Core.Option.{some}
 use native.Mathlib.Decide.{ℕ_discrete}
 use lib.ListN.{get_elem?}
 use lib.Seq.{set-get_or}
 use Rattle.atomic_table.proofs.Lists.{at_map}
 use Rattle.segment_image.specs.Shape.{Dimensions}
 use Rattle.segment_image.specs.Words.{word_at}
-use Rattle.alloc_core.specs.Layout.{IsShown}
 use Rattle.alloc_core.specs.Laws.{Behind}
-use Rattle.alloc_core.specs.Alloc.{IsPlace, IsRise}
+use Rattle.alloc_core.specs.Alloc.{IsRise}
 use Rattle.alloc_core.specs.Planned.{room_at, is_pointer}
-use Rattle.alloc_core.proofs.Layouts.{free_word, free_from, shown_corrupt, shown_full, length_shown}
+use Rattle.alloc_core.proofs.Layouts.{free_word, shown_corrupt, shown_full, length_shown}
 use Rattle.alloc_core.proofs.Owners.{set_at}
 use Rattle.segment_machine.specs.declared.actor.Actor.{Actor}
-use Rattle.segment_machine.specs.declared.place.Place.{Place}
-use Rattle.segment_machine.specs.declared.place.Place.TheVariants.{Spent, Idle, FlagsLoaded, FreeLoaded, Raised, Sized, Marked}
+use Rattle.segment_machine.specs.declared.place.Place.TheVariants.{Spent, Idle, FlagsLoaded, FreeLoaded, Raised}
 use Rattle.segment_machine.specs.Actor.{is_bound}
 use Rattle.segment_machine.specs.State.{State}
-use Rattle.segment_machine.specs.Event.{Event, load_flags, load_free, exchange_free, set_flag, spot, change}
-use Rattle.segment_machine.specs.Next.{next, after_free}
+use Rattle.segment_machine.specs.Event.{Event, load_flags, load_free, exchange_free, set_flag, spot}
+use Rattle.segment_machine.specs.Next.{after_free}
 use Rattle.segment_machine.specs.Ready.{Ready}
 use Rattle.segment_machine.specs.Learned.{Learned}
 use Rattle.segment_machine.specs.Body.{Anatomy, layout_of, free_of}
 use Rattle.segment_machine.specs.Kept.{StandsRight, IsSetBy, Kept}
 use Rattle.segment_machine.proofs.Lists.{any_there, column}
-use Rattle.segment_machine.proofs.Pieces.{raw_piece, grown_by, stands_last, free_least, free_within}
-use Rattle.segment_machine.proofs.Actors.{Doing, doing, doing_of, TurnsTo, is_plain, turns_plain, turns_unbound}
+use Rattle.segment_machine.proofs.Pieces.{raw_piece, stands_last, free_least, free_within}
+use Rattle.segment_machine.proofs.Actors.{is_plain, turns_plain, turns_unbound}
 use Rattle.segment_machine.proofs.Goings.{after_word}
 use Rattle.segment_machine.proofs.Making.{waits, takes, flags_set}
 
@@ -127,9 +125,10 @@ module _ (shape : Dimensions) (opened : Anatomy) (state : State) (kept : Kept sh
       let from = free_least shape state.words anatomy kept.shown in
       let five = rise.five in
       let within = rise.within in
-      takes shape opened state kept id a mine records new (Raised old size) (turns_plain a (Raised old size) (ap is_plain ready) refl) rise
-      (record { from = from; five = omega (arith, five); within = omega (arith, five, within); one_page = rise.one_page },
-      stands_last anatomy.pieces (raw_piece old id size))
+      takes shape opened state kept id a mine records new (Raised old size) (turns_plain a (Raised old size) (ap is_plain ready) refl) rise (
+        record { from = from; five = omega (arith, five); within = omega (arith, five, within); one_page = rise.one_page },
+        stands_last anatomy.pieces (raw_piece old id size),
+      )
 
   pub free_exchanged : (old new : ℕ) → Ready a (exchange_free old new) → Keeps (exchange_free old new)
   free_exchanged old new (ready, lawful, rise) =

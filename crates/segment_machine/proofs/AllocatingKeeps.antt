@@ -1,11 +1,10 @@
 -- Each event that allocates keeps what holds: it acts on a word of the segment, and what it leaves is kept.
-use Rattle.std.proofs.Common.{◌≡◌, ℕ, ◌+◌, ◌<◌, ◌≤◌, List, length, inl, inr, arith}
+use Rattle.std.proofs.Common.{◌≡◌, ℕ, ◌+◌, ◌<◌, ◌≤◌, length, arith}
 use mathlib.Core.Option.{some}
 use lib.ListN.{get_elem?}
 use Rattle.std.proofs.Common.{subst}
 use Rattle.segment_image.specs.Shape.{Dimensions}
 use Rattle.segment_machine.specs.declared.actor.Actor.{Actor}
-use Rattle.segment_machine.specs.declared.place.Place.TheVariants.{Raised, Sized, Marked}
 use Rattle.segment_machine.specs.State.{State}
 use Rattle.segment_machine.specs.Event.{Event, load_flags, load_free, exchange_free, store_size, store_cookie, store_type, store_payload, set_flag, spot}
 use Rattle.segment_machine.specs.Learned.{Learned}

@@ -1,10 +1,9 @@
 -- What holds of an anatomy, where blocks in the making change and what was published stays.
-use Rattle.std.proofs.Common.{◌≡◌, ◌≢◌, ◌⊎◌, ℕ, zero, suc, ◌+◌, ◌<◌, ◌≤◌, ℤ, pos, Bool, true, false, List, [], ◌∷◌, ◌++◌, map, length, set, All, Contains, inl, inr, ⊎_elim, refl, sym, ap, ◌∙◌, subst, arith}
+use Rattle.std.proofs.Common.{◌≡◌, ◌≢◌, ℕ, ◌+◌, ◌≤◌, ℤ, pos, Bool, List, map, All, Contains, inl, inr, refl, sym, ap, ◌∙◌, subst}
 use Rattle.std.specs.Prelude.{slice_index, unsigned_abs, ◌*◌, ◌-ℤ◌, IsPermutation}
 use Rattle.std.specs.Prelude as std
 use Rattle.std.proofs.lemmas.List.Elements.{All-weaker}
-use mathlib.Core.Option.{Option, some, none, some-injective, some-ne-none}
-use lib.ListN.{get_elem?}
+use mathlib.Core.Option.{some, none}
 use Rattle.segment_image.specs.Shape.{Dimensions}
 use Rattle.alloc_core.specs.Laws.{Behind}
 use Rattle.list_core.specs.Chain.{IsLinked}
@@ -14,16 +13,15 @@ use Rattle.segment_machine.specs.declared.actor.Known.{Known}
 use Rattle.segment_machine.specs.declared.actor.Made.{Made}
 use Rattle.segment_machine.specs.declared.actor.Made.TheVariants as made
 use Rattle.segment_machine.specs.declared.actor.Own.{Own}
-use Rattle.segment_machine.specs.declared.actor.Sighting.{Sighting}
 use Rattle.segment_machine.specs.declared.place.Look.{Look}
 use Rattle.segment_machine.specs.declared.place.Place.{Place}
 use Rattle.segment_machine.specs.declared.place.Place.TheVariants.{Spent, Idle, FlagsLoaded, FreeLoaded, Raised, Sized, Marked, TailLoaded, Beaten, Linked, Looking, Losing, Moving, CountLoaded, SampleLoaded, SumLoaded, CursorLoaded, BehindCursor}
-use Rattle.segment_machine.specs.Entry.{tally_units, tally_sum, tally_noted}
+use Rattle.segment_machine.specs.Entry.{tally_units, tally_noted}
 use Rattle.segment_machine.specs.Actor.{all_counted, all_taken, all_published, taken_units, taken_sum, bucket_key}
 use Rattle.segment_machine.specs.Body.{Body, queue, plain, held, Piece, Listed, listed, Anatomy, order_of, free_of}
 use Rattle.segment_machine.specs.Ledger.{units_held, marks_held, sum_held, sum_mark_held, noted_held, all_held, all_amounts, all_moving, IsBalanced}
-use Rattle.segment_machine.specs.Seen.{Stands, HasPlain, HasRecord, WasFixed, WasCounter, WasInUse, WasSingle, IsNoLater, Knows, Sees}
-use Rattle.segment_machine.specs.Kept.{StandsAs, IsListed, ListIsKept, RecordsAreKept, SumsAreNear, IsSumOf, StandsRight, LooksRight, HoldsOwn, CallsRight, LooksBack, IsSettled}
+use Rattle.segment_machine.specs.Seen.{Stands, HasPlain, WasFixed, WasCounter, WasInUse, WasSingle, IsNoLater, Knows, Sees}
+use Rattle.segment_machine.specs.Kept.{StandsAs, ListIsKept, RecordsAreKept, SumsAreNear, IsSumOf, StandsRight, LooksRight, HoldsOwn, CallsRight, LooksBack, IsSettled}
 use Rattle.segment_machine.proofs.Actors.{Doing, doing, TurnsTo, SameDeeds, alone_along, units_along, sum_along}
 
 -- the anatomy with other blocks, other flags and another tail, and the same records
@@ -53,9 +51,9 @@ module _ (anatomy : Anatomy) (pieces : List Piece) (spare : ℕ) (corrupt full :
       → IsBalanced anatomy.version opened anatomy.pieces before → IsBalanced anatomy.version opened pieces after
   balanced_along opened before after same is =
       let units_same : (name : List ℕ) (key : ℤ) → tally_units (all_counted before) name key ≡ tally_units (all_counted after) name key =
-          units_along before after same in
+      units_along before after same in
       let taken_same : (name : List ℕ) (key : ℤ) → taken_units (all_taken before) name key ≡ taken_units (all_taken after) name key =
-          λ name key. ap (λ taken. taken_units taken name key) (sym same.taken) in
+      λ name key. ap (λ taken. taken_units taken name key) (sym same.taken) in
       record {
         units = λ name key.
             let held = stays.held (units_held anatomy.version name key) (λ words. refl, λ block. refl, λ next. refl) in

@@ -1,9 +1,9 @@
 -- An actor stores a word into a block of its own: what holds is kept. So each word of a payload.
-use Rattle.std.proofs.Common.{◌≡◌, ◌≢◌, ◌⊎◌, ℕ, zero, suc, ◌+◌, ◌-◌, ◌<◌, ◌≤◌, ◌==◌, Bool, true, false, true≢false, List, [], ◌∷◌, ◌++◌, length, replicate, set, All, Contains, inl, inr, ⊎_elim, refl, sym, ap, ◌∙◌, subst, append_assoc, eq-eqb, eqb-true, length-set, length-append, arith}
-use Rattle.std.specs.Prelude.{slice_index, if◌then◌else◌}
+use Rattle.std.proofs.Common.{◌≡◌, ◌≢◌, ◌⊎◌, ℕ, zero, suc, ◌+◌, ◌-◌, ◌<◌, ◌≤◌, ◌==◌, Bool, true, false, true≢false, List, [], ◌∷◌, ◌++◌, length, replicate, set, All, Contains, inl, inr, refl, sym, ap, ◌∙◌, subst, append_assoc, eq-eqb, eqb-true, length-set, length-append, arith}
+use Rattle.std.specs.Prelude.{if◌then◌else◌}
 use Rattle.std.proofs.lemmas.List.{length-replicate, set-append_right}
 use mathlib.Core.Logic.{dite}
-use mathlib.Core.Option.{some, none, some-injective, some-ne-none}
+use mathlib.Core.Option.{some, some-injective, some-ne-none}
 use native.Mathlib.Decide.{ℕ_discrete}
 use lib.ListN.{get_elem?}
 use Rattle.atomic_table.proofs.Lists.{at_set, set_else}
@@ -12,15 +12,13 @@ use Rattle.segment_image.specs.Shape.{Dimensions}
 use Rattle.alloc_core.specs.Alloc.{IsPlace}
 use Rattle.segment_machine.specs.declared.actor.Actor.{Actor}
 use Rattle.segment_machine.specs.declared.actor.Own.{Own}
-use Rattle.segment_machine.specs.declared.place.Place.{Place}
 use Rattle.segment_machine.specs.declared.place.Place.TheVariants.{Spent}
 use Rattle.segment_machine.specs.State.{State}
 use Rattle.segment_machine.specs.Seats.{spent}
 use Rattle.segment_machine.specs.Event.{store_payload}
 use Rattle.segment_machine.specs.Next.{change_first, change_own, stored}
 use Rattle.segment_machine.specs.Ready.{Ready}
-use Rattle.segment_machine.specs.Body.{Body, plain, held, own_words, words_of, is_claimed, Piece, extent_of, block_of, Anatomy, layout_of, order_of}
-use Rattle.segment_machine.specs.Seen.{Stands}
+use Rattle.segment_machine.specs.Body.{plain, held, own_words, is_claimed, Piece, Anatomy}
 use Rattle.segment_machine.specs.Kept.{StandsRight, HoldsOwn, Kept}
 use Rattle.segment_machine.proofs.Lists.{at_from, contains_at, all_at, all_from}
 use Rattle.segment_machine.proofs.Pieces.{stands_here, stands_beside, not_first, piece_stored, claims_same, with_piece}
@@ -40,7 +38,7 @@ change_one test f [] i x there passes alone = refl
 change_one test f (z ∷ zs) zero x there passes alone =
     let same : z ≡ x = some-injective z x there in
     ap (λ b. if b then f z ∷ zs else z ∷ change_first test f zs) (ap test same ∙ passes) ∙ ap (λ y. f y ∷ zs) same
-change_one test f (z ∷ zs) (suc i) x there passes alone = 
+change_one test f (z ∷ zs) (suc i) x there passes alone =
     fails (test z) refl (λ is. change_one test f zs i x there passes (λ m y at held. let e = alone (suc m) y at held in omega (arith, e)))
   where
     fails : (b : Bool) → test z ≡ b → (test z ≡ false → change_first test f zs ≡ set zs i (f x))
@@ -216,8 +214,8 @@ module _ (shape : Dimensions) (opened : Anatomy) (state : State) (kept : Kept sh
       let inner = length-append x.payload (replicate (index - length x.payload) 0) in
       let outer = length-append (x.payload ++ replicate (index - length x.payload) 0) (value ∷ []) in
       let changed : change_own at (λ own. record own { payload = stored own.payload index value }) a.own ≡ set a.own i y =
-          change_one (λ (own : Own). own.at == at) (λ (own : Own). record own { payload = stored own.payload index value }) a.own i x there
-          (eq-eqb x.at at place) (λ j z here passes. fits.apart j i z x here there (eqb-true z.at at passes ∙ sym place)) in (
+      change_one (λ (own : Own). own.at == at) (λ (own : Own). record own { payload = stored own.payload index value }) a.own i x there
+      (eq-eqb x.at at place) (λ j z here passes. fits.apart j i z x here there (eqb-true z.at at passes ∙ sym place)) in (
         subst (λ (s : ℕ × List Own). Kept shape opened (record {
           words = set state.words (s.0 + (4 + index)) value;
           cursors = state.cursors;

@@ -1,10 +1,10 @@
 -- A state is kept where one actor goes on, and at most one of the blocks in the making changes.
-use Rattle.std.proofs.Common.{◌≡◌, ◌≢◌, ◌⊎◌, ℕ, zero, suc, ◌+◌, ◌<◌, ◌≤◌, ℤ, pos, Bool, true, false, List, [], ◌∷◌, ◌++◌, map, length, set, take, drop, get_or, All, Contains, inl, inr, ⊎_elim, refl, sym, ap, ◌∙◌, subst, arith, length-set}
+use Rattle.std.proofs.Common.{◌≡◌, ◌≢◌, ℕ, ◌<◌, Bool, List, ◌++◌, map, length, set, take, drop, All, Contains, inl, inr, sym, ap, ◌∙◌, subst, arith, length-set}
 use Rattle.std.proofs.Math.Seq.{take-append_seam, drop-append_seam}
 use Rattle.std.proofs.lemmas.List.{set-append_left, get_or_append_left}
 use Rattle.std.specs.Prelude.{IsPermutation}
 use Rattle.std.specs.List.{flat_map}
-use mathlib.Core.Option.{Option, some, none, some-injective, some-ne-none}
+use mathlib.Core.Option.{some, some-injective}
 use lib.ListN.{get_elem?}
 use Rattle.atomic_table.proofs.Lists.{at_set}
 use Rattle.segment_image.specs.Shape.{Dimensions}
@@ -16,8 +16,7 @@ use Rattle.list_core.specs.Laws.{IsStop}
 use Rattle.segment_machine.specs.declared.actor.Actor.{Actor}
 use Rattle.segment_machine.specs.declared.actor.Given.{Given}
 use Rattle.segment_machine.specs.declared.actor.Own.{Own}
-use Rattle.segment_machine.specs.declared.place.Place.TheVariants.{Spent, Idle}
-use Rattle.segment_machine.specs.Actor.{all_counted, all_taken, all_published}
+use Rattle.segment_machine.specs.declared.place.Place.TheVariants.{Spent}
 use Rattle.segment_machine.specs.State.{State, memory}
 use Rattle.segment_machine.specs.Event.{Event, spot, change}
 use Rattle.segment_machine.specs.Next.{next}
@@ -25,9 +24,9 @@ use Rattle.segment_machine.specs.Learned.{Learned}
 use Rattle.segment_machine.specs.Keeps.{found_at, happened}
 use Rattle.segment_machine.specs.Body.{Body, plain, Piece, Anatomy, layout_of, order_of, free_of, claims_of}
 use Rattle.segment_machine.specs.Seen.{Stands, IsNoLater, Sees}
-use Rattle.segment_machine.specs.Kept.{StandsRight, HoldsOwn, CallsRight, LooksBack, RolesAreKept, Fits, CursorsAreKept, IsSetBy, ClaimedRight, StandStill, HasKey, Kept}
-use Rattle.segment_machine.proofs.Lists.{rows, column}
-use Rattle.segment_machine.proofs.Actors.{Doing, doing, doing_of, TurnsTo, SameDeeds, same_deeds, roles_along, finals_along, finals_doing, within_along}
+use Rattle.segment_machine.specs.Kept.{StandsRight, HoldsOwn, CallsRight, LooksBack, Fits, CursorsAreKept, IsSetBy, ClaimedRight, StandStill, Kept}
+use Rattle.segment_machine.proofs.Lists.{rows}
+use Rattle.segment_machine.proofs.Actors.{Doing, doing, TurnsTo, SameDeeds, same_deeds, roles_along, finals_along, finals_doing, within_along}
 use Rattle.segment_machine.proofs.Anatomies.{reshaped, Stays, balanced_along, list_along, records_along, sums_along, sees_along, calls_along, looks_along, own_along, standing_along}
 
 -- What has to be shown where an actor goes on to a doing: of the blocks and the words that are then there, and of the actor itself.

@@ -13,6 +13,13 @@ pub mod ImpliedFlags
 pub mod ImpliedRecords
 pub mod ImpliedUnits
 pub mod Keys
+pub mod ListingActors
+pub mod ListingEvents
+pub mod ListingGrowth
+pub mod ListingKept
+pub mod ListingReads
+pub mod ListingRecords
+pub mod ListingWalks
 pub mod Lists
 pub mod Making
 pub mod Mounted

@@ -1,11 +1,10 @@
 -- A state is kept where an actor that allocates changes nothing, stores into a block in its making, takes words for one, or sets a flag.
-use Rattle.std.proofs.Common.{◌≡◌, ◌≢◌, ◌⊎◌, ℕ, zero, suc, ◌+◌, ◌-◌, ◌<◌, ◌≤◌, Bool, true, false, true≢false, List, [], ◌∷◌, ◌++◌, map, length, replicate, set, All, inl, inr, ⊎_elim, refl, sym, ap, ◌∙◌, subst, append_assoc, arith}
+use Rattle.std.proofs.Common.{◌≡◌, ℕ, ◌+◌, ◌-◌, ◌≤◌, Bool, false, true≢false, List, [], ◌∷◌, ◌++◌, map, set, All, inl, inr, refl, sym, ap, ◌∙◌, subst, append_assoc, arith}
 use Rattle.std.specs.Prelude.{IsPermutation, fold, ◌||◌}
 use Rattle.std.specs.List.{flat_map}
-use Rattle.std.proofs.lemmas.List.{length-replicate}
 use Rattle.std.proofs.lemmas.List.Elements.{All-weaker}
 use Rattle.std.proofs.lemmas.List.Sorted.{IsPermutation-refl, IsPermutation-sym, IsPermutation-trans, IsPermutation-append}
-use mathlib.Core.Option.{Option, some, none, some-injective, some-ne-none}
+use mathlib.Core.Option.{some}
 use lib.ListN.{get_elem?}
 use Rattle.segment_image.specs.Shape.{Dimensions}
 use Rattle.alloc_core.specs.Layout.{IsShown}
@@ -18,14 +17,13 @@ use Rattle.segment_machine.specs.declared.actor.Claim.{Claim}
 use Rattle.segment_machine.specs.declared.actor.Own.{Own}
 use Rattle.segment_machine.specs.declared.place.Place.{Place}
 use Rattle.segment_machine.specs.State.{State}
-use Rattle.segment_machine.specs.Body.{Body, plain, held, is_claimed, Piece, extent_of, Anatomy, layout_of, order_of, free_of, claims_of}
-use Rattle.segment_machine.specs.Seen.{Stands}
+use Rattle.segment_machine.specs.Body.{held, is_claimed, Piece, extent_of, Anatomy, layout_of, order_of, free_of, claims_of}
 use Rattle.segment_machine.specs.Kept.{StandsRight, HoldsOwn, IsSetBy, ClaimedRight, Kept}
 use Rattle.segment_machine.proofs.Lists.{rows, rows_more, column}
-use Rattle.segment_machine.proofs.Pieces.{stands_beside, stands_longer, claims_same, claims_more, claims_grown, with_piece, free_with, raw_piece, grown_by, layout_grown, free_more}
+use Rattle.segment_machine.proofs.Pieces.{stands_beside, stands_longer, claims_same, claims_grown, with_piece, free_with, raw_piece, grown_by, layout_grown, free_more}
 use Rattle.segment_machine.proofs.Stops.{linked_beside_head}
 use Rattle.segment_machine.proofs.Actors.{Doing, doing, doing_of, TurnsTo}
-use Rattle.segment_machine.proofs.Acting.{IsMaking, stays_same, stays_put, others_put, stays_longer, still_same, still_put, still_longer, right_put, right_longer, Acts, unlisted, acts_on}
+use Rattle.segment_machine.proofs.Acting.{IsMaking, stays_same, stays_put, others_put, stays_longer, still_same, still_put, still_longer, right_put, right_longer, unlisted, acts_on}
 
 -- A block in the making, or one's own, becomes another of the same place, extent and owner, and the words are those with it.
 pub record IsStore (shape : Dimensions) (anatomy : Anatomy) (id k : ℕ) (p q : Piece) (words : List ℕ) : Type 0 where

@@ -13,13 +13,13 @@ use Rattle.segment_image.specs.Shape.{Dimensions}
 use Rattle.segment_image.specs.Words.{word_at}
 use Rattle.alloc_core.specs.Layout.{Block, extent, IsLaid, queue_block, IsShown, put, raw_block, grown}
 use Rattle.alloc_core.specs.Layout as layout
-use Rattle.alloc_core.proofs.Layouts.{apart, ends_within, shown_put, slice_shown, free_put, free_grown, free_from}
+use Rattle.alloc_core.proofs.Layouts.{apart, ends_within, shown_put, shown_queue, slice_shown, free_put, free_grown, free_from}
 use Rattle.alloc_core.proofs.Owners.{set_at}
 use Rattle.segment_machine.specs.declared.actor.Claim.{Claim}
-use Rattle.segment_machine.specs.Body.{Body, plain, words_of, is_claimed, Piece, extent_of, block_of, Anatomy, layout_of, free_of, claims_of}
+use Rattle.segment_machine.specs.Body.{Body, queue, plain, words_of, is_claimed, Piece, extent_of, block_of, Anatomy, layout_of, free_of, claims_of}
 use Rattle.segment_machine.specs.Ledger.{all_held, all_amounts}
 use Rattle.segment_machine.specs.Seen.{Stands}
-use Rattle.segment_machine.proofs.Lists.{column, sum_same, from_map}
+use Rattle.segment_machine.proofs.Lists.{column, sum_beside, sum_same, from_map}
 
 -- ---- one block among others
 
@@ -134,6 +134,15 @@ piece_stored shape words anatomy k p q j v shown there other lt is same =
     shown_with shape (set words (p.at + j) v) anatomy k q
     (shown_put shape words (layout_of anatomy) k (block_of p) (block_of q) j v shown
     (at_map block_of anatomy.pieces k p there) other lt is same)
+
+-- the next of the queue block is stored
+abbrev pub queue_piece : ℕ → Piece
+queue_piece next = record { at = 12; owner = none; body = queue next }
+
+pub queue_stored : (shape : Dimensions) (words : List ℕ) (anatomy : Anatomy) (v : ℕ) → IsShown shape words (layout_of anatomy)
+    → IsShown shape (set words 15 v) (layout_of (with_piece anatomy 0 (queue_piece v)))
+queue_stored shape words anatomy v shown =
+    shown_with shape (set words 15 v) anatomy 0 (queue_piece v) (shown_queue shape words (layout_of anatomy) v shown)
 
 -- the free pointer stays
 pub free_with : (anatomy : Anatomy) (k : ℕ) (p q : Piece) → get_elem? anatomy.pieces k ≡ some p → extent_of q ≡ extent_of p
@@ -259,6 +268,11 @@ claims_grown (x ∷ xs) q free =
 pub held_same : (holds : Body → ℕ) (pieces : List Piece) (k : ℕ) (p q : Piece) → get_elem? pieces k ≡ some p → holds q.body ≡ holds p.body
     → all_held holds (set pieces k q) ≡ all_held holds pieces
 held_same holds pieces k p q there same = sum_same (λ (piece : Piece). holds piece.body) pieces k p q there same
+
+-- or what they held, with what the new piece holds in place of the old one
+pub held_beside : (holds : Body → ℕ) (pieces : List Piece) (k : ℕ) (p q : Piece) → get_elem? pieces k ≡ some p
+    → all_held holds (set pieces k q) + holds p.body ≡ all_held holds pieces + holds q.body
+held_beside holds pieces k p q there = sum_beside (λ (piece : Piece). holds piece.body) pieces k p q there
 
 pub held_grown : (holds : Body → ℕ) (pieces : List Piece) (q : Piece) → holds q.body ≡ 0 → all_held holds (pieces ++ q ∷ []) ≡ all_held holds pieces
 held_grown holds pieces q nothing = let e = sum_by_push (λ (piece : Piece). holds piece.body) pieces q in omega (arith, e, nothing)

@@ -1,5 +1,5 @@
 -- The blocks of the list: the queue block and the records stand as blocks without owner, so a store elsewhere leaves the list.
-use Rattle.std.proofs.Common.{◌≡◌, ◌≢◌, ◌⊎◌, ℕ, zero, suc, ◌+◌, ◌<◌, ◌≤◌, List, ◌∷◌, map, length, set, get_or, All, inl, inr, refl, sym, ap, ◌∙◌, subst, arith}
+use Rattle.std.proofs.Common.{◌≡◌, ℕ, zero, suc, ◌+◌, ◌<◌, ◌≤◌, List, set, All, inl, inr, refl, sym, ap, ◌∙◌, subst, arith}
 use Rattle.std.specs.Prelude.{slice_index}
 use Rattle.std.specs.Prelude as std
 use Rattle.std.proofs.lemmas.List.{length-map}
@@ -7,14 +7,13 @@ use mathlib.Core.Option.{some, none, some-injective, some-ne-none}
 use lib.ListN.{get_elem?}
 use Rattle.atomic_table.proofs.Lists.{at_map}
 use Rattle.segment_image.specs.Shape.{Dimensions}
-use Rattle.segment_image.specs.Words.{word_at}
 use Rattle.alloc_core.specs.Layout.{IsShown}
 use Rattle.list_core.specs.Chain.{stops, IsLinked}
 use Rattle.list_core.specs.Laws.{IsStop}
 use Rattle.list_core.proofs.Chains.{linked_beside}
 use Rattle.segment_machine.specs.declared.actor.Made.{Made}
 use Rattle.segment_machine.specs.declared.actor.Made.TheVariants as made
-use Rattle.segment_machine.specs.Body.{Body, histogram, sample, other, Piece, extent_of, Listed, Anatomy, layout_of, order_of}
+use Rattle.segment_machine.specs.Body.{Piece, extent_of, Listed, Anatomy, layout_of, order_of}
 use Rattle.segment_machine.specs.Kept.{StandsAs}
 use Rattle.segment_machine.proofs.Lists.{there_below, index_at, all_at}
 use Rattle.segment_machine.proofs.Pieces.{first_piece, some_first, piece_from, one_index}
@@ -46,9 +45,9 @@ module _ (shape : Dimensions) (words : List ℕ) (anatomy : Anatomy) (shown : Is
       record { index = 0; piece = q.0; there = q.1; begins = first.0 ∙ is; free = first.1; long = omega (arith, first.2) }
   stop_open at (suc k, le, is) =
       let (l, there) = there_below anatomy.records k
-          (omega (arith, le, length-map anatomy.records (λ (l : Listed). l.reference))) in
+      (omega (arith, le, length-map anatomy.records (λ (l : Listed). l.reference))) in
       let named : l.reference ≡ at =
-          sym (index_at (order_of anatomy) k l.reference 0 (at_map (λ (l : Listed). l.reference) anatomy.records k l there)) ∙ is in
+      sym (index_at (order_of anatomy) k l.reference 0 (at_map (λ (l : Listed). l.reference) anatomy.records k l there)) ∙ is in
       subst (IsOpen anatomy.pieces) named
       (listed_open anatomy.pieces l l.made (all_at (λ l. StandsAs anatomy.pieces l l.made) anatomy.records k l standing there))
 
@@ -60,7 +59,7 @@ module _ (shape : Dimensions) (words : List ℕ) (anatomy : Anatomy) (shown : Is
       let long = stop.long in
       let begins = stop.begins in
       let index = one_index shape words anatomy shown stop.index k stop.piece p 3 j stop.there there (omega (arith, long)) lt
-          (omega (arith, begins, same)) in
+      (omega (arith, begins, same)) in
       some-ne-none id (sym owned ∙ (ap (λ (x : Piece). x.owner)
       (some-injective p stop.piece (sym there ∙ (ap (get_elem? anatomy.pieces) (sym index) ∙ stop.there))) ∙ stop.free)))
 

@@ -1,27 +1,26 @@
 -- Each store into the header of a block in its making keeps what holds: its size, its cookie, and its type, which claims it.
-use Rattle.std.proofs.Common.{◌≡◌, ◌≢◌, ◌⊎◌, ℕ, zero, suc, ◌+◌, ◌-◌, ◌<◌, ◌≤◌, ◌==◌, Bool, true, false, true≢false, List, [], ◌∷◌, ◌++◌, length, replicate, set, All, inl, inr, ⊎_elim, refl, sym, ap, ◌∙◌, subst, eq-eqb, ne_eqb, arith}
+use Rattle.std.proofs.Common.{◌≡◌, ◌≢◌, ℕ, suc, ◌+◌, ◌-◌, ◌<◌, ◌≤◌, ◌==◌, true, true≢false, List, [], ◌∷◌, ◌++◌, length, replicate, set, inl, inr, refl, sym, ap, ◌∙◌, subst, arith}
 use Rattle.std.specs.Prelude.{if◌then◌else◌, IsPermutation}
 use Rattle.std.proofs.lemmas.List.{length-replicate}
 use Rattle.std.proofs.lemmas.List.Elements.{All-push}
-use mathlib.Core.Option.{some, none}
+use mathlib.Core.Option.{some}
 use lib.ListN.{get_elem?}
 use Rattle.atomic_table.proofs.Lists.{at_map}
 use Rattle.segment_image.specs.Shape.{Dimensions}
-use Rattle.alloc_core.specs.Layout.{Block, IsShown, put}
+use Rattle.alloc_core.specs.Layout.{IsShown, put}
 use Rattle.alloc_core.specs.Laws.{own, claimed_words}
 use Rattle.alloc_core.specs.Alloc.{IsPlace}
 use Rattle.alloc_core.proofs.EventKinds.{sized, marked, length-sized, length-marked, length-claimed, size_stored, cookie_stored, type_stored}
-use Rattle.list_core.specs.Chain.{IsLinked}
 use Rattle.segment_machine.specs.declared.actor.Actor.{Actor}
 use Rattle.segment_machine.specs.declared.actor.Claim.{Claim}
 use Rattle.segment_machine.specs.declared.actor.Own.{Own}
 use Rattle.segment_machine.specs.declared.place.Place.{Place}
-use Rattle.segment_machine.specs.declared.place.Place.TheVariants.{Idle, Raised, Sized, Marked}
+use Rattle.segment_machine.specs.declared.place.Place.TheVariants.{Idle, Sized, Marked}
 use Rattle.segment_machine.specs.State.{State}
 use Rattle.segment_machine.specs.Event.{store_size, store_cookie, store_type}
 use Rattle.segment_machine.specs.Next.{size_at, new_own}
 use Rattle.segment_machine.specs.Ready.{Ready}
-use Rattle.segment_machine.specs.Body.{Body, plain, held, own_words, words_of, is_claimed, Piece, block_of, Anatomy, layout_of, order_of, claims_of}
+use Rattle.segment_machine.specs.Body.{plain, held, own_words, is_claimed, Piece, block_of, Anatomy, layout_of, claims_of}
 use Rattle.segment_machine.specs.Seen.{Stands, HasPlain}
 use Rattle.segment_machine.specs.Kept.{StandsRight, HoldsOwn, Kept}
 use Rattle.segment_machine.proofs.Lists.{all_at, at_snoc_index}
@@ -100,7 +99,7 @@ module _ (shape : Dimensions) (opened : Anatomy) (state : State) (kept : Kept sh
   pub cookie_kept : (at cookie : ℕ) → Ready a (store_cookie at cookie) → Keeps shape opened state kept id a mine records (store_cookie at cookie)
   cookie_kept at cookie ((size, ready), inl block) =
       let here : Goes (at + 1) 0xC8799269 (record a { place = Marked at size }) =
-          cookie_put at size 0xC8799269 (Marked at size) ready refl (λ pieces placed has. (placed, has)) in
+      cookie_put at size 0xC8799269 (Marked at size) ready refl (λ pieces placed has. (placed, has)) in
       let same : size ≡ size_at a.place = sym (ap size_at ready) in (
         subst (λ n. Goes (at + 1) n (record a { place = if n == 0xC8799269 then Marked at (size_at a.place) else Idle })) (sym block)
             (subst (λ n. Goes (at + 1) 0xC8799269 (record a { place = Marked at n })) same here),
@@ -158,11 +157,11 @@ module _ (shape : Dimensions) (opened : Anatomy) (state : State) (kept : Kept sh
         let here = stands_here anatomy.pieces k p q there in
         let d : Doing = record (doing_of a) { place = Idle; own = a.own ++ block ∷ []; claimed = a.claimed ++ claim ∷ [] } in
         let is_new : HoldsOwn shape pieces id block =
-            record { stands = here; placed = placed; room = omega (arith, five); tagged = some_tag; ends = inl refl } in
+        record { stands = here; placed = placed; room = omega (arith, five); tagged = some_tag; ends = inl refl } in
         let others : (i : ℕ) (x : Own) → get_elem? a.own i ≡ some x → x.at ≢ at =
-            λ i x is same. true≢false (ap is_claimed (one_stands shape state.words anatomy kept.shown at (some id) (some id) (held x) p.body
-            (subst (λ n. Stands anatomy.pieces n (some id) (held x)) same (all_at (HoldsOwn shape anatomy.pieces id) a.own i x fits.own is).stands)
-            (k, there)).1) in
+        λ i x is same. true≢false (ap is_claimed (one_stands shape state.words anatomy kept.shown at (some id) (some id) (held x) p.body
+        (subst (λ n. Stands anatomy.pieces n (some id) (held x)) same (all_at (HoldsOwn shape anatomy.pieces id) a.own i x fits.own is).stands)
+        (k, there)).1) in
         stores shape opened state kept id a mine records k p q words store d turns
         (claims_longer shape opened state kept id a mine records pieces d claim
         (subst (λ n. IsPermutation (claims_of pieces) (claims_of anatomy.pieces ++ record { at = at; size = n } ∷ [])) long

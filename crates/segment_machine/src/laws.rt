@@ -7,7 +7,7 @@ ghost use Rattle.segment_machine.specs.Promises.{StepsChangeOne, KeysAreLeast};
 ghost use Rattle.segment_machine.specs.Follows.{StepsFollow, TablesFollow};
 ghost use Rattle.segment_machine.specs.Lives.{RecorderIsJoined, LinksLengthen, DeltaOwes, SnapshotOwes};
 ghost use Rattle.segment_machine.specs.Accounts.{MountedAgrees, TakersAgree, SparseAgrees, BatchAgrees};
-ghost use Rattle.segment_machine.specs.Keeps.{OpeningIsKept, KeptFlagsAreSet, KeptIsChain, KeptUnitsAreKept};
+ghost use Rattle.segment_machine.specs.Keeps.{OpeningIsKept, AllocatingKeeps, KeptFlagsAreSet, KeptIsChain, KeptUnitsAreKept};
 ghost use Rattle.segment_machine.specs.Examples.{Keys, PackedThenMounted, StoppedInTransit, PackingLimit, DeltasAndMarks, TwoTakers, PackedRun, MountingRun, TakerRuns, TakingRun, SparseSamples, Batches, MountedIsConsistent, ListBreaks, RecordsBreak, TotalsBreak, MarksBreak, SumsBreak, TransitBreaks, FlagsBreak, UnitsBreak};
 
 /// A step changes one word and one actor at most.
@@ -181,6 +181,12 @@ pub fn units_break()
 /// A new segment with its opener is kept: what holds between any two events holds of it.
 pub fn opening_is_kept()
     ensures { OpeningIsKept }
+{}
+
+/// Each event that allocates a block, stores into it or sets a flag keeps what holds, and its actor learns that the free pointer
+/// which it found is lawful and is no earlier than the one that it knew.
+pub fn allocating_keeps()
+    ensures { AllocatingKeeps }
 {}
 
 /// The flags of a kept state are set exactly where an actor has set them.

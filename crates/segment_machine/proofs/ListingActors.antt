@@ -1,0 +1,231 @@
+-- What holds of one actor stays true while a segment grows: of one that does nothing, and of one that publishes a record or walks.
+use Rattle.std.proofs.Common.{◌≡◌, ◌≢◌, ◌⊎◌, ℕ, zero, suc, ◌+◌, ◌-◌, ◌<◌, ◌≤◌, ℤ, pos, Bool, true, false, ◌==◌, List, [], ◌∷◌, ◌++◌, map, length, take, drop, All, Contains, inl, inr, ⊎_elim, refl, sym, ap, ◌∙◌, subst, arith, append_assoc, length-append}
+use Rattle.std.specs.Prelude.{slice_index, Some, replicate}
+use Rattle.std.specs.Int.{w64, cast_signed}
+use Rattle.std.proofs.lemmas.List.Elements.{All-weaker, All-contains, All-drop, Contains-append_right}
+use mathlib.Core.Option.{Option, some, none}
+use lib.ListN.{get_elem?}
+use Rattle.segment_image.specs.Shape.{Dimensions}
+use Rattle.alloc_core.specs.Alloc.{IsPlace}
+use Rattle.bucket_ranges.specs.declared.spec.Spec.{Spec}
+use Rattle.bucket_ranges.specs.declared.spec.Spec.TheVariants as spec
+use Rattle.bucket_ranges.specs.Spec.{buckets_of}
+use Rattle.bucket_ranges.specs.Single.{packed_bucket, units_packed}
+use Rattle.list_core.specs.Laws.{IsStop, AreNeighbours}
+use Rattle.list_core.specs.Walk.{IsPrefix}
+use Rattle.segment_machine.specs.declared.entry.Entry.{Entry}
+use Rattle.segment_machine.specs.declared.place.Look.{Look}
+use Rattle.segment_machine.specs.declared.place.Place.{Place}
+use Rattle.segment_machine.specs.declared.place.Place.TheVariants.{Spent, Idle, FlagsLoaded, FreeLoaded, Raised, Sized, Marked, TailLoaded, Beaten, Linked, Looking, Losing, Moving, CountLoaded, SampleLoaded, SumLoaded, CursorLoaded, BehindCursor}
+use Rattle.segment_machine.specs.declared.actor.Actor.{Actor}
+use Rattle.segment_machine.specs.declared.actor.Answered.{Answered}
+use Rattle.segment_machine.specs.declared.actor.Claim.{Claim}
+use Rattle.segment_machine.specs.declared.actor.Known.{Known}
+use Rattle.segment_machine.specs.declared.actor.Made.TheVariants as made
+use Rattle.segment_machine.specs.declared.actor.Moment.{Moment}
+use Rattle.segment_machine.specs.declared.actor.Own.{Own}
+use Rattle.segment_machine.specs.declared.actor.Published.{Published}
+use Rattle.segment_machine.specs.declared.actor.Sighting.{Sighting}
+use Rattle.segment_machine.specs.declared.actor.Taken.{Taken}
+use Rattle.segment_machine.specs.Entry.{tally_units, tally_sum, tally_noted}
+use Rattle.segment_machine.specs.Form.{form_of, is_off}
+use Rattle.segment_machine.specs.Actor.{word_seen, counted_of, all_counted, all_summed, all_noted, all_taken, bucket_key, taken_sum, taken_units, units_listed}
+use Rattle.segment_machine.specs.Made.{SawSample}
+use Rattle.segment_machine.specs.Note.{SawBucket, SawCount, SawSingle}
+use Rattle.segment_machine.specs.Promises.{accepted_by}
+use Rattle.segment_machine.specs.Consistent.{units_taken, IsWithinCounts}
+use Rattle.segment_machine.specs.Seats.{spent}
+use Rattle.segment_machine.specs.Body.{Record, Counts, Sample, Body, queue, plain, held, histogram, counts, sample, other, words_of, Listed, Anatomy, order_of}
+use Rattle.segment_machine.specs.Ledger.{form_at}
+use Rattle.segment_machine.specs.Seen.{HasPlain, HasOwn, HasRecord, IsNamed, IsFirst, IsFirstOf, IsCounterIn, WasCounter, Sees}
+use Rattle.segment_machine.specs.Kept.{LooksRight, LooksOff, StandsRight, HoldsOwn, CallsRight, HasKey, is_living, IsAlone, IsSettled, LooksBack, IsMoment, IsMomentOf, FinalsAreExact, Fits}
+use Rattle.segment_machine.proofs.Actors.{Doing, doing, doing_of, SameDeeds, alone_along, within_along, finals_along, finals_doing}
+use Rattle.segment_machine.proofs.ListingGrowth.{Grows, stop_grows, neighbours_grow, first_grows, first_of_longer, record_stays, record_came, sees_grow}
+
+-- ---- where it stands
+
+-- what a call rests on that goes on: the free pointer and the tail that it saw, the words that it saw, and its blocks
+pub record Follows (x : Actor) (c : Doing) : Type 0 where
+  pub free : c.seen_free ≡ x.seen_free
+  pub tail : c.seen_tail ≡ x.seen_tail
+  pub words : (s : Sighting) → Contains x.seen_words s → Contains c.seen_words s
+  pub own : (block : Own) → Contains x.own block → (still : Own) × Contains c.own still × (still.at ≡ block.at) × (still.tag ≡ block.tag)
+  pub spent : x ≡ spent → doing x c ≡ spent
+
+pub follows_itself : (x : Actor) → Follows x (doing_of x)
+follows_itself x = record { free = refl; tail = refl; words = λ s there. there; own = λ block there. (block, there, refl, refl); spent = λ is. is }
+
+looks_right : (x : Actor) (c : Doing) (look : Look) → Follows x c → LooksRight x look → LooksRight (doing x c) look
+looks_right x c look follows right = record {
+  known = right.known;
+  knows = right.knows;
+  single = right.single;
+  counts = λ some_counts. follows.words _ (right.counts some_counts);
+}
+
+module _ (shape : Dimensions) (old new : Anatomy) (added : ℕ → Body → Type 0) (grows : Grows old new added) where
+  module _ (id : ℕ) (plain_stays : (at : ℕ) (words : List ℕ) → HasPlain old.pieces id at words → HasPlain new.pieces id at words) (x : Actor) (c : Doing)
+      (follows : Follows x c) where
+    pub stands_grow : (place : Place) → StandsRight shape old id x place → StandsRight shape new id (doing x c) place
+    stands_grow Spent stands = follows.spent stands
+    stands_grow Idle stands = tt
+    stands_grow FlagsLoaded stands = tt
+    stands_grow (FreeLoaded free) stands = follows.free ∙ stands
+    stands_grow (Raised at size) stands = (stands.0, plain_stays at _ stands.1)
+    stands_grow (Sized at size) stands = (stands.0, plain_stays at _ stands.1)
+    stands_grow (Marked at size) stands = (stands.0, plain_stays at _ stands.1)
+    stands_grow (TailLoaded tail) stands = (follows.tail ∙ stands.0, stop_grows old new added grows tail stands.1)
+    stands_grow (Beaten tail behind) stands = neighbours_grow old new added grows tail behind stands
+    stands_grow (Linked at tail) stands = neighbours_grow old new added grows tail at stands
+    stands_grow (Looking look) stands = looks_right x c look follows stands
+    stands_grow (Losing look at) (right, there, apart, (block, mine, place, tag)) =
+        let (still, has, same, kind) = follows.own block mine in
+        (looks_right x c look follows right, there, apart, (still, has, same ∙ place, kind ∙ tag))
+    stands_grow (Moving look bucket units) (right, one, there, least, most, (r, stands, packed, off), apart) =
+        let (n, still) = record_stays old new added grows look.histogram r stands in
+        (looks_right x c look follows right, grows.version ∙ one, there, least, most, (record r { next = n }, still, packed, off), apart)
+    stands_grow (CountLoaded look bucket count) ((right, there, off), saw) = ((looks_right x c look follows right, there, off), saw)
+    stands_grow (SampleLoaded reference count) stands = stands
+    stands_grow (SumLoaded reference sum) stands = stands
+    stands_grow (CursorLoaded cursor at) stands = (stop_grows old new added grows at stands.0, stands.1)
+    stands_grow (BehindCursor cursor at next) stands = (neighbours_grow old new added grows at next stands.0, stands.1)
+
+-- a counter is a word of its block
+pub counter_within : (body : Body) (i : ℕ) → IsCounterIn body i → i < length (words_of body)
+counter_within (histogram r) i counter = ⊎_elim (λ a. let here : i < length (words_of (histogram r)) = omega (arith, a) in here) (λ b. let here : i < length (words_of (histogram r)) = omega (arith, b) in here) counter
+counter_within (counts c) i counter =
+    let below = counter.1 in
+    let a = length-append (c.units ++ c.marks) c.rest in
+    let b = length-append c.units c.marks in
+    omega (arith, below, a, b)
+counter_within (queue next) i counter = absurd counter
+counter_within (plain words) i counter = absurd counter
+counter_within (held block) i counter = absurd counter
+counter_within (other size tag next payload) i counter = absurd counter
+counter_within (sample s) i counter = ⊎_elim (λ a. let here : i < length (words_of (sample s)) = omega (arith, a) in here) (λ b. let here : i < length (words_of (sample s)) = omega (arith, b) in here) counter
+
+-- ---- what holds of one actor
+
+-- What an actor has seen more: a longer front of the list, and words of records; none of them is a counts reference of a histogram
+-- that it knows. It has not loaded another sum.
+pub record SawMore (x : Actor) (c : Doing) : Type 0 where
+  pub chain : (at : ℕ) → Contains x.seen_chain at → Contains c.seen_chain at
+  pub words : (at word : ℕ) → word_seen x.seen_words at ≡ Some word → word_seen c.seen_words at ≡ Some word
+  pub counts : (known : Known) (word : ℕ) → Contains x.names known → word_seen c.seen_words (known.reference + 8) ≡ Some word
+      → word_seen x.seen_words (known.reference + 8) ≡ Some word
+  pub loaded : (reference : ℕ) (sum : ℤ) → c.place ≡ SumLoaded reference sum → x.place ≡ SumLoaded reference sum
+
+pub saw_itself : (x : Actor) → SawMore x (doing_of x)
+saw_itself x = record {
+  chain = λ at there. there;
+  words = λ at word there. there;
+  counts = λ known word named there. there;
+  loaded = λ reference sum is. is;
+}
+
+module _ (shape : Dimensions) (old new : Anatomy) (added : ℕ → Body → Type 0) (grows : Grows old new added) (actors actors' : List Actor)
+    (same : SameDeeds actors actors') (x : Actor) (c : Doing) (more : SawMore x c)
+    (keyed : (entry : Entry) → Contains (x.inherited ++ counted_of x) entry → 0 < entry.units → HasKey old.records entry.name entry.key)
+    (known_record : (known : Known) → Contains x.names known → (r : Record) × HasRecord old.pieces known.reference r)
+    (loaded_record : (reference : ℕ) (sum : ℤ) → x.place ≡ SumLoaded reference sum → (r : Record) × HasRecord old.pieces reference r)
+    (counters : All (WasCounter old.pieces) x.seen_counts) where
+  -- what was added stands where no record stood
+  no_record : (at : ℕ) (body : Body) (r : Record) → 0 < length (words_of body) → added at body → HasRecord old.pieces at r → ⊥
+  no_record at body r long new_one stands = grows.apart at at 0 0 body (histogram r) new_one stands long (omega arith) refl
+
+  no_name : (entry : Entry) → HasKey old.records entry.name entry.key → All (λ l. ¬ (IsNamed entry.name l)) old.records → ⊥
+  no_name entry (kind, at, (front, behind, is, others), key) absent =
+      let l : Listed = record { reference = at; made = Some (made.Histogram entry.name kind) } in
+      All-contains (λ l. ¬ (IsNamed entry.name l)) old.records l absent
+      (subst (λ (records : List Listed). Contains records l) (sym is) (Contains-append_right front (l ∷ behind) l (0, omega arith, refl)))
+      (kind, refl)
+
+  calls_grow : CallsRight old x → CallsRight new (doing x c)
+  calls_grow calls = record {
+    ordered = calls.ordered;
+    within = calls.within;
+    held = calls.held;
+    ended = calls.ended;
+    met = λ entry of counted some_units first. ⊎_elim
+        (λ before.
+        let (at, sampled, met, (tag, histogram_is, value)) = calls.met entry of counted some_units before in (
+          at,
+          subst (λ (records : List Listed). IsFirstOf records of entry.key at) (sym grows.records) (first_of_longer old.records grows.more of at entry.key sampled),
+          more.chain at met,
+          (more.words (at + 2) 3 tag, more.words (at + 4) of histogram_is, more.words (at + 5) _ value),
+        ))
+        (λ new_one. absurd (no_name entry (keyed entry counted some_units) new_one.2))
+        (grows.first_came entry.name spec.Sparse of first);
+    taking = calls.taking;
+  }
+
+  -- what it saw of a bucket it had seen
+  saw_before : (known : Known) (bucket total : ℕ) → Contains x.names known → SawBucket (doing x c) known bucket total → SawBucket x known bucket total
+  saw_before known bucket total named (word, single, inl on) = (word, single, inl on)
+  saw_before known bucket total named (word, single, inr (off, (place, count, seen, saw, is))) =
+      (word, single, inr (off, (place, count, more.counts known place named seen, saw, is)))
+
+  settled_before : (known : Known) (bucket : ℕ) → IsSettled new actors' (doing x c) known bucket → IsSettled old actors x known bucket
+  settled_before known bucket (inl two) = inl (sym grows.version ∙ two)
+  settled_before known bucket (inr (inl alone)) = inr (inl (alone_along actors actors' same x alone))
+  settled_before known bucket (inr (inr apart)) = inr (inr (λ r there.
+      let (n, still) = record_stays old new added grows known.reference r there in
+      subst (λ (version : ℕ). packed_bucket (form_at version r) ≢ Some bucket) grows.version (apart (record r { next = n }) still)))
+
+  looks_grow : LooksBack old actors x → LooksBack new actors' (doing x c)
+  looks_grow looks = record {
+    most = λ known bucket total named below saw.
+        subst (λ (entries : List Entry). total ≤ tally_units entries known.name (bucket_key (Some known) bucket)) (sym same.counted)
+        (looks.most known bucket total named below (saw_before known bucket total named saw));
+    packed = λ known bucket word named below saw on.
+        subst (λ (version : ℕ). tally_units (accepted_by x) known.name (bucket_key (Some known) bucket) ≤ units_packed (form_of version (buckets_of known.spec) word) bucket)
+        (sym grows.version) (looks.packed known bucket word named below saw on);
+    counted = λ known bucket place count r named below seen saw there settled. ⊎_elim
+        (λ t. let (r0, n, before, is) = t in
+        subst (λ (z : ℕ × Record). tally_units (accepted_by x) known.name (bucket_key (Some known) bucket) ≤ count + units_packed (form_at z.0 z.1) bucket)
+        (λ i. (sym grows.version i, sym is i))
+        (looks.counted known bucket place count r0 named below (more.counts known place named seen) saw before
+        (settled_before known bucket settled)))
+        (λ new_one. let (r1, stood) = known_record known named in absurd (no_record known.reference (histogram r) r1 (omega arith) new_one stood))
+        (record_came old new added grows known.reference r there);
+    samples = λ known value at count named first saw. ⊎_elim
+        (λ before. looks.samples known value at count named before saw)
+        (λ new_one.
+        let seen : Sighting = record { at = at + 6; word = count } in
+        let was = All-contains (WasCounter old.pieces) (drop x.since_counts x.seen_counts) seen (All-drop (WasCounter old.pieces) x.since_counts x.seen_counts counters) saw in
+        let (place, i, body, stands, is, counter, least) = was in
+        absurd (grows.apart at place 6 i (sample new_one.0) body new_one.1 stands (omega arith) (counter_within body i counter) is))
+        (grows.first_of_came known.reference at value first);
+    rising = looks.rising;
+    noted = looks.noted;
+    sum = λ reference sum r stood alone there. ⊎_elim
+        (λ t. let (r0, n, before, is) = t in
+        looks.sum reference sum r0 (more.loaded reference sum stood) (alone_along actors actors' same x alone) before
+        ∙ ap (λ (z : Record). cast_signed w64 z.sum) (sym is))
+        (λ new_one. let (r1, was) = loaded_record reference sum (more.loaded reference sum stood) in
+        absurd (no_record reference (histogram r) r1 (omega arith) new_one was))
+        (record_came old new added grows reference r there);
+  }
+
+  -- all that holds of it
+  pub fits_grow : (cursors : List ℕ) (opener : Actor) (id : ℕ) → Sees new cursors (doing x c) → All (HoldsOwn shape new.pieces id) c.own
+      → ((i j : ℕ) (y z : Own) → get_elem? c.own i ≡ some y → get_elem? c.own j ≡ some z → y.at ≡ z.at → i ≡ j)
+      → Fits shape old cursors actors opener id x → Fits shape new cursors actors' opener id (doing x c)
+  fits_grow cursors opener id sees own apart fits = record {
+    shaped = fits.shaped;
+    versioned = fits.versioned ∙ sym grows.version;
+    sees = sees;
+    own = own;
+    apart = apart;
+    calls = calls_grow fits.calls;
+    looks = λ records. looks_grow (fits.looks records);
+    finals = finals_doing actors' opener id x c (finals_along actors actors' same opener id x fits.finals);
+    snapshots = within_along actors actors' same x fits.snapshots;
+  }
+
+-- a block of another actor stays
+pub own_stays : (shape : Dimensions) (old new : Anatomy) (id : ℕ) → ((own : Own) → HasOwn old.pieces id own → HasOwn new.pieces id own)
+    → (list : List Own) → All (HoldsOwn shape old.pieces id) list → All (HoldsOwn shape new.pieces id) list
+own_stays shape old new id stays list all = All-weaker (HoldsOwn shape old.pieces id) (HoldsOwn shape new.pieces id)
+    (λ own holds. record { stands = stays own holds.stands; placed = holds.placed; room = holds.room; tagged = holds.tagged; ends = holds.ends })
+    list all

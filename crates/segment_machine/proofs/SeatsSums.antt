@@ -1,11 +1,11 @@
 -- Sums over lists, of whatever is added: numbers, flags, or lists whose order is of no account. Two elements that together have
 -- what two others had may stand in their place, and one more with an element that together have what that one had.
-use Rattle.std.proofs.Common.{◌≡◌, ℕ, ◌+◌, ◌≤◌, Bool, true, false, ◌||◌, ℤ, pos, negsuc, ◌+ℤ◌, ◌-ℤ◌, List, [], ◌∷◌, ◌++◌, map, sym, refl, ap, ◌∙◌, subst, append_assoc, append-nil, arith}
-use Rattle.std.specs.Prelude.{fold, sum_by, IsPermutation}
-use Rattle.std.specs.List.{flat_map}
+use Rattle.std.proofs.Common.{◌≡◌, ℕ, ◌+◌, Bool, true, false, ◌||◌, ℤ, pos, ◌+ℤ◌, List, [], ◌∷◌, ◌++◌, map, sym, refl, ap, ◌∙◌, subst, append_assoc, append-nil, arith}
+use Rattle.std.specs.Prelude.{fold, IsPermutation}
+use Rattle.std.proofs.Math.IntN.{+ℤ_assoc, +ℤ_comm, +ℤ_idl, +ℤ_idr}
 use Rattle.std.proofs.lemmas.List.{map-append}
-use Rattle.std.proofs.lemmas.List.Sums.{fold-append, sum_by-append, sum_by-cons}
-use Rattle.std.proofs.lemmas.List.Sorted.{IsPermutation-refl, IsPermutation-sym, IsPermutation-trans, IsPermutation-append, IsPermutation-append_comm, sum_by-IsPermutation}
+use Rattle.std.proofs.lemmas.List.Sums.{fold-append}
+use Rattle.std.proofs.lemmas.List.Sorted.{IsPermutation-refl, IsPermutation-sym, IsPermutation-trans, IsPermutation-append, IsPermutation-append_comm}
 
 -- an addition, up to a relation: neither order nor brackets are of any account
 pub record IsAddition {M : Type 0} (same : M → M → Type 0) (add : M → M → M) : Type 0 where
@@ -42,8 +42,8 @@ module _ {A M : Type 0} (same : M → M → Type 0) (add : M → M → M) (total
       let n : M = total behind in
       let whole : total (a ∷ (mid ++ b ∷ behind)) ≡ add x (add m (add y n)) = first ∙ ap (add x) (rest ∙ ap (add m) last) in
       let inner : same (add m (add y n)) (add y (add m n)) =
-          is.along _ _ _ (equal _ _ (sym (is.brackets m y n)))
-          (is.along _ _ _ (is.both _ _ _ _ (is.order m y) (is.itself n)) (equal _ _ (is.brackets y m n))) in
+      is.along _ _ _ (equal _ _ (sym (is.brackets m y n)))
+      (is.along _ _ _ (is.both _ _ _ _ (is.order m y) (is.itself n)) (equal _ _ (is.brackets y m n))) in
       is.along _ _ _ (equal _ _ whole)
       (is.along _ _ _ (is.both _ _ _ _ (is.itself x) inner)
       (equal _ _ (sym (is.brackets x y (add m n)) ∙ ap (λ (z : M). add z (add m n)) (sym two) ∙ ap (add (total (a ∷ b ∷ []))) (sym others))))
@@ -73,6 +73,16 @@ numbers = record {
   order = λ x y. omega arith;
 }
 
+pub amounts : IsAddition {M = ℤ} ◌≡◌ ◌+ℤ◌
+amounts = record {
+  itself = λ x. refl;
+  back = λ x y e. sym e;
+  along = λ x y z e f. e ∙ f;
+  both = λ x x' y y' e f. ap (λ (z : ℤ). z +ℤ y) e ∙ ap (λ (z : ℤ). x' +ℤ z) f;
+  brackets = +ℤ_assoc;
+  order = +ℤ_comm;
+}
+
 or_brackets : (x y z : Bool) → ((x || y) || z) ≡ (x || (y || z))
 or_brackets true y z = refl
 or_brackets false y z = refl
@@ -82,6 +92,10 @@ or_order true true = refl
 or_order true false = refl
 or_order false true = refl
 or_order false false = refl
+
+pub or_false : (x : Bool) → (x || false) ≡ x
+or_false true = refl
+or_false false = refl
 
 pub flags : IsAddition {M = Bool} ◌≡◌ ◌||◌
 flags = record {
@@ -112,3 +126,12 @@ flags_total f xs ys = ap (fold ◌||◌ false) (map-append f xs ys) ∙ fold-app
     onward true [] = refl
     onward false [] = refl
     onward b (z ∷ zs) = onward (b || z) zs ∙ or_brackets b z (fold ◌||◌ false zs) ∙ ap (λ (x : Bool). b || x) (sym (onward z zs))
+
+pub amounts_total : {X : Type 0} (g : X → ℤ) → IsTotal ◌+ℤ◌ (λ xs. fold ◌+ℤ◌ (pos 0) (map g xs))
+amounts_total g xs ys = ap (fold ◌+ℤ◌ (pos 0)) (map-append g xs ys) ∙ fold-append ◌+ℤ◌ (pos 0) (map g xs) (map g ys) ∙ onward (fold ◌+ℤ◌ (pos 0) (map g xs)) (map g ys)
+  where
+    onward : (c : ℤ) (zs : List ℤ) → fold ◌+ℤ◌ c zs ≡ c +ℤ fold ◌+ℤ◌ (pos 0) zs
+    onward c [] = sym (+ℤ_idr c)
+    onward c (z ∷ zs) =
+        onward (c +ℤ z) zs ∙ +ℤ_assoc c z (fold ◌+ℤ◌ (pos 0) zs)
+        ∙ ap (λ (x : ℤ). c +ℤ x) (sym (onward z zs) ∙ ap (λ (x : ℤ). fold ◌+ℤ◌ x zs) (sym (+ℤ_idl z)))

@@ -7,7 +7,7 @@ ghost use Rattle.segment_machine.specs.Promises.{StepsChangeOne, KeysAreLeast};
 ghost use Rattle.segment_machine.specs.Follows.{StepsFollow, TablesFollow};
 ghost use Rattle.segment_machine.specs.Lives.{RecorderIsJoined, LinksLengthen, DeltaOwes, SnapshotOwes};
 ghost use Rattle.segment_machine.specs.Accounts.{MountedAgrees, TakersAgree, SparseAgrees, BatchAgrees};
-ghost use Rattle.segment_machine.specs.Keeps.{OpeningIsKept, AllocatingKeeps, KeptFlagsAreSet, KeptIsChain, KeptUnitsAreKept};
+ghost use Rattle.segment_machine.specs.Keeps.{OpeningIsKept, AllocatingKeeps, SplitsKeep, JoinsKeep, LendsKeep, KeptFlagsAreSet, KeptIsChain, KeptUnitsAreKept};
 ghost use Rattle.segment_machine.specs.Examples.{Keys, PackedThenMounted, StoppedInTransit, PackingLimit, DeltasAndMarks, TwoTakers, PackedRun, MountingRun, TakerRuns, TakingRun, SparseSamples, Batches, MountedIsConsistent, ListBreaks, RecordsBreak, TotalsBreak, MarksBreak, SumsBreak, TransitBreaks, FlagsBreak, UnitsBreak};
 
 /// A step changes one word and one actor at most.
@@ -187,6 +187,21 @@ pub fn opening_is_kept()
 /// which it found is lawful and is no earlier than the one that it knew.
 pub fn allocating_keeps()
     ensures { AllocatingKeeps }
+{}
+
+/// What holds between any two events holds on where an opener makes a recorder.
+pub fn splits_keep()
+    ensures { SplitsKeep }
+{}
+
+/// What holds between any two events holds on where an opener joins a recorder.
+pub fn joins_keep()
+    ensures { JoinsKeep }
+{}
+
+/// What holds between any two events holds on where an opener lends units to a recorder.
+pub fn lends_keep()
+    ensures { LendsKeep }
 {}
 
 /// The flags of a kept state are set exactly where an actor has set them.

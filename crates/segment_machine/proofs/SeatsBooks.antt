@@ -1,0 +1,150 @@
+-- What an invariant says of all actors together, and of the blocks: the books of a segment.
+use Rattle.std.proofs.Common.{◌≡◌, ◌≢◌, ◌⊎◌, ℕ, ◌<◌, ◌≤◌, Bool, ◌||◌, ℤ, List, ◌++◌, map, take, length, sym, ap, ◌∙◌}
+use Rattle.std.specs.Prelude.{sum_by, slice_index, IsPermutation}
+use mathlib.Core.Option.{some}
+use lib.ListN.{get_elem?}
+use Rattle.std.specs.List.{flat_map, Contains, All}
+use Rattle.std.proofs.lemmas.List.Sorted.{IsPermutation-trans, IsPermutation-sym, IsPermutation-append_right, IsPermutation-map, Contains-permutation}
+use Rattle.segment_image.specs.Shape.{Dimensions}
+use Rattle.alloc_core.specs.Layout.{IsShown}
+use Rattle.list_core.specs.Chain.{stops}
+use Rattle.segment_machine.specs.declared.entry.Entry.{Entry}
+use Rattle.segment_machine.specs.declared.place.Place.TheVariants.{Spent, SumLoaded}
+use Rattle.segment_machine.specs.declared.actor.Actor.{Actor}
+use Rattle.segment_machine.specs.declared.actor.Given.{Given}
+use Rattle.segment_machine.specs.declared.actor.Taken.{Taken}
+use Rattle.segment_machine.specs.Actor.{all_counted, all_taken, all_given, units_of}
+use Rattle.segment_machine.specs.State.{State}
+use Rattle.segment_machine.specs.Body.{Piece, Anatomy, layout_of, order_of, claims_of, listed}
+use Rattle.segment_machine.specs.Ledger.{IsBalanced}
+use Rattle.segment_machine.specs.Kept.{ClaimedRight, HasKey, ListIsKept, RecordsAreKept, SumsAreNear, IsSetBy, StandStill, RolesAreKept, StandsRight, Fits, Kept}
+use Rattle.segment_machine.proofs.SeatsDeeds.{Deeds}
+use Rattle.segment_machine.proofs.SeatsFrames.{balanced, sums_near, taken_keys}
+
+-- shared cursors stand on the list, and have given the records up to there
+abbrev pub CursorsStand : List ℕ → List ℕ → List Actor → Type 0
+CursorsStand chain cursors actors = (k : ℕ) → k < length cursors → (place : ℕ) × (place ≤ length chain)
+    × (slice_index (stops chain) place ≡ slice_index cursors k) × IsPermutation (all_given actors k) (take place chain)
+
+-- what a shared cursor gave an actor stands in the order of the list
+abbrev pub GivenInOrder : List ℕ → List Given → Type 0
+GivenInOrder chain list = (i j k l : ℕ) (x y : Given) → i < j
+    → get_elem? list i ≡ some x → get_elem? list j ≡ some y → x.cursor ≡ y.cursor
+    → get_elem? chain k ≡ some x.reference → get_elem? chain l ≡ some y.reference → k < l
+
+pub record Books (shape : Dimensions) (opened anatomy : Anatomy) (words cursors : List ℕ) (actors : List Actor) : Type 0 where
+  pub shown : IsShown shape words (layout_of anatomy)
+  pub same : (anatomy.version ≡ opened.version) × (anatomy.id ≡ opened.id)
+  pub versions : (anatomy.version ≡ 1) ⊎ (anatomy.version ≡ 2)
+  pub still : StandStill opened.pieces anatomy.pieces
+  pub blocks : (k : ℕ) (piece : Piece) → get_elem? anatomy.pieces k ≡ some piece → ClaimedRight piece
+  pub list : ListIsKept words opened anatomy actors
+  pub claims : IsPermutation (claims_of anatomy.pieces) (claims_of opened.pieces ++ flat_map (λ a. a.claimed) actors)
+  pub records : RecordsAreKept shape.page anatomy
+  pub balanced : IsBalanced anatomy.version opened.pieces anatomy.pieces actors
+  pub keys : (entry : Entry) → Contains (all_counted actors) entry → 0 < entry.units → HasKey anatomy.records entry.name entry.key
+  pub taken_keys : (t : Taken) (count : ℤ × ℕ) → Contains (all_taken actors) t → Contains t.counts count
+      → HasKey anatomy.records t.name count.0
+  pub sums : SumsAreNear anatomy.pieces actors
+  pub pool : sum_by units_of actors ≡ 4294967295
+  pub corrupt : IsSetBy anatomy.corrupt opened.corrupt (map (λ a. a.spoiled) actors)
+  pub full : IsSetBy anatomy.full opened.full (map (λ a. a.filled) actors)
+  pub stand : CursorsStand (order_of anatomy) cursors actors
+
+pub books_of : (shape : Dimensions) (opened : Anatomy) (state : State) (kept : Kept shape opened state)
+    → Books shape opened kept.anatomy state.words state.cursors state.actors
+books_of shape opened state kept = record {
+  shown = kept.shown;
+  same = kept.same;
+  versions = kept.versions;
+  still = kept.still;
+  blocks = kept.blocks;
+  list = kept.list;
+  claims = kept.claims;
+  records = kept.records;
+  balanced = kept.balanced;
+  keys = kept.keys;
+  taken_keys = kept.taken_keys;
+  sums = kept.sums;
+  pool = kept.pool;
+  corrupt = kept.corrupt;
+  full = kept.full;
+  stand = kept.cursors.stand;
+}
+
+-- with what is said of each actor, all is kept
+pub kept_by : (shape : Dimensions) (opened anatomy : Anatomy) (words cursors : List ℕ) (actors : List Actor)
+    → Books shape opened anatomy words cursors actors → (roles : RolesAreKept actors)
+    → ((id : ℕ) (a : Actor) → get_elem? actors id ≡ some a → a.opener ≡ 0 → GivenInOrder (order_of anatomy) a.given)
+    → ((id : ℕ) (a : Actor) → get_elem? actors id ≡ some a → All (λ g. Contains (order_of anatomy) g.reference) a.given)
+    → ((id : ℕ) (a : Actor) → get_elem? actors id ≡ some a → StandsRight shape anatomy id a a.place)
+    → ((id : ℕ) (a : Actor) → get_elem? actors id ≡ some a → a.place ≢ Spent → Fits shape anatomy cursors actors roles.opener id a)
+    → Kept shape opened (record { words = words; cursors = cursors; actors = actors })
+kept_by shape opened anatomy words cursors actors books roles ordered given standing each = record {
+  anatomy = anatomy;
+  shown = books.shown;
+  same = books.same;
+  versions = books.versions;
+  still = books.still;
+  blocks = books.blocks;
+  list = books.list;
+  claims = books.claims;
+  records = books.records;
+  balanced = books.balanced;
+  keys = books.keys;
+  taken_keys = books.taken_keys;
+  sums = books.sums;
+  pool = books.pool;
+  corrupt = books.corrupt;
+  full = books.full;
+  roles = roles;
+  cursors = record { stand = books.stand; ordered = ordered; given = given };
+  standing = standing;
+  each = each;
+}
+
+-- ---- where others did the same together
+
+listed_by : (words : List ℕ) (opened anatomy : Anatomy) (old new : List Actor) → Deeds old new → ListIsKept words opened anatomy old
+    → ListIsKept words opened anatomy new
+listed_by words opened anatomy old new same list = record {
+  linked = list.linked;
+  once = (
+    list.once.0,
+    list.once.1,
+    IsPermutation-trans _ _ _ list.once.2 (IsPermutation-map listed _ _ (IsPermutation-sym _ _ same.published)),
+  );
+  standing = list.standing;
+  alone = list.alone;
+  tail = list.tail;
+}
+
+-- each sum that is loaded now was loaded before
+abbrev pub LoadedBefore : List Actor → List Actor → Type 0
+LoadedBefore old new = (at : ℕ) (sum : ℤ) (id : ℕ) (a : Actor) → get_elem? new id ≡ some a → a.place ≡ SumLoaded at sum
+    → (k : ℕ) × (b : Actor) × (get_elem? old k ≡ some b) × (b.place ≡ SumLoaded at sum)
+
+pub books_by : (shape : Dimensions) (opened anatomy : Anatomy) (words cursors : List ℕ) (old new : List Actor)
+    → Deeds old new → LoadedBefore old new
+    → Books shape opened anatomy words cursors old → Books shape opened anatomy words cursors new
+books_by shape opened anatomy words cursors old new same loaded books = record {
+  shown = books.shown;
+  same = books.same;
+  versions = books.versions;
+  still = books.still;
+  blocks = books.blocks;
+  list = listed_by words opened anatomy old new same books.list;
+  claims = IsPermutation-trans _ _ _ books.claims
+      (IsPermutation-append_right (claims_of opened.pieces) _ _ (IsPermutation-sym _ _ same.claimed));
+  records = books.records;
+  balanced = balanced anatomy.version opened.pieces anatomy.pieces old new same books.balanced;
+  keys = λ entry there. books.keys entry (Contains-permutation _ _ entry same.counted there);
+  taken_keys = taken_keys anatomy.records old new same books.taken_keys;
+  sums = sums_near anatomy.pieces old new same loaded books.sums;
+  pool = same.units ∙ books.pool;
+  corrupt = books.corrupt ∙ ap (λ (b : Bool). opened.corrupt || b) (sym same.spoiled);
+  full = books.full ∙ ap (λ (b : Bool). opened.full || b) (sym same.filled);
+  stand = λ k below.
+      let stood = books.stand k below in
+      (stood.0, stood.1, stood.2, IsPermutation-trans _ _ _ (same.given k) stood.3);
+}

@@ -1,0 +1,96 @@
+-- Openers and recorders, where the recorders that live now lived before.
+use Rattle.std.proofs.Common.{◌≡◌, ◌≢◌, ℕ, ◌<◌, ◌≤◌, true, false, List, refl, sym, ap, ◌∙◌, subst, true≢false, arith}
+use native.Mathlib.Decide.{ℕ_discrete}
+use mathlib.Core.Option.{some}
+use lib.ListN.{get_elem?}
+use Rattle.segment_machine.specs.declared.place.Place.{Place}
+use Rattle.segment_machine.specs.declared.place.Place.TheVariants.{Spent, Idle, FlagsLoaded, FreeLoaded, Raised, Sized, Marked, TailLoaded, Beaten, Linked, Looking, Losing, Moving, CountLoaded, SampleLoaded, SumLoaded, CursorLoaded, BehindCursor}
+use Rattle.segment_machine.specs.declared.actor.Actor.{Actor}
+use Rattle.segment_machine.specs.Kept.{is_living, RolesAreKept, IsAlone}
+use Rattle.segment_machine.proofs.SeatsLists.{one_at}
+
+-- an opener is no recorder that lives
+pub opens_nothing : (a : Actor) → a.opener ≡ 1 → is_living a ≡ true → ⊥
+opens_nothing a opens lives = absurd (true≢false (sym lives ∙ no_recorder a.opener opens))
+  where
+    no_recorder : (n : ℕ) → n ≡ 1 → is_living (record a { opener = n }) ≡ false
+    no_recorder n e = subst (λ (k : ℕ). is_living (record a { opener = k }) ≡ false) (sym e) refl
+
+-- a recorder that is not spent lives
+pub lives_on : (a : Actor) → a.opener ≡ 0 → a.place ≢ Spent → is_living a ≡ true
+lives_on a records live = subst (λ (n : ℕ). is_living (record a { opener = n }) ≡ true) (sym records) (at_place a.place live)
+  where
+    at_place : (place : Place) → place ≢ Spent → is_living (record a { opener = 0; place = place }) ≡ true
+    at_place Spent ne = absurd (ne refl)
+    at_place Idle ne = refl
+    at_place FlagsLoaded ne = refl
+    at_place (FreeLoaded free) ne = refl
+    at_place (Raised at size) ne = refl
+    at_place (Sized at size) ne = refl
+    at_place (Marked at size) ne = refl
+    at_place (TailLoaded tail) ne = refl
+    at_place (Beaten tail behind) ne = refl
+    at_place (Linked at tail) ne = refl
+    at_place (Looking look) ne = refl
+    at_place (Losing look at) ne = refl
+    at_place (Moving look bucket units) ne = refl
+    at_place (CountLoaded look bucket count) ne = refl
+    at_place (SampleLoaded reference count) ne = refl
+    at_place (SumLoaded reference sum) ne = refl
+    at_place (CursorLoaded cursor at) ne = refl
+    at_place (BehindCursor cursor at behind) ne = refl
+
+-- a recorder that lives has lived, made when it is said to be, with what it is said to have inherited
+pub record Stood (old : List Actor) (k : ℕ) (c : Actor) : Type 0 where
+  pub was : Actor
+  pub at : get_elem? old k ≡ some was
+  pub lives : is_living was ≡ true
+  pub made : was.made ≡ c.made
+  pub outstanding : was.outstanding ≡ c.outstanding
+  pub inherited : was.inherited ≡ c.inherited
+
+abbrev pub AllStood : List Actor → List Actor → Type 0
+AllStood old new = (k : ℕ) (c : Actor) → get_elem? new k ≡ some c → is_living c ≡ true → Stood old k c
+
+module _ (old new : List Actor) (roles : RolesAreKept old) (stood : AllStood old new) where
+  pub still_younger : (made : ℕ) → roles.opener.made ≤ made → (id : ℕ) (a : Actor) → get_elem? new id ≡ some a → is_living a ≡ true → a.made < made
+  still_younger made more id a at lives =
+      let s = stood id a at lives in
+      let younger = roles.younger id s.was s.at s.lives in
+      let e = s.made in
+      omega (arith, younger, e, more)
+
+  pub still_apart : (i j : ℕ) (a b : Actor) → get_elem? new i ≡ some a → get_elem? new j ≡ some b → is_living a ≡ true → is_living b ≡ true
+      → i ≢ j → a.made ≢ b.made
+  still_apart i j a b first last lives alive ne same =
+      let s = stood i a first lives in
+      let t = stood j b last alive in
+      roles.apart i j s.was t.was s.at t.at s.lives t.lives ne (s.made ∙ same ∙ sym t.made)
+
+  pub still_eldest : (i j : ℕ) (a b : Actor) → get_elem? new i ≡ some a → get_elem? new j ≡ some b → is_living a ≡ true → is_living b ≡ true
+      → i ≢ j → a.outstanding ≡ 0 → a.made < b.made
+  still_eldest i j a b first last lives alive ne none =
+      let s = stood i a first lives in
+      let t = stood j b last alive in
+      let below = roles.eldest i j s.was t.was s.at t.at s.lives t.lives ne (s.outstanding ∙ none) in
+      let e = s.made in
+      let f = t.made in
+      omega (arith, below, e, f)
+
+-- what is said of the opener where only one is alone is said of it as it was
+pub alone_before : (old new : List Actor) (opener later a : Actor) → get_elem? old 0 ≡ some opener → get_elem? new 0 ≡ some later
+    → later.made ≡ opener.made → IsAlone new a → IsAlone old a
+alone_before old new opener later a first last e alone =
+    let same = one_at new 0 alone.0 later alone.1 last in
+    (opener, first, alone.2, alone.3 ∙ ap (λ (c : Actor). c.made) same ∙ e)
+
+-- whoever opens is the first
+pub opens_first : (actors : List Actor) (roles : RolesAreKept actors) (id : ℕ) (a : Actor) → get_elem? actors id ≡ some a → a.opener ≡ 1
+    → (id ≡ 0) × (roles.opener ≡ a)
+opens_first actors roles id a at opens =
+    let front = front_of (ℕ_discrete id 0) in
+    (front, one_at actors 0 roles.opener a roles.stands (subst (λ (k : ℕ). get_elem? actors k ≡ some a) front at))
+  where
+    front_of : Dec (id ≡ 0) → id ≡ 0
+    front_of (yes e) = e
+    front_of (no ne) = let records = (roles.only id a at ne).0 in absurd (omega (arith, records, opens))

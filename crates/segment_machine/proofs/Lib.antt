@@ -4,6 +4,7 @@ pub mod Allocating
 pub mod AllocatingKeeps
 pub mod Alone
 pub mod Anatomies
+pub mod Asking
 pub mod Filling
 pub mod Follow
 pub mod Goings

@@ -43,3 +43,5 @@ pub mod SeatsTurned
 pub mod Stops
 pub mod Storing
 pub mod Taking
+pub mod Totals
+pub mod Noting

@@ -45,3 +45,6 @@ pub mod Storing
 pub mod Taking
 pub mod Totals
 pub mod Noting
+pub mod NotingFits
+pub mod Countings
+pub mod Notes

@@ -33,6 +33,8 @@ use Rattle.segment_machine.specs.Kept.{summed_cost, is_living, RolesAreKept, Loo
 use Rattle.segment_machine.proofs.Lists.{rows, column, sum_same, sum_beside}
 use Rattle.segment_machine.proofs.Totals.{rows_total, row_in, row_from, HasUnits, tally_from, tally_at}
 use Rattle.segment_machine.proofs.SeatsSums.{numbers, amounts, amounts_total}
+use Rattle.segment_machine.proofs.SeatsLists.{none_in}
+use Rattle.segment_machine.proofs.SeatsBooks.{GivenInOrder, LoadedBefore}
 use Rattle.segment_machine.proofs.SeatsDeeds.{SameSums}
 use Rattle.segment_machine.proofs.SeatsFrames.{IsLater, balanced, sums_near, fits}
 use Rattle.segment_machine.proofs.SeatsRoles.{Stood, AllStood, still_younger, still_apart, still_eldest, alone_before}
@@ -230,3 +232,103 @@ module _ (shape : Dimensions) (opened : Anatomy) (state : State) (kept : Kept sh
           → Fits shape kept.anatomy state.cursors noters kept.roles.opener k c
       beside k c fit = fits shape kept.anatomy state.cursors state.actors noters kept.roles.opener kept.roles.opener k c sums since
           (λ either. alone_before state.actors noters kept.roles.opener kept.roles.opener c kept.roles.stands first refl) fit
+
+      module _ (knows : (known : Known) → Contains a.names known → Contains n.names known)
+          (refits : Fits shape kept.anatomy state.cursors noters kept.roles.opener id a → Fits shape kept.anatomy state.cursors noters kept.roles.opener id later) where
+        each : (k : ℕ) (c : Actor) → get_elem? noters k ≡ some c → c.place ≢ Spent → Fits shape kept.anatomy state.cursors noters kept.roles.opener k c
+        each k c at live = elim (at_set state.actors id k later c at) [
+          | inl t ↦ subst₂ (λ k c. Fits shape kept.anatomy state.cursors noters kept.roles.opener k c) (sym t.0) t.1
+              (refits (beside id a (kept.each id a mine lived)))
+          | inr t ↦ beside k c (kept.each k c t.1 live)
+        ]
+
+        standing : (k : ℕ) (c : Actor) → get_elem? noters k ≡ some c → StandsRight shape kept.anatomy k c c.place
+        standing k c at = elim (at_set state.actors id k later c at) [
+          | inl t ↦ subst₂ (λ k (c : Actor). StandsRight shape kept.anatomy k c c.place) (sym t.0) t.1
+              (noting_stands kept.anatomy a n knows shape id a.place lived (kept.standing id a mine))
+          | inr t ↦ kept.standing k c t.1
+        ]
+
+        list : ListIsKept state.words opened kept.anatomy noters
+        list = record {
+          linked = kept.list.linked;
+          once = (
+            kept.list.once.0,
+            kept.list.once.1,
+            subst (λ (made : List Published). IsPermutation kept.list.once.0 (map listed made))
+                (sym (rows (λ (a : Actor). a.published) state.actors id a later mine refl)) kept.list.once.2,
+          );
+          standing = kept.list.standing;
+          alone = kept.list.alone;
+          tail = kept.list.tail;
+        }
+
+        cursors : CursorsAreKept (order_of kept.anatomy) state.cursors noters
+        cursors = record {
+          stand = λ k below.
+              let (place, within, is, gave) = kept.cursors.stand k below in (
+                place,
+                within,
+                is,
+                subst (λ given. IsPermutation given (take place (order_of kept.anatomy)))
+                    (sym (rows (λ (a : Actor). given_by k a.given) state.actors id a later mine refl)) gave,
+              );
+          ordered = λ k c at. elim (at_set state.actors id k later c at) [
+            | inl t ↦ λ recorder. subst (λ (c : Actor). GivenInOrder (order_of kept.anatomy) c.given) t.1 (kept.cursors.ordered id a mine records)
+            | inr t ↦ kept.cursors.ordered k c t.1
+          ];
+          given = λ k c at. elim (at_set state.actors id k later c at) [
+            | inl t ↦ subst (λ (c : Actor). All (λ g. Contains (order_of kept.anatomy) g.reference) c.given) t.1 (kept.cursors.given id a mine)
+            | inr t ↦ kept.cursors.given k c t.1
+          ];
+        }
+
+        keys : (entry : Entry) → Contains (all_counted noters) entry → 0 < entry.units → HasKey kept.anatomy.records entry.name entry.key
+        keys entry there some_units = elim (row_from counted_of state.actors id later entry there) [
+          | inl old ↦ kept.keys entry old some_units
+          | inr new ↦
+              let (e, was, named, keyed, units) = counted_before a later counts entry new some_units in
+              subst₂ (HasKey kept.anatomy.records) named keyed (kept.keys e (row_in counted_of state.actors id a e mine was) units)
+        ]
+
+        taken_keys : (t : Taken) (count : ℤ × ℕ) → Contains (all_taken noters) t → Contains t.counts count → HasKey kept.anatomy.records t.name count.0
+        taken_keys t count there has = elim (row_from (λ (a : Actor). a.taken) state.actors id later t there) [
+          | inl old ↦ kept.taken_keys t count old has
+          | inr new ↦ elim (takes.from t new) [
+            | inl was ↦ kept.taken_keys t count (row_in (λ (a : Actor). a.taken) state.actors id a t mine was) has
+            | inr nothing ↦ absurd (none_in count (subst (λ (list : List (ℤ × ℕ)). Contains list count) nothing has))
+          ]
+        ]
+
+        loaded : LoadedBefore state.actors noters
+        loaded at sum k c there stands = elim (at_set state.actors id k later c there) [
+          | inl t ↦ (id, a, mine, ap (λ (c : Actor). c.place) t.1 ∙ stands)
+          | inr t ↦ (k, c, t.1, stands)
+        ]
+
+        -- the state with that note is kept
+        pub notes_on : Kept shape opened (record state { actors = noters })
+        unfolding roles
+        notes_on = record {
+          anatomy = kept.anatomy;
+          shown = kept.shown;
+          same = kept.same;
+          versions = kept.versions;
+          still = kept.still;
+          blocks = kept.blocks;
+          list = list;
+          claims = subst (λ (claimed : List Claim). IsPermutation (claims_of kept.anatomy.pieces) (claims_of opened.pieces ++ claimed))
+              (sym (rows (λ (a : Actor). a.claimed) state.actors id a later mine refl)) kept.claims;
+          records = kept.records;
+          balanced = balanced kept.anatomy.version opened.pieces kept.anatomy.pieces state.actors noters sums kept.balanced;
+          keys = keys;
+          taken_keys = taken_keys;
+          sums = sums_near kept.anatomy.pieces state.actors noters sums loaded kept.sums;
+          pool = sum_same units_of state.actors id a later mine counts.units ∙ kept.pool;
+          corrupt = kept.corrupt ∙ ap (λ set. opened.corrupt || fold ◌||◌ false set) (sym (column (λ (a : Actor). a.spoiled) state.actors id a later mine refl));
+          full = kept.full ∙ ap (λ set. opened.full || fold ◌||◌ false set) (sym (column (λ (a : Actor). a.filled) state.actors id a later mine refl));
+          roles = roles;
+          cursors = cursors;
+          standing = standing;
+          each = each;
+        }

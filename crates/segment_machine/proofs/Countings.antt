@@ -77,7 +77,7 @@ no_amount name e none = by_test (is_of name e)
 
 -- ---- countings of which nothing has happened
 
-or_false : (b c : Bool) → b ≡ false → (b || c) ≡ true → c ≡ true
+pub or_false : (b c : Bool) → b ≡ false → (b || c) ≡ true → c ≡ true
 or_false b c is either = sym (ap (λ b. b || c) is) ∙ either
 
 untouched_flags : (x y z : Bool) → (not x && not y && not z) ≡ true → (x ≡ false) × (y ≡ false) × (z ≡ false)

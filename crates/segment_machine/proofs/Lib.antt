@@ -5,6 +5,7 @@ pub mod AllocatingKeeps
 pub mod Alone
 pub mod Anatomies
 pub mod Asking
+pub mod Countings
 pub mod Filling
 pub mod Follow
 pub mod Goings
@@ -24,6 +25,10 @@ pub mod ListingWalks
 pub mod Lists
 pub mod Making
 pub mod Mounted
+pub mod Notes
+pub mod NotesEnd
+pub mod Noting
+pub mod NotingFits
 pub mod Opening
 pub mod Pairs
 pub mod Pieces
@@ -44,7 +49,3 @@ pub mod Stops
 pub mod Storing
 pub mod Taking
 pub mod Totals
-pub mod Noting
-pub mod NotingFits
-pub mod Countings
-pub mod Notes

@@ -29,7 +29,7 @@ use Rattle.segment_machine.proofs.Noting.{Noting, noting, noting_of, SameCounts,
 use Rattle.segment_machine.proofs.NotingFits.{noting_fits, looks_on, looks_anew, finals_on, calls_by}
 
 -- it takes nothing
-takes_nothing : (a : Actor) (n : Noting) → SameTakes a (noting a (record n { taken = a.taken }))
+pub takes_nothing : (a : Actor) (n : Noting) → SameTakes a (noting a (record n { taken = a.taken }))
 takes_nothing a n = record { taken = λ name key. refl; taken_sums = λ name. refl; from = λ t there. inl there }
 
 -- ---- it looks anew

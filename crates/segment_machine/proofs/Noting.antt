@@ -138,7 +138,7 @@ module _ (anatomy : Anatomy) (a : Actor) (n : Noting) (knows : (known : Known) �
 module _ (shape : Dimensions) (opened : Anatomy) (state : State) (kept : Kept shape opened state) (id : ℕ) (a : Actor)
     (mine : get_elem? state.actors id ≡ some a) (records : a.opener ≡ 0) where
   -- a recorder is not the first actor
-  not_first : id ≢ 0
+  pub not_first : id ≢ 0
   not_first zero_is =
       let opener : kept.roles.opener ≡ a = some-injective _ _ (sym kept.roles.stands ∙ (ap (get_elem? state.actors) (sym zero_is) ∙ mine)) in
       let one = ap (λ (b : Actor). b.opener) opener in

@@ -42,7 +42,8 @@ pub data Note : Type 0 where
   answers : (answered : Answered) → Note
   -- a call that counts ends: it was accepted
   ends : Note
-  -- it ends refused: its first entries have ended, and nothing has happened of the others
+  -- it ends refused: its first entries have ended, nothing has happened of the others, and no amount was added, since the units that
+  -- stand for an amount would come back with those of the others
   refused : (added : ℕ) → Note
 
 -- when a delta or a snapshot of this actor begins
@@ -170,6 +171,7 @@ MayNote a (answers answered) =
 MayNote a ends = (is_bound a.place ≡ false) × All (λ c. has_ended c ≡ true) a.running
 MayNote a (refused added) =
     (is_bound a.place ≡ false) × All (λ c. has_ended c ≡ true) (take added a.running) × All (λ c. is_untouched c ≡ true) (drop added a.running)
+    × All (λ c. c.summed ≡ false) (take added a.running)
 
 -- notes one after the other
 abbrev pub Notes : Actor → List Note → Actor → Type 0

@@ -26,7 +26,9 @@ pub mod Lists
 pub mod Making
 pub mod Mounted
 pub mod Notes
+pub mod NotesAmount
 pub mod NotesEnd
+pub mod NotesTake
 pub mod Noting
 pub mod NotingFits
 pub mod Opening

@@ -28,6 +28,7 @@ pub mod Mounted
 pub mod Notes
 pub mod NotesAmount
 pub mod NotesEnd
+pub mod NotesKeep
 pub mod NotesTake
 pub mod Noting
 pub mod NotingFits

@@ -4,7 +4,7 @@
 //! `specs/Examples.antt`.
 
 ghost use Rattle.segment_machine.specs.Promises.{StepsChangeOne, KeysAreLeast};
-ghost use Rattle.segment_machine.specs.Follows.{StepsFollow, TablesFollow};
+ghost use Rattle.segment_machine.specs.Follows.{NotesKeep, StepsFollow, TablesFollow};
 ghost use Rattle.segment_machine.specs.Lives.{RecorderIsJoined, LinksLengthen, DeltaOwes, SnapshotOwes};
 ghost use Rattle.segment_machine.specs.Accounts.{MountedAgrees, TakersAgree, SparseAgrees, BatchAgrees};
 ghost use Rattle.segment_machine.specs.Keeps.{OpeningIsKept, AllocatingKeeps, SplitsKeep, JoinsKeep, LendsKeep, KeptFlagsAreSet, KeptIsChain, KeptUnitsAreKept};
@@ -217,4 +217,10 @@ pub fn kept_is_chain()
 /// The units of a kept state are kept, and its sums are bounded by what was spent.
 pub fn kept_units_are_kept()
     ensures { KeptUnitsAreKept }
+{}
+
+/// What holds between any two events holds on where a recorder notes that a call which counts begins or ends, that an amount became
+/// known, that a delta or a snapshot begins, or what a block of its own is to hold.
+pub fn notes_keep()
+    ensures { NotesKeep }
 {}

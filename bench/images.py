@@ -386,3 +386,5 @@ FORGED = {
     "samples": (samples, [MIB, 2 * MIB, 4 * MIB, 8 * MIB]),
 }
 FAMILIES = {**LAWFUL, **FORGED}
+# Those whose steps wait for memory, so that the time grows as the caches of the machine let it.
+WAITING = ["alike", "scattered"]

@@ -1,7 +1,7 @@
 #!/usr/bin/env python3
 """Measures how the time of `report` grows with the image, and what memory it takes.
 
-    report.py [--only FAMILY]... [--turns TURNS] [--seconds SECONDS] [--memory GIB] [PROGRAM]
+    report.py [--turns TURNS] [--only FAMILY]... [--seconds SECONDS] [--memory GIB] [PROGRAM]
 
 For each family of images of images.py, four images are made in a scratch folder, each with about twice the words of
 the one before it. The report of each is compared with the one that it has to give. Then the built program runs over
@@ -11,8 +11,9 @@ the most memory of a run and the memory allowed, in MiB, the best time in millis
 time to those of the image before.
 
 The time may grow by 2.3 where the load doubles, and in proportion where it grows otherwise; of the families `alike` and
-`scattered` the growth is told and not judged, since it is that of the machine's caches. Allowed are 64 bytes a word, 32 bytes a
-bucket of a record that is not bad, three times the bytes of the report, and 16 MiB for the program.
+`scattered` the growth is told and not judged, since it is that of the machine's caches, and against_plain.py judges their
+times. Allowed are 64 bytes a word, 32 bytes a bucket of a record that is not bad, three times the bytes of the report, and
+16 MiB for the program.
 
 At last one forged image of 8 MiB with more than five GiB of report is read with no more than GIB of memory: the
 answer has to be the report or NoMemory. It is left out where families are chosen.
@@ -20,7 +21,6 @@ answer has to be the report or NoMemory. It is left out where families are chose
 The status is 1 where a report is another one, a time grows by more or a run takes more memory.
 """
 
-import argparse
 import dataclasses
 import pathlib
 import sys
@@ -31,8 +31,6 @@ import images
 import runs
 
 MOST = 2.3 / 2
-# The families whose growth is told and not judged.
-TOLD = {"alike", "scattered"}
 MEBIBYTE = 2**20
 
 
@@ -77,15 +75,15 @@ def print_rows(rows, best, is_judged):
     return is_right
 
 
-def measure(program, name, folder, chosen):
+def measure(name, folder, chosen):
     """Prints the growth of a family; whether each report is right and nothing is more than it may be."""
     make, sizes = images.FAMILIES[name]
     print(f"\n{name}: {make.__doc__.splitlines()[0]}")
-    rows = [row_of(program, name, size, folder, chosen.memory) for size in sizes]
+    rows = [row_of(chosen.program, name, size, folder, chosen.memory) for size in sizes]
     if None in rows:
         return False
-    best = runs.best_by_turns([(program, row.path) for row in rows], chosen.turns, chosen.seconds)
-    return print_rows(rows, best, name not in TOLD)
+    best = runs.best_by_turns([(chosen.program, row.path) for row in rows], chosen.turns, chosen.seconds)
+    return print_rows(rows, best, name not in images.WAITING)
 
 
 def try_without_memory(program, folder, gibibytes):
@@ -102,21 +100,16 @@ def try_without_memory(program, folder, gibibytes):
 
 
 def main():
-    parser = argparse.ArgumentParser(description=__doc__, formatter_class=argparse.RawDescriptionHelpFormatter)
+    parser = runs.parser_of(__doc__, 250)
     parser.add_argument("--only", action="append", choices=list(images.FAMILIES), metavar="FAMILY")
-    parser.add_argument("--turns", type=int, default=250)
     parser.add_argument("--seconds", type=float, default=40)
     parser.add_argument("--memory", type=float, default=6)
-    parser.add_argument("program", nargs="?", type=pathlib.Path, default=runs.PROGRAM)
     chosen = parser.parse_args()
-    program = runs.program_of(chosen.program)
-    if program is None:
-        return 2
     with tempfile.TemporaryDirectory() as folder:
         scratch = pathlib.Path(folder)
-        is_right = [measure(program, name, scratch, chosen) for name in chosen.only or images.FAMILIES]
+        is_right = [measure(name, scratch, chosen) for name in chosen.only or images.FAMILIES]
         if not chosen.only:
-            is_right.append(try_without_memory(program, scratch, chosen.memory))
+            is_right.append(try_without_memory(chosen.program, scratch, chosen.memory))
     print("\neach report as it has to be, no time and no memory more than it may be:", "yes" if all(is_right) else "no")
     return 0 if all(is_right) else 1
 

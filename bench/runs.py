@@ -1,5 +1,6 @@
 """Runs of a program over images: what it answers, what memory it takes, and how long it needs."""
 
+import argparse
 import dataclasses
 import pathlib
 import subprocess
@@ -71,8 +72,15 @@ def best_by_turns(runs, most_turns, most_seconds):
 
 
 def program_of(path):
-    """The program at a path as a command, or None, after it said that there is none."""
-    if not path.is_file():
-        print(f"{path}: no such program; 'rt run' in crates/persist_report builds it", file=sys.stderr)
-        return None
-    return path.resolve()
+    """The program at a path as a command; there has to be one."""
+    if not pathlib.Path(path).is_file():
+        raise argparse.ArgumentTypeError(f"{path}: no such program; 'rt run' in crates/persist_report builds it")
+    return pathlib.Path(path).resolve()
+
+
+def parser_of(documentation, turns):
+    """A parser of a script's words: for how many turns it measures, and at last the program, the built one if none is told."""
+    parser = argparse.ArgumentParser(description=documentation, formatter_class=argparse.RawDescriptionHelpFormatter)
+    parser.add_argument("--turns", type=int, default=turns)
+    parser.add_argument("program", nargs="?", type=program_of, default=str(PROGRAM))
+    return parser

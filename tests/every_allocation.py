@@ -14,8 +14,9 @@ import subprocess
 import sys
 import tempfile
 
-HERE = pathlib.Path(__file__).resolve().parent
-CRATE = HERE.parent / "crates" / "persist_report"
+sys.dont_write_bytecode = True
+import built
+
 COMMAND_LINES = [
     ["report"],
     ["report", "stdin"],
@@ -89,23 +90,22 @@ class Refusing:
     def run(self, words, refused):
         """What the program answers, and how many calls it made."""
         setting = dict(os.environ, LD_PRELOAD=str(self.library), CALLS=str(self.calls), REFUSED_CALL=str(refused))
-        image = (CRATE / "stdin").read_bytes()
-        done = subprocess.run([self.program, *words], input=image, capture_output=True, cwd=CRATE, env=setting, timeout=60)
+        image = (built.CRATE / "stdin").read_bytes()
+        done = subprocess.run([self.program, *words], input=image, capture_output=True, cwd=built.CRATE, env=setting, timeout=60)
         return (done.returncode, done.stdout, done.stderr), int(self.calls.read_text())
 
 
 def main(arguments):
-    program = pathlib.Path(arguments[0]).resolve() if arguments else CRATE / "out" / "persist_report"
-    if len(arguments) > 1 or not program.is_file():
-        print(__doc__ if len(arguments) > 1 else f"{program}: no such program", file=sys.stderr)
+    program = built.program_of(arguments, __doc__)
+    if program is None:
         return 2
     passed = failed = 0
     no_memory = (5, b"", b"persist_report: NoMemory\n")
     with tempfile.TemporaryDirectory() as folder:
-        refusing = Refusing(program.resolve(), pathlib.Path(folder))
+        refusing = Refusing(program, pathlib.Path(folder))
         for words in COMMAND_LINES:
             ample, calls = refusing.run(words, 0)
-            if calls == 0 or (words == ["report"] and ample != (0, (CRATE / "stdout").read_bytes(), b"")):
+            if calls == 0 or (words == ["report"] and ample != (0, (built.CRATE / "stdout").read_bytes(), b"")):
                 print(f"{words}: {calls} calls were seen, and without a refused one {ample}")
                 failed += 1
             for refused in range(1, calls + 1):
@@ -115,8 +115,7 @@ def main(arguments):
                 else:
                     failed += 1
                     print(f"{words}, allocation {refused}: {given}")
-    print(f"{passed} passed, {failed} failed")
-    return 1 if failed else 0
+    return built.status_of(passed, failed)
 
 
 if __name__ == "__main__":

@@ -18,11 +18,10 @@ import subprocess
 import sys
 
 sys.dont_write_bytecode = True
+import built
 import forge
 import plain_reader
 
-HERE = pathlib.Path(__file__).resolve().parent
-PROGRAM = HERE.parent / "crates" / "persist_report" / "out" / "persist_report"
 ENOUGH_CASES = 1000
 
 
@@ -54,20 +53,20 @@ def main():
     parser = argparse.ArgumentParser(description=__doc__, formatter_class=argparse.RawDescriptionHelpFormatter)
     parser.add_argument("--seed", type=int, default=1)
     parser.add_argument("--cases", type=int, default=2000)
-    parser.add_argument("program", nargs="?", type=pathlib.Path, default=PROGRAM)
+    parser.add_argument("program", nargs="?", type=pathlib.Path, default=built.PROGRAM)
     chosen = parser.parse_args()
-    if not chosen.program.is_file():
-        print(f"{chosen.program}: no such program; 'rt run' in crates/persist_report builds it", file=sys.stderr)
+    program = built.found(chosen.program)
+    if program is None:
         return 2
     seen = collections.Counter()
-    failed = compare(chosen.program.resolve(), chosen.seed, chosen.cases, seen)
+    failed = compare(program, chosen.seed, chosen.cases, seen)
     for rule in plain_reader.RULES:
         print(f"{seen[rule]:7}  {rule}")
     never = [rule for rule in plain_reader.RULES if not seen[rule]]
     if never:
         print("never:", "; ".join(never))
-    print(f"{chosen.cases - failed} passed, {failed} failed")
-    return 1 if failed or (never and chosen.cases >= ENOUGH_CASES) else 0
+    status = built.status_of(chosen.cases - failed, failed)
+    return 1 if never and chosen.cases >= ENOUGH_CASES else status
 
 
 if __name__ == "__main__":

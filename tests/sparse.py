@@ -15,8 +15,9 @@ import subprocess
 import sys
 import tempfile
 
-HERE = pathlib.Path(__file__).resolve().parent
-PROGRAM = HERE.parent / "crates" / "persist_report" / "out" / "persist_report"
+sys.dont_write_bytecode = True
+import built
+
 SIZE = 1_048_576
 PAGE = 65_536
 SAMPLES = 60_000
@@ -89,9 +90,8 @@ def difference(program, path, report):
 
 
 def main(arguments):
-    program = pathlib.Path(arguments[0]) if arguments else PROGRAM
-    if len(arguments) > 1 or not program.is_file():
-        print(__doc__ if len(arguments) > 1 else f"{program}: no such program", file=sys.stderr)
+    program = built.program_of(arguments, __doc__)
+    if program is None:
         return 2
     cases = lists_of_samples()
     failed = 0
@@ -100,12 +100,11 @@ def main(arguments):
         for name, samples in cases.items():
             image, report = case_of(samples)
             path.write_bytes(image)
-            found = difference(program.resolve(), path, report)
+            found = difference(program, path, report)
             if found is not None:
                 failed += 1
                 print(f"{name}: {found}")
-    print(f"{len(cases) - failed} passed, {failed} failed")
-    return 1 if failed else 0
+    return built.status_of(len(cases) - failed, failed)
 
 
 if __name__ == "__main__":

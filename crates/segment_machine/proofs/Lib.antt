@@ -16,9 +16,16 @@ pub mod ImpliedRecords
 pub mod ImpliedUnits
 pub mod Keys
 pub mod ListingActors
+pub mod ListingBodies
+pub mod ListingCases
 pub mod ListingEvents
 pub mod ListingGrowth
+pub mod ListingKeeps
 pub mod ListingKept
+pub mod ListingLinked
+pub mod ListingLists
+pub mod ListingOwn
+pub mod ListingPublishes
 pub mod ListingReads
 pub mod ListingRecords
 pub mod ListingWalks

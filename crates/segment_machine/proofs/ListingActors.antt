@@ -1,46 +1,35 @@
 -- What holds of one actor stays true while a segment grows: of one that does nothing, and of one that publishes a record or walks.
-use Rattle.std.proofs.Common.{◌≡◌, ◌≢◌, ◌⊎◌, ℕ, zero, suc, ◌+◌, ◌-◌, ◌<◌, ◌≤◌, ℤ, pos, Bool, true, false, ◌==◌, List, [], ◌∷◌, ◌++◌, map, length, take, drop, All, Contains, inl, inr, ⊎_elim, refl, sym, ap, ◌∙◌, subst, arith, append_assoc, length-append}
-use Rattle.std.specs.Prelude.{slice_index, Some, replicate}
+use Rattle.std.proofs.Common.{◌≡◌, ◌≢◌, ℕ, ◌+◌, ◌<◌, ◌≤◌, ℤ, List, ◌∷◌, ◌++◌, length, drop, All, Contains, inl, inr, ⊎_elim, refl, sym, ap, ◌∙◌, subst, arith, length-append}
+use Rattle.std.specs.Prelude.{Some}
 use Rattle.std.specs.Int.{w64, cast_signed}
 use Rattle.std.proofs.lemmas.List.Elements.{All-weaker, All-contains, All-drop, Contains-append_right}
-use mathlib.Core.Option.{Option, some, none}
+use mathlib.Core.Option.{some}
 use lib.ListN.{get_elem?}
 use Rattle.segment_image.specs.Shape.{Dimensions}
-use Rattle.alloc_core.specs.Alloc.{IsPlace}
-use Rattle.bucket_ranges.specs.declared.spec.Spec.{Spec}
 use Rattle.bucket_ranges.specs.declared.spec.Spec.TheVariants as spec
 use Rattle.bucket_ranges.specs.Spec.{buckets_of}
 use Rattle.bucket_ranges.specs.Single.{packed_bucket, units_packed}
-use Rattle.list_core.specs.Laws.{IsStop, AreNeighbours}
-use Rattle.list_core.specs.Walk.{IsPrefix}
 use Rattle.segment_machine.specs.declared.entry.Entry.{Entry}
 use Rattle.segment_machine.specs.declared.place.Look.{Look}
 use Rattle.segment_machine.specs.declared.place.Place.{Place}
 use Rattle.segment_machine.specs.declared.place.Place.TheVariants.{Spent, Idle, FlagsLoaded, FreeLoaded, Raised, Sized, Marked, TailLoaded, Beaten, Linked, Looking, Losing, Moving, CountLoaded, SampleLoaded, SumLoaded, CursorLoaded, BehindCursor}
 use Rattle.segment_machine.specs.declared.actor.Actor.{Actor}
-use Rattle.segment_machine.specs.declared.actor.Answered.{Answered}
-use Rattle.segment_machine.specs.declared.actor.Claim.{Claim}
 use Rattle.segment_machine.specs.declared.actor.Known.{Known}
 use Rattle.segment_machine.specs.declared.actor.Made.TheVariants as made
-use Rattle.segment_machine.specs.declared.actor.Moment.{Moment}
 use Rattle.segment_machine.specs.declared.actor.Own.{Own}
-use Rattle.segment_machine.specs.declared.actor.Published.{Published}
 use Rattle.segment_machine.specs.declared.actor.Sighting.{Sighting}
-use Rattle.segment_machine.specs.declared.actor.Taken.{Taken}
-use Rattle.segment_machine.specs.Entry.{tally_units, tally_sum, tally_noted}
-use Rattle.segment_machine.specs.Form.{form_of, is_off}
-use Rattle.segment_machine.specs.Actor.{word_seen, counted_of, all_counted, all_summed, all_noted, all_taken, bucket_key, taken_sum, taken_units, units_listed}
-use Rattle.segment_machine.specs.Made.{SawSample}
-use Rattle.segment_machine.specs.Note.{SawBucket, SawCount, SawSingle}
+use Rattle.segment_machine.specs.Entry.{tally_units}
+use Rattle.segment_machine.specs.Form.{form_of}
+use Rattle.segment_machine.specs.Actor.{word_seen, counted_of, bucket_key}
+use Rattle.segment_machine.specs.Note.{SawBucket}
 use Rattle.segment_machine.specs.Promises.{accepted_by}
-use Rattle.segment_machine.specs.Consistent.{units_taken, IsWithinCounts}
 use Rattle.segment_machine.specs.Seats.{spent}
-use Rattle.segment_machine.specs.Body.{Record, Counts, Sample, Body, queue, plain, held, histogram, counts, sample, other, words_of, Listed, Anatomy, order_of}
+use Rattle.segment_machine.specs.Body.{Record, Body, queue, plain, held, histogram, counts, sample, other, words_of, Listed, Anatomy}
 use Rattle.segment_machine.specs.Ledger.{form_at}
-use Rattle.segment_machine.specs.Seen.{HasPlain, HasOwn, HasRecord, IsNamed, IsFirst, IsFirstOf, IsCounterIn, WasCounter, Sees}
-use Rattle.segment_machine.specs.Kept.{LooksRight, LooksOff, StandsRight, HoldsOwn, CallsRight, HasKey, is_living, IsAlone, IsSettled, LooksBack, IsMoment, IsMomentOf, FinalsAreExact, Fits}
+use Rattle.segment_machine.specs.Seen.{HasPlain, HasOwn, HasRecord, IsNamed, IsFirstOf, IsCounterIn, WasCounter, Sees}
+use Rattle.segment_machine.specs.Kept.{LooksRight, StandsRight, HoldsOwn, CallsRight, HasKey, IsSettled, LooksBack, Fits}
 use Rattle.segment_machine.proofs.Actors.{Doing, doing, doing_of, SameDeeds, alone_along, within_along, finals_along, finals_doing}
-use Rattle.segment_machine.proofs.ListingGrowth.{Grows, stop_grows, neighbours_grow, first_grows, first_of_longer, record_stays, record_came, sees_grow}
+use Rattle.segment_machine.proofs.ListingGrowth.{Grows, stop_grows, neighbours_grow, first_of_longer, record_stays, record_came}
 
 -- ---- where it stands
 

@@ -1,9 +1,8 @@
 -- The events of the list that put nothing on it: each keeps the state, and its actor learns that it found the end or a record.
-use Rattle.std.proofs.Common.{◌≡◌, ◌≢◌, ◌⊎◌, ℕ, zero, suc, ◌+◌, ◌<◌, ◌≤◌, ◌==◌, ◌&&◌, not, ℤ, Bool, true, false, List, [], ◌∷◌, ◌++◌, length, set, get_or, All, Contains, inl, inr, ⊎_elim, refl, sym, ap, ◌∙◌, subst, arith, append_assoc, length-append, eq-eqb, ne_eqb}
+use Rattle.std.proofs.Common.{◌≡◌, ◌≢◌, ℕ, suc, ◌+◌, ◌<◌, ◌≤◌, ◌==◌, ◌&&◌, not, Bool, true, false, List, [], ◌∷◌, ◌++◌, length, set, Contains, inl, inr, refl, sym, ap, ◌∙◌, subst, arith, append_assoc, length-append, eq-eqb, ne_eqb}
 use Rattle.std.specs.Prelude.{slice_index, if◌then◌else◌}
-use Rattle.std.proofs.lemmas.List.{get_or_append_left}
 use Rattle.std.proofs.lemmas.List.Elements.{Contains-append_left}
-use mathlib.Core.Option.{Option, some, none}
+use mathlib.Core.Option.{some}
 use mathlib.Core.Logic.{dite}
 use native.Mathlib.Decide.{ℕ_discrete}
 use lib.ListN.{get_elem?}
@@ -19,27 +18,26 @@ use Rattle.list_core.proofs.Chains.{one_place}
 use Rattle.list_core.proofs.EventKinds.{link_missed, behind_stop}
 use Rattle.segment_machine.specs.declared.actor.Actor.{Actor}
 use Rattle.segment_machine.specs.declared.actor.Own.{Own}
-use Rattle.segment_machine.specs.declared.actor.Sighting.{Sighting}
 use Rattle.segment_machine.specs.declared.place.Place.{Place}
-use Rattle.segment_machine.specs.declared.place.Place.TheVariants.{Spent, Idle, TailLoaded, Beaten, Linked, SumLoaded, CursorLoaded, BehindCursor}
+use Rattle.segment_machine.specs.declared.place.Place.TheVariants.{Spent, Idle, TailLoaded, Beaten, CursorLoaded, BehindCursor}
 use Rattle.segment_machine.specs.Actor.{is_bound}
 use Rattle.segment_machine.specs.State.{State}
 use Rattle.segment_machine.specs.Event.{Event, load_tail, link, move_tail, load_next}
 use Rattle.segment_machine.specs.Next.{next, behind, extended, after_link}
 use Rattle.segment_machine.specs.Ready.{Ready, MayFollow}
-use Rattle.segment_machine.specs.Learned.{Learned, IsReference}
-use Rattle.segment_machine.specs.Keeps.{happened, found_at, EventKeeps}
+use Rattle.segment_machine.specs.Learned.{Learned}
+use Rattle.segment_machine.specs.Keeps.{happened, found_at}
 use Rattle.segment_machine.specs.Body.{Anatomy, layout_of, order_of}
 use Rattle.segment_machine.specs.Seen.{IsNoLater}
 use Rattle.segment_machine.specs.Kept.{StandsRight, Kept}
 use Rattle.segment_machine.proofs.Lists.{at_from, below_length, index_at}
 use Rattle.segment_machine.proofs.Stops.{linked_beside_head}
-use Rattle.segment_machine.proofs.Actors.{Doing, doing, doing_of, TurnsTo, is_plain, turns_plain, turns_unbound, turns_not}
-use Rattle.segment_machine.proofs.Goings.{after_word, happens}
+use Rattle.segment_machine.proofs.Actors.{Doing, doing, TurnsTo, is_plain, turns_plain, turns_unbound, turns_not}
+use Rattle.segment_machine.proofs.Goings.{happens}
 use Rattle.segment_machine.proofs.Acting.{stays_same}
 use Rattle.segment_machine.proofs.ListingGrowth.{grows_not, stop_at}
 use Rattle.segment_machine.proofs.ListingActors.{Follows, stands_grow, SawMore}
-use Rattle.segment_machine.proofs.ListingWalks.{stop_reference, stop_within, tail_word, walking, reference_is, looks_on}
+use Rattle.segment_machine.proofs.ListingWalks.{stop_within, tail_word, walking, reference_is, looks_on}
 
 -- ---- fronts of the list
 
@@ -77,7 +75,7 @@ extended_front words chain front at linked stop (rest, is) =
     let (k, lt, stands, next) = near in
     let long : length front ≤ length chain = let n = ap length is in let e = length-append front rest in omega (arith, n, e) in
     let place : slice_index (stops chain) (length front) ≡ at =
-        ap (λ (l : List ℕ). slice_index (stops l) (length front)) is ∙ (stop_at front rest (length front) (omega arith) ∙ here) in
+    ap (λ (l : List ℕ). slice_index (stops l) (length front)) is ∙ (stop_at front rest (length front) (omega arith) ∙ here) in
     let same : k ≡ length front = one_place words chain k (length front) linked (omega (arith, lt)) long (stands ∙ sym place) in
     subst (λ (b : Bool × Bool). by b.0 b.1) (λ i. (sym (eq-eqb last at here) i, sym (ne_eqb found 12 goes) i))
     (prefix_longer front chain found (rest, is) (omega (arith, lt, same)) (ap (slice_index chain) (sym same) ∙ next))))
@@ -234,7 +232,7 @@ module _ (shape : Dimensions) (opened : Anatomy) (state : State) (kept : Kept sh
     stands_behind : (place : Place) → StandsRight shape kept.anatomy id a place → StandsRight shape kept.anatomy id (doing a d) (behind place from found)
     stands_behind (CursorLoaded cursor at) (stop, saw) =
         let by : Bool → Bool → Type 0 =
-            λ b c. StandsRight shape kept.anatomy id (doing a d) (if b then (if c then Idle else BehindCursor cursor at found) else CursorLoaded cursor at) in
+        λ b c. StandsRight shape kept.anatomy id (doing a d) (if b then (if c then Idle else BehindCursor cursor at found) else CursorLoaded cursor at) in
         dite (ℕ_discrete from at)
         (λ here. dite (ℕ_discrete found 12)
         (λ ends. subst (λ (b : Bool × Bool). by b.0 b.1) (λ i. (sym (eq-eqb from at here) i, sym (eq-eqb found 12 ends) i)) tt)

@@ -1,11 +1,10 @@
 -- How a segment grows while records are put on its list: published blocks stay but for their nexts, the list becomes longer at its
 -- end, and what was seen stays true.
-use Rattle.std.proofs.Common.{◌≡◌, ◌≢◌, ◌⊎◌, ℕ, zero, suc, ◌+◌, ◌<◌, ◌≤◌, ℤ, Bool, true, false, List, [], ◌∷◌, ◌++◌, map, length, All, Contains, inl, inr, ⊎_elim, refl, sym, ap, ◌∙◌, subst, arith, append_assoc, append-nil, length-append}
-use Rattle.std.specs.Prelude.{slice_index, Some, take, get_or}
+use Rattle.std.proofs.Common.{◌≡◌, ◌≢◌, ◌⊎◌, ℕ, zero, suc, ◌+◌, ◌<◌, ◌≤◌, ℤ, Bool, true, List, [], ◌∷◌, ◌++◌, map, length, All, inl, inr, ⊎_elim, refl, sym, ap, ◌∙◌, subst, arith, append_assoc, append-nil, length-append}
+use Rattle.std.specs.Prelude.{slice_index, Some}
 use Rattle.std.proofs.lemmas.List.{get_or_append_left}
 use Rattle.std.proofs.lemmas.List.Elements.{All-weaker}
-use mathlib.Core.Option.{Option, some, none, some-injective, some-ne-none}
-use lib.ListN.{get_elem?}
+use mathlib.Core.Option.{none}
 use Rattle.bucket_ranges.specs.declared.spec.Spec.{Spec}
 use Rattle.bucket_ranges.specs.Spec.{buckets_of}
 use Rattle.alloc_core.specs.Laws.{Behind}
@@ -15,12 +14,11 @@ use Rattle.list_core.specs.Walk.{IsPrefix}
 use Rattle.list_core.proofs.Prefixes.{prefix_of_prefix}
 use Rattle.segment_machine.specs.declared.actor.Actor.{Actor}
 use Rattle.segment_machine.specs.declared.actor.Known.{Known}
-use Rattle.segment_machine.specs.declared.actor.Made.{Made}
 use Rattle.segment_machine.specs.declared.actor.Sighting.{Sighting}
 use Rattle.segment_machine.specs.declared.actor.Made.TheVariants as made
 use Rattle.segment_machine.specs.Form.{is_off, Leads}
 use Rattle.segment_machine.specs.Body.{Record, Counts, Sample, Body, queue, plain, held, histogram, counts, sample, other, words_of, is_claimed, Piece, Listed, Anatomy, order_of, free_of}
-use Rattle.segment_machine.specs.Seen.{Stands, HasPlain, HasOwn, HasRecord, HasCounts, HasSample, IsNamed, IsFirst, IsFirstOf, IsFixedIn, IsCounterIn, WasFixed, WasCounter, WasInUse, WasSingle, IsNoLater, Knows, Sees}
+use Rattle.segment_machine.specs.Seen.{Stands, HasRecord, HasCounts, HasSample, IsNamed, IsFirst, IsFirstOf, IsFixedIn, IsCounterIn, WasFixed, WasCounter, WasInUse, WasSingle, IsNoLater, Knows, Sees}
 use Rattle.segment_machine.proofs.Anatomies.{reshaped, Stays}
 
 -- ---- the next of a block
@@ -265,9 +263,15 @@ module _ (old new : Anatomy) (added : ℕ → Body → Type 0) (grows : Grows ol
   pub counter_stays : (s : Sighting) → WasCounter old.pieces s → WasCounter new.pieces s
   counter_stays s (at, i, body, there, is, counter, least) =
       let (ne, still, claimed) = counter_apart body 0 i counter in
-      let (n, stands) = grows.stays at body claimed there in
-      (at, i, with_next body n, stands, is, (counter_apart body n i counter).1,
-      subst (λ (m : ℕ). s.word ≤ m) (sym (beside_next body n i ne)) least)
+      let (n, stands) = grows.stays at body claimed there in (
+        at,
+        i,
+        with_next body n,
+        stands,
+        is,
+        (counter_apart body n i counter).1,
+        subst (λ (m : ℕ). s.word ≤ m) (sym (beside_next body n i ne)) least,
+      )
 
   pub single_stays : (s : Sighting) → WasSingle old.version old.pieces s → WasSingle new.version new.pieces s
   single_stays s (at, r, there, is, leads) =

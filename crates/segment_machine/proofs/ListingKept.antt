@@ -1,40 +1,31 @@
 -- A kept state in which one actor puts a record on the list or walks along it: all that is kept, from what changes.
-use Rattle.std.proofs.Common.{◌≡◌, ◌≢◌, ◌⊎◌, ℕ, zero, suc, ◌+◌, ◌<◌, ◌≤◌, ◌==◌, ◌&&◌, ◌||◌, ℤ, pos, Bool, true, false, List, [], ◌∷◌, ◌++◌, map, length, set, take, filter, fold, sum_by, flat_map, All, Contains, IsPermutation, inl, inr, ⊎_elim, refl, sym, ap, ◌∙◌, subst, arith, eq-eqb}
+use Rattle.std.proofs.Common.{◌≡◌, ◌≢◌, ℕ, zero, suc, ◌+◌, ◌<◌, ◌≤◌, ◌&&◌, ℤ, Bool, true, false, List, [], ◌∷◌, ◌++◌, map, filter, flat_map, All, Contains, ⊎_elim, refl, sym, ap, ◌∙◌, subst, arith, eq-eqb}
 use Rattle.std.specs.Prelude.{slice_index, Some}
 use Rattle.std.specs.Prelude as std
-use Rattle.std.proofs.lemmas.List.{get_or_append_left}
-use Rattle.std.proofs.lemmas.List.Elements.{All-weaker, All-contains, Contains-append_left, Contains-append_right, Contains-append_cases}
-use mathlib.Core.Option.{Option, some, none, some-injective, some-ne-none}
+use Rattle.std.proofs.lemmas.List.Elements.{All-contains, Contains-append_left, Contains-append_right, Contains-append_cases}
+use mathlib.Core.Option.{some, some-injective, some-ne-none}
 use mathlib.Core.Logic.{dite}
 use native.Mathlib.Decide.{ℕ_discrete}
 use lib.ListN.{get_elem?}
-use Rattle.atomic_table.proofs.Lists.{at_map}
 use Rattle.segment_image.specs.Shape.{Dimensions}
-use Rattle.alloc_core.specs.Layout.{IsShown}
-use Rattle.list_core.specs.Chain.{stops}
 use Rattle.segment_machine.specs.declared.entry.Entry.{Entry}
 use Rattle.segment_machine.specs.declared.entry.Counting.{Counting}
 use Rattle.segment_machine.specs.declared.actor.Actor.{Actor}
-use Rattle.segment_machine.specs.declared.actor.Given.{Given}
 use Rattle.segment_machine.specs.declared.actor.Known.{Known}
-use Rattle.segment_machine.specs.declared.actor.Made.{Made}
 use Rattle.segment_machine.specs.declared.actor.Made.TheVariants as made
 use Rattle.segment_machine.specs.declared.actor.Own.{Own}
 use Rattle.segment_machine.specs.declared.actor.Taken.{Taken}
-use Rattle.segment_machine.specs.declared.place.Place.{Place}
 use Rattle.segment_machine.specs.declared.place.Place.TheVariants.{Spent, SumLoaded}
 use Rattle.segment_machine.specs.Entry.{is_counted, has_ended, counted_among, tally_units, tally_sum, tally_noted}
-use Rattle.segment_machine.specs.Actor.{log_of, counted_of, all_counted, all_summed, all_noted, all_taken, taken_units, taken_sum, all_given}
-use Rattle.segment_machine.specs.Body.{Record, Body, plain, histogram, counts, words_of, Piece, Listed, Anatomy, layout_of, order_of, claims_of}
-use Rattle.segment_machine.specs.Ledger.{units_held, marks_held, sum_held, sum_mark_held, noted_held, all_held, all_amounts, all_moving, IsBalanced}
-use Rattle.segment_machine.specs.Seen.{Stands, HasPlain, HasOwn, HasRecord, IsFirst, Knows, Sees}
+use Rattle.segment_machine.specs.Actor.{log_of, counted_of, all_counted, taken_units, taken_sum}
+use Rattle.segment_machine.specs.Body.{Record, Body, Piece, Listed, Anatomy}
+use Rattle.segment_machine.specs.Ledger.{units_held, marks_held, sum_held, sum_mark_held, noted_held, all_held, all_amounts, IsBalanced}
+use Rattle.segment_machine.specs.Seen.{HasRecord, Knows, Sees}
 use Rattle.segment_machine.specs.State.{State}
-use Rattle.segment_machine.specs.Kept.{StandsAs, ListIsKept, RecordsAreKept, HasKey, is_living, RolesAreKept, StandsRight, HoldsOwn, CursorsAreKept, SumsAreNear, Fits, StandStill, Kept}
-use Rattle.segment_machine.proofs.Lists.{column, rows, at_from, contains_at}
-use Rattle.segment_machine.proofs.Actors.{Doing, doing, doing_of, TurnsTo, SameDeeds, living_at}
-use Rattle.segment_machine.proofs.ListingGrowth.{Grows, order_grows, stop_at, longer_by, sees_grow}
-use Rattle.segment_machine.proofs.ListingActors.{follows_itself, stands_grow, SawMore, saw_itself, fits_grow, own_stays}
-use Rattle.segment_machine.proofs.ListingRecords.{key_grows, sums_grow}
+use Rattle.segment_machine.specs.Kept.{StandsAs, HasKey, is_living, StandsRight, HoldsOwn, Fits, Kept}
+use Rattle.segment_machine.proofs.Actors.{Doing, doing, SameDeeds, living_at}
+use Rattle.segment_machine.proofs.ListingGrowth.{Grows}
+use Rattle.segment_machine.proofs.ListingActors.{SawMore, fits_grow}
 
 -- ---- entries that were accepted are counted
 
@@ -103,7 +94,7 @@ module _ (shape : Dimensions) (opened : Anatomy) (state : State) (kept : Kept sh
       let (front, behind, is, others) = knows.first in
       let l : Listed = record { reference = known.reference; made = Some (made.Histogram known.name knows.first_spec) } in
       let (r, stands, named, same) = All-contains (λ l. StandsAs kept.anatomy.pieces l l.made) kept.anatomy.records l kept.list.standing
-          (subst (λ (records : List Listed). Contains records l) (sym is) (Contains-append_right front (l ∷ behind) l (0, omega arith, refl))) in
+      (subst (λ (records : List Listed). Contains records l) (sym is) (Contains-append_right front (l ∷ behind) l (0, omega arith, refl))) in
       (r, stands)
 
   pub loaded_record : (id : ℕ) (x : Actor) (reference : ℕ) (sum : ℤ) → get_elem? state.actors id ≡ some x → x.place ≡ SumLoaded reference sum
@@ -152,4 +143,3 @@ balanced_same version opened old new before after holdings same is = record {
       (λ i. (ap (λ (taken : List Taken). taken_units taken name key) (sym same.taken) i, ap (λ (entries : List Entry). tally_units entries name key) (sym same.counted) i))
       (is.taken name key);
 }
-

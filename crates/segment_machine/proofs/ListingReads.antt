@@ -1,41 +1,39 @@
 -- A word of a published record that never changes is loaded: its type, its spec, its name, or what a sample is of.
-use Rattle.std.proofs.Common.{◌≡◌, ◌≢◌, ◌⊎◌, ℕ, zero, suc, ◌+◌, ◌-◌, ◌*◌, ◌/◌, ◌%◌, ◌<◌, ◌≤◌, ◌==◌, Bool, true, false, List, [], ◌∷◌, ◌++◌, length, replicate, set, get_or, All, Contains, inl, inr, ⊎_elim, refl, sym, ap, ◌∙◌, subst, arith, length-append, eq-eqb, ne_eqb, div-add-mod', mod-lt}
+use Rattle.std.proofs.Common.{◌≡◌, ◌≢◌, ℕ, suc, ◌+◌, ◌-◌, ◌%◌, ◌<◌, ◌==◌, Bool, true, false, List, [], ◌∷◌, ◌++◌, length, replicate, Contains, inl, inr, refl, sym, ap, ◌∙◌, subst, arith, length-append, eq-eqb, ne_eqb, div-add-mod', mod-lt}
 use Rattle.std.specs.Prelude.{slice_index, if◌then◌else◌, Some, None}
 use Rattle.std.specs.Prelude as std
 use Rattle.std.proofs.lemmas.List.{length-replicate}
 use Rattle.std.proofs.lemmas.List.Elements.{All-contains, All-push, Contains-append_left}
-use mathlib.Core.Option.{Option, some, none}
+use mathlib.Core.Option.{some, none, some-injective}
 use mathlib.Core.Logic.{dite}
 use native.Mathlib.Decide.{ℕ_discrete}
 use lib.ListN.{get_elem?}
 use Rattle.atomic_table.proofs.Lists.{at_longer}
 use Rattle.segment_image.specs.Shape.{Dimensions}
-use Rattle.segment_image.specs.Words.{word_at, bytes_of_words}
+use Rattle.segment_image.specs.Words.{word_at}
 use Rattle.segment_image.proofs.ReadWords.{length-bytes_of_words}
 use Rattle.alloc_core.proofs.Layouts.{length_shown}
 use Rattle.bucket_ranges.specs.declared.spec.Spec.{Spec}
 use Rattle.bucket_ranges.specs.declared.spec.Spec.TheVariants.{Linear, Boolean, Custom, Sparse}
-use Rattle.bucket_ranges.specs.Spec.{distinct_values}
 use Rattle.bucket_ranges.specs.Reading.{name_words}
 use Rattle.segment_machine.specs.declared.actor.Actor.{Actor}
 use Rattle.segment_machine.specs.declared.actor.Made.{Made}
 use Rattle.segment_machine.specs.declared.actor.Made.TheVariants as made
 use Rattle.segment_machine.specs.declared.actor.Sighting.{Sighting}
-use Rattle.segment_machine.specs.declared.place.Place.{Place}
 use Rattle.segment_machine.specs.declared.place.Place.TheVariants.{Spent}
 use Rattle.segment_machine.specs.Actor.{is_bound, word_seen}
 use Rattle.segment_machine.specs.State.{State}
 use Rattle.segment_machine.specs.Event.{load_published}
 use Rattle.segment_machine.specs.Next.{next, sight}
-use Rattle.segment_machine.specs.Made.{spec_fields, spec_ranges, AreNameWords}
-use Rattle.segment_machine.specs.Ready.{Ready, IsFixed, IsFixedBehind}
+use Rattle.segment_machine.specs.Made.{spec_ranges, AreNameWords}
+use Rattle.segment_machine.specs.Ready.{IsFixed}
 use Rattle.segment_machine.specs.Learned.{EndsWithin}
 use Rattle.segment_machine.specs.Body.{Record, Sample, Body, queue, plain, held, histogram, counts, sample, other, record_words, spec_field, words_of, is_claimed, Piece, Listed, Anatomy, layout_of, order_of}
 use Rattle.segment_machine.specs.Seen.{Stands, HasRecord, HasSample, IsFixedIn, WasFixed}
-use Rattle.segment_machine.specs.Kept.{StandsAs, StandsRight, Kept}
+use Rattle.segment_machine.specs.Kept.{StandsAs, Kept}
 use Rattle.segment_machine.proofs.Lists.{at_from, all_at, from_map}
 use Rattle.segment_machine.proofs.Pieces.{piece_word, one_index}
-use Rattle.segment_machine.proofs.Actors.{Doing, doing, doing_of, TurnsTo, turns_not}
+use Rattle.segment_machine.proofs.Actors.{Doing, turns_not}
 use Rattle.segment_machine.proofs.Goings.{happens}
 use Rattle.segment_machine.proofs.Acting.{stays_same}
 use Rattle.segment_machine.proofs.ListingGrowth.{grows_not}
@@ -143,9 +141,9 @@ module _ (shape : Dimensions) (opened : Anatomy) (state : State) (kept : Kept sh
   seen_is at j word body (k, there) lt seen =
       let s : Sighting = record { at = at + j; word = word } in
       let (at', i, body', (k', there'), is, fixed, value) =
-          All-contains (WasFixed anatomy.pieces) a.seen_words s (kept.each id a mine lives).sees.fixed (word_contains a.seen_words (at + j) word seen) in
+      All-contains (WasFixed anatomy.pieces) a.seen_words s (kept.each id a mine lives).sees.fixed (word_contains a.seen_words (at + j) word seen) in
       let index = one_index shape state.words anatomy kept.shown k k' _ _ j i there there' lt (fixed_within body' i fixed) is in
-      let same = mathlib.Core.Option.some-injective _ _ (sym there ∙ (ap (get_elem? anatomy.pieces) index ∙ there')) in
+      let same = some-injective _ _ (sym there ∙ (ap (get_elem? anatomy.pieces) index ∙ there')) in
       let place : at ≡ at' = ap (λ (p : Piece). p.at) same in
       let word_is : j ≡ i = omega (arith, place, is) in
       ap (λ (p : ℕ × Body). slice_index (words_of p.1) p.0) (λ i. (word_is i, (ap (λ (p : Piece). p.body) same) i)) ∙ value
@@ -180,7 +178,7 @@ module _ (shape : Dimensions) (opened : Anatomy) (state : State) (kept : Kept sh
               let (r, (k, there)) = known_record shape opened state kept id a mine lives known named in
               sym (word_else a.seen_words (known.reference + 8) (at + index) found (λ same.
               let one = one_index shape state.words anatomy kept.shown stands.0 k _ _ index 8 stands.1 there lt (omega arith) same in
-              let place = ap (λ (p : Piece). p.at) (mathlib.Core.Option.some-injective _ _ (sym stands.1 ∙ (ap (get_elem? anatomy.pieces) one ∙ there))) in
+              let place = ap (λ (p : Piece). p.at) (some-injective _ _ (sym stands.1 ∙ (ap (get_elem? anatomy.pieces) one ∙ there))) in
               let eight : index ≡ 8 = omega (arith, same, place) in
               no_counts a at (subst (IsFixed a at) eight known_fixed))) ∙ seen;
           loaded = turns.sums;
@@ -205,11 +203,11 @@ module _ (shape : Dimensions) (opened : Anatomy) (state : State) (kept : Kept sh
       let sized = ap (λ (s : Dimensions). s.size) (kept.each id a mine lives).shaped in
       let letters = letters_long r.name r.letters (kept.records.lawful at r stands).lettered in
       let name_is : (len : ℕ) → word_seen a.seen_words (at + 14) ≡ Some len → length r.name ≡ len =
-          λ len seen. seen_is at 14 len (histogram r) stands (omega arith) seen in
+      λ len seen. seen_is at 14 len (histogram r) stands (omega arith) seen in
       let kind_is : (kind : ℕ) → word_seen a.seen_words (at + 4) ≡ Some kind → spec_field r.spec 0 ≡ kind =
-          λ kind seen. seen_is at 4 kind (histogram r) stands (omega arith) seen in
+      λ kind seen. seen_is at 4 kind (histogram r) stands (omega arith) seen in
       let number_is : (n : ℕ) → word_seen a.seen_words (at + 7) ≡ Some n → spec_field r.spec 3 ≡ n =
-          λ n seen. seen_is at 7 n (histogram r) stands (omega arith) seen in
+      λ n seen. seen_is at 7 n (histogram r) stands (omega arith) seen in
       let in_words : IsFixedIn (histogram r) index = fixed_in at index r stands fixed in
       reads at index (histogram r) stands in_words fixed refl (
         λ two tag. omega (arith, within, long, sized),

@@ -1,25 +1,22 @@
 -- The records of a segment that grows: the old ones stay what they are, and the new ones are lawful and count nothing.
-use Rattle.std.proofs.Common.{◌≡◌, ◌≢◌, ◌⊎◌, ℕ, zero, suc, ◌+◌, ◌*◌, ◌-ℤ◌, ◌<◌, ◌≤◌, ℤ, pos, Bool, true, false, List, [], ◌∷◌, ◌++◌, map, length, All, Contains, inl, inr, ⊎_elim, refl, sym, ap, ◌∙◌, subst, arith}
-use Rattle.std.specs.Prelude.{slice_index, Some, unsigned_abs}
-use Rattle.std.specs.Prelude as std
+use Rattle.std.proofs.Common.{◌≡◌, ◌≢◌, ◌⊎◌, ℕ, ◌*◌, ◌-ℤ◌, ◌≤◌, ℤ, pos, List, ◌∷◌, ◌++◌, All, Contains, inl, inr, ⊎_elim, refl, sym, ap, ◌∙◌, subst, arith}
+use Rattle.std.specs.Prelude.{Some, unsigned_abs}
 use Rattle.std.specs.Int.{w64, cast_signed}
-use Rattle.std.proofs.lemmas.List.Elements.{All-weaker, All-contains, Contains-append_right}
-use mathlib.Core.Option.{Option, some, none}
+use Rattle.std.proofs.lemmas.List.Elements.{All-contains, Contains-append_right}
+use mathlib.Core.Option.{some, none}
 use lib.ListN.{get_elem?}
 use Rattle.bucket_ranges.specs.declared.spec.Spec.{Spec}
 use Rattle.bucket_ranges.specs.declared.spec.Spec.TheVariants as spec
-use Rattle.bucket_ranges.specs.Spec.{buckets_of}
 use Rattle.segment_machine.specs.declared.actor.Actor.{Actor}
-use Rattle.segment_machine.specs.declared.actor.Made.{Made}
 use Rattle.segment_machine.specs.declared.actor.Made.TheVariants as made
 use Rattle.segment_machine.specs.declared.place.Place.TheVariants.{SumLoaded}
 use Rattle.segment_machine.specs.Form.{units_in}
-use Rattle.segment_machine.specs.Body.{Record, Counts, Sample, Body, histogram, counts, sample, other, words_of, Piece, Listed, Anatomy, order_of}
-use Rattle.segment_machine.specs.Ledger.{form_at, key_of_bucket}
+use Rattle.segment_machine.specs.Body.{Record, Counts, Sample, Body, histogram, counts, sample, Listed, Anatomy}
+use Rattle.segment_machine.specs.Ledger.{form_at}
 use Rattle.segment_machine.specs.Seen.{Stands, HasRecord, HasCounts, HasSample, IsNamed, IsFirst, IsFirstOf}
 use Rattle.segment_machine.specs.Kept.{StandsAs, IsListed, IsLawfulRecord, IsCountsOf, IsLawfulSample, CountsNothing, RecordsAreKept, HasKey, SumsAreNear, IsSumOf, summed_costs}
 use Rattle.segment_machine.proofs.Actors.{SameDeeds}
-use Rattle.segment_machine.proofs.ListingGrowth.{with_next, Grows, first_grows, first_of_longer, record_stays, record_came, counts_stay, counts_came, sample_came}
+use Rattle.segment_machine.proofs.ListingGrowth.{Grows, first_grows, first_of_longer, record_stays, record_came, counts_stay, counts_came, sample_came}
 
 -- ---- a record with another next
 

@@ -1,61 +1,52 @@
 -- Events that put nothing on the list: the tail is loaded and moved on, a next is loaded, and a link finds another record.
-use Rattle.std.proofs.Common.{◌≡◌, ◌≢◌, ◌⊎◌, ℕ, zero, suc, ◌+◌, ◌<◌, ◌≤◌, ◌==◌, ◌&&◌, ◌||◌, not, Bool, true, false, List, [], ◌∷◌, ◌++◌, map, length, set, get_or, All, Contains, inl, inr, ⊎_elim, refl, sym, ap, ◌∙◌, subst, arith, append_assoc, length-append, eq-eqb, ne_eqb}
-use Rattle.std.specs.Prelude.{slice_index, Some, nat_le, if◌then◌else◌, IsPermutation}
-use Rattle.std.specs.List.{flat_map}
+use Rattle.std.proofs.Common.{◌≡◌, ◌≢◌, ◌⊎◌, ℕ, zero, suc, ◌+◌, ◌<◌, ◌≤◌, ◌==◌, true, List, ◌++◌, length, set, get_or, All, inl, inr, refl, sym, ap, ◌∙◌, subst, arith, eq-eqb}
+use Rattle.std.specs.Prelude as std
+use Rattle.std.specs.Prelude.{slice_index, Some, None, nat_le, if◌then◌else◌, IsPermutation}
 use Rattle.std.proofs.lemmas.Bool.{le-leb, and_from, or_left, or_right}
-use Rattle.std.proofs.lemmas.List.{get_or_append_left, get_or_push, length-map}
-use Rattle.std.proofs.lemmas.List.Elements.{Contains-append_left}
-use mathlib.Core.Option.{Option, some, none, some-injective, some-ne-none}
-use mathlib.Core.Logic.{dite}
-use native.Mathlib.Decide.{ℕ_discrete}
+use Rattle.std.proofs.lemmas.List.{length-map}
+use mathlib.Core.Option.{some, none}
 use lib.ListN.{get_elem?}
-use lib.Seq.{set-get_or}
 use Rattle.atomic_table.proofs.Lists.{at_map}
 use Rattle.segment_image.specs.Shape.{Dimensions}
 use Rattle.segment_image.specs.Words.{word_at}
 use Rattle.alloc_core.specs.Layout.{IsShown}
-use Rattle.alloc_core.proofs.Layouts.{shown_tail, length_shown}
-use Rattle.list_core.specs.Chain.{is_reference, stops, IsLinked}
-use Rattle.list_core.specs.Laws.{IsStop, AreNeighbours}
+use Rattle.alloc_core.specs.Laws.{Behind}
+use Rattle.alloc_core.proofs.Layouts.{length_shown}
+use Rattle.list_core.specs.Chain.{is_reference, IsLinked}
+use Rattle.list_core.specs.Laws.{IsStop}
 use Rattle.list_core.specs.Walk.{IsPrefix}
-use Rattle.list_core.proofs.Chains.{one_place, next_last}
-use Rattle.list_core.proofs.EventKinds.{link_missed, behind_stop}
 use Rattle.segment_machine.specs.declared.actor.Actor.{Actor}
+use Rattle.segment_machine.specs.declared.actor.Claim.{Claim}
 use Rattle.segment_machine.specs.declared.actor.Own.{Own}
 use Rattle.segment_machine.specs.declared.actor.Made.{Made}
 use Rattle.segment_machine.specs.declared.actor.Made.TheVariants as made
 use Rattle.segment_machine.specs.declared.actor.Sighting.{Sighting}
 use Rattle.segment_machine.specs.declared.place.Place.{Place}
-use Rattle.segment_machine.specs.declared.place.Place.TheVariants.{Spent, Idle, TailLoaded, Beaten, Linked, CursorLoaded, BehindCursor}
-use Rattle.segment_machine.specs.Actor.{is_bound}
+use Rattle.segment_machine.specs.declared.place.Place.TheVariants.{Spent}
 use Rattle.segment_machine.specs.State.{State}
-use Rattle.segment_machine.specs.Event.{Event, load_tail, link, move_tail, load_next}
-use Rattle.segment_machine.specs.Next.{next, behind, extended, after_link}
-use Rattle.segment_machine.specs.Ready.{Ready, MayFollow}
-use Rattle.segment_machine.specs.Learned.{Learned, IsReference}
-use Rattle.segment_machine.specs.Keeps.{happened, found_at, EventKeeps}
-use Rattle.segment_machine.specs.Body.{Body, histogram, sample, other, is_claimed, Piece, extent_of, Listed, Anatomy, layout_of, order_of, free_of, claims_of}
+use Rattle.segment_machine.specs.Learned.{IsReference}
+use Rattle.segment_machine.specs.Body.{Body, histogram, sample, other, words_of, is_claimed, Piece, Listed, Anatomy, layout_of, order_of, free_of, claims_of}
 use Rattle.segment_machine.specs.Seen.{Stands, WasFixed, IsNoLater, Sees}
-use Rattle.segment_machine.specs.Kept.{StandsAs, StandsRight, HoldsOwn, Kept}
+use Rattle.segment_machine.specs.Kept.{StandsAs, StandsRight, HoldsOwn, IsSetBy, StandStill, Kept}
 use Rattle.segment_machine.proofs.Lists.{rows, column, there_below, index_at, all_at}
 use Rattle.segment_machine.proofs.Pieces.{piece_from, piece_ends, free_within}
-use Rattle.segment_machine.proofs.Stops.{linked_beside_head}
-use Rattle.segment_machine.proofs.Actors.{Doing, doing, doing_of, TurnsTo, is_plain, turns_plain, turns_unbound, turns_not, SameDeeds, same_deeds}
+use Rattle.segment_machine.proofs.Actors.{Doing, doing, doing_of, TurnsTo, same_deeds}
 use Rattle.segment_machine.proofs.Anatomies.{reshaped, Stays, sees_along}
-use Rattle.segment_machine.proofs.Goings.{Goes, not_opener, goes_on, after_word, happens}
-use Rattle.segment_machine.proofs.Acting.{stays_same, still_same}
-use Rattle.segment_machine.proofs.ListingGrowth.{grows_not}
-use Rattle.segment_machine.proofs.ListingActors.{Follows, stands_grow, SawMore}
+use Rattle.segment_machine.proofs.Goings.{not_opener, goes_on}
+use Rattle.segment_machine.proofs.Acting.{AllClaimedRight, stays_same, still_same}
+use Rattle.segment_machine.proofs.ListingGrowth.{with_next, grows_not}
+use Rattle.segment_machine.proofs.ListingActors.{SawMore}
 use Rattle.segment_machine.proofs.ListingKept.{fits_on}
 
 -- ---- the stops of a kept list
 
--- a listed record stands as a claimed block without owner
-pub listed_stands : (pieces : List Piece) (l : Listed) (given : _) → StandsAs pieces l given
+-- a listed record stands as a claimed block without owner, whose fourth word is its next
+pub listed_stands : (pieces : List Piece) (l : Listed) (given : std.Option Made) → StandsAs pieces l given
     → (body : Body) × Stands pieces l.reference none body × (is_claimed body ≡ true)
-listed_stands pieces l (Some (made.Histogram name spec)) s = (histogram s.0, s.1, refl)
-listed_stands pieces l (Some (made.Sample of value)) s = (sample s.0, s.1, refl)
-listed_stands pieces l Rattle.std.specs.Prelude.None s = (other s.0 s.1 s.2 s.3, s.4, refl)
+    × ((n : ℕ) → words_of (with_next body n) ≡ set (words_of body) 3 n)
+listed_stands pieces l (Some (made.Histogram name spec)) s = (histogram s.0, s.1, refl, λ n. refl)
+listed_stands pieces l (Some (made.Sample of value)) s = (sample s.0, s.1, refl, λ n. refl)
+listed_stands pieces l None s = (other s.0 s.1 s.2 s.3, s.4, refl, λ n. refl)
 
 module _ (shape : Dimensions) (opened : Anatomy) (state : State) (kept : Kept shape opened state) where
   abbrev anatomy : Anatomy
@@ -65,17 +56,18 @@ module _ (shape : Dimensions) (opened : Anatomy) (state : State) (kept : Kept sh
   order = order_of kept.anatomy
 
   -- a stop is the queue block, or stands so
-  pub stop_stands : (at : ℕ) → IsStop order at → (at ≡ 12) ⊎ ((body : Body) × Stands anatomy.pieces at none body × (is_claimed body ≡ true))
+  pub stop_stands : (at : ℕ) → IsStop order at → (at ≡ 12) ⊎ ((body : Body) × Stands anatomy.pieces at none body × (is_claimed body ≡ true)
+      × ((n : ℕ) → words_of (with_next body n) ≡ set (words_of body) 3 n))
   stop_stands at (zero, le, is) = inl (sym is)
   stop_stands at (suc k, le, is) =
       let (l, there) = there_below anatomy.records k (omega (arith, le, length-map anatomy.records (λ (l : Listed). l.reference))) in
       let named : l.reference ≡ at = sym (index_at order k l.reference 0 (at_map (λ (l : Listed). l.reference) anatomy.records k l there)) ∙ is in
-      let (body, stands, claimed) = listed_stands anatomy.pieces l l.made (all_at (λ l. StandsAs anatomy.pieces l l.made) anatomy.records k l kept.list.standing there) in
-      inr (body, subst (λ (n : ℕ). Stands anatomy.pieces n none body) named stands, claimed)
+      let (body, stands, claimed, nexts) = listed_stands anatomy.pieces l l.made (all_at (λ l. StandsAs anatomy.pieces l l.made) anatomy.records k l kept.list.standing there) in
+      inr (body, subst (λ (n : ℕ). Stands anatomy.pieces n none body) named stands, claimed, nexts)
 
   -- such a block ends within the words
   pub block_within : (at : ℕ) (body : Body) → Stands anatomy.pieces at none body → is_claimed body ≡ true
-      → ((at ≡ 12) ⊎ (16 ≤ at)) × (5 ≤ length (Rattle.segment_machine.specs.Body.words_of body)) × (at + length (Rattle.segment_machine.specs.Body.words_of body) ≤ shape.size)
+      → ((at ≡ 12) ⊎ (16 ≤ at)) × (5 ≤ length (words_of body)) × (at + length (words_of body) ≤ shape.size)
   block_within at body (k, there) claimed =
       let ends = piece_ends shape state.words anatomy kept.shown k _ there in
       let free = free_within shape state.words anatomy kept.shown in
@@ -129,8 +121,8 @@ module _ (shape : Dimensions) (opened : Anatomy) (state : State) (kept : Kept sh
         → (pieces : List Piece) (present : ℕ) (words' : List ℕ)
         → Stays anatomy.pieces pieces
         → ((who at : ℕ) (body : Body) → who ≢ id → Stands anatomy.pieces at (some who) body → Stands pieces at (some who) body)
-        → Rattle.segment_machine.specs.Kept.StandStill anatomy.pieces pieces
-        → Rattle.segment_machine.proofs.Acting.AllClaimedRight pieces
+        → StandStill anatomy.pieces pieces
+        → AllClaimedRight pieces
         → claims_of pieces ≡ claims_of anatomy.pieces
         → free_of (reshaped anatomy pieces anatomy.spare anatomy.corrupt anatomy.full present) ≡ free_of anatomy
         → IsShown shape words' (layout_of (reshaped anatomy pieces anatomy.spare anatomy.corrupt anatomy.full present))
@@ -150,8 +142,8 @@ module _ (shape : Dimensions) (opened : Anatomy) (state : State) (kept : Kept sh
         let fits = kept.each id a mine turns.lived in
         let same = same_deeds state.actors id a mine d turns (not_opener shape opened state kept id a mine records) in
         let old_sees : Sees new state.cursors a =
-            sees_along anatomy pieces anatomy.spare anatomy.corrupt anatomy.full present stays state.cursors a
-            (subst (Rattle.alloc_core.specs.Laws.Behind a.seen_free) (sym free) fits.sees.free) (later a.seen_tail fits.sees.tail) fits.sees in
+        sees_along anatomy pieces anatomy.spare anatomy.corrupt anatomy.full present stays state.cursors a
+        (subst (Behind a.seen_free) (sym free) fits.sees.free) (later a.seen_tail fits.sees.tail) fits.sees in
         let sees : Sees new state.cursors (doing a d) = record {
           free = old_sees.free;
           walked = prefix;
@@ -164,7 +156,7 @@ module _ (shape : Dimensions) (opened : Anatomy) (state : State) (kept : Kept sh
           names = old_sees.names;
         } in
         let on = fits_on shape opened state kept new (λ at body. ⊥)
-            (grows_not anatomy pieces anatomy.spare anatomy.corrupt anatomy.full present stays) (set state.actors id (doing a d)) same id a d mine turns.lived more sees holds apart in
+        (grows_not anatomy pieces anatomy.spare anatomy.corrupt anatomy.full present stays) (set state.actors id (doing a d)) same id a d mine turns.lived more sees holds apart in
         goes_on shape opened state kept id a mine records d turns pieces anatomy.spare anatomy.corrupt anatomy.full present words'
         (record {
           shown = shown;
@@ -174,13 +166,13 @@ module _ (shape : Dimensions) (opened : Anatomy) (state : State) (kept : Kept sh
           blocks = blocks;
           linked = linked;
           published = refl;
-          claims = subst (λ (p : List Rattle.segment_machine.specs.declared.actor.Claim.Claim × List Rattle.segment_machine.specs.declared.actor.Claim.Claim). IsPermutation p.0 (claims_of opened.pieces ++ p.1))
+          claims = subst (λ (p : List Claim × List Claim). IsPermutation p.0 (claims_of opened.pieces ++ p.1))
               (λ i. (sym claims i, sym (rows (λ (b : Actor). b.claimed) state.actors id a (doing a d) mine refl) i)) kept.claims;
-          free = λ seen behind_it. subst (Rattle.alloc_core.specs.Laws.Behind seen) (sym free) behind_it;
+          free = λ seen behind_it. subst (Behind seen) (sym free) behind_it;
           tail = stop;
           tail_later = later;
-          corrupt = subst (Rattle.segment_machine.specs.Kept.IsSetBy anatomy.corrupt opened.corrupt) (sym (column (λ (b : Actor). b.spoiled) state.actors id a (doing a d) mine refl)) kept.corrupt;
-          full = subst (Rattle.segment_machine.specs.Kept.IsSetBy anatomy.full opened.full) (sym (column (λ (b : Actor). b.filled) state.actors id a (doing a d) mine refl)) kept.full;
+          corrupt = subst (IsSetBy anatomy.corrupt opened.corrupt) (sym (column (λ (b : Actor). b.spoiled) state.actors id a (doing a d) mine refl)) kept.corrupt;
+          full = subst (IsSetBy anatomy.full opened.full) (sym (column (λ (b : Actor). b.filled) state.actors id a (doing a d) mine refl)) kept.full;
           stands = stands;
           sees = sees;
           own = holds;

@@ -201,9 +201,9 @@ module _ (shape : Dimensions) (opened : Anatomy) (old : State) (kept : Kept shap
   standing = each_of_two (λ k c. StandsRight shape anatomy k c c.place) old.actors 0 other later spent
       (subst (StandsRight shape anatomy 0 later) (sym kept.roles.idle) tt)
       refl
-      (λ k c past front at.
+      (λ k c past front here.
       standing_along kept.anatomy anatomy.pieces anatomy.spare anatomy.corrupt anatomy.full anatomy.tail (stays_passed other 0 kept.anatomy.pieces)
-      shape k (λ at words. stands_left other 0 kept.anatomy.pieces k past at (plain words)) c c.place (kept.standing k c at))
+      shape k (λ at words. stands_left other 0 kept.anatomy.pieces k past at (plain words)) c c.place (kept.standing k c here))
 
   loaded : LoadedBefore old.actors merged
   loaded at sum = each_of_two

@@ -1,5 +1,5 @@
 -- Each store into the header of a block in its making keeps what holds: its size, its cookie, and its type, which claims it.
-use Rattle.std.proofs.Common.{◌≡◌, ◌≢◌, ℕ, suc, ◌+◌, ◌-◌, ◌<◌, ◌≤◌, ◌==◌, true, true≢false, List, [], ◌∷◌, ◌++◌, length, replicate, set, inl, inr, refl, sym, ap, ◌∙◌, subst, arith}
+use Rattle.std.proofs.Common.{◌≡◌, ◌≢◌, ℕ, suc, ◌+◌, ◌-◌, ◌<◌, ◌≤◌, ◌==◌, true, true≢false, List, [], ◌∷◌, ◌++◌, length, replicate, set, All, inl, inr, refl, sym, ap, ◌∙◌, subst, arith}
 use Rattle.std.specs.Prelude.{if◌then◌else◌, IsPermutation}
 use Rattle.std.proofs.lemmas.List.{length-replicate}
 use Rattle.std.proofs.lemmas.List.Elements.{All-push}
@@ -29,6 +29,22 @@ use Rattle.segment_machine.proofs.Stops.{linked_beside_own}
 use Rattle.segment_machine.proofs.Actors.{Doing, doing_of, is_plain, turns_plain}
 use Rattle.segment_machine.proofs.Making.{IsStore, makes, stores, own_beside, claims_longer}
 use Rattle.segment_machine.proofs.Allocating.{Keeps}
+
+-- blocks at places of their own, and one more at another place
+apart_longer : (own : List Own) (block : Own)
+    → ((i j : ℕ) (x y : Own) → get_elem? own i ≡ some x → get_elem? own j ≡ some y → x.at ≡ y.at → i ≡ j)
+    → ((i : ℕ) (x : Own) → get_elem? own i ≡ some x → x.at ≢ block.at)
+    → (i j : ℕ) (x y : Own) → get_elem? (own ++ block ∷ []) i ≡ some x → get_elem? (own ++ block ∷ []) j ≡ some y → x.at ≡ y.at → i ≡ j
+apart_longer own block apart others i j x y one two same = elim (at_snoc_index own block x i one) [
+  | inl old ↦ elim (at_snoc_index own block y j two) [
+    | inl older ↦ apart i j x y old older same
+    | inr new ↦ absurd (others i x old (same ∙ ap (λ (z : Own). z.at) (sym new.1)))
+  ]
+  | inr new ↦ elim (at_snoc_index own block y j two) [
+    | inl old ↦ absurd (others j y old (sym same ∙ ap (λ (z : Own). z.at) (sym new.1)))
+    | inr newer ↦ new.0 ∙ sym newer.0
+  ]
+]
 
 module _ (shape : Dimensions) (opened : Anatomy) (state : State) (kept : Kept shape opened state) (id : ℕ) (a : Actor)
     (mine : get_elem? state.actors id ≡ some a) (records : a.opener ≡ 0) where
@@ -125,59 +141,80 @@ module _ (shape : Dimensions) (opened : Anatomy) (state : State) (kept : Kept sh
     abbrev claim : Claim
     claim = record { at = at; size = size }
 
-    abbrev claimer : Actor
-    claimer = record a { place = Idle; own = a.own ++ block ∷ []; claimed = a.claimed ++ claim ∷ [] }
+    abbrev words : List ℕ
+    words = set state.words (at + 2) tag
 
-    claimed : Goes (at + 2) tag claimer
+    module _ (placed : IsPlace shape at size) (k : ℕ) (there : get_elem? anatomy.pieces k ≡ some (raw at (marked size 0xC8799269))) where
+      abbrev p : Piece
+      p = raw at (marked size 0xC8799269)
+
+      abbrev q : Piece
+      q = record { at = at; owner = some id; body = held block }
+
+      abbrev pieces : List Piece
+      pieces = set anatomy.pieces k q
+
+      long : length (own_words block) ≡ size
+      long = sym (ap length (claimed_are at size tag placed.five)) ∙ length-claimed size tag placed.five
+
+      claim_shown : IsShown shape words (layout_of (record anatomy { pieces = pieces }))
+      claim_shown =
+          shown_with shape words anatomy k q
+          (subst (λ ws. IsShown shape words (put (layout_of anatomy) k (own id at ws))) (claimed_are at size tag placed.five)
+          (type_stored shape state.words (layout_of anatomy) id at size tag k kept.shown (at_map block_of anatomy.pieces k p there) placed.five))
+
+      claim_store : IsStore shape anatomy id k p q words
+      claim_store =
+          let five = placed.five in
+          let before = length-marked size 0xC8799269 five in record {
+            there = there;
+            mine = refl;
+            still_mine = refl;
+            making = tt;
+            still_making = tt;
+            place = refl;
+            long = omega (arith, long, before);
+            right = λ is. (sym long, omega (arith, long, five), inr (block, refl));
+            shown = claim_shown;
+            linked = linked_beside_own shape state.words anatomy kept.shown kept.list.standing k id 2 tag p there refl
+                (omega (arith, before, five)) kept.list.linked;
+          }
+
+      -- none of its own blocks stands there yet
+      none_there : All (HoldsOwn shape anatomy.pieces id) a.own → (i : ℕ) (x : Own) → get_elem? a.own i ≡ some x → x.at ≢ at
+      none_there holds i x is same =
+          true≢false (ap is_claimed (one_stands shape state.words anatomy kept.shown at (some id) (some id) (held x) p.body
+          (subst (λ n. Stands anatomy.pieces n (some id) (held x)) same (all_at (HoldsOwn shape anatomy.pieces id) a.own i x holds is).stands)
+          (k, there)).1)
+
+      new_holds : HoldsOwn shape pieces id block
+      new_holds =
+          let five = placed.five in record {
+            stands = stands_here anatomy.pieces k p q there;
+            placed = placed;
+            room = omega (arith, five);
+            tagged = some_tag;
+            ends = inl refl;
+          }
+
+      claim_more : IsPermutation (claims_of pieces) (claims_of anatomy.pieces ++ claim ∷ [])
+      claim_more =
+          subst (λ n. IsPermutation (claims_of pieces) (claims_of anatomy.pieces ++ record { at = at; size = n } ∷ [])) long
+          (claims_more anatomy.pieces k p q there refl refl)
+
+    claimed : Goes (at + 2) tag (record a { place = Idle; own = a.own ++ block ∷ []; claimed = a.claimed ++ claim ∷ [] })
     claimed =
         let (placed, (k, there)) = subst (StandsRight shape anatomy id a) ready (kept.standing id a mine) in
-        let five = placed.five in
         let turns = turns_plain a Idle (ap is_plain ready) refl in
         let fits = kept.each id a mine turns.lived in
-        let p : Piece = raw at (marked size 0xC8799269) in
-        let q : Piece = record { at = at; owner = some id; body = held block } in
-        let words : List ℕ = set state.words (at + 2) tag in
-        let before = length-marked size 0xC8799269 five in
-        let are = claimed_are at size tag five in
-        let long : length (own_words block) ≡ size = sym (ap length are) ∙ length-claimed size tag five in
-        let stored = type_stored shape state.words (layout_of anatomy) id at size tag k kept.shown (at_map block_of anatomy.pieces k p there) five in
-        let store : IsStore shape anatomy id k p q words = record {
-          there = there;
-          mine = refl;
-          still_mine = refl;
-          making = tt;
-          still_making = tt;
-          place = refl;
-          long = omega (arith, long, before);
-          right = λ is. (sym long, omega (arith, long, five), inr (block, refl));
-          shown = shown_with shape words anatomy k q (subst (λ ws. IsShown shape words (put (layout_of anatomy) k (own id at ws))) are stored);
-          linked = linked_beside_own shape state.words anatomy kept.shown kept.list.standing k id 2 tag p there refl (omega (arith, before, five)) kept.list.linked;
-        } in
-        let pieces : List Piece = set anatomy.pieces k q in
-        let here = stands_here anatomy.pieces k p q there in
         let d : Doing = record (doing_of a) { place = Idle; own = a.own ++ block ∷ []; claimed = a.claimed ++ claim ∷ [] } in
-        let is_new : HoldsOwn shape pieces id block =
-        record { stands = here; placed = placed; room = omega (arith, five); tagged = some_tag; ends = inl refl } in
-        let others : (i : ℕ) (x : Own) → get_elem? a.own i ≡ some x → x.at ≢ at =
-        λ i x is same. true≢false (ap is_claimed (one_stands shape state.words anatomy kept.shown at (some id) (some id) (held x) p.body
-        (subst (λ n. Stands anatomy.pieces n (some id) (held x)) same (all_at (HoldsOwn shape anatomy.pieces id) a.own i x fits.own is).stands)
-        (k, there)).1) in
-        stores shape opened state kept id a mine records k p q words store d turns
-        (claims_longer shape opened state kept id a mine records pieces d claim
-        (subst (λ n. IsPermutation (claims_of pieces) (claims_of anatomy.pieces ++ record { at = at; size = n } ∷ [])) long
-        (claims_more anatomy.pieces k p q there refl refl)) refl)
+        let store = claim_store placed k there in
+        stores shape opened state kept id a mine records k (p placed k there) (q placed k there) words store d turns
+        (claims_longer shape opened state kept id a mine records (pieces placed k there) d claim (claim_more placed k there) refl)
         refl refl refl tt
-        (All-push (HoldsOwn shape pieces id) a.own block (own_beside shape opened state kept id a mine records k p q words store refl fits.own) is_new)
-        (λ i j x y one two same. elim (at_snoc_index a.own block x i one) [
-          | inl old ↦ elim (at_snoc_index a.own block y j two) [
-            | inl older ↦ fits.apart i j x y old older same
-            | inr new ↦ absurd (others i x old (same ∙ ap (λ (z : Own). z.at) (sym new.1)))
-          ]
-          | inr new ↦ elim (at_snoc_index a.own block y j two) [
-            | inl old ↦ absurd (others j y old (sym same ∙ ap (λ (z : Own). z.at) (sym new.1)))
-            | inr newer ↦ new.0 ∙ sym newer.0
-          ]
-        ])
+        (All-push (HoldsOwn shape (pieces placed k there) id) a.own block
+        (own_beside shape opened state kept id a mine records k (p placed k there) (q placed k there) words store refl fits.own) (new_holds placed k there))
+        (apart_longer a.own block fits.apart (none_there placed k there fits.own))
 
   pub type_kept : (at tag : ℕ) → Ready a (store_type at tag) → Keeps shape opened state kept id a mine records (store_type at tag)
   type_kept at tag ((size, ready), least, most) =

@@ -11,8 +11,8 @@ use Rattle.segment_machine.specs.Event.{Event, load_flags, load_free, exchange_f
 use Rattle.segment_machine.specs.Next.{next}
 use Rattle.segment_machine.specs.Ready.{Ready}
 use Rattle.segment_machine.specs.State.{State, memory}
-use Rattle.segment_machine.specs.Consistent.{ListIsChain, FlagsAreSet, UnitsAreKept}
-use Rattle.segment_machine.specs.Promises.{new_opening, new_state, IsSplit, IsJoin, IsLent}
+use Rattle.segment_machine.specs.Consistent.{ListIsChain, FlagsAreSet, UnitsAreKept, IsConsistent}
+use Rattle.segment_machine.specs.Promises.{new_opening, new_state, IsState, IsSplit, IsJoin, IsLent}
 use Rattle.segment_machine.specs.Body.{Anatomy, blank, order_of}
 use Rattle.segment_machine.specs.Learned.{Learned}
 use Rattle.segment_machine.specs.Kept.{Kept}
@@ -98,3 +98,13 @@ KeptFlagsAreSet = (shape : Dimensions) (version id : ℕ) (state : State) → Is
 abbrev pub KeptUnitsAreKept : Type 0
 KeptUnitsAreKept = (shape : Dimensions) (version id : ℕ) (state : State) → IsShape shape → (kept : Kept shape (blank version id shape.size) state)
     → UnitsAreKept state.words state.actors (order_of kept.anatomy)
+
+-- a kept state is consistent, in all its parts
+abbrev pub KeptIsConsistent : Type 0
+KeptIsConsistent = (shape : Dimensions) (version id : ℕ) (state : State) → IsShape shape → Kept shape (blank version id shape.size) state
+    → IsConsistent (new_opening shape version id) state
+
+-- every state that is reached, in whatever order actors step, is kept
+abbrev pub StatesAreKept : Type 0
+StatesAreKept = (shape : Dimensions) (version id cursors : ℕ) (state : State) → IsState shape version id cursors state
+    → Kept shape (blank version id shape.size) state

@@ -7,7 +7,7 @@ ghost use Rattle.segment_machine.specs.Promises.{StepsChangeOne, KeysAreLeast};
 ghost use Rattle.segment_machine.specs.Follows.{NotesKeep, StepsFollow, TablesFollow};
 ghost use Rattle.segment_machine.specs.Lives.{RecorderIsJoined, LinksLengthen, DeltaOwes, SnapshotOwes};
 ghost use Rattle.segment_machine.specs.Accounts.{MountedAgrees, TakersAgree, SparseAgrees, BatchAgrees};
-ghost use Rattle.segment_machine.specs.Keeps.{OpeningIsKept, AllocatingKeeps, SplitsKeep, JoinsKeep, LendsKeep, KeptFlagsAreSet, KeptIsChain, KeptUnitsAreKept};
+ghost use Rattle.segment_machine.specs.Keeps.{OpeningIsKept, AllocatingKeeps, ListingKeeps, SplitsKeep, JoinsKeep, LendsKeep, KeptFlagsAreSet, KeptIsChain, KeptUnitsAreKept};
 ghost use Rattle.segment_machine.specs.Examples.{Keys, PackedThenMounted, StoppedInTransit, PackingLimit, DeltasAndMarks, TwoTakers, PackedRun, MountingRun, TakerRuns, TakingRun, SparseSamples, Batches, MountedIsConsistent, ListBreaks, RecordsBreak, TotalsBreak, MarksBreak, SumsBreak, TransitBreaks, FlagsBreak, UnitsBreak};
 
 /// A step changes one word and one actor at most.
@@ -187,6 +187,12 @@ pub fn opening_is_kept()
 /// which it found is lawful and is no earlier than the one that it knew.
 pub fn allocating_keeps()
     ensures { AllocatingKeeps }
+{}
+
+/// Each event that puts a record on the list or walks along it keeps what holds, and its actor learns that what it found is the end of
+/// the list or a record that lies within the segment.
+pub fn listing_keeps()
+    ensures { ListingKeeps }
 {}
 
 /// What holds between any two events holds on where an opener makes a recorder.

@@ -1,0 +1,270 @@
+-- A block of one's own that may be published holds just the words of what it is published as: a lawful record or sample that counts
+-- nothing, and a counts block of zeros.
+use Rattle.std.proofs.Common.{◌≡◌, ◌≢◌, ◌⊎◌, ℕ, zero, suc, ◌+◌, ◌-◌, ◌*◌, ◌≤◌, ◌&&◌, ℤ, pos, Bool, true, false, List, [], ◌∷◌, ◌++◌, length, replicate, sum_by, All, inl, inr, ⊎_elim, refl, sym, ap, ◌∙◌, subst, arith, length-append, append_assoc}
+use Rattle.std.specs.Prelude.{slice_index, if◌then◌else◌, Some, None, nat_le}
+use Rattle.std.specs.Prelude as std
+use Rattle.std.specs.Ordering.{int_eq}
+use Rattle.std.specs.List.{range_with_len}
+use Rattle.std.specs.Int.{w64, cast_unsigned}
+use Rattle.std.proofs.lemmas.Bool.{leb-true}
+use Rattle.std.proofs.lemmas.List.{length-replicate, replicate-append-replicate}
+use Rattle.std.proofs.lemmas.List.Elements.{All-replicate}
+use Rattle.std.proofs.lemmas.List.Sums.{sum_by-cons}
+use Rattle.segment_image.proofs.ReadWords.{length-bytes_of_words}
+use Rattle.bucket_ranges.specs.declared.spec.Spec.{Spec}
+use Rattle.bucket_ranges.specs.declared.spec.Spec.TheVariants.{Linear, Boolean, Custom, Sparse}
+use Rattle.bucket_ranges.specs.declared.single.SingleWord.{SingleWord}
+use Rattle.bucket_ranges.specs.declared.single.SingleWord.TheVariants.{Empty, Disabled}
+use Rattle.bucket_ranges.specs.Spec.{buckets_of, spec_fault}
+use Rattle.bucket_ranges.specs.Reading.{is_name, is_i32}
+use Rattle.bucket_ranges.specs.Single.{packed_bucket}
+use Rattle.segment_machine.specs.declared.actor.Own.{Own}
+use Rattle.segment_machine.specs.Form.{is_off, form_of, off_word, units_in}
+use Rattle.segment_machine.specs.Made.{spec_fields, spec_ranges, AreNameWords}
+use Rattle.segment_machine.specs.Body.{Record, Counts, Sample, own_words, record_words, counts_words, sample_words, spec_field}
+use Rattle.segment_machine.specs.Ledger.{form_at, key_of_bucket, keyed}
+use Rattle.segment_machine.specs.Kept.{IsLawfulRecord, IsCountsOf, IsLawfulSample, CountsNothing}
+
+-- ---- the single word of a new record
+
+-- nothing is packed in it, whether it is off or not
+pub record IsBlank (form : std.Option SingleWord) : Type 0 where
+  pub some_form : form ≢ None
+  pub unpacked : packed_bucket form ≡ None
+  pub empty : units_in form ≡ 0
+
+blank_empty : IsBlank (Some Empty)
+blank_empty = record { some_form = λ is. cc is; unpacked = refl; empty = refl }
+
+blank_off : IsBlank (Some (Disabled None))
+blank_off = record { some_form = λ is. cc is; unpacked = refl; empty = refl }
+
+pub blank_form : (version n single : ℕ) → (version ≡ 1) ⊎ (version ≡ 2) → (single ≡ 0) ⊎ (single ≡ off_word version 0) → IsBlank (form_of version n single)
+blank_form version n single (inl one) (inl none_yet) =
+    subst (λ (p : ℕ × ℕ). IsBlank (form_of p.0 n p.1)) (λ i. (sym one i, sym none_yet i)) blank_empty
+blank_form version n single (inr two) (inl none_yet) =
+    subst (λ (p : ℕ × ℕ). IsBlank (form_of p.0 n p.1)) (λ i. (sym two i, sym none_yet i)) blank_empty
+blank_form version n single (inl one) (inr off) =
+    subst (λ (p : ℕ × ℕ). IsBlank (form_of p.0 n p.1)) (λ i. (sym one i, sym (off ∙ ap (λ (v : ℕ). off_word v 0) one) i)) blank_off
+blank_form version n single (inr two) (inr off) =
+    subst (λ (p : ℕ × ℕ). IsBlank (form_of p.0 n p.1)) (λ i. (sym two i, sym (off ∙ ap (λ (v : ℕ). off_word v 0) two) i)) blank_empty
+
+off_is_off : (version single : ℕ) → (version ≡ 1) ⊎ (version ≡ 2) → single ≡ off_word version 0 → is_off single ≡ true
+off_is_off version single (inl one) off = ap is_off (off ∙ ap (λ (v : ℕ). off_word v 0) one)
+off_is_off version single (inr two) off = ap is_off (off ∙ ap (λ (v : ℕ). off_word v 0) two)
+
+-- ---- a record
+
+fields_are : (spec : Spec) → spec_fields spec ≡ spec_field spec 0 ∷ spec_field spec 1 ∷ spec_field spec 2 ∷ spec_field spec 3 ∷ []
+fields_are (Linear min max n) = refl
+fields_are Boolean = refl
+fields_are (Custom values) = refl
+fields_are Sparse = refl
+
+-- what a block with such a payload is published as
+abbrev pub record_of : Own → List ℕ → Spec → ℕ → ℕ → List ℕ → Record
+record_of own name spec counts single letters = record {
+  name = name;
+  spec = spec;
+  size = own.size;
+  next = own.next;
+  counts = counts;
+  single = single;
+  mark = 0;
+  sum = 0;
+  sum_mark = 0;
+  noted = 0;
+  letters = letters;
+  rest = replicate (own.size - 4 - length own.payload) 0;
+}
+
+one_letter : (name letters : List ℕ) → is_name name ≡ true → AreNameWords name letters → 1 ≤ length letters
+one_letter name letters named (k, few, are) =
+    let least : 1 ≤ length name = leb-true 1 (length name) (first_and (nat_le 1 (length name)) _ (first_and _ _ (first_and _ _ named))) in
+    let bytes = length-bytes_of_words letters in
+    let all = ap length are in
+    let e = length-append name (replicate {A = ℕ} k 0) in
+    omega (arith, least, bytes, all, e)
+  where
+    first_and : (a b : Bool) → a && b ≡ true → a ≡ true
+    first_and true b e = refl
+    first_and false b e = e
+
+module _ (own : Own) (name : List ℕ) (spec : Spec) (counts single : ℕ) (letters : List ℕ)
+    (payload_is : own.payload ≡ spec_fields spec ++ counts ∷ single ∷ 0 ∷ 0 ∷ 0 ∷ 0 ∷ length name ∷ (letters ++ spec_ranges spec)) where
+  abbrev r : Record
+  r = record_of own name spec counts single letters
+
+  -- its words are those of the block
+  pub record_words_are : own.tag ≡ 1 → record_words r ≡ own_words own
+  record_words_are tag =
+      let more : List ℕ = counts ∷ single ∷ 0 ∷ 0 ∷ 0 ∷ 0 ∷ length name ∷ (letters ++ spec_ranges spec) in
+      let whole : own.payload ≡ spec_field spec 0 ∷ spec_field spec 1 ∷ spec_field spec 2 ∷ spec_field spec 3 ∷ more =
+      payload_is ∙ ap (λ (fields : List ℕ). fields ++ more) (fields_are spec) in
+      sym (λ i. own.size ∷ 0xC8799269 ∷ tag i ∷ own.next ∷ (whole i ++ replicate (own.size - 4 - length own.payload) 0))
+
+  pub payload_long : length own.payload ≡ 11 + (length letters + length (spec_ranges spec))
+  payload_long =
+      let whole = ap length payload_is in
+      let e = length-append (spec_fields spec) (counts ∷ single ∷ 0 ∷ 0 ∷ 0 ∷ 0 ∷ length name ∷ (letters ++ spec_ranges spec)) in
+      let f : length (spec_fields spec) ≡ 4 = ap length (fields_are spec) in
+      let g = length-append letters (spec_ranges spec) in
+      omega (arith, whole, e, f, g)
+
+  -- the counts reference is the fifth word of the payload
+  pub counts_are : slice_index own.payload 4 ≡ counts
+  counts_are =
+      let more : List ℕ = counts ∷ single ∷ 0 ∷ 0 ∷ 0 ∷ 0 ∷ length name ∷ (letters ++ spec_ranges spec) in
+      ap (λ (l : List ℕ). slice_index l 4) (payload_is ∙ ap (λ (fields : List ℕ). fields ++ more) (fields_are spec))
+
+  module _ (version page : ℕ) (versions : (version ≡ 1) ⊎ (version ≡ 2)) (room : length own.payload + 4 ≤ own.size) (named : is_name name ≡ true)
+      (lettered : AreNameWords name letters) (lawful : spec_fault spec ≡ None) (fits : 4 + 2 * buckets_of spec ≤ page)
+      (forms : ((counts ≡ 0) × (single ≡ 0)) ⊎ ((counts ≢ 0) × (spec ≢ Sparse) × (single ≡ off_word version 0))) where
+    pub is_blank : IsBlank (form_at version r)
+    is_blank = blank_form version (buckets_of spec) single versions (⊎_elim (λ t. inl t.1) (λ t. inr t.2) forms)
+
+    -- it counts nothing
+    pub record_nothing : CountsNothing version r
+    record_nothing = (⊎_elim (λ t. inl t.1) (λ t. inr t.2) forms, refl, refl, refl, refl)
+
+    -- where it names counts its single word is off
+    pub record_off : counts ≢ 0 → is_off single ≡ true
+    record_off some_counts = ⊎_elim (λ t. absurd (some_counts t.0)) (λ t. off_is_off version single versions t.2) forms
+
+    -- it is lawful
+    pub record_lawful : IsLawfulRecord version page r
+    record_lawful =
+        let zeros = length-replicate {A = ℕ} (own.size - 4 - length own.payload) 0 in
+        let long = payload_long in
+        let one = one_letter name letters named lettered in
+        record {
+          sized = omega (arith, zeros, long, room);
+          least = omega (arith, long, room, one);
+          named = named;
+          lettered = lettered;
+          lawful = lawful;
+          fields = ap length (fields_are spec);
+          fits = fits;
+          formed = is_blank.some_form;
+          unpacked = λ nothing. refl;
+          off = λ off. ⊎_elim (λ t. absurd (cc (off, ap is_off t.1))) (λ t. t.0) forms;
+          sparse = λ kind. ⊎_elim (λ t. (t.0, t.1, refl)) (λ t. absurd (t.1 kind)) forms;
+          narrow = (omega arith, omega arith);
+        }
+
+-- ---- a counts block
+
+abbrev pub counts_of : Own → ℕ → List ℕ → Spec → Counts
+counts_of block at name spec = record {
+  of = at;
+  name = name;
+  spec = spec;
+  size = block.size;
+  next = block.next;
+  units = replicate (buckets_of spec) 0;
+  marks = replicate (buckets_of spec) 0;
+  rest = replicate (block.size - 4 - (buckets_of spec + buckets_of spec)) 0;
+}
+
+module _ (block : Own) (at : ℕ) (name : List ℕ) (spec : Spec) (tag : block.tag ≡ 2) (bare : block.payload ≡ []) (room : 4 + 2 * buckets_of spec ≤ block.size) where
+  abbrev c : Counts
+  c = counts_of block at name spec
+
+  pub counts_words_are : counts_words c ≡ own_words block
+  counts_words_are =
+      let n : ℕ = buckets_of spec in
+      let rest : ℕ = block.size - 4 - (n + n) in
+      let none : length block.payload ≡ 0 = ap length bare in
+      let all : block.size - 4 - length block.payload ≡ n + n + rest = omega (arith, none, room) in
+      let zeros : replicate {A = ℕ} (block.size - 4 - length block.payload) 0 ≡ replicate {A = ℕ} n 0 ++ replicate {A = ℕ} n 0 ++ replicate {A = ℕ} rest 0 =
+      ap (λ (k : ℕ). replicate {A = ℕ} k 0) all
+      ∙ (sym (replicate-append-replicate (n + n) rest 0)
+      ∙ ap (λ (l : List ℕ). l ++ replicate {A = ℕ} rest 0) (sym (replicate-append-replicate n n 0))) in
+      sym (λ i. block.size ∷ 0xC8799269 ∷ tag i ∷ block.next ∷ ((ap (λ (l : List ℕ). l ++ replicate {A = ℕ} (block.size - 4 - length block.payload) 0) bare ∙ zeros) i))
+
+  pub counts_zeros : All (λ n. n ≡ 0) c.units × All (λ n. n ≡ 0) c.marks
+  counts_zeros = (All-replicate (λ (n : ℕ). n ≡ 0) (buckets_of spec) 0 refl, All-replicate (λ (n : ℕ). n ≡ 0) (buckets_of spec) 0 refl)
+
+  -- it is the counts block of the record that names it
+  pub counts_lawful : (version : ℕ) (r : Record) → r.name ≡ name → r.spec ≡ spec → r.mark ≡ 0 → packed_bucket (form_at version r) ≡ None
+      → IsCountsOf version at r c
+  counts_lawful version r named same unmarked unpacked =
+      let n : ℕ = buckets_of spec in
+      let units = length-replicate {A = ℕ} n 0 in
+      let rest = length-replicate {A = ℕ} (block.size - 4 - (n + n)) 0 in
+      let buckets : buckets_of r.spec ≡ n = ap buckets_of same in
+      record {
+        mine = refl;
+        named = sym named;
+        same = sym same;
+        units = units ∙ sym buckets;
+        marks = units ∙ sym buckets;
+        sized = omega (arith, units, rest, room);
+        packed = λ i is. absurd (cc (sym unpacked ∙ is));
+        unused = λ on. counts_zeros;
+        mark = λ one i is. absurd (cc (sym unpacked ∙ is));
+      }
+
+-- ---- a sample
+
+abbrev pub sample_of : Own → List ℕ → ℕ → ℤ → Sample
+sample_of own name histogram value = record {
+  of = histogram;
+  name = name;
+  value = value;
+  size = own.size;
+  next = own.next;
+  units = 0;
+  mark = 0;
+  rest = replicate (own.size - 8) 0;
+}
+
+module _ (own : Own) (name : List ℕ) (histogram : ℕ) (value : ℤ) (k : ℕ)
+    (payload_is : own.payload ++ replicate k 0 ≡ histogram ∷ cast_unsigned w64 value ∷ []) (room : 8 ≤ own.size) where
+  abbrev s : Sample
+  s = sample_of own name histogram value
+
+  pub sample_words_are : own.tag ≡ 3 → sample_words s ≡ own_words own
+  sample_words_are tag =
+      let both = ap length payload_is in
+      let e = length-append own.payload (replicate {A = ℕ} k 0) in
+      let f = length-replicate {A = ℕ} k 0 in
+      let rest : ℕ = own.size - 8 in
+      let split : own.size - 4 - length own.payload ≡ k + suc (suc rest) = omega (arith, both, e, f, room) in
+      let whole : own.payload ++ replicate {A = ℕ} (own.size - 4 - length own.payload) 0 ≡ histogram ∷ cast_unsigned w64 value ∷ 0 ∷ 0 ∷ replicate {A = ℕ} rest 0 =
+      ap (λ (n : ℕ). own.payload ++ replicate {A = ℕ} n 0) split
+      ∙ (ap (λ (l : List ℕ). own.payload ++ l) (sym (replicate-append-replicate k (suc (suc rest)) 0))
+      ∙ (sym (append_assoc own.payload (replicate {A = ℕ} k 0) (replicate {A = ℕ} (suc (suc rest)) 0))
+      ∙ ap (λ (l : List ℕ). l ++ replicate {A = ℕ} (suc (suc rest)) 0) payload_is)) in
+      sym (λ i. own.size ∷ 0xC8799269 ∷ tag i ∷ own.next ∷ whole i)
+
+  pub sample_lawful : is_i32 value ≡ true → IsLawfulSample s
+  sample_lawful valued =
+      let rest = length-replicate {A = ℕ} (own.size - 8) 0 in
+      record { sized = omega (arith, rest, room); valued = valued; taken = omega arith }
+
+-- ---- what these hold
+
+zeros_at : (n i : ℕ) → slice_index (replicate n 0) i ≡ 0
+zeros_at zero i = refl
+zeros_at (suc n) zero = refl
+zeros_at (suc n) (suc i) = zeros_at n i
+
+sum_zero : {X : Type 0} (f : X → ℕ) (list : List X) → ((x : X) → f x ≡ 0) → sum_by f list ≡ 0
+sum_zero f [] none = refl
+sum_zero f (x ∷ xs) none = let e = sum_by-cons f x xs in let h = none x in let t = sum_zero f xs none in omega (arith, e, h, t)
+
+-- a number that is 0 is 0 of any name
+pub none_of : (b : Bool) (n : ℕ) → n ≡ 0 → (if b then n else 0) ≡ 0
+none_of true n none = none
+none_of false n none = refl
+
+pub no_amount : (b : Bool) (x : ℤ) → x ≡ pos 0 → (if b then x else pos 0) ≡ pos 0
+no_amount true x none = none
+no_amount false x none = refl
+
+-- zeros have nothing of any key
+pub keyed_zeros : (spec : Spec) (key : ℤ) (n : ℕ) → keyed spec key (replicate n 0) ≡ 0
+keyed_zeros spec key n =
+    sum_zero (λ (i : ℕ). if int_eq (key_of_bucket spec i) key then slice_index (replicate {A = ℕ} n 0) i else 0) (range_with_len 0 (length (replicate {A = ℕ} n 0)))
+    (λ i. none_of (int_eq (key_of_bucket spec i) key) (slice_index (replicate {A = ℕ} n 0) i) (zeros_at n i))

@@ -36,6 +36,7 @@ pub mod Notes
 pub mod NotesAmount
 pub mod NotesEnd
 pub mod NotesKeep
+pub mod NotesKnow
 pub mod NotesTake
 pub mod Noting
 pub mod NotingFits

@@ -32,7 +32,7 @@ pub data Note : Type 0 where
   amounts : (amount : ℤ) → Note
   -- the block at a word is to hold this
   asks : (at : ℕ) (made : Made) → Note
-  -- a `hist` is answered Ok with this
+  -- a `hist` is answered Ok with this. What the actor saw before may be of this histogram, so it looks anew
   knows : (known : Known) → Note
   -- a delta of a histogram begins, and ends
   takes : (name : List ℕ) → Note
@@ -77,7 +77,7 @@ noted a (amounts amount) = record a {
   running = change_last (λ c. let entry = c.entry in record c { entry = record entry { amount = amount } }) a.running;
 }
 noted a (asks at made) = record a { own = change_own at (λ own. record own { made = Some made }) a.own }
-noted a (knows known) = record a { names = a.names ++ known ∷ [] }
+noted a (knows known) = record (looking a) { names = a.names ++ known ∷ [] }
 noted a (takes name) = record (looking a) { taking = true; taken = a.taken ++ nothing_taken a name ∷ [] }
 noted a has_taken = record a { taking = false }
 noted a looks = looking a

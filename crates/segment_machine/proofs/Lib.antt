@@ -37,6 +37,7 @@ pub mod NotesAmount
 pub mod NotesEnd
 pub mod NotesKeep
 pub mod NotesKnow
+pub mod NotesLearn
 pub mod NotesNamed
 pub mod NotesTake
 pub mod Noting

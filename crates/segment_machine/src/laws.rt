@@ -226,7 +226,7 @@ pub fn kept_units_are_kept()
 {}
 
 /// What holds between any two events holds on where a recorder notes that a call which counts begins or ends, that an amount became
-/// known, that a delta or a snapshot begins, or what a block of its own is to hold.
+/// known, that a delta or a snapshot begins, what a block of its own is to hold, or which histogram it was answered.
 pub fn notes_keep()
     ensures { NotesKeep }
 {}

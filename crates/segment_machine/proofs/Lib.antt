@@ -4,6 +4,8 @@ pub mod Allocating
 pub mod AllocatingKeeps
 pub mod Alone
 pub mod Anatomies
+pub mod Asking
+pub mod Countings
 pub mod Filling
 pub mod Follow
 pub mod Goings
@@ -39,6 +41,16 @@ pub mod ListingWalks
 pub mod Lists
 pub mod Making
 pub mod Mounted
+pub mod Notes
+pub mod NotesAmount
+pub mod NotesEnd
+pub mod NotesKeep
+pub mod NotesKnow
+pub mod NotesLearn
+pub mod NotesNamed
+pub mod NotesTake
+pub mod Noting
+pub mod NotingFits
 pub mod Opening
 pub mod Pairs
 pub mod Pieces
@@ -59,3 +71,4 @@ pub mod Singled
 pub mod Stops
 pub mod Storing
 pub mod Taking
+pub mod Totals

@@ -64,7 +64,7 @@ record_long r =
     omega (arith, e, f)
 
 -- of a custom spec the last number is one more than its ranges are
-ranges_long : (s : Spec) → spec_field s 0 ≡ 3 → length (spec_ranges s) ≡ spec_field s 3 - 1
+pub ranges_long : (s : Spec) → spec_field s 0 ≡ 3 → length (spec_ranges s) ≡ spec_field s 3 - 1
 ranges_long (Linear min max n) kind = absurd (omega (arith, kind))
 ranges_long Boolean kind = absurd (omega (arith, kind))
 ranges_long (Custom values) kind = omega arith
@@ -127,6 +127,24 @@ no_counts a at (inr (inl (tag, inr (inl len)))) = omega (arith, len)
 no_counts a at (inr (inl (tag, inr (inr (len, seen, from, within))))) = omega (arith, from)
 no_counts a at (inr (inr (tag, least, most))) = omega (arith, most)
 
+-- a word that an actor saw of a block is that of the block
+module _ (shape : Dimensions) (opened : Anatomy) (state : State) (kept : Kept shape opened state) (id : ℕ) (a : Actor)
+    (mine : get_elem? state.actors id ≡ some a) (lives : a.place ≢ Spent) where
+  abbrev blocks : List Piece
+  blocks = kept.anatomy.pieces
+
+  pub sighted : (at j word : ℕ) (body : Body) → Stands blocks at none body → j < length (words_of body)
+      → word_seen a.seen_words (at + j) ≡ Some word → slice_index (words_of body) j ≡ word
+  sighted at j word body (k, there) lt seen =
+      let s : Sighting = record { at = at + j; word = word } in
+      let (at', i, body', (k', there'), is, fixed, value) =
+      All-contains (WasFixed blocks) a.seen_words s (kept.each id a mine lives).sees.fixed (word_contains a.seen_words (at + j) word seen) in
+      let index = one_index shape state.words kept.anatomy kept.shown k k' _ _ j i there there' lt (fixed_within body' i fixed) is in
+      let same = some-injective _ _ (sym there ∙ (ap (get_elem? blocks) index ∙ there')) in
+      let place : at ≡ at' = ap (λ (p : Piece). p.at) same in
+      let word_is : j ≡ i = omega (arith, place, is) in
+      ap (λ (p : ℕ × Body). slice_index (words_of p.1) p.0) (λ i. (word_is i, (ap (λ (p : Piece). p.body) same) i)) ∙ value
+
 module _ (shape : Dimensions) (opened : Anatomy) (state : State) (kept : Kept shape opened state) (id : ℕ) (a : Actor)
     (mine : get_elem? state.actors id ≡ some a) (records : a.opener ≡ 0) (unbound : is_bound a.place ≡ false) where
   abbrev anatomy : Anatomy
@@ -135,18 +153,9 @@ module _ (shape : Dimensions) (opened : Anatomy) (state : State) (kept : Kept sh
   lives : a.place ≢ Spent
   lives spent = cc (unbound, ap is_bound spent)
 
-  -- a word that it saw of a block is that of the block
   seen_is : (at j word : ℕ) (body : Body) → Stands anatomy.pieces at none body → j < length (words_of body)
       → word_seen a.seen_words (at + j) ≡ Some word → slice_index (words_of body) j ≡ word
-  seen_is at j word body (k, there) lt seen =
-      let s : Sighting = record { at = at + j; word = word } in
-      let (at', i, body', (k', there'), is, fixed, value) =
-      All-contains (WasFixed anatomy.pieces) a.seen_words s (kept.each id a mine lives).sees.fixed (word_contains a.seen_words (at + j) word seen) in
-      let index = one_index shape state.words anatomy kept.shown k k' _ _ j i there there' lt (fixed_within body' i fixed) is in
-      let same = some-injective _ _ (sym there ∙ (ap (get_elem? anatomy.pieces) index ∙ there')) in
-      let place : at ≡ at' = ap (λ (p : Piece). p.at) same in
-      let word_is : j ≡ i = omega (arith, place, is) in
-      ap (λ (p : ℕ × Body). slice_index (words_of p.1) p.0) (λ i. (word_is i, (ap (λ (p : Piece). p.body) same) i)) ∙ value
+  seen_is = sighted shape opened state kept id a mine lives
 
   module _ (at index : ℕ) (body : Body) (stands : Stands anatomy.pieces at none body) (fixed : IsFixedIn body index) where
     found_is : word_at state.words (at + index) ≡ slice_index (words_of body) index

@@ -18,7 +18,7 @@ use Rattle.segment_machine.specs.State.{State}
 use Rattle.segment_machine.specs.Body.{Piece, Anatomy, layout_of, order_of, claims_of, listed}
 use Rattle.segment_machine.specs.Ledger.{IsBalanced}
 use Rattle.segment_machine.specs.Kept.{ClaimedRight, HasKey, ListIsKept, RecordsAreKept, SumsAreNear, IsSetBy, StandStill, RolesAreKept, StandsRight, Fits, Kept}
-use Rattle.segment_machine.proofs.SeatsDeeds.{Deeds}
+use Rattle.segment_machine.proofs.SeatsDeeds.{Deeds, sums_of}
 use Rattle.segment_machine.proofs.SeatsFrames.{balanced, sums_near, taken_keys}
 
 -- shared cursors stand on the list, and have given the records up to there
@@ -137,10 +137,10 @@ books_by shape opened anatomy words cursors old new same loaded books = record {
   claims = IsPermutation-trans _ _ _ books.claims
       (IsPermutation-append_right (claims_of opened.pieces) _ _ (IsPermutation-sym _ _ same.claimed));
   records = books.records;
-  balanced = balanced anatomy.version opened.pieces anatomy.pieces old new same books.balanced;
+  balanced = balanced anatomy.version opened.pieces anatomy.pieces old new (sums_of old new same) books.balanced;
   keys = λ entry there. books.keys entry (Contains-permutation _ _ entry same.counted there);
   taken_keys = taken_keys anatomy.records old new same books.taken_keys;
-  sums = sums_near anatomy.pieces old new same loaded books.sums;
+  sums = sums_near anatomy.pieces old new (sums_of old new same) loaded books.sums;
   pool = same.units ∙ books.pool;
   corrupt = books.corrupt ∙ ap (λ (b : Bool). opened.corrupt || b) (sym same.spoiled);
   full = books.full ∙ ap (λ (b : Bool). opened.full || b) (sym same.filled);

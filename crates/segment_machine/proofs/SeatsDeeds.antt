@@ -1,5 +1,5 @@
 -- What actors did together, whoever of them did it.
-use Rattle.std.proofs.Common.{◌≡◌, ℕ, Bool, false, ◌||◌, ℤ, pos, ◌+ℤ◌, suc, List, [], ◌∷◌, ◌++◌, map, sym, refl, ap, ◌∙◌, subst, subst₂, ◌≢◌, zero, set, arith}
+use Rattle.std.proofs.Common.{◌≡◌, ◌≤◌, ℕ, Bool, false, ◌||◌, ℤ, pos, ◌+ℤ◌, suc, List, [], ◌∷◌, ◌++◌, map, sym, refl, ap, ◌∙◌, subst, subst₂, ◌≢◌, zero, set, arith}
 use mathlib.Core.Option.{some, some-injective, some-ne-none}
 use lib.ListN.{get_elem?}
 use Rattle.std.specs.Prelude.{fold, sum_by, if◌then◌else◌, IsPermutation}
@@ -153,3 +153,27 @@ module _ (old new : List Actor) (same : Deeds old new) where
       let first = ap (λ (list : List Taken). taken_units list name key) (took_all new) in
       let last = ap (λ (list : List Taken). taken_units list name key) (took_all old) in
       sym now ∙ sym first ∙ sym all ∙ last ∙ before
+
+-- ---- what comes to the same
+
+-- What actors counted, added, noted, took and have on the way comes to what it was, and nothing that was spent on a sum came back.
+pub record SameSums (old new : List Actor) : Type 0 where
+  pub counted : (name : List ℕ) (key : ℤ) → tally_units (all_counted new) name key ≡ tally_units (all_counted old) name key
+  pub summed : (name : List ℕ) → tally_sum (all_summed new) name ≡ tally_sum (all_summed old) name
+  pub noted : (name : List ℕ) → tally_noted (all_noted new) name ≡ tally_noted (all_noted old) name
+  pub taken : (name : List ℕ) (key : ℤ) → taken_units (all_taken new) name key ≡ taken_units (all_taken old) name key
+  pub taken_sums : (name : List ℕ) → taken_sum (all_taken new) name ≡ taken_sum (all_taken old) name
+  pub moving : (name : List ℕ) (key : ℤ) → all_moving name key new ≡ all_moving name key old
+  pub costs : (name : List ℕ) → summed_costs name old ≤ summed_costs name new
+
+-- where others did the same together
+pub sums_of : (old new : List Actor) → Deeds old new → SameSums old new
+sums_of old new same = record {
+  counted = units_counted old new same;
+  summed = same.summed;
+  noted = units_noted old new same;
+  taken = units_took old new same;
+  taken_sums = same.taken_sums;
+  moving = same.moving;
+  costs = λ name. let costs = same.costs name in omega (arith, costs);
+}

@@ -19,34 +19,34 @@ use Rattle.segment_machine.specs.Body.{Record, Anatomy, Piece, Listed}
 use Rattle.segment_machine.specs.Ledger.{IsBalanced}
 use Rattle.segment_machine.specs.Kept.{ended_deltas, is_living, IsMoment, IsMomentOf, IsAlone, IsSumOf, LooksBack, FinalsAreExact, Fits, HasKey, SumsAreNear}
 use Rattle.segment_machine.proofs.SeatsLists.{contains_map, contains_mapped, contains_take}
-use Rattle.segment_machine.proofs.SeatsDeeds.{Deeds, timeless, units_counted, units_noted, units_took, took_all}
+use Rattle.segment_machine.proofs.SeatsDeeds.{Deeds, SameSums, timeless, took_all}
 
 -- ---- all actors together
 
-pub balanced : (version : ℕ) (opened pieces : List Piece) (old new : List Actor) → Deeds old new → IsBalanced version opened pieces old
+pub balanced : (version : ℕ) (opened pieces : List Piece) (old new : List Actor) → SameSums old new → IsBalanced version opened pieces old
     → IsBalanced version opened pieces new
 balanced version opened pieces old new same books = record {
   units = λ name key.
       let was = books.units name key in
       let moved = same.moving name key in
-      let counted = units_counted old new same name key in
+      let counted = same.counted name key in
       omega (arith, was, moved, counted);
-  marks = λ name key. books.marks name key ∙ sym (units_took old new same name key);
+  marks = λ name key. books.marks name key ∙ sym (same.taken name key);
   sums = λ name. books.sums name ∙ sym (same.summed name);
   sum_marks = λ name. books.sum_marks name ∙ sym (same.taken_sums name);
   noted = λ name.
       let was = books.noted name in
-      let noted = units_noted old new same name in
+      let noted = same.noted name in
       omega (arith, was, noted);
   taken = λ name key.
       let was = books.taken name key in
-      let counted = units_counted old new same name key in
-      let took = units_took old new same name key in
+      let counted = same.counted name key in
+      let took = same.taken name key in
       omega (arith, was, counted, took);
 }
 
 -- sums of a record stay near where no sum is loaded that was not loaded before
-pub sums_near : (pieces : List Piece) (old new : List Actor) → Deeds old new
+pub sums_near : (pieces : List Piece) (old new : List Actor) → SameSums old new
     → ((at : ℕ) (sum : ℤ) (id : ℕ) (a : Actor) → get_elem? new id ≡ some a → a.place ≡ SumLoaded at sum
     → (k : ℕ) × (b : Actor) × (get_elem? old k ≡ some b) × (b.place ≡ SumLoaded at sum))
     → SumsAreNear pieces old → SumsAreNear pieces new
@@ -91,18 +91,18 @@ pub record IsLater (old new : List Actor) (opener later : Actor) : Type 0 where
   pub lives : (k : ℕ) (c : Actor) → get_elem? new k ≡ some c → is_living c ≡ true
       → ((b : Actor) × (get_elem? old k ≡ some b) × (is_living b ≡ true) × (b.made ≡ c.made)) ⊎ (opener.made ≤ c.made)
 
-pub within : (old new : List Actor) (s : Answered) → Deeds old new → IsWithinCounts old s → IsWithinCounts new s
+pub within : (old new : List Actor) (s : Answered) → SameSums old new → IsWithinCounts old s → IsWithinCounts new s
 within old new s same = All-weaker
     (λ (count : ℤ × ℕ). count.1 ≤ tally_units (all_counted old) s.name count.0)
     (λ (count : ℤ × ℕ). count.1 ≤ tally_units (all_counted new) s.name count.0)
-    (λ count below. let counted = units_counted old new same s.name count.0 in omega (arith, below, counted)) s.counts
+    (λ count below. let counted = same.counted s.name count.0 in omega (arith, below, counted)) s.counts
 
-pub looks_back : (anatomy : Anatomy) (old new : List Actor) (a : Actor) → Deeds old new → (IsAlone new a → IsAlone old a)
+pub looks_back : (anatomy : Anatomy) (old new : List Actor) (a : Actor) → SameSums old new → (IsAlone new a → IsAlone old a)
     → LooksBack anatomy old a → LooksBack anatomy new a
 looks_back anatomy old new a same alone looks = record {
   most = λ known bucket total has below saw.
       let was = looks.most known bucket total has below saw in
-      let counted = units_counted old new same known.name (bucket_key (Some known) bucket) in
+      let counted = same.counted known.name (bucket_key (Some known) bucket) in
       omega (arith, was, counted);
   packed = looks.packed;
   counted = λ known bucket counts count r has below at saw there settled. looks.counted known bucket counts count r has below at saw there
@@ -134,19 +134,19 @@ moment old new opener later id a m since is = record {
       (since.lives other c at lives);
 }
 
-pub finals : (old new : List Actor) (opener later : Actor) (id : ℕ) (a : Actor) → Deeds old new → IsLater old new opener later
+pub finals : (old new : List Actor) (opener later : Actor) (id : ℕ) (a : Actor) → SameSums old new → IsLater old new opener later
     → (a.taking ≡ true → IsAlone new a → IsAlone old a) → FinalsAreExact old opener id a → FinalsAreExact new later id a
 finals old new opener later id a same since alone exact = record {
   deltas = λ t there none youngest quiet.
       let began = exact.moments t.moment (ended_began a t there) in
       let was = exact.deltas t there none (since.last t.moment.before began.before youngest) quiet in (
-        λ key. units_took old new same t.name key ∙ was.0 key ∙ sym (units_counted old new same t.name key),
+        λ key. same.taken t.name key ∙ was.0 key ∙ sym (same.counted t.name key),
         same.taken_sums t.name ∙ was.1 ∙ sym (same.summed t.name),
       );
   snapshots = λ s there none youngest quiet.
       let began = exact.moments s.moment (inr (s, there, refl)) in
       let was = exact.snapshots s there none (since.last s.moment.before began.before youngest) quiet in
-      (λ key. was.0 key ∙ sym (units_counted old new same s.name key), was.1 ∙ sym (same.summed s.name), was.2 ∙ sym (units_noted old new same s.name));
+      (λ key. was.0 key ∙ sym (same.counted s.name key), was.1 ∙ sym (same.summed s.name), was.2 ∙ sym (same.noted s.name));
   moments = λ m of. moment old new opener later id a m since (exact.moments m of);
   swapped = λ before last taking is swapped only.
       same.taken_sums last.name ∙ exact.swapped before last taking is swapped (alone taking only) ∙ sym (same.summed last.name);
@@ -154,7 +154,7 @@ finals old new opener later id a same since alone exact = record {
 
 -- an actor that fits beside some fits beside others that did the same; a recorder, or one that takes, may not be alone only since
 pub fits : (shape : Dimensions) (anatomy : Anatomy) (cursors : List ℕ) (old new : List Actor) (opener later : Actor) (id : ℕ) (a : Actor)
-    → Deeds old new → IsLater old new opener later → ((a.opener ≡ 0) ⊎ (a.taking ≡ true) → IsAlone new a → IsAlone old a)
+    → SameSums old new → IsLater old new opener later → ((a.opener ≡ 0) ⊎ (a.taking ≡ true) → IsAlone new a → IsAlone old a)
     → Fits shape anatomy cursors old opener id a → Fits shape anatomy cursors new later id a
 fits shape anatomy cursors old new opener later id a same since alone fit = record {
   shaped = fit.shaped;

@@ -24,7 +24,7 @@ use Rattle.segment_machine.specs.Kept.{is_living, RolesAreKept, StandsRight, Fit
 use Rattle.segment_machine.proofs.Anatomies.{standing_along}
 use Rattle.segment_machine.proofs.Lists.{sum_beside, below_length}
 use Rattle.segment_machine.proofs.SeatsLists.{each_of_two, none_at}
-use Rattle.segment_machine.proofs.SeatsDeeds.{Deeds, deeds_set}
+use Rattle.segment_machine.proofs.SeatsDeeds.{Deeds, deeds_set, sums_of}
 use Rattle.segment_machine.proofs.SeatsFrames.{IsLater, fits}
 use Rattle.segment_machine.proofs.SeatsBooks.{GivenInOrder, LoadedBefore, books_of, books_by, kept_by}
 use Rattle.segment_machine.proofs.SeatsRoles.{opens_nothing, lives_on, Stood, AllStood, still_younger, still_apart, still_eldest, alone_before, opens_first}
@@ -154,7 +154,7 @@ module _ (shape : Dimensions) (opened : Anatomy) (old : State) (kept : Kept shap
   -- ---- each actor
 
   beside : (k : ℕ) (c : Actor) → Fits shape kept.anatomy old.cursors old.actors opener k c → Fits shape kept.anatomy old.cursors merged later k c
-  beside k c fit = fits shape kept.anatomy old.cursors old.actors merged opener later k c deeds since
+  beside k c fit = fits shape kept.anatomy old.cursors old.actors merged opener later k c (sums_of old.actors merged deeds) since
       (λ either. alone_before old.actors merged opener later c kept.roles.stands first refl) fit
 
   mine : Fits shape kept.anatomy old.cursors merged later 0 opener

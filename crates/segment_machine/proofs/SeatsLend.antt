@@ -18,7 +18,7 @@ use Rattle.segment_machine.specs.Body.{Anatomy, order_of}
 use Rattle.segment_machine.specs.Kept.{is_living, RolesAreKept, StandsRight, Fits, Kept}
 use Rattle.segment_machine.proofs.Lists.{sum_beside, below_length}
 use Rattle.segment_machine.proofs.SeatsLists.{each_of_two}
-use Rattle.segment_machine.proofs.SeatsDeeds.{Deeds, took, deeds_set}
+use Rattle.segment_machine.proofs.SeatsDeeds.{Deeds, took, deeds_set, sums_of}
 use Rattle.segment_machine.proofs.SeatsFrames.{IsLater, fits}
 use Rattle.segment_machine.proofs.SeatsBooks.{GivenInOrder, LoadedBefore, books_of, books_by, kept_by}
 use Rattle.segment_machine.proofs.SeatsRoles.{opens_nothing, Stood, AllStood, still_younger, still_apart, still_eldest, alone_before, opens_first}
@@ -128,7 +128,7 @@ module _ (shape : Dimensions) (opened : Anatomy) (old : State) (kept : Kept shap
   }
 
   beside : (k : ℕ) (c : Actor) → Fits shape kept.anatomy old.cursors old.actors opener k c → Fits shape kept.anatomy old.cursors lent later k c
-  beside k c fit = fits shape kept.anatomy old.cursors old.actors lent opener later k c deeds since
+  beside k c fit = fits shape kept.anatomy old.cursors old.actors lent opener later k c (sums_of old.actors lent deeds) since
       (λ either. alone_before old.actors lent opener later c kept.roles.stands first refl) fit
 
   each : (k : ℕ) (c : Actor) → get_elem? lent k ≡ some c → c.place ≢ Spent → Fits shape kept.anatomy old.cursors lent later k c

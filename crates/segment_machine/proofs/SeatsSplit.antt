@@ -28,7 +28,7 @@ use Rattle.segment_machine.specs.Kept.{is_living, HoldsOwn, CallsRight, IsAlone,
 use Rattle.segment_machine.proofs.Lists.{sum_beside, below_length}
 use Rattle.segment_machine.proofs.SeatsLists.{each_of_more, none_in, contains_map, contains_mapped, contains_filter, one_at, sum_at_least, none_at}
 use Rattle.segment_machine.proofs.SeatsSums.{or_false}
-use Rattle.segment_machine.proofs.SeatsDeeds.{Deeds, took, deeds_more}
+use Rattle.segment_machine.proofs.SeatsDeeds.{Deeds, took, deeds_more, sums_of}
 use Rattle.segment_machine.proofs.SeatsFrames.{IsLater, fits}
 use Rattle.segment_machine.proofs.SeatsBooks.{GivenInOrder, LoadedBefore, books_of, books_by, kept_by}
 use Rattle.segment_machine.proofs.SeatsRoles.{opens_nothing, lives_on, opens_first}
@@ -284,7 +284,7 @@ module _ (shape : Dimensions) (opened : Anatomy) (old : State) (kept : Kept shap
   each = each_of_more (λ k c. c.place ≢ Spent → Fits shape kept.anatomy old.cursors split later k c) old.actors 0 later made
       (λ live. opener_fits shape kept.anatomy old.cursors split later 0 opener (opener.share - units) (opener.made + 1) (opener.outstanding + 1)
       kept.roles.opens kept.roles.rests.2
-      (fits shape kept.anatomy old.cursors old.actors split opener later 0 opener deeds since
+      (fits shape kept.anatomy old.cursors old.actors split opener later 0 opener (sums_of old.actors split deeds) since
       (λ either. absurd (⊎_elim
       (λ records. let opens = kept.roles.opens in omega (arith, records, opens))
       (λ taking. true≢false (sym taking ∙ kept.roles.rests.2))
@@ -292,7 +292,7 @@ module _ (shape : Dimensions) (opened : Anatomy) (old : State) (kept : Kept shap
       (kept.each 0 opener kept.roles.stands live)))
       (λ live. fresh_fits kept.anatomy old.cursors split later opener units shape old.actors opener (length old.actors) 0
       (kept.each 0 opener kept.roles.stands opener_lives))
-      (λ k c within front at live. fits shape kept.anatomy old.cursors old.actors split opener later k c deeds since
+      (λ k c within front at live. fits shape kept.anatomy old.cursors old.actors split opener later k c (sums_of old.actors split deeds) since
       (λ either alone. absurd (not_alone k c at (lives_on c (kept.roles.only k c at front).0 live) alone))
       (kept.each k c at live))
     where

@@ -1,6 +1,6 @@
 -- What follows at once for those who step a segment, where its events keep what holds: for one event a call over plain words, and for
 -- threads over a table of shared words.
-use Rattle.std.specs.Prelude.{◌≡◌, ℕ, ◌+◌, ◌∷◌, ◌++◌, slice_set}
+use Rattle.std.specs.Prelude.{◌≡◌, ℕ, ◌+◌, ◌∷◌, ◌++◌, slice_set, ⊤}
 use Rattle.std.specs.List.{Contains}
 use mathlib.Core.Option.{some}
 use lib.ListN.{get_elem?}
@@ -10,7 +10,7 @@ use Rattle.segment_machine.specs.declared.actor.Actor.{Actor}
 use Rattle.segment_machine.specs.Event.{Event, spot, change}
 use Rattle.segment_machine.specs.Next.{next}
 use Rattle.segment_machine.specs.Ready.{Ready}
-use Rattle.segment_machine.specs.Note.{Note, MayNote, noted}
+use Rattle.segment_machine.specs.Note.{Note, begins, amounts, asks, knows, takes, looks, ends, refused, MayNote, noted}
 use Rattle.segment_machine.specs.State.{State, memory, IsStep}
 use Rattle.segment_machine.specs.Body.{Anatomy}
 use Rattle.segment_machine.specs.Learned.{Learned}
@@ -24,6 +24,22 @@ abbrev pub NoteKeeps : Note → Type 0
 NoteKeeps note = (shape : Dimensions) (opened : Anatomy) (state : State) (id : ℕ) (a : Actor) → Kept shape opened state
     → get_elem? state.actors id ≡ some a → a.opener ≡ 0 → MayNote a note
     → Kept shape opened (record state { actors = slice_set state.actors id (noted a note) })
+
+-- the notes by which no delta and no snapshot is answered: calls that count begin and end, deltas and snapshots begin, blocks get what
+-- they are to hold, and a `hist` is answered
+abbrev pub IsPlainNote : Note → Type 0
+IsPlainNote (begins name cost entries) = ⊤
+IsPlainNote (amounts amount) = ⊤
+IsPlainNote (asks at made) = ⊤
+IsPlainNote (knows known) = ⊤
+IsPlainNote (takes name) = ⊤
+IsPlainNote looks = ⊤
+IsPlainNote ends = ⊤
+IsPlainNote (refused added) = ⊤
+IsPlainNote _ = ⊥
+
+abbrev pub NotesKeep : Type 0
+NotesKeep = (note : Note) → IsPlainNote note → NoteKeeps note
 
 -- a step whose event and whose notes keep what holds keeps it, and its actor learns of the number that was found
 abbrev pub StepsFollow : Type 0

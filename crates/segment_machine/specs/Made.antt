@@ -57,13 +57,13 @@ SawName a name at =
     × (letters : List ℕ) × AreNameWords name letters
     × ((i : ℕ) → i < length letters → word_seen a.seen_words (at + 15 + i) ≡ Some (slice_index letters i))
 
--- it saw that a record is none of this name: its type is another, or the length or a word of the name is
+-- it saw that a record is none of this name: its type is another, or the length of the name is, or the bytes of a word of it are
 abbrev pub SawOtherName : Actor → List ℕ → ℕ → Type 0
 SawOtherName a name at =
     ((tag : ℕ) × (word_seen a.seen_words (at + 2) ≡ Some tag) × (tag ≢ 1))
     ⊎ ((len : ℕ) × (word_seen a.seen_words (at + 14) ≡ Some len) × (len ≢ length name))
     ⊎ ((letters : List ℕ) × (i word : ℕ) × AreNameWords name letters × (i < length letters)
-    × (word_seen a.seen_words (at + 15 + i) ≡ Some word) × (word ≢ slice_index letters i))
+    × (word_seen a.seen_words (at + 15 + i) ≡ Some word) × (bytes_of_words (word ∷ []) ≢ bytes_of_words (slice_index letters i ∷ [])))
 
 -- it saw the spec of a record whose name has so many words
 abbrev pub SawSpec : Actor → Spec → ℕ → ℕ → Type 0

@@ -32,7 +32,7 @@ pub data Note : Type 0 where
   amounts : (amount : ℤ) → Note
   -- the block at a word is to hold this
   asks : (at : ℕ) (made : Made) → Note
-  -- a `hist` is answered Ok with this
+  -- a `hist` is answered Ok with this. What the actor saw before may be of this histogram, so it looks anew
   knows : (known : Known) → Note
   -- a delta of a histogram begins, and ends
   takes : (name : List ℕ) → Note
@@ -42,7 +42,8 @@ pub data Note : Type 0 where
   answers : (answered : Answered) → Note
   -- a call that counts ends: it was accepted
   ends : Note
-  -- it ends refused: its first entries have ended, and nothing has happened of the others
+  -- it ends refused: its first entries have ended, nothing has happened of the others, and no amount was added, since the units that
+  -- stand for an amount would come back with those of the others
   refused : (added : ℕ) → Note
 
 -- when a delta or a snapshot of this actor begins
@@ -76,7 +77,7 @@ noted a (amounts amount) = record a {
   running = change_last (λ c. let entry = c.entry in record c { entry = record entry { amount = amount } }) a.running;
 }
 noted a (asks at made) = record a { own = change_own at (λ own. record own { made = Some made }) a.own }
-noted a (knows known) = record a { names = a.names ++ known ∷ [] }
+noted a (knows known) = record (looking a) { names = a.names ++ known ∷ [] }
 noted a (takes name) = record (looking a) { taking = true; taken = a.taken ++ nothing_taken a name ∷ [] }
 noted a has_taken = record a { taking = false }
 noted a looks = looking a
@@ -170,6 +171,7 @@ MayNote a (answers answered) =
 MayNote a ends = (is_bound a.place ≡ false) × All (λ c. has_ended c ≡ true) a.running
 MayNote a (refused added) =
     (is_bound a.place ≡ false) × All (λ c. has_ended c ≡ true) (take added a.running) × All (λ c. is_untouched c ≡ true) (drop added a.running)
+    × All (λ c. c.summed ≡ false) (take added a.running)
 
 -- notes one after the other
 abbrev pub Notes : Actor → List Note → Actor → Type 0

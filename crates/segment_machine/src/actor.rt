@@ -172,8 +172,8 @@ pub struct Actor {
     pub taken: LinkedList<Taken>,
     /// Whether the last of these is still going on.
     pub taking: bool,
-    /// How many single words, and how many counts, it had seen when its last delta or snapshot began, or its last call that
-    /// counts ended, whichever came later.
+    /// How many single words, and how many counts, it had seen when its last delta or snapshot began, its last call that counts
+    /// ended, or its last `hist` was answered Ok, whichever came last.
     pub since_singles: u64,
     pub since_counts: u64,
     /// Its snapshots.

@@ -4,7 +4,7 @@
 //! `specs/Examples.antt`.
 
 ghost use Rattle.segment_machine.specs.Promises.{StepsChangeOne, KeysAreLeast};
-ghost use Rattle.segment_machine.specs.Follows.{StepsFollow, TablesFollow};
+ghost use Rattle.segment_machine.specs.Follows.{NotesKeep, StepsFollow, TablesFollow};
 ghost use Rattle.segment_machine.specs.Lives.{RecorderIsJoined, LinksLengthen, DeltaOwes, SnapshotOwes};
 ghost use Rattle.segment_machine.specs.Accounts.{MountedAgrees, TakersAgree, SparseAgrees, BatchAgrees};
 ghost use Rattle.segment_machine.specs.Keeps.{OpeningIsKept, AllocatingKeeps, ListingKeeps, SplitsKeep, JoinsKeep, LendsKeep, KeptFlagsAreSet, KeptIsChain, KeptUnitsAreKept, KeptTransitIsLocal, KeptSumsAreAmounts, KeptTotalsAreCounted, KeptMarksAreTaken};
@@ -243,4 +243,10 @@ pub fn kept_totals_are_counted()
 /// The marks of a kept state are what was taken, and no more than was counted.
 pub fn kept_marks_are_taken()
     ensures { KeptMarksAreTaken }
+{}
+
+/// What holds between any two events holds on where a recorder notes that a call which counts begins or ends, that an amount became
+/// known, that a delta or a snapshot begins, what a block of its own is to hold, or which histogram it was answered.
+pub fn notes_keep()
+    ensures { NotesKeep }
 {}

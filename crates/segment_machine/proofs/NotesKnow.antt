@@ -1,0 +1,91 @@
+-- An actor may note that a `hist` was answered, where that is a histogram of the segment: what holds is kept.
+use Rattle.std.proofs.Common.{◌≡◌, ◌≢◌, ◌⊎◌, ℕ, zero, suc, ◌+◌, ◌<◌, ◌==◌, ℤ, Bool, true, false, List, [], ◌∷◌, ◌++◌, map, length, set, All, Contains, inl, inr, ⊎_elim, refl, sym, ap, ◌∙◌, subst, eq-eqb, ne_eqb, arith}
+use Rattle.std.specs.Prelude.{if◌then◌else◌, Option, Some, None}
+use Rattle.std.proofs.lemmas.List.{map-append}
+use Rattle.std.proofs.lemmas.List.Elements.{All-push, Contains-append_left}
+use Rattle.std.proofs.lemmas.Map.Made.{Contains-tail}
+use mathlib.Core.Logic.{dite}
+use mathlib.Core.Option.{some}
+use native.Mathlib.Decide.{ℕ_discrete}
+use lib.ListN.{get_elem?}
+use Rattle.segment_image.specs.Shape.{Dimensions}
+use Rattle.segment_machine.specs.declared.place.Look.{Look}
+use Rattle.segment_machine.specs.declared.place.Place.{Place}
+use Rattle.segment_machine.specs.declared.place.Place.TheVariants.{Spent, Idle, FlagsLoaded, FreeLoaded, Raised, Sized, Marked, TailLoaded, Beaten, Linked, Looking, Losing, Moving, CountLoaded, SampleLoaded, SumLoaded, CursorLoaded, BehindCursor}
+use Rattle.segment_machine.specs.declared.actor.Actor.{Actor}
+use Rattle.segment_machine.specs.declared.actor.Known.{Known}
+use Rattle.segment_machine.specs.Entry.{AreWithin}
+use Rattle.segment_machine.specs.Actor.{known_at}
+use Rattle.segment_machine.specs.State.{State}
+use Rattle.segment_machine.specs.Note.{knows, noted}
+use Rattle.segment_machine.specs.Body.{Anatomy}
+use Rattle.segment_machine.specs.Ledger.{moving_of, moving_at}
+use Rattle.segment_machine.specs.Seen.{Knows}
+use Rattle.segment_machine.specs.Kept.{StandsRight, Kept}
+use Rattle.segment_machine.proofs.Noting.{Noting, noting, noting_of, SameCounts, notes_on}
+use Rattle.segment_machine.proofs.NotingFits.{noting_fits, looks_anew, finals_on, calls_by}
+use Rattle.segment_machine.proofs.Notes.{takes_nothing}
+
+-- of a histogram that it knew it knows what it knew
+known_still : (list more : List Known) (histogram : ℕ) (k : Known) → Contains list k → k.reference ≡ histogram
+    → known_at (list ++ more) histogram ≡ known_at list histogram
+known_still [] more histogram k (i, below, is) same = absurd (omega (arith, below))
+known_still (x ∷ xs) more histogram k has same = dite (ℕ_discrete x.reference histogram)
+    (λ here.
+    ap (λ (b : Bool). if b then Some x else known_at (xs ++ more) histogram) (eq-eqb x.reference histogram here)
+    ∙ sym (ap (λ (b : Bool). if b then Some x else known_at xs histogram) (eq-eqb x.reference histogram here)))
+    (λ apart. ap (λ (rest : Option Known). if x.reference == histogram then Some x else rest)
+    (known_still xs more histogram k (Contains-tail x xs k (λ is. apart (ap (λ (k : Known). k.reference) is ∙ same)) has) same))
+
+module _ (a : Actor) (known : Known) where
+  abbrev knower : Noting
+  knower = record (noting_of a) {
+    since_singles = length a.seen_singles;
+    since_counts = length a.seen_counts;
+    names = a.names ++ known ∷ [];
+  }
+
+  -- so its units on their way are those of the key that they were of
+  moves_still : (shape : Dimensions) (anatomy : Anatomy) (id : ℕ) (name : List ℕ) (key : ℤ) (p : Place) → StandsRight shape anatomy id a p
+      → moving_at (noting a knower) name key p ≡ moving_at a name key p
+  moves_still shape anatomy id name key (Moving look bucket units) right =
+      ap (λ (k : Option Known). moving_of name key k bucket units) (known_still a.names (known ∷ []) look.histogram right.0.known right.0.knows.0 right.0.knows.1)
+  moves_still shape anatomy id name key Spent right = refl
+  moves_still shape anatomy id name key Idle right = refl
+  moves_still shape anatomy id name key FlagsLoaded right = refl
+  moves_still shape anatomy id name key (FreeLoaded free) right = refl
+  moves_still shape anatomy id name key (Raised at size) right = refl
+  moves_still shape anatomy id name key (Sized at size) right = refl
+  moves_still shape anatomy id name key (Marked at size) right = refl
+  moves_still shape anatomy id name key (TailLoaded tail) right = refl
+  moves_still shape anatomy id name key (Beaten tail behind) right = refl
+  moves_still shape anatomy id name key (Linked at tail) right = refl
+  moves_still shape anatomy id name key (Looking look) right = refl
+  moves_still shape anatomy id name key (Losing look at) right = refl
+  moves_still shape anatomy id name key (CountLoaded look bucket count) right = refl
+  moves_still shape anatomy id name key (SampleLoaded reference count) right = refl
+  moves_still shape anatomy id name key (SumLoaded reference sum) right = refl
+  moves_still shape anatomy id name key (CursorLoaded cursor at) right = refl
+  moves_still shape anatomy id name key (BehindCursor cursor at behind) right = refl
+
+  knows_counts : SameCounts a (noting a knower)
+  knows_counts = record { counted = λ name key. refl; summed = λ name. refl; noted = λ name. refl; costs = λ name. omega arith; units = refl }
+
+  pub knows_one_more : (shape : Dimensions) (opened : Anatomy) (state : State) (id : ℕ) (kept : Kept shape opened state) → get_elem? state.actors id ≡ some a
+      → a.opener ≡ 0 → a.place ≢ Spent → Knows kept.anatomy known
+      → Kept shape opened (record state { actors = set state.actors id (noted a (knows known)) })
+  knows_one_more shape opened state id kept mine records lived right =
+      notes_on shape opened state kept id a mine records knower lived knows_counts (takes_nothing a knower)
+      (λ name key. moves_still shape kept.anatomy id name key a.place (kept.standing id a mine))
+      (λ k has. Contains-append_left a.names (known ∷ []) k has)
+      (λ fit. noting_fits shape kept.anatomy state.cursors _ kept.roles.opener id a knower fit
+      (All-push (Knows kept.anatomy) a.names known fit.sees.names right)
+      (calls_by kept.anatomy a knower fit.calls knows_counts fit.calls.ordered
+      (λ some_run.
+      let (name, cost, holds, within, named) = fit.calls.within some_run in
+      (name, cost, holds, within, subst (λ (names : List (List ℕ)). Contains names name) (sym (map-append (λ (k : Known). k.name) a.names (known ∷ [])))
+      (Contains-append_left (map (λ (k : Known). k.name) a.names) (known.name ∷ []) name named)))
+      fit.calls.held fit.calls.ended fit.calls.taking)
+      (looks_anew kept.anatomy _ a knower (fit.looks records))
+      (finals_on _ kept.roles.opener id a knower (omega arith) (λ name k within quiet. quiet) fit.finals)
+      fit.snapshots)

@@ -1,0 +1,67 @@
+-- Where an actor saw the name and the spec of the first record of a name, that is the histogram of the segment.
+use Rattle.std.proofs.Common.{◌≡◌, ◌≢◌, ◌⊎◌, ℕ, zero, suc, ◌+◌, ◌-◌, ◌<◌, List, [], ◌∷◌, ◌++◌, map, length, drop, take, replicate, get_or, All, Contains, inl, inr, ⊎_elim, refl, sym, ap, ◌∙◌, subst, append_assoc, arith, get_or-drop, length-append}
+use Rattle.std.specs.Prelude.{slice_index, Option, Some, None}
+use Rattle.std.proofs.Math.Seq.{take-append_seam, drop-append_seam}
+use Rattle.std.proofs.lemmas.Grind.{same_number_lists}
+use Rattle.std.proofs.lemmas.List.{get_or_append_left, get_or-append_right}
+use Rattle.std.proofs.lemmas.List.Elements.{All-contains, Contains-append_left, Contains-append_right}
+use mathlib.Core.Logic.{dite}
+use mathlib.Core.Option.{some, none, some-injective, some-ne-none}
+use native.Mathlib.Decide.{ℕ_discrete}
+use lib.ListN.{get_elem?}
+use Rattle.segment_image.specs.Shape.{Dimensions}
+use Rattle.segment_image.specs.Words.{bytes_of_words}
+
+use Rattle.segment_image.proofs.ReadWords.{length-bytes_of_words}
+use Rattle.std.proofs.lemmas.List.{length-replicate}
+use Rattle.segment_machine.specs.declared.actor.Known.{Known}
+use Rattle.segment_machine.specs.Made.{AreNameWords}
+use Rattle.segment_machine.specs.Body.{Listed}
+use Rattle.segment_machine.proofs.ListingReads.{letters_long}
+
+-- ---- a list of records by their references
+
+-- where a reference is among the references, its record is among the records
+pub record_among : (records : List Listed) (front : List ℕ) (at : ℕ) (rest : List ℕ) → map (λ (l : Listed). l.reference) records ≡ front ++ at ∷ rest
+    → (before : List Listed) × (l : Listed) × (behind : List Listed) × (records ≡ before ++ l ∷ behind)
+    × (map (λ (l : Listed). l.reference) before ≡ front) × (l.reference ≡ at)
+record_among [] front at rest is = 
+    let long = ap length is in
+    let sum = length-append front (at ∷ rest) in
+    absurd (omega (arith, long, sum))
+record_among (x ∷ xs) [] at rest is = ([], x, xs, refl, refl, some-injective x.reference at (ap (λ (list : List ℕ). get_elem? list 0) is))
+record_among (x ∷ xs) (f ∷ fs) at rest is =
+    let head : x.reference ≡ f = some-injective x.reference f (ap (λ (list : List ℕ). get_elem? list 0) is) in
+    let (before, l, behind, whole, front, place) = record_among xs fs at rest (ap (drop 1) is) in
+    (x ∷ before, l, behind, ap (λ (list : List Listed). x ∷ list) whole, (λ i. head i ∷ front i), place)
+
+-- ---- the words of a name
+
+-- words that have the bytes of a name have those of no other name that is as long
+pub names_same : (name other letters : List ℕ) → AreNameWords name letters → AreNameWords other letters → length name ≡ length other → name ≡ other
+names_same name other letters (k, few, are) (j, less, also) long =
+    sym (take-append_seam name (replicate k 0)) ∙ (ap (take (length name)) (sym are ∙ also) ∙ (ap (λ (n : ℕ). take n (other ++ replicate j 0)) long ∙ take-append_seam other (replicate j 0)))
+
+-- and two lists of words of a name have the same bytes
+pub bytes_same : (name letters others : List ℕ) → AreNameWords name letters → AreNameWords name others → bytes_of_words letters ≡ bytes_of_words others
+bytes_same name letters others (k, few, are) (j, less, also) =
+    let long = letters_long name letters (k, few, are) in
+    let as_long = letters_long name others (j, less, also) in
+    let first = ap length are in
+    let second = ap length also in
+    let bytes = length-bytes_of_words letters in
+    let more = length-bytes_of_words others in
+    let zeros = length-replicate {A = ℕ} k 0 in
+    let none = length-replicate {A = ℕ} j 0 in
+    let a = length-append name (replicate {A = ℕ} k 0) in
+    let b = length-append name (replicate {A = ℕ} j 0) in
+    let same : k ≡ j = omega (arith, long, as_long, first, second, bytes, more, zeros, none, a, b) in
+    are ∙ (ap (λ (n : ℕ). name ++ replicate n 0) same ∙ sym also)
+
+-- so each of their words has the same bytes
+pub word_bytes : (xs ys : List ℕ) (i : ℕ) → length xs ≡ length ys → i < length xs → bytes_of_words xs ≡ bytes_of_words ys
+    → bytes_of_words (slice_index xs i ∷ []) ≡ bytes_of_words (slice_index ys i ∷ [])
+word_bytes [] ys i long below same = absurd (omega (arith, below))
+word_bytes (x ∷ xs) [] i long below same = absurd (omega (arith, long))
+word_bytes (x ∷ xs) (y ∷ ys) zero long below same = ap (take 8) same
+word_bytes (x ∷ xs) (y ∷ ys) (suc i) long below same = word_bytes xs ys i (omega (arith, long)) (omega (arith, below)) (ap (drop 8) same)

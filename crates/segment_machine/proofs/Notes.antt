@@ -1,31 +1,22 @@
 -- The notes of an actor that keep what holds: a delta or a snapshot begins to look, a call that counts begins and ends.
-use Rattle.std.proofs.Common.{◌≡◌, ◌≢◌, ◌⊎◌, ℕ, zero, suc, ◌+◌, ◌-◌, ◌<◌, ◌≤◌, ℤ, pos, Bool, true, false, true≢false, List, [], ◌∷◌, ◌++◌, map, length, drop, take, All, Contains, inl, inr, ⊎_elim, refl, sym, ap, ◌∙◌, subst, arith, append-nil, append_assoc, length-append}
-use Rattle.std.specs.Prelude.{sum_by, if◌then◌else◌, ◌==◌}
+use Rattle.std.proofs.Common.{◌≡◌, ◌⊎◌, ℕ, ◌+◌, ◌-◌, ◌≤◌, true, false, true≢false, List, [], ◌∷◌, ◌++◌, map, length, All, Contains, inl, inr, refl, sym, ap, ◌∙◌, subst, arith}
+use Rattle.std.specs.Prelude.{if◌then◌else◌, ◌==◌}
 use Rattle.std.specs.List.{filter}
-use Rattle.std.proofs.lemmas.List.{map-append}
-use Rattle.std.proofs.lemmas.List.Elements.{All-nil, All-contains, All-contains_itself, All-weaker, All-append, Contains-append_left, Contains-append_right, Contains-append_cases}
-use Rattle.std.proofs.lemmas.List.Sums.{sum_by-append}
+use Rattle.std.proofs.lemmas.List.Elements.{All-nil, All-contains_itself, All-weaker}
 use mathlib.Core.Option.{some}
 use lib.ListN.{get_elem?}
-use Rattle.segment_image.specs.Shape.{Dimensions}
 use Rattle.segment_machine.specs.declared.entry.Entry.{Entry}
 use Rattle.segment_machine.specs.declared.entry.Counting.{Counting}
-use Rattle.segment_machine.specs.declared.place.Place.TheVariants.{Spent}
 use Rattle.segment_machine.specs.declared.actor.Actor.{Actor}
-use Rattle.segment_machine.specs.declared.actor.Cost.{Cost}
-use Rattle.segment_machine.specs.declared.actor.Known.{Known}
-use Rattle.segment_machine.specs.declared.actor.Taken.{Taken}
-use Rattle.segment_machine.specs.Entry.{is_counted, is_summed, has_ended, fresh, AreWithin, is_of, tally_units, tally_sum, tally_noted, counted_among, summed_among, noted_among}
-use Rattle.segment_machine.specs.Actor.{log_of, counted_of, summed_of, noted_of, cost_of, cost_total, units_of, is_bound}
-use Rattle.segment_machine.specs.State.{State}
-use Rattle.segment_machine.specs.Note.{Note, begins, looks, ends, is_untouched, noted, MayNote}
-use Rattle.segment_machine.specs.Body.{Anatomy}
-use Rattle.segment_machine.specs.Kept.{AreInOrder, summed_cost, CallsRight, IsQuiet, Fits, Kept}
+use Rattle.segment_machine.specs.Entry.{is_counted, is_summed, fresh, AreWithin, is_of, tally_units, tally_sum, tally_noted, counted_among, summed_among, noted_among}
+use Rattle.segment_machine.specs.Actor.{cost_of, cost_total}
+use Rattle.segment_machine.specs.Note.{begins, looks, is_untouched, noted}
+use Rattle.segment_machine.specs.Kept.{AreInOrder, summed_cost, IsQuiet}
 use Rattle.segment_machine.specs.Follows.{NoteKeeps}
-use Rattle.segment_machine.proofs.Lists.{at_from, from_map, contains_at}
-use Rattle.segment_machine.proofs.SeatsLists.{none_in, none_at, all_left, drop_left, contains_mapped, contains_map}
+use Rattle.segment_machine.proofs.Lists.{from_map}
+use Rattle.segment_machine.proofs.SeatsLists.{contains_mapped}
 use Rattle.segment_machine.proofs.Countings.{untouched_counts, untouched_sums, untouched_notes}
-use Rattle.segment_machine.proofs.Noting.{Noting, noting, noting_of, SameCounts, SameTakes, later, noters, notes_on}
+use Rattle.segment_machine.proofs.Noting.{Noting, noting, noting_of, SameCounts, SameTakes, notes_on}
 use Rattle.segment_machine.proofs.NotingFits.{noting_fits, looks_on, looks_anew, finals_on, calls_by}
 
 -- it takes nothing
@@ -93,9 +84,9 @@ module _ (a : Actor) (name : List ℕ) (cost : ℕ) (entries : List Entry) (runs
         ∙ ap (λ running. tally_noted (noted_among (a.log ++ running)) name) (sym runs);
     costs = λ of.
         let now : summed_cost of begun ≡ cost_of a.costs of + 0 =
-            ap (λ (list : List Counting). cost_of a.costs of + (if length list == 0 then 0 else cost_of begun.held of)) (fresh_unsummed entries) in
+        ap (λ (list : List Counting). cost_of a.costs of + (if length list == 0 then 0 else cost_of begun.held of)) (fresh_unsummed entries) in
         let before : summed_cost of a ≡ cost_of a.costs of + 0 =
-            ap (λ (list : List Counting). cost_of a.costs of + (if length (filter (λ (c : Counting). c.summed) list) == 0 then 0 else cost_of a.held of)) runs in
+        ap (λ (list : List Counting). cost_of a.costs of + (if length (filter (λ (c : Counting). c.summed) list) == 0 then 0 else cost_of a.held of)) runs in
         omega (arith, now, before);
     units =
         let none : cost_total a.held ≡ 0 = ap cost_total holds in

@@ -1,5 +1,5 @@
 -- The amount of a running entry may become known: what holds is kept.
-use Rattle.std.proofs.Common.{◌≡◌, ◌≢◌, ◌⊎◌, ℕ, zero, suc, ◌+◌, ◌*◌, ◌<◌, ◌≤◌, ℤ, pos, Bool, true, false, true≢false, cond, not, List, [], ◌∷◌, ◌++◌, map, length, set, All, Contains, inl, inr, ⊎_elim, refl, sym, ap, ◌∙◌, subst, arith, length-append}
+use Rattle.std.proofs.Common.{◌≡◌, ◌≢◌, ◌⊎◌, ℕ, ◌+◌, ◌*◌, ◌≤◌, ℤ, pos, Bool, true, false, true≢false, cond, not, List, [], ◌∷◌, ◌++◌, map, length, set, All, Contains, inl, inr, ⊎_elim, refl, sym, ap, ◌∙◌, subst, arith, length-append}
 use Rattle.std.specs.Prelude.{if◌then◌else◌, ◌==◌, ◌+ℤ◌, unsigned_abs}
 use Rattle.std.specs.List.{filter}
 use Rattle.std.specs.Ordering.{int_eq}
@@ -10,21 +10,18 @@ use Rattle.std.proofs.lemmas.List.Elements.{All-contains, All-contains_itself, A
 use mathlib.Core.Option.{some}
 use lib.ListN.{get_elem?}
 use Rattle.atomic_table.proofs.Lists.{at_longer, at_last}
-use Rattle.segment_image.specs.Shape.{Dimensions}
 use Rattle.segment_machine.specs.declared.entry.Entry.{Entry}
 use Rattle.segment_machine.specs.declared.entry.Counting.{Counting}
 use Rattle.segment_machine.specs.declared.place.Place.TheVariants.{Spent}
 use Rattle.segment_machine.specs.declared.actor.Actor.{Actor}
 use Rattle.segment_machine.specs.Entry.{is_counted, is_summed, is_noted, has_ended, AreWithin, is_of, tally_units, tally_sum, tally_noted}
 use Rattle.segment_machine.specs.Actor.{cost_of, cost_total}
-use Rattle.segment_machine.specs.State.{State}
 use Rattle.segment_machine.specs.Next.{change_last}
 use Rattle.segment_machine.specs.Note.{amounts, is_untouched}
-use Rattle.segment_machine.specs.Body.{Anatomy}
-use Rattle.segment_machine.specs.Kept.{AreInOrder, StandsRight, CallsRight, summed_cost, IsQuiet, Kept}
+use Rattle.segment_machine.specs.Kept.{AreInOrder, StandsRight, summed_cost, IsQuiet, Kept}
 use Rattle.segment_machine.specs.Follows.{NoteKeeps}
 use Rattle.segment_machine.proofs.Lists.{below_length, at_snoc_index}
-use Rattle.segment_machine.proofs.SeatsLists.{none_in, contains_map, contains_mapped}
+use Rattle.segment_machine.proofs.SeatsLists.{contains_mapped}
 use Rattle.segment_machine.proofs.Countings.{among, beside_same, nothing_among, units_total, sum_total, noted_total, no_amount, or_false}
 use Rattle.segment_machine.proofs.Noting.{Noting, noting, noting_of, SameCounts, notes_on}
 use Rattle.segment_machine.proofs.NotingFits.{noting_fits, looks_on, finals_on, calls_by}
@@ -100,8 +97,8 @@ module _ (a : Actor) (amount : ℤ) (before : List Counting) (last : Counting) (
       let now = filter-append (λ (c : Counting). c.summed) before (told ∷ []) in
       let was = filter-append (λ (c : Counting). c.summed) before (last ∷ []) in
       let one : (b : Bool) → length (filter (λ (c : Counting). c.summed) before ++ cond b (told ∷ []) []) ≡ length (filter (λ (c : Counting). c.summed) before ++ cond b (last ∷ []) []) =
-          λ b. length-append (filter (λ (c : Counting). c.summed) before) (cond b (told ∷ []) [])
-          ∙ (ap (λ n. length (filter (λ (c : Counting). c.summed) before) + n) (as_long b) ∙ sym (length-append (filter (λ (c : Counting). c.summed) before) (cond b (last ∷ []) []))) in
+      λ b. length-append (filter (λ (c : Counting). c.summed) before) (cond b (told ∷ []) [])
+      ∙ (ap (λ n. length (filter (λ (c : Counting). c.summed) before) + n) (as_long b) ∙ sym (length-append (filter (λ (c : Counting). c.summed) before) (cond b (last ∷ []) []))) in
       ap length now ∙ (one last.summed ∙ sym (ap length was))
     where
       as_long : (b : Bool) → length (cond b (told ∷ []) []) ≡ length (cond b (last ∷ []) [])
@@ -127,8 +124,8 @@ module _ (a : Actor) (amount : ℤ) (before : List Counting) (last : Counting) (
         ∙ ap (λ running. total (among ◌+◌ total (noted_total name) is_noted (a.log ++ running))) (sym runs);
     costs = λ name.
         let same : summed_cost name (noting a teller) ≡ summed_cost name a =
-            ap (λ (n : ℕ). cost_of a.costs name + (if n == 0 then 0 else cost_of a.held name))
-            (summed_long ∙ ap (λ (list : List Counting). length (filter (λ (c : Counting). c.summed) list)) (sym runs)) in
+        ap (λ (n : ℕ). cost_of a.costs name + (if n == 0 then 0 else cost_of a.held name))
+        (summed_long ∙ ap (λ (list : List Counting). length (filter (λ (c : Counting). c.summed) list)) (sym runs)) in
         omega (arith, same);
     units = refl;
   }
@@ -245,7 +242,7 @@ amounts_kept amount shape opened state id a kept mine records ((before, last, ru
     let f : Counting → Counting = λ c. let entry = c.entry in record c { entry = record entry { amount = amount } } in
     let changed : change_last f a.running ≡ n.running = ap (change_last f) runs ∙ last_changed f before last in
     let lived : a.place ≢ Spent = λ is_spent.
-        not_empty before last (sym runs ∙ ap (λ (a : Actor). a.running) (subst (StandsRight shape kept.anatomy id a) is_spent (kept.standing id a mine))) in
+    not_empty before last (sym runs ∙ ap (λ (a : Actor). a.running) (subst (StandsRight shape kept.anatomy id a) is_spent (kept.standing id a mine))) in
     subst (λ (running : List Counting). Kept shape opened (record state { actors = set state.actors id (record a { running = running }) })) (sym changed)
     (notes_on shape opened state kept id a mine records n lived counts (takes_nothing a n) (λ name key. refl) (λ known has. has)
     (λ fit.

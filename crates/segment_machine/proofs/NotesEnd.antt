@@ -1,9 +1,9 @@
 -- A call that counts may note that it has ended, accepted or refused: what holds is kept.
-use Rattle.std.proofs.Common.{◌≡◌, ◌≢◌, ◌⊎◌, ℕ, zero, suc, ◌+◌, ◌-◌, ◌<◌, ◌≤◌, ℤ, pos, Bool, true, false, cond, List, [], ◌∷◌, ◌++◌, map, length, drop, take, All, Contains, inl, inr, ⊎_elim, refl, sym, ap, ◌∙◌, subst, arith, append-nil, append_assoc, length-append, take-append-drop, set}
-use Rattle.std.specs.Prelude.{sum_by, if◌then◌else◌, ◌==◌}
+use Rattle.std.proofs.Common.{◌≡◌, ◌≢◌, ◌⊎◌, ℕ, zero, suc, ◌+◌, ◌-◌, ◌≤◌, Bool, true, false, cond, List, [], ◌∷◌, ◌++◌, map, length, drop, take, All, Contains, inl, inr, ⊎_elim, refl, sym, ap, ◌∙◌, subst, arith, append-nil, append_assoc, length-append, take-append-drop, set}
+use Rattle.std.specs.Prelude.{if◌then◌else◌, ◌==◌}
 use Rattle.std.specs.List.{filter}
 use Rattle.std.proofs.lemmas.List.{map-append}
-use Rattle.std.proofs.lemmas.List.Elements.{All-nil, All-contains, All-contains_itself, All-weaker, All-append, Contains-append_left, Contains-append_right, Contains-append_cases}
+use Rattle.std.proofs.lemmas.List.Elements.{All-nil, All-contains, All-contains_itself, All-weaker, All-append, Contains-append_right, Contains-append_cases}
 use Rattle.std.proofs.lemmas.List.Sums.{sum_by-append, sum_by-cons}
 use Rattle.std.specs.Str.{bytes_eq}
 use mathlib.Core.Option.{some}
@@ -14,16 +14,16 @@ use Rattle.segment_machine.specs.declared.entry.Counting.{Counting}
 use Rattle.segment_machine.specs.declared.place.Place.TheVariants.{Spent}
 use Rattle.segment_machine.specs.declared.actor.Actor.{Actor}
 use Rattle.segment_machine.specs.declared.actor.Cost.{Cost}
-use Rattle.segment_machine.specs.Entry.{is_counted, is_summed, has_ended, AreWithin, is_of, tally_units, tally_sum, tally_noted, counted_among, summed_among, noted_among}
+use Rattle.segment_machine.specs.Entry.{is_counted, is_summed, has_ended, is_of, tally_units, tally_sum, tally_noted, counted_among, summed_among, noted_among}
 use Rattle.segment_machine.specs.Actor.{log_of, cost_of, cost_total, is_bound}
 use Rattle.segment_machine.specs.Note.{ends, refused, is_untouched, units_running, spent_by, noted}
 use Rattle.segment_machine.specs.State.{State}
 use Rattle.segment_machine.specs.Body.{Anatomy}
 use Rattle.segment_machine.specs.Kept.{AreInOrder, CallsRight, summed_cost, IsQuiet, Kept}
 use Rattle.segment_machine.specs.Follows.{NoteKeeps}
-use Rattle.segment_machine.proofs.SeatsLists.{none_in, none_at, all_left, contains_map}
+use Rattle.segment_machine.proofs.SeatsLists.{none_at, all_left, contains_map}
 use Rattle.segment_machine.proofs.Countings.{noted_total, untouched_counts, untouched_sums, untouched_notes, untouched_summed}
-use Rattle.segment_machine.proofs.Noting.{Noting, noting, noting_of, SameCounts, SameTakes, notes_on}
+use Rattle.segment_machine.proofs.Noting.{Noting, noting, noting_of, SameCounts, notes_on}
 use Rattle.segment_machine.proofs.NotingFits.{noting_fits, looks_anew, finals_on, calls_by}
 use Rattle.segment_machine.proofs.Notes.{takes_nothing}
 
@@ -46,7 +46,7 @@ quiet_before a ended name k running low quiet =
     let rests : Entry → Type 0 = λ entry. is_of name entry ≡ false in
     let entries = map (λ (c : Counting). c.entry) ended in
     let all : All rests (drop k (log_of a) ++ entries) =
-        subst (All rests) (ap (drop k) (log_more a ended) ∙ drop_within k (log_of a) entries low) quiet in
+    subst (All rests) (ap (drop k) (log_more a ended) ∙ drop_within k (log_of a) entries low) quiet in
     let holds : Counting → Type 0 = λ c. (is_of name c.entry ≡ false) ⊎ (is_untouched c ≡ true) in (
       all_left rests (drop k (log_of a)) entries all,
       All-weaker (Contains a.running) holds
@@ -111,7 +111,7 @@ ends_counts a = record {
   noted = λ name. ap (λ list. tally_noted (noted_among list) name) (append-nil (a.log ++ a.running));
   costs = λ name.
       let all : cost_of (a.costs ++ a.held) name ≡ cost_of a.costs name + cost_of a.held name =
-          sum_by-append (λ (cost : Cost). if bytes_eq cost.name name then cost.units else 0) a.costs a.held in
+      sum_by-append (λ (cost : Cost). if bytes_eq cost.name name then cost.units else 0) a.costs a.held in
       let some_held = at_most (length (filter (λ (c : Counting). c.summed) a.running) == 0) (cost_of a.held name) in
       omega (arith, all, some_held);
   units =
@@ -145,7 +145,7 @@ module _ (a : Actor) (added : ℕ) where
   none_spent [] = refl
   none_spent (h ∷ hs) =
       let all = sum_by-cons (λ (cost : Cost). cost.units) (record h { units = units_running [] h.name })
-              (map (λ (cost : Cost). record cost { units = units_running [] cost.name }) hs) in
+      (map (λ (cost : Cost). record cost { units = units_running [] cost.name }) hs) in
       let rest = none_spent hs in
       omega (arith, all, rest)
 
@@ -163,11 +163,11 @@ module _ (a : Actor) (added : ℕ) where
           let (name, cost, holds, within, known) = calls.within (λ none. cc (sym runs ∙ none)) in
           let held_is : cost_total a.held ≡ 0 + cost = ap cost_total holds in
           let spent_is : cost_total (spent_by added a) ≡ 0 + units_running done name =
-              ap (λ (held : List Cost). cost_total (map (λ (cost : Cost). record cost { units = units_running done cost.name }) held)) holds in
+          ap (λ (held : List Cost). cost_total (map (λ (cost : Cost). record cost { units = units_running done cost.name }) held)) holds in
           let all : units_running a.running name ≡ units_running done name + units_running left name =
-              ap (λ (list : List Counting). units_running list name) (sym (take-append-drop added a.running))
-              ∙ (ap (λ (list : List Entry). tally_noted list name) (map-append (λ (c : Counting). c.entry) done left)
-              ∙ noted_total name (map (λ (c : Counting). c.entry) done) (map (λ (c : Counting). c.entry) left)) in
+          ap (λ (list : List Counting). units_running list name) (sym (take-append-drop added a.running))
+          ∙ (ap (λ (list : List Entry). tally_noted list name) (map-append (λ (c : Counting). c.entry) done left)
+          ∙ noted_total name (map (λ (c : Counting). c.entry) done) (map (λ (c : Counting). c.entry) left)) in
           let most = within.units in
           omega (arith, held_is, spent_is, all, most)
 
@@ -202,9 +202,9 @@ module _ (a : Actor) (added : ℕ) where
           ∙ ap (λ list. tally_noted (noted_among list) name) ran;
       costs = λ name.
           let all : cost_of (a.costs ++ spent_by added a) name ≡ cost_of a.costs name + cost_of (spent_by added a) name =
-              sum_by-append (λ (cost : Cost). if bytes_eq cost.name name then cost.units else 0) a.costs (spent_by added a) in
+          sum_by-append (λ (cost : Cost). if bytes_eq cost.name name then cost.units else 0) a.costs (spent_by added a) in
           let before : summed_cost name a ≡ cost_of a.costs name + 0 =
-              ap (λ (list : List Counting). cost_of a.costs name + (if length list == 0 then 0 else cost_of a.held name)) none_summed in
+          ap (λ (list : List Counting). cost_of a.costs name + (if length list == 0 then 0 else cost_of a.held name)) none_summed in
           omega (arith, all, before);
       units =
           let all = sum_by-append (λ (cost : Cost). cost.units) a.costs (spent_by added a) in

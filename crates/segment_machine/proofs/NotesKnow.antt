@@ -1,6 +1,6 @@
 -- An actor may note that a `hist` was answered, where that is a histogram of the segment: what holds is kept.
-use Rattle.std.proofs.Common.{◌≡◌, ◌≢◌, ◌⊎◌, ℕ, zero, suc, ◌+◌, ◌<◌, ◌==◌, ℤ, Bool, true, false, List, [], ◌∷◌, ◌++◌, map, length, set, All, Contains, inl, inr, ⊎_elim, refl, sym, ap, ◌∙◌, subst, eq-eqb, ne_eqb, arith}
-use Rattle.std.specs.Prelude.{if◌then◌else◌, Option, Some, None}
+use Rattle.std.proofs.Common.{◌≡◌, ◌≢◌, ℕ, ◌==◌, ℤ, Bool, List, [], ◌∷◌, ◌++◌, map, length, set, Contains, refl, sym, ap, ◌∙◌, subst, eq-eqb, arith}
+use Rattle.std.specs.Prelude.{if◌then◌else◌, Option, Some}
 use Rattle.std.proofs.lemmas.List.{map-append}
 use Rattle.std.proofs.lemmas.List.Elements.{All-push, Contains-append_left}
 use Rattle.std.proofs.lemmas.Map.Made.{Contains-tail}
@@ -9,12 +9,10 @@ use mathlib.Core.Option.{some}
 use native.Mathlib.Decide.{ℕ_discrete}
 use lib.ListN.{get_elem?}
 use Rattle.segment_image.specs.Shape.{Dimensions}
-use Rattle.segment_machine.specs.declared.place.Look.{Look}
 use Rattle.segment_machine.specs.declared.place.Place.{Place}
 use Rattle.segment_machine.specs.declared.place.Place.TheVariants.{Spent, Idle, FlagsLoaded, FreeLoaded, Raised, Sized, Marked, TailLoaded, Beaten, Linked, Looking, Losing, Moving, CountLoaded, SampleLoaded, SumLoaded, CursorLoaded, BehindCursor}
 use Rattle.segment_machine.specs.declared.actor.Actor.{Actor}
 use Rattle.segment_machine.specs.declared.actor.Known.{Known}
-use Rattle.segment_machine.specs.Entry.{AreWithin}
 use Rattle.segment_machine.specs.Actor.{known_at}
 use Rattle.segment_machine.specs.State.{State}
 use Rattle.segment_machine.specs.Note.{knows, noted}
@@ -82,9 +80,14 @@ module _ (a : Actor) (known : Known) where
       (All-push (Knows kept.anatomy) a.names known fit.sees.names right)
       (calls_by kept.anatomy a knower fit.calls knows_counts fit.calls.ordered
       (λ some_run.
-      let (name, cost, holds, within, named) = fit.calls.within some_run in
-      (name, cost, holds, within, subst (λ (names : List (List ℕ)). Contains names name) (sym (map-append (λ (k : Known). k.name) a.names (known ∷ [])))
-      (Contains-append_left (map (λ (k : Known). k.name) a.names) (known.name ∷ []) name named)))
+      let (name, cost, holds, within, named) = fit.calls.within some_run in (
+        name,
+        cost,
+        holds,
+        within,
+        subst (λ (names : List (List ℕ)). Contains names name) (sym (map-append (λ (k : Known). k.name) a.names (known ∷ [])))
+            (Contains-append_left (map (λ (k : Known). k.name) a.names) (known.name ∷ []) name named),
+      ))
       fit.calls.held fit.calls.ended fit.calls.taking)
       (looks_anew kept.anatomy _ a knower (fit.looks records))
       (finals_on _ kept.roles.opener id a knower (omega arith) (λ name k within quiet. quiet) fit.finals)

@@ -1,12 +1,12 @@
 -- An actor may note what a `hist` was answered: the first record that it saw of a name is the histogram of that name, and what holds is
 -- kept.
-use Rattle.std.proofs.Common.{◌≡◌, ◌≢◌, ◌⊎◌, ℕ, zero, suc, ◌+◌, ◌-◌, ◌<◌, List, [], ◌∷◌, ◌++◌, map, length, get_or, All, Contains, inl, inr, ⊎_elim, refl, sym, ap, ◌∙◌, subst, append_assoc, arith, get_or-drop, length-append}
+use Rattle.std.proofs.Common.{◌≡◌, ◌≢◌, ℕ, zero, suc, ◌+◌, ◌-◌, ◌<◌, List, [], ◌∷◌, ◌++◌, length, All, Contains, inl, inr, refl, sym, ap, ◌∙◌, subst, append_assoc, arith, get_or-drop, length-append}
 use Rattle.std.specs.Prelude.{slice_index, Option, Some, None}
 use Rattle.std.proofs.lemmas.Grind.{same_number_lists}
 use Rattle.std.proofs.lemmas.List.{get_or_append_left, get_or-append-add}
 use Rattle.std.proofs.lemmas.List.Elements.{All-contains, All-contains_itself, All-weaker, Contains-append_left, Contains-append_right}
 use mathlib.Core.Logic.{dite}
-use mathlib.Core.Option.{some, none}
+use mathlib.Core.Option.{some}
 use native.Mathlib.Decide.{ℕ_discrete}
 use lib.ListN.{get_elem?}
 use Rattle.segment_image.specs.Shape.{Dimensions}
@@ -25,7 +25,7 @@ use Rattle.segment_machine.specs.Seats.{spent}
 use Rattle.segment_machine.proofs.SeatsLists.{contains_map}
 use Rattle.segment_machine.specs.Made.{spec_fields, spec_ranges, AreNameWords, SameSpec, SawName, SawOtherName, SawSpec}
 use Rattle.segment_machine.specs.Note.{knows, MayNote}
-use Rattle.segment_machine.specs.Body.{Record, Listed, spec_field, record_words, sample_words, histogram, sample, other, Anatomy, order_of}
+use Rattle.segment_machine.specs.Body.{Record, Listed, spec_field, record_words, histogram, sample, other, Anatomy, order_of}
 use Rattle.segment_machine.specs.Seen.{HasRecord, IsNamed, Knows}
 use Rattle.segment_machine.specs.Kept.{StandsAs, StandsRight, Kept}
 use Rattle.segment_machine.specs.Follows.{NoteKeeps}
@@ -101,7 +101,7 @@ module _ (shape : Dimensions) (opened : Anatomy) (state : State) (kept : Kept sh
       let as_long = letters_long r.name r.letters lawful.lettered in
       let many : length r.letters ≡ length letters = sym as_long ∙ (ap name_words length_is ∙ long) in
       let same : r.letters ≡ letters = same_number_lists r.letters letters many
-              (λ i below. letter_seen at i (slice_index letters i) r has below (words i (omega (arith, many, below)))) in
+      (λ i below. letter_seen at i (slice_index letters i) r has below (words i (omega (arith, many, below)))) in
       names_same r.name name letters (subst (AreNameWords r.name) same lawful.lettered) are length_is
 
   -- it saw the spec of the record
@@ -110,8 +110,8 @@ module _ (shape : Dimensions) (opened : Anatomy) (state : State) (kept : Kept sh
       let lawful = kept.records.lawful at r has in
       let all = record_long r in
       let field : (i : ℕ) → i < 4 → slice_index (record_words r) (4 + i) ≡ spec_field s i =
-          λ i below. record_seen at (4 + i) (spec_field s i) r has (omega (arith, all, below))
-          (let place : at + 4 + i ≡ at + (4 + i) = omega arith in subst (λ n. word_seen a.seen_words n ≡ Some (spec_field s i)) place (fields i below)) in
+      λ i below. record_seen at (4 + i) (spec_field s i) r has (omega (arith, all, below))
+      (let place : at + 4 + i ≡ at + (4 + i) = omega arith in subst (λ n. word_seen a.seen_words n ≡ Some (spec_field s i)) place (fields i below)) in
       let zeroth : spec_field r.spec 0 ≡ spec_field s 0 = field 0 (omega arith) in
       let third : spec_field r.spec 3 ≡ spec_field s 3 = field 3 (omega arith) in
       let many = as_many r.spec s zeroth third in
@@ -144,7 +144,7 @@ module _ (shape : Dimensions) (opened : Anatomy) (state : State) (kept : Kept sh
       let fits = kept.each id a mine lives in
       let (rest, whole) = fits.sees.walked in
       let order : order_of kept.anatomy ≡ front ++ known.reference ∷ (behind ++ rest) =
-          whole ∙ (ap (λ (chain : List ℕ). chain ++ rest) chain_is ∙ append_assoc front (known.reference ∷ behind) rest) in
+      whole ∙ (ap (λ (chain : List ℕ). chain ++ rest) chain_is ∙ append_assoc front (known.reference ∷ behind) rest) in
       let (before, l, after, records_are, fronts, place) = record_among kept.anatomy.records front known.reference (behind ++ rest) order in
       by_given before l after l.made refl
       (stands before l after records_are l (Contains-append_right before (l ∷ after) l (0, omega arith, refl)))
@@ -171,9 +171,9 @@ module _ (shape : Dimensions) (opened : Anatomy) (state : State) (kept : Kept sh
           let name_is = name_seen known.name known.reference r has saw in
           let lawful = kept.records.lawful known.reference r has in
           let many : length letters ≡ length r.letters =
-              sym (letters_long known.name letters are) ∙ (ap (λ (n : List ℕ). name_words (length n)) (sym name_is) ∙ letters_long r.name r.letters lawful.lettered) in
+          sym (letters_long known.name letters are) ∙ (ap (λ (n : List ℕ). name_words (length n)) (sym name_is) ∙ letters_long r.name r.letters lawful.lettered) in
           let listed : l ≡ record { reference = known.reference; made = Some (made.Histogram known.name kind) } =
-              (λ i. record { reference = place i; made = (given_is ∙ ap (λ (n : List ℕ). Some (made.Histogram n kind)) (sym named ∙ name_is)) i }) in
+          (λ i. record { reference = place i; made = (given_is ∙ ap (λ (n : List ℕ). Some (made.Histogram n kind)) (sym named ∙ name_is)) i }) in
           record {
             first_spec = kind;
             first = (before, after, records_are ∙ ap (λ (l : Listed). before ++ l ∷ after) listed, absent);
@@ -182,7 +182,7 @@ module _ (shape : Dimensions) (opened : Anatomy) (state : State) (kept : Kept sh
           }
       by_given before l after (Some (made.Sample of value)) given_is (s, is, of_is, value_is) place saw letters are spec_saw records_are absent =
           let three : 3 ≡ 1 = sighted shape opened state kept id a mine lives l.reference 2 1 (sample s) is (omega arith)
-                  (subst (λ at. word_seen a.seen_words (at + 2) ≡ Some 1) (sym place) saw.0) in
+          (subst (λ at. word_seen a.seen_words (at + 2) ≡ Some 1) (sym place) saw.0) in
           absurd (omega (arith, three))
       by_given before l after None given_is (size, tag, next, payload, is, first, third, long) place saw letters are spec_saw records_are absent =
           absurd (first (sighted shape opened state kept id a mine lives l.reference 2 1 (other size tag next payload) is (omega arith)
@@ -191,9 +191,9 @@ module _ (shape : Dimensions) (opened : Anatomy) (state : State) (kept : Kept sh
 pub knows_kept : (known : Known) → NoteKeeps (knows known)
 knows_kept known shape opened state id a kept mine records may =
     let lived : a.place ≢ Spent = λ is_spent.
-        let nobody : a ≡ spent = subst (StandsRight shape kept.anatomy id a) is_spent (kept.standing id a mine) in
-        let none : may.0.0 ++ known.reference ∷ may.0.1 ≡ [] = sym may.0.2 ∙ ap (λ (a : Actor). a.seen_chain) nobody in
-        let long = ap length none in
-        let sum = length-append may.0.0 (known.reference ∷ may.0.1) in
-        omega (arith, long, sum) in
+    let nobody : a ≡ spent = subst (StandsRight shape kept.anatomy id a) is_spent (kept.standing id a mine) in
+    let none : may.0.0 ++ known.reference ∷ may.0.1 ≡ [] = sym may.0.2 ∙ ap (λ (a : Actor). a.seen_chain) nobody in
+    let long = ap length none in
+    let sum = length-append may.0.0 (known.reference ∷ may.0.1) in
+    omega (arith, long, sum) in
     knows_one_more a known shape opened state id kept mine records lived (known_right shape opened state kept id a mine lived known may)

@@ -1,20 +1,12 @@
 -- Where an actor saw the name and the spec of the first record of a name, that is the histogram of the segment.
-use Rattle.std.proofs.Common.{◌≡◌, ◌≢◌, ◌⊎◌, ℕ, zero, suc, ◌+◌, ◌-◌, ◌<◌, List, [], ◌∷◌, ◌++◌, map, length, drop, take, replicate, get_or, All, Contains, inl, inr, ⊎_elim, refl, sym, ap, ◌∙◌, subst, append_assoc, arith, get_or-drop, length-append}
-use Rattle.std.specs.Prelude.{slice_index, Option, Some, None}
-use Rattle.std.proofs.Math.Seq.{take-append_seam, drop-append_seam}
-use Rattle.std.proofs.lemmas.Grind.{same_number_lists}
-use Rattle.std.proofs.lemmas.List.{get_or_append_left, get_or-append_right}
-use Rattle.std.proofs.lemmas.List.Elements.{All-contains, Contains-append_left, Contains-append_right}
-use mathlib.Core.Logic.{dite}
-use mathlib.Core.Option.{some, none, some-injective, some-ne-none}
-use native.Mathlib.Decide.{ℕ_discrete}
+use Rattle.std.proofs.Common.{◌≡◌, ℕ, zero, suc, ◌<◌, List, [], ◌∷◌, ◌++◌, map, length, drop, take, replicate, refl, sym, ap, ◌∙◌, arith, length-append}
+use Rattle.std.specs.Prelude.{slice_index}
+use Rattle.std.proofs.Math.Seq.{take-append_seam}
+use mathlib.Core.Option.{some-injective}
 use lib.ListN.{get_elem?}
-use Rattle.segment_image.specs.Shape.{Dimensions}
 use Rattle.segment_image.specs.Words.{bytes_of_words}
-
 use Rattle.segment_image.proofs.ReadWords.{length-bytes_of_words}
 use Rattle.std.proofs.lemmas.List.{length-replicate}
-use Rattle.segment_machine.specs.declared.actor.Known.{Known}
 use Rattle.segment_machine.specs.Made.{AreNameWords}
 use Rattle.segment_machine.specs.Body.{Listed}
 use Rattle.segment_machine.proofs.ListingReads.{letters_long}
@@ -25,7 +17,7 @@ use Rattle.segment_machine.proofs.ListingReads.{letters_long}
 pub record_among : (records : List Listed) (front : List ℕ) (at : ℕ) (rest : List ℕ) → map (λ (l : Listed). l.reference) records ≡ front ++ at ∷ rest
     → (before : List Listed) × (l : Listed) × (behind : List Listed) × (records ≡ before ++ l ∷ behind)
     × (map (λ (l : Listed). l.reference) before ≡ front) × (l.reference ≡ at)
-record_among [] front at rest is = 
+record_among [] front at rest is =
     let long = ap length is in
     let sum = length-append front (at ∷ rest) in
     absurd (omega (arith, long, sum))

@@ -1,30 +1,25 @@
 -- A delta may begin: what holds is kept.
-use Rattle.std.proofs.Common.{◌≡◌, ◌≢◌, ◌⊎◌, ℕ, zero, suc, ◌+◌, ◌-◌, ◌<◌, ◌≤◌, ℤ, pos, Bool, true, false, true≢false, List, [], ◌∷◌, ◌++◌, map, length, drop, take, set, All, Contains, inl, inr, ⊎_elim, refl, sym, ap, ◌∙◌, subst, arith, length-append}
+use Rattle.std.proofs.Common.{◌≡◌, ◌≢◌, ℕ, zero, suc, ◌-◌, ◌<◌, ℤ, pos, Bool, true, false, true≢false, List, [], ◌∷◌, ◌++◌, length, take, Contains, inl, inr, ⊎_elim, refl, sym, ap, ◌∙◌, subst, arith}
 use Rattle.std.specs.Prelude.{if◌then◌else◌, ◌+ℤ◌}
 use Rattle.std.specs.Str.{bytes_eq}
 use Rattle.std.proofs.Math.IntN.{+ℤ_idr}
 use Rattle.std.proofs.Math.Seq.{take-append_seam}
 use Rattle.std.proofs.lemmas.List.{length_push}
-use Rattle.std.proofs.lemmas.List.Elements.{Contains-append_left, Contains-append_cases}
+use Rattle.std.proofs.lemmas.List.Elements.{Contains-append_cases}
 use Rattle.std.proofs.lemmas.List.Sums.{sum_by_push}
 use mathlib.Core.Option.{some, some-injective}
 use lib.ListN.{get_elem?}
 use Rattle.atomic_table.proofs.Lists.{set_else, at_last}
-use Rattle.segment_image.specs.Shape.{Dimensions}
-use Rattle.segment_machine.specs.declared.place.Place.TheVariants.{Spent}
 use Rattle.segment_machine.specs.declared.actor.Actor.{Actor}
 use Rattle.segment_machine.specs.declared.actor.Moment.{Moment}
 use Rattle.segment_machine.specs.declared.actor.Taken.{Taken}
-use Rattle.segment_machine.specs.Actor.{log_of, units_listed, taken_units, taken_sum}
-use Rattle.segment_machine.specs.State.{State}
-use Rattle.segment_machine.specs.Note.{takes, moment_of, nothing_taken, noted}
-use Rattle.segment_machine.specs.Body.{Anatomy}
-use Rattle.segment_machine.specs.Kept.{is_living, ended_deltas, IsMoment, IsMomentOf, FinalsAreExact, Kept}
+use Rattle.segment_machine.specs.Actor.{units_listed, taken_sum}
+use Rattle.segment_machine.specs.Note.{takes, moment_of, nothing_taken}
+use Rattle.segment_machine.specs.Kept.{is_living, ended_deltas, IsMoment, FinalsAreExact}
 use Rattle.segment_machine.specs.Follows.{NoteKeeps}
-use Rattle.segment_machine.proofs.Lists.{at_snoc_index}
 use Rattle.segment_machine.proofs.SeatsSums.{amounts_total}
 use Rattle.segment_machine.proofs.SeatsRoles.{lives_on}
-use Rattle.segment_machine.proofs.Noting.{Noting, noting, noting_of, SameCounts, SameTakes, noters, not_first, notes_on}
+use Rattle.segment_machine.proofs.Noting.{Noting, noting, noting_of, SameCounts, SameTakes, not_first, notes_on}
 use Rattle.segment_machine.proofs.NotingFits.{noting_fits, looks_anew, calls_by}
 
 -- of two lists that are one, each with one more behind it, these two are one
@@ -77,7 +72,7 @@ module _ (a : Actor) (name : List ℕ) where
       let long = length_push a.taken begun in
       let count : length (a.taken ++ begun ∷ []) - 1 ≡ length a.taken = omega (arith, long) in
       let same : take (length (a.taken ++ begun ∷ []) - 1) (a.taken ++ begun ∷ []) ≡ a.taken =
-          ap (λ (k : ℕ). take k (a.taken ++ begun ∷ [])) count ∙ take-append_seam a.taken (begun ∷ []) in
+      ap (λ (k : ℕ). take k (a.taken ++ begun ∷ [])) count ∙ take-append_seam a.taken (begun ∷ []) in
       subst (λ (b : Bool). Contains (if b then take (length a.taken - 1) a.taken else a.taken) t) (sym rests) (subst (λ (list : List Taken). Contains list t) same has)
 
   module _ (actors : List Actor) (opener : Actor) (id : ℕ) (rests : a.taking ≡ false) (younger : a.made < opener.made)

@@ -1,7 +1,6 @@
 -- A state is kept where an actor notes something in its own record, and the words stay.
-use Rattle.std.proofs.Common.{◌≡◌, ◌≢◌, ◌⊎◌, ℕ, ◌+◌, ◌<◌, ◌≤◌, ℤ, Bool, true, false, ◌||◌, fold, List, [], ◌∷◌, ◌++◌, map, take, set, All, Contains, inl, inr, ⊎_elim, refl, sym, ap, ◌∙◌, subst, subst₂, arith}
-use Rattle.std.specs.Prelude.{if◌then◌else◌, IsPermutation, sum_by}
-use Rattle.std.specs.List.{flat_map}
+use Rattle.std.proofs.Common.{◌≡◌, ◌≢◌, ◌⊎◌, ℕ, ◌+◌, ◌<◌, ◌≤◌, ℤ, Bool, false, ◌||◌, fold, List, [], ◌++◌, map, take, set, All, Contains, inl, inr, refl, sym, ap, ◌∙◌, subst, subst₂, arith}
+use Rattle.std.specs.Prelude.{if◌then◌else◌, IsPermutation}
 use Rattle.std.proofs.lemmas.List.Sums.{sum_by-append}
 use mathlib.Core.Option.{some, some-injective}
 use lib.ListN.{get_elem?}
@@ -16,7 +15,6 @@ use Rattle.segment_machine.specs.declared.actor.Actor.{Actor}
 use Rattle.segment_machine.specs.declared.actor.Answered.{Answered}
 use Rattle.segment_machine.specs.declared.actor.Claim.{Claim}
 use Rattle.segment_machine.specs.declared.actor.Cost.{Cost}
-use Rattle.segment_machine.specs.declared.actor.Given.{Given}
 use Rattle.segment_machine.specs.declared.actor.Known.{Known}
 use Rattle.segment_machine.specs.declared.actor.Published.{Published}
 use Rattle.segment_machine.specs.declared.actor.Taken.{Taken}
@@ -24,20 +22,19 @@ use Rattle.segment_machine.specs.Entry.{tally_units, tally_sum, tally_noted, is_
 use Rattle.std.specs.Str.{bytes_eq}
 use Rattle.std.specs.Ordering.{int_eq}
 use Rattle.std.specs.Prelude.{◌&&◌, pos, ◌+ℤ◌}
-use Rattle.segment_machine.specs.Actor.{counted_of, summed_of, noted_of, given_by, units_of, units_listed, taken_units, taken_sum, all_counted, all_taken, all_published, all_given}
+use Rattle.segment_machine.specs.Actor.{counted_of, summed_of, noted_of, given_by, units_of, units_listed, taken_units, taken_sum, all_counted, all_taken}
 use Rattle.segment_machine.specs.State.{State}
-use Rattle.segment_machine.specs.Body.{Anatomy, Listed, listed, order_of, claims_of}
+use Rattle.segment_machine.specs.Body.{Anatomy, listed, order_of, claims_of}
 use Rattle.segment_machine.specs.Ledger.{moving_at}
-use Rattle.segment_machine.specs.Seen.{Sees}
-use Rattle.segment_machine.specs.Kept.{summed_cost, is_living, RolesAreKept, LooksRight, StandsRight, CallsRight, LooksBack, FinalsAreExact, Fits, ListIsKept, CursorsAreKept, HasKey, Kept}
+use Rattle.segment_machine.specs.Kept.{summed_cost, is_living, RolesAreKept, LooksRight, StandsRight, Fits, ListIsKept, CursorsAreKept, HasKey, Kept}
 use Rattle.segment_machine.proofs.Lists.{rows, column, sum_same, sum_beside}
 use Rattle.segment_machine.proofs.Totals.{rows_total, row_in, row_from, HasUnits, tally_from, tally_at}
-use Rattle.segment_machine.proofs.SeatsSums.{numbers, amounts, amounts_total}
+use Rattle.segment_machine.proofs.SeatsSums.{amounts_total}
 use Rattle.segment_machine.proofs.SeatsLists.{none_in}
 use Rattle.segment_machine.proofs.SeatsBooks.{GivenInOrder, LoadedBefore}
 use Rattle.segment_machine.proofs.SeatsDeeds.{SameSums}
 use Rattle.segment_machine.proofs.SeatsFrames.{IsLater, balanced, sums_near, fits}
-use Rattle.segment_machine.proofs.SeatsRoles.{Stood, AllStood, still_younger, still_apart, still_eldest, alone_before}
+use Rattle.segment_machine.proofs.SeatsRoles.{AllStood, still_younger, still_apart, still_eldest, alone_before}
 
 -- ---- what changes of an actor that notes something
 

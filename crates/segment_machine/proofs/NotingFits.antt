@@ -1,5 +1,5 @@
 -- What holds of an actor beside the others holds on where it notes something.
-use Rattle.std.proofs.Common.{◌≡◌, ◌≢◌, ◌⊎◌, ℕ, ◌+◌, ◌<◌, ◌≤◌, true, false, List, ◌∷◌, [], ◌++◌, map, length, drop, All, Contains, inl, inr, ⊎_elim, refl, sym, ap, ◌∙◌, subst, arith}
+use Rattle.std.proofs.Common.{◌≡◌, ◌≢◌, ℕ, ◌≤◌, true, List, ◌∷◌, [], ◌++◌, map, length, drop, All, Contains, inr, ⊎_elim, refl, sym, subst, arith}
 use Rattle.std.proofs.lemmas.List.Elements.{Contains-append_left, Contains-append_right, Contains-append_cases}
 use Rattle.bucket_ranges.specs.declared.spec.Spec.TheVariants as spec
 use Rattle.segment_machine.specs.declared.actor.Taken.{Taken}
@@ -7,14 +7,13 @@ use Rattle.segment_machine.specs.Entry.{has_ended, AreWithin}
 use Rattle.segment_machine.specs.Made.{SawSample}
 use Rattle.segment_image.specs.Shape.{Dimensions}
 use Rattle.segment_machine.specs.declared.actor.Actor.{Actor}
-use Rattle.segment_machine.specs.declared.actor.Known.{Known}
 use Rattle.segment_machine.specs.declared.actor.Moment.{Moment}
 use Rattle.segment_machine.specs.declared.actor.Sighting.{Sighting}
 use Rattle.segment_machine.specs.Actor.{log_of, counted_of}
 use Rattle.segment_machine.specs.Consistent.{IsWithinCounts}
 use Rattle.segment_machine.specs.Body.{Anatomy}
-use Rattle.segment_machine.specs.Seen.{Sees, Knows, IsFirst, IsFirstOf}
-use Rattle.segment_machine.specs.Kept.{AreInOrder, CallsRight, LooksBack, IsQuiet, IsMoment, IsMomentOf, FinalsAreExact, Fits}
+use Rattle.segment_machine.specs.Seen.{Knows, IsFirst, IsFirstOf}
+use Rattle.segment_machine.specs.Kept.{AreInOrder, CallsRight, LooksBack, IsQuiet, IsMoment, FinalsAreExact, Fits}
 use Rattle.segment_machine.proofs.SeatsLists.{none_in}
 use Rattle.std.proofs.lemmas.List.{drop_all}
 use Rattle.segment_machine.proofs.SeatsFrames.{ended_began}

@@ -1,6 +1,6 @@
 -- Lists that stand for the elements of a list, one behind the other, where one element changes: what they come to, and what is in
 -- them. And what a tally tells of the entries that are in it.
-use Rattle.std.proofs.Common.{◌≡◌, ◌⊎◌, ℕ, zero, suc, ◌+◌, ◌<◌, Bool, true, false, ◌&&◌, ℤ, List, [], ◌∷◌, ◌++◌, set, inl, inr, ⊎_elim, refl, sym, ap, ◌∙◌, subst, arith}
+use Rattle.std.proofs.Common.{◌≡◌, ◌⊎◌, ℕ, zero, suc, ◌<◌, Bool, true, false, ◌&&◌, ℤ, List, [], ◌∷◌, set, inl, inr, ⊎_elim, refl, sym, ap, ◌∙◌, subst, arith}
 use Rattle.std.specs.Prelude.{if◌then◌else◌}
 use Rattle.std.specs.List.{flat_map, Contains}
 use Rattle.std.specs.Str.{bytes_eq}
@@ -14,7 +14,7 @@ use lib.ListN.{get_elem?}
 use Rattle.segment_machine.specs.declared.entry.Entry.{Entry}
 use Rattle.segment_machine.specs.Entry.{is_of, tally_units}
 use Rattle.segment_machine.proofs.Lists.{at_from}
-use Rattle.segment_machine.proofs.SeatsLists.{none_in, sum_at_least}
+use Rattle.segment_machine.proofs.SeatsLists.{sum_at_least}
 use Rattle.segment_machine.proofs.SeatsSums.{IsTotal}
 
 -- ---- lists that stand for elements

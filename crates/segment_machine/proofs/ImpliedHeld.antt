@@ -1,34 +1,29 @@
 -- What the words of a kept state's records say beside their spec: which counts are theirs, and that nobody counts in later ones.
-use Rattle.std.proofs.Common.{◌≡◌, ◌≢◌, ◌⊎◌, Bool, true, false, ◌||◌, ◌&&◌, if◌then◌else◌, nat_lt, ℕ, zero, suc, ◌+◌, ◌-◌, ◌*◌, ◌<◌, ◌≤◌, ℤ, List, [], ◌∷◌, length, inl, inr, ⊎_elim, refl, sym, ap, subst, ◌∙◌, arith, Option, Some, None}
+use Rattle.std.proofs.Common.{◌≡◌, ◌≢◌, ◌⊎◌, Bool, true, false, if◌then◌else◌, ℕ, ◌+◌, ◌-◌, ◌*◌, ◌<◌, ◌≤◌, ℤ, List, length, inl, inr, refl, sym, ap, subst, ◌∙◌, arith, Option, Some, None}
 use Rattle.std.specs.Prelude as std
 use Rattle.std.specs.Prelude.{slice_index, ◌==◌}
 use Rattle.std.specs.List.{All, Contains}
-use Rattle.std.proofs.lemmas.Bool.{eqb-true, eqb-false, eq-eqb, ne_eqb, le-ltb, cases_lt}
-use Rattle.std.proofs.lemmas.List.Elements.{All-contains}
-use mathlib.Core.Option.{some, none}
-use lib.ListN.{get_elem?}
+use Rattle.std.proofs.lemmas.Bool.{eqb-true, eqb-false, eq-eqb, ne_eqb, cases_lt}
+use mathlib.Core.Option.{none}
 use Rattle.segment_image.specs.Shape.{Dimensions}
 use Rattle.segment_image.specs.Words.{word_at}
 use Rattle.segment_image.specs.Head.{head_of}
 use Rattle.segment_image.specs.Blocks.{field_at}
-use Rattle.bucket_ranges.specs.declared.spec.Spec.{Spec}
 use Rattle.bucket_ranges.specs.Spec.{buckets_of}
 use Rattle.bucket_ranges.specs.Reading.{name_of, record_buckets, sample_value}
 use Rattle.list_core.specs.Chain.{IsChain}
 use Rattle.list_core.proofs.Chains.{linked_of, no_queue}
-use Rattle.segment_machine.specs.declared.actor.Actor.{Actor}
 use Rattle.segment_machine.specs.declared.actor.Sighting.{Sighting}
 use Rattle.segment_machine.specs.declared.actor.Made.{Made}
 use Rattle.segment_machine.specs.declared.actor.Made.TheVariants as made
 use Rattle.segment_machine.specs.State.{State}
 use Rattle.segment_machine.specs.Promises.{new_opening}
 use Rattle.segment_machine.specs.Form.{Leads, off_word}
-use Rattle.segment_machine.specs.Consistent.{IsHistogram, IsSample, CountsNothing, CountsStill, counts_word, counts_words, HoldsStill}
+use Rattle.segment_machine.specs.Consistent.{IsHistogram, IsSample, CountsNothing, counts_word}
 use Rattle.segment_machine.specs.Body.{Record, record_words, Counts, Body, histogram, counts, sample, other, Listed, order_of, blank}
 use Rattle.segment_machine.specs.Seen.{Stands, HasRecord, HasCounts, IsFirst, IsFirstOf, WasSingle}
-use Rattle.segment_machine.specs.Kept.{StandsAs, IsCountsOf, Kept}
+use Rattle.segment_machine.specs.Kept.{StandsAs, Kept}
 use Rattle.segment_machine.proofs.Pieces.{piece_word, one_stands}
-use Rattle.segment_machine.proofs.ImpliedBlocks.{claimed_piece}
 use Rattle.segment_machine.proofs.ImpliedRecords.{record_word, listed_there}
 use Rattle.segment_machine.proofs.ImpliedSpecs.{buckets_are}
 use Rattle.segment_machine.proofs.ImpliedFirsts.{listed_record, is_named, given_value, first_of_name, first_of_value}
@@ -109,9 +104,10 @@ module _ (shape : Dimensions) (version id : ℕ) (state : State) (kept : Kept sh
       let here = subst (λ (at : ℕ). Stands kept.anatomy.pieces at none (sample s)) spot stands in
       let (t, first, has) = first_of_value shape version id state kept (field_at state.words at 4) (sample_value state.words at) place is in
       let nothing = kept.records.later_samples at place s here
-      (subst (λ (p : ℕ × ℤ). IsFirstOf kept.anatomy.records p.0 p.1 place) (λ j. (sym mine j, sym valued j)) first) apart in
-      (piece_word shape state.words kept.anatomy kept.shown here.0 _ 6 here.1 (omega arith) ∙ nothing.0,
-      piece_word shape state.words kept.anatomy kept.shown here.0 _ 7 here.1 (omega arith) ∙ nothing.1)
+      (subst (λ (p : ℕ × ℤ). IsFirstOf kept.anatomy.records p.0 p.1 place) (λ j. (sym mine j, sym valued j)) first) apart in (
+        piece_word shape state.words kept.anatomy kept.shown here.0 _ 6 here.1 (omega arith) ∙ nothing.0,
+        piece_word shape state.words kept.anatomy kept.shown here.0 _ 7 here.1 (omega arith) ∙ nothing.1,
+      )
 
   -- the list of a new segment has no record
   pub none_before : (front : List ℕ) (at : ℕ) → IsChain (new_opening shape version id).words (head_of (new_opening shape version id).words) front
@@ -128,14 +124,15 @@ module _ (shape : Dimensions) (version id : ℕ) (state : State) (kept : Kept sh
       let (l, name, kind, r, among, spot, made, (has, named, specified)) = listed_record shape version id state kept at there one in
       let (first_kind, q, first, its) = first_of_name shape version id state kept (name_of state.words at) place is in
       let mine : name_of state.words at ≡ r.name = (is_named shape version id state kept at r has).1 in
-      let nothing = kept.records.later at place r first_kind has (subst (λ (name : List ℕ). IsFirst kept.anatomy.records name first_kind place) mine first) apart in
-      (subst (λ (v : ℕ). (field_at state.words at 9 ≡ 0) ⊎ (field_at state.words at 9 ≡ off_word v 0)) kept.same.0
-      (subst (λ (n : ℕ). (n ≡ 0) ⊎ (n ≡ off_word kept.anatomy.version 0)) (sym (word at r has 9 (omega arith))) nothing.0.0),
-      (λ i from below. four (λ i. field_at state.words at i ≡ 0) (word at r has 10 (omega arith) ∙ nothing.0.1) (word at r has 11 (omega arith) ∙ nothing.0.2)
-      (word at r has 12 (omega arith) ∙ nothing.0.3) (word at r has 13 (omega arith) ∙ nothing.0.4) i from below),
-      (λ i below. in_counts at r has nothing.1 (r.counts == 0) (eqb-true r.counts 0) (eqb-false r.counts 0) i
-      (subst (λ (p : ℕ × ℕ). i < (if p.0 == 0 then 0 else 2 * p.1))
-      (λ j. (counts_ref at r has j, buckets_are shape state.words kept.anatomy kept.shown kept.anatomy.version at r has (kept.records.lawful at r has) j)) below)))
+      let nothing = kept.records.later at place r first_kind has (subst (λ (name : List ℕ). IsFirst kept.anatomy.records name first_kind place) mine first) apart in (
+        subst (λ (v : ℕ). (field_at state.words at 9 ≡ 0) ⊎ (field_at state.words at 9 ≡ off_word v 0)) kept.same.0
+            (subst (λ (n : ℕ). (n ≡ 0) ⊎ (n ≡ off_word kept.anatomy.version 0)) (sym (word at r has 9 (omega arith))) nothing.0.0),
+        (λ i from below. four (λ i. field_at state.words at i ≡ 0) (word at r has 10 (omega arith) ∙ nothing.0.1) (word at r has 11 (omega arith) ∙ nothing.0.2)
+            (word at r has 12 (omega arith) ∙ nothing.0.3) (word at r has 13 (omega arith) ∙ nothing.0.4) i from below),
+        (λ i below. in_counts at r has nothing.1 (r.counts == 0) (eqb-true r.counts 0) (eqb-false r.counts 0) i
+            (subst (λ (p : ℕ × ℕ). i < (if p.0 == 0 then 0 else 2 * p.1))
+            (λ j. (counts_ref at r has j, buckets_are shape state.words kept.anatomy kept.shown kept.anatomy.version at r has (kept.records.lawful at r has) j)) below)),
+      )
     where
       word : (at : ℕ) (r : Record) → HasRecord kept.anatomy.pieces at r → (j : ℕ) → j < 15 → field_at state.words at j ≡ slice_index (record_words r) j
       word at r has j below = record_word shape state.words kept.anatomy kept.shown at r j has below

@@ -9,8 +9,10 @@ pub mod ImpliedBooks
 pub mod ImpliedChain
 pub mod ImpliedFirsts
 pub mod ImpliedFlags
+pub mod ImpliedForms
 pub mod ImpliedHeld
 pub mod ImpliedKeys
+pub mod ImpliedMade
 pub mod ImpliedMarks
 pub mod ImpliedRecords
 pub mod ImpliedSpecs

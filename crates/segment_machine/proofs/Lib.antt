@@ -7,6 +7,7 @@ pub mod Goings
 pub mod ImpliedBlocks
 pub mod ImpliedBooks
 pub mod ImpliedChain
+pub mod ImpliedConsistent
 pub mod ImpliedFirsts
 pub mod ImpliedFlags
 pub mod ImpliedForms

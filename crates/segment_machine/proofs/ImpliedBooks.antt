@@ -1,8 +1,8 @@
 -- What the blocks of a kept segment hold of a bucket, and of a sparse value: of the records of a name only the first counts, with its
 -- counts block and its first samples.
-use Rattle.std.proofs.Common.{◌≡◌, ◌≢◌, ◌⊎◌, Bool, true, false, if◌then◌else◌, ℕ, zero, suc, ◌+◌, ◌<◌, ◌≤◌, ℤ, List, [], ◌∷◌, ◌++◌, length, sum_by, append_assoc, inl, inr, ⊎_elim, refl, sym, ap, subst, ◌∙◌, arith, Option, Some, None}
+use Rattle.std.proofs.Common.{◌≡◌, ◌≢◌, ◌⊎◌, Bool, true, false, if◌then◌else◌, ℕ, zero, suc, ◌+◌, ◌<◌, ℤ, List, [], ◌∷◌, ◌++◌, length, append_assoc, inl, inr, ⊎_elim, refl, sym, ap, subst, ◌∙◌, arith, Option, Some, None}
 use Rattle.std.specs.Prelude.{slice_index, ◌==◌}
-use Rattle.std.specs.List.{All, Contains, range_with_len}
+use Rattle.std.specs.List.{All, range_with_len}
 use Rattle.std.specs.Ordering.{int_eq}
 use Rattle.std.proofs.lemmas.Bool.{eqb-true, eqb-false, ne_eqb}
 use Rattle.std.proofs.lemmas.Bool.Decides.{Decides-int_eq}
@@ -20,10 +20,10 @@ use Rattle.segment_machine.specs.Form.{units_in}
 use Rattle.segment_machine.specs.Body.{Record, Counts, Sample, Body, queue, plain, held, histogram, counts, sample, other, Piece, Listed, blank}
 use Rattle.segment_machine.specs.Ledger.{form_at, of_name, at_bucket, keyed, key_of_bucket, units_held, marks_held, all_held}
 use Rattle.segment_machine.specs.Seen.{HasRecord, HasCounts, HasSample, IsNamed, IsFirst, IsFirstOf}
-use Rattle.segment_machine.specs.Kept.{Kept, CountsNothing, IsCountsOf}
+use Rattle.segment_machine.specs.Kept.{Kept, CountsNothing}
 use Rattle.segment_machine.proofs.Lists.{at_from}
 use Rattle.segment_machine.proofs.Pieces.{one_piece, one_stands}
-use Rattle.segment_machine.proofs.Singled.{Elsewhere, sum_none, sum_one, sum_pair}
+use Rattle.segment_machine.proofs.Singled.{sum_none, sum_one, sum_pair}
 use Rattle.segment_machine.proofs.ImpliedBlocks.{claimed_piece}
 use Rattle.segment_machine.proofs.ImpliedFirsts.{name_of_first}
 use Rattle.segment_machine.proofs.ImpliedKeys.{key_test, at_no_bucket, no_units, no_packed}

@@ -1,25 +1,23 @@
 -- The first record of a name, and of a value, on the list of a kept segment: by the words as by what each record was given.
-use Rattle.std.proofs.Common.{◌≡◌, ◌≢◌, true, false, ℕ, suc, ◌+◌, ◌<◌, ℤ, pos, negsuc, List, [], ◌∷◌, ◌++◌, map, length, refl, sym, ap, subst, ◌∙◌, arith, rules, SFits, Some, None}
+use Rattle.std.proofs.Common.{◌≡◌, ◌≢◌, true, ℕ, ◌<◌, ℤ, pos, negsuc, List, [], ◌∷◌, ◌++◌, map, refl, sym, ap, subst, ◌∙◌, arith, rules, Some, None}
 use Rattle.std.specs.Prelude as std
 use Rattle.std.specs.Int.{w64, cast_signed, cast_unsigned}
 use Rattle.std.specs.List.{All, Contains}
 use Rattle.std.proofs.lemmas.Bool.{ltb-true}
 use Rattle.std.proofs.lemmas.Int.{to_z-of_z}
 use Rattle.std.proofs.lemmas.List.{map-append}
-use Rattle.std.proofs.lemmas.List.Elements.{All-map, All-contains, All-weaker, Contains-append_left, Contains-append_right, All-contains_itself}
-use mathlib.Core.Option.{some}
-use lib.ListN.{get_elem?}
+use Rattle.std.proofs.lemmas.List.Elements.{All-map, All-contains, Contains-append_left, Contains-append_right}
 use Rattle.atomic_table.proofs.Lists.{at_map}
 use Rattle.segment_image.specs.Shape.{Dimensions}
 use Rattle.segment_image.specs.Blocks.{field_at}
 use Rattle.bucket_ranges.specs.declared.spec.Spec.{Spec}
-use Rattle.bucket_ranges.specs.Reading.{name_of, sample_value, is_i32}
+use Rattle.bucket_ranges.specs.Reading.{name_of, is_i32}
 use Rattle.segment_machine.specs.declared.actor.Made.{Made}
 use Rattle.segment_machine.specs.declared.actor.Made.TheVariants as made
 use Rattle.segment_machine.specs.State.{State}
 use Rattle.segment_machine.specs.Consistent.{IsHistogram, IsSample, IsSampleOf}
 use Rattle.segment_machine.specs.Consistent as consistent
-use Rattle.segment_machine.specs.Body.{Record, Sample, histogram, sample, Listed, order_of, blank}
+use Rattle.segment_machine.specs.Body.{Record, Sample, Listed, order_of, blank}
 use Rattle.segment_machine.specs.Seen.{HasRecord, HasSample, IsNamed, IsFirst, IsFirstOf}
 use Rattle.segment_machine.specs.Kept.{StandsAs, Kept}
 use Rattle.segment_machine.proofs.Lists.{all_from, all_at, contains_at}

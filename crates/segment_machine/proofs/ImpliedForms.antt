@@ -1,19 +1,17 @@
 -- The records of a kept state have lawful forms.
-use Rattle.std.proofs.Common.{◌≡◌, ◌≢◌, ◌⊎◌, Bool, true, false, ◌||◌, ◌&&◌, if◌then◌else◌, nat_le, ℕ, ◌+◌, ◌-◌, ◌*◌, ◌<◌, ◌≤◌, ℤ, List, ◌++◌, length, length-append, refl, sym, ap, subst, ◌∙◌, arith, Option, Some, None}
-use Rattle.std.specs.Prelude.{slice_index, ◌==◌}
+use Rattle.std.proofs.Common.{◌≡◌, ◌≢◌, Bool, true, false, ◌&&◌, nat_le, ℕ, ◌+◌, ◌-◌, ◌*◌, ◌<◌, length, refl, sym, ap, subst, ◌∙◌, arith}
+use Rattle.std.specs.Prelude.{◌==◌}
 use Rattle.std.proofs.lemmas.Bool.{eqb-true, eqb-false, eq-eqb, and_from, or_left, or_right, le-leb}
-use mathlib.Core.Option.{some, none}
-use lib.ListN.{get_elem?}
 use Rattle.segment_image.specs.Shape.{Dimensions}
 use Rattle.segment_image.specs.Head.{head_of}
 use Rattle.segment_image.specs.Blocks.{field_at, is_block}
 use Rattle.bucket_ranges.specs.Spec.{buckets_of}
-use Rattle.bucket_ranges.specs.Reading.{is_sparse, has_counts, record_buckets}
+use Rattle.bucket_ranges.specs.Reading.{has_counts, record_buckets}
 use Rattle.bucket_ranges.specs.Single.{packed_bucket}
 use Rattle.segment_machine.specs.State.{State}
 use Rattle.segment_machine.specs.Form.{is_off}
 use Rattle.segment_machine.specs.Consistent.{HasForm, single_at}
-use Rattle.segment_machine.specs.Body.{Record, record_words, Counts, order_of, blank}
+use Rattle.segment_machine.specs.Body.{Record, Counts, blank}
 use Rattle.segment_machine.specs.Ledger.{form_at}
 use Rattle.segment_machine.specs.Seen.{HasRecord, HasCounts}
 use Rattle.segment_machine.specs.Kept.{IsLawfulRecord, IsCountsOf, Kept}

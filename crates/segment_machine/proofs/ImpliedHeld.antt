@@ -1,34 +1,29 @@
 -- What the words of a kept state's records say beside their spec: which counts are theirs, and that nobody counts in later ones.
-use Rattle.std.proofs.Common.{◌≡◌, ◌≢◌, ◌⊎◌, Bool, true, false, ◌||◌, ◌&&◌, if◌then◌else◌, nat_lt, ℕ, zero, suc, ◌+◌, ◌-◌, ◌*◌, ◌<◌, ◌≤◌, ℤ, List, [], ◌∷◌, length, inl, inr, ⊎_elim, refl, sym, ap, subst, ◌∙◌, arith, Option, Some, None}
+use Rattle.std.proofs.Common.{◌≡◌, ◌≢◌, ◌⊎◌, Bool, true, false, if◌then◌else◌, ℕ, ◌+◌, ◌-◌, ◌*◌, ◌<◌, ◌≤◌, ℤ, List, length, inl, inr, refl, sym, ap, subst, ◌∙◌, arith, Option, Some, None}
 use Rattle.std.specs.Prelude as std
 use Rattle.std.specs.Prelude.{slice_index, ◌==◌}
 use Rattle.std.specs.List.{All, Contains}
-use Rattle.std.proofs.lemmas.Bool.{eqb-true, eqb-false, eq-eqb, ne_eqb, le-ltb, cases_lt}
-use Rattle.std.proofs.lemmas.List.Elements.{All-contains}
-use mathlib.Core.Option.{some, none}
-use lib.ListN.{get_elem?}
+use Rattle.std.proofs.lemmas.Bool.{eqb-true, eqb-false, eq-eqb, ne_eqb, cases_lt}
+use mathlib.Core.Option.{none}
 use Rattle.segment_image.specs.Shape.{Dimensions}
 use Rattle.segment_image.specs.Words.{word_at}
 use Rattle.segment_image.specs.Head.{head_of}
 use Rattle.segment_image.specs.Blocks.{field_at}
-use Rattle.bucket_ranges.specs.declared.spec.Spec.{Spec}
 use Rattle.bucket_ranges.specs.Spec.{buckets_of}
 use Rattle.bucket_ranges.specs.Reading.{name_of, record_buckets, sample_value}
 use Rattle.list_core.specs.Chain.{IsChain}
 use Rattle.list_core.proofs.Chains.{linked_of, no_queue}
-use Rattle.segment_machine.specs.declared.actor.Actor.{Actor}
 use Rattle.segment_machine.specs.declared.actor.Sighting.{Sighting}
 use Rattle.segment_machine.specs.declared.actor.Made.{Made}
 use Rattle.segment_machine.specs.declared.actor.Made.TheVariants as made
 use Rattle.segment_machine.specs.State.{State}
 use Rattle.segment_machine.specs.Promises.{new_opening}
 use Rattle.segment_machine.specs.Form.{Leads, off_word}
-use Rattle.segment_machine.specs.Consistent.{IsHistogram, IsSample, CountsNothing, CountsStill, counts_word, counts_words, HoldsStill}
+use Rattle.segment_machine.specs.Consistent.{IsHistogram, IsSample, CountsNothing, counts_word}
 use Rattle.segment_machine.specs.Body.{Record, record_words, Counts, Body, histogram, counts, sample, other, Listed, order_of, blank}
 use Rattle.segment_machine.specs.Seen.{Stands, HasRecord, HasCounts, IsFirst, IsFirstOf, WasSingle}
-use Rattle.segment_machine.specs.Kept.{StandsAs, IsCountsOf, Kept}
+use Rattle.segment_machine.specs.Kept.{StandsAs, Kept}
 use Rattle.segment_machine.proofs.Pieces.{piece_word, one_stands}
-use Rattle.segment_machine.proofs.ImpliedBlocks.{claimed_piece}
 use Rattle.segment_machine.proofs.ImpliedRecords.{record_word, listed_there}
 use Rattle.segment_machine.proofs.ImpliedSpecs.{buckets_are}
 use Rattle.segment_machine.proofs.ImpliedFirsts.{listed_record, is_named, given_value, first_of_name, first_of_value}

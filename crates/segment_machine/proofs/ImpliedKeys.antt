@@ -1,22 +1,21 @@
 -- The keys of buckets: those of one histogram differ, and specs that are the same have the same ones.
-use Rattle.std.proofs.Common.{◌≡◌, ◌≢◌, ◌⊎◌, Bool, true, false, ◌==◌, nat_lt, nat_le, ◌&&◌, if◌then◌else◌, ℕ, zero, suc, ◌+◌, ◌-◌, ◌/◌, ◌%◌, ◌^◌, ◌<◌, ◌≤◌, ℤ, pos, List, [], ◌∷◌, ◌++◌, map, length, inl, inr, refl, sym, ap, subst, ◌∙◌, arith, Option, Some, None}
+use Rattle.std.proofs.Common.{◌≡◌, ◌≢◌, ◌⊎◌, Bool, true, false, ◌==◌, nat_lt, nat_le, ◌&&◌, if◌then◌else◌, ℕ, ◌+◌, ◌-◌, ◌/◌, ◌%◌, ◌^◌, ◌<◌, ℤ, List, length, inl, inr, refl, sym, ap, ◌∙◌, arith, Option, Some, None}
 use Rattle.std.specs.Prelude.{slice_index}
 use Rattle.std.specs.Ordering.{int_eq}
-use Rattle.std.specs.List.{All, Contains}
-use Rattle.std.proofs.lemmas.Bool.{cases_order, eqb-true, eqb-false, ltb-true, and_parts, eq-eqb, ne_eqb}
+use Rattle.std.proofs.lemmas.Bool.{cases_order, eqb-true, eqb-false, ltb-true, and_parts}
 use Rattle.std.proofs.lemmas.Bool.Decides.{Decides-int_eq}
 use Rattle.bucket_ranges.specs.declared.spec.Spec.{Spec}
-use Rattle.bucket_ranges.specs.declared.spec.Spec.TheVariants.{Linear, Boolean, Custom, Sparse}
+use Rattle.bucket_ranges.specs.declared.spec.Spec.TheVariants.{Sparse}
 use Rattle.bucket_ranges.specs.declared.single.SingleWord.{SingleWord}
 use Rattle.bucket_ranges.specs.declared.single.SingleWord.TheVariants.{Empty, Packed, Disabled}
 use Rattle.bucket_ranges.specs.Spec.{buckets_of, spec_fault}
 use Rattle.bucket_ranges.specs.Ranges.{boundaries_of, IsAscending}
-use Rattle.bucket_ranges.specs.Single.{single_of, packed_of, disabled_of, packed_bucket, is_packed_bucket, units_packed}
+use Rattle.bucket_ranges.specs.Single.{packed_of, disabled_of, packed_bucket, is_packed_bucket, units_packed}
 use Rattle.bucket_ranges.proofs.Ascent.{boundaries_of-split}
 use Rattle.bucket_ranges.proofs.Buckets.{ascends}
 use Rattle.segment_machine.specs.Form.{form_of, off_word, is_off, units_in}
-use Rattle.segment_machine.specs.Made.{spec_fields, spec_ranges, SameSpec}
-use Rattle.segment_machine.specs.Ledger.{key_of_bucket, at_bucket, keyed}
+use Rattle.segment_machine.specs.Made.{spec_ranges, SameSpec}
+use Rattle.segment_machine.specs.Ledger.{key_of_bucket, at_bucket}
 use Rattle.segment_machine.proofs.ImpliedSpecs.{spelled, field_named, named_by, boundaries_spelled}
 
 -- ---- specs that are the same

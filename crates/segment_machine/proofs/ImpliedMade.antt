@@ -1,32 +1,26 @@
 -- The records of a kept state hold what they were given.
-use Rattle.std.proofs.Common.{◌≡◌, ◌≢◌, Bool, true, false, ◌&&◌, if◌then◌else◌, nat_lt, nat_le, ℕ, zero, suc, ◌+◌, ◌-◌, ◌*◌, ◌<◌, ◌≤◌, ℤ, List, [], ◌∷◌, ◌++◌, map, length, IsPermutation, inl, inr, refl, sym, ap, subst, ◌∙◌, arith, Option, Some, None}
+use Rattle.std.proofs.Common.{◌≡◌, Bool, true, false, if◌then◌else◌, ℕ, ◌+◌, ◌-◌, ◌<◌, ◌≤◌, ℤ, List, [], ◌∷◌, ◌++◌, map, length, inl, refl, sym, ap, subst, ◌∙◌, arith, Option, Some, None}
 use Rattle.std.specs.Prelude.{slice_index, ◌==◌, is_none}
-use Rattle.std.specs.List.{All, Contains, slice_range}
+use Rattle.std.specs.List.{Contains}
 use Rattle.std.proofs.lemmas.Bool.{and_from, eq-eqb, eqb-true, le-leb, le-ltb, lt-ltb}
 use Rattle.std.proofs.lemmas.List.{map-append}
 use Rattle.std.proofs.lemmas.List.Elements.{All-contains, Contains-append_right}
 use Rattle.std.proofs.lemmas.List.Sorted.{Contains-permutation, IsPermutation-sym}
-use mathlib.Core.Option.{some, none}
-use lib.ListN.{get_elem?}
 use Rattle.atomic_table.proofs.Lists.{at_map}
 use Rattle.segment_image.specs.Shape.{Dimensions}
-use Rattle.segment_image.specs.Words.{word_at}
-use Rattle.segment_image.specs.Head.{head_of}
 use Rattle.segment_image.specs.Blocks.{field_at}
 use Rattle.alloc_core.specs.Layout.{IsShape}
 use Rattle.bucket_ranges.specs.declared.spec.Spec.{Spec}
 use Rattle.bucket_ranges.specs.declared.spec.Spec.TheVariants as spec
-use Rattle.bucket_ranges.specs.Spec.{buckets_of, spec_fault, distinct_values}
+use Rattle.bucket_ranges.specs.Spec.{spec_fault, distinct_values}
 use Rattle.bucket_ranges.specs.Reading.{name_of, name_words, is_name, has_name, has_spec, is_spec_named, inner_ranges, is_sparse, ascends_above}
 use Rattle.bucket_ranges.specs.Reading as reading
 use Rattle.bucket_ranges.proofs.Distinct.{Member, Ascends, ascends-from}
 use Rattle.bucket_ranges.proofs.Customs.{is_custom-from_checks, length-distinct, some_distinct, custom_boundaries-ascending}
-use Rattle.segment_machine.specs.declared.actor.Actor.{Actor}
 use Rattle.segment_machine.specs.declared.actor.Published.{Published}
 use Rattle.segment_machine.specs.declared.actor.Made.{Made}
 use Rattle.segment_machine.specs.declared.actor.Made.TheVariants as made
 use Rattle.segment_machine.specs.State.{State}
-use Rattle.segment_machine.specs.Promises.{new_opening}
 use Rattle.segment_machine.specs.Made.{spec_fields, spec_ranges, SameSpec, AreNameWords}
 use Rattle.segment_machine.specs.Actor.{all_published}
 use Rattle.segment_machine.specs.Consistent.{HoldsMade}
@@ -40,7 +34,7 @@ use Rattle.segment_machine.proofs.ImpliedBlocks.{claimed_piece}
 use Rattle.segment_machine.proofs.ImpliedChain.{shape_is, claimed_at}
 use Rattle.segment_machine.proofs.ImpliedRecords.{record_word, name_long, letters_part}
 use Rattle.segment_machine.proofs.ImpliedSpecs.{same_spelled, record_spec, ranges_part, ranges_fewer, buckets_are}
-use Rattle.segment_machine.proofs.ImpliedFirsts.{standing_of, says_name, is_named, is_sample_of, listed_record, first_of_name, name_of_first}
+use Rattle.segment_machine.proofs.ImpliedFirsts.{standing_of, says_name, is_sample_of, listed_record, first_of_name, name_of_first}
 use Rattle.segment_machine.proofs.ImpliedBooks.{split_at, one_first, sample_first}
 use Rattle.segment_machine.proofs.ImpliedTotals.{kind_word}
 use Rattle.segment_machine.proofs.ImpliedHeld.{counts_ref, own_counts, counts_unlisted, single_leads, later_record, later_sample, none_before}

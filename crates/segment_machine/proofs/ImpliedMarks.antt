@@ -1,12 +1,9 @@
 -- The marks of a kept state are what was taken.
-use Rattle.std.proofs.Common.{◌≡◌, ◌≢◌, ◌⊎◌, Bool, true, false, if◌then◌else◌, ℕ, ◌+◌, ◌<◌, ◌≤◌, max, ℤ, List, ◌++◌, length, length-append, inl, inr, ⊎_elim, refl, sym, ap, subst, ◌∙◌, arith, Option, Some, None}
+use Rattle.std.proofs.Common.{◌≡◌, ◌≢◌, Bool, true, false, if◌then◌else◌, ℕ, ◌+◌, ◌<◌, ◌≤◌, max, List, ◌++◌, length, length-append, inl, inr, refl, sym, ap, subst, ◌∙◌, arith, Option, Some, None}
 use Rattle.std.specs.Prelude.{slice_index, ◌==◌}
 use Rattle.std.specs.Int.{w64, cast_signed}
-use Rattle.std.specs.List.{All, Contains}
 use Rattle.std.proofs.lemmas.Bool.{eqb-true, eqb-false, eq-eqb, ne_eqb}
 use Rattle.std.proofs.lemmas.List.Elements.{All-weaker}
-use mathlib.Core.Option.{some, none}
-use lib.ListN.{get_elem?}
 use Rattle.segment_image.specs.Shape.{Dimensions}
 use Rattle.segment_image.specs.Words.{word_at}
 use Rattle.segment_image.specs.Blocks.{field_at}
@@ -22,8 +19,8 @@ use Rattle.segment_machine.specs.State.{State}
 use Rattle.segment_machine.specs.Entry.{tally_units}
 use Rattle.segment_machine.specs.Form.{units_in}
 use Rattle.segment_machine.specs.Actor.{all_counted}
-use Rattle.segment_machine.specs.Consistent.{bucket_total, bucket_mark, key_at, single_at, units_taken}
-use Rattle.segment_machine.specs.Body.{Record, Body, queue, plain, held, histogram, counts, sample, other, words_of, order_of, blank}
+use Rattle.segment_machine.specs.Consistent.{bucket_total, bucket_mark, key_at, units_taken}
+use Rattle.segment_machine.specs.Body.{Record, Body, queue, plain, held, histogram, counts, sample, other, words_of, blank}
 use Rattle.segment_machine.specs.Ledger.{form_at, key_of_bucket, at_bucket, keyed, marks_held, all_held}
 use Rattle.segment_machine.specs.Seen.{HasRecord, IsFirst, IsCounterIn, WasCounter}
 use Rattle.segment_machine.specs.Kept.{Kept}
@@ -88,9 +85,6 @@ module _ (shape : Dimensions) (version id : ℕ) (state : State) (kept : Kept sh
       → bucket_mark kept.anatomy.version state.words at i ≡ all_held (marks_held kept.anatomy.version name (key_of_bucket r.spec i)) kept.anatomy.pieces
   mark_held name kind at r first has named specified bucketed i below = words_say ∙ by_counts (r.counts == 0) (eqb-true r.counts 0) (eqb-false r.counts 0)
     where
-      marked : ℕ
-      marked = mark_at state.words r.counts (buckets_of r.spec) (form r) r.mark i
-
       words_say : bucket_mark kept.anatomy.version state.words at i ≡ mark_at state.words r.counts (buckets_of r.spec) (form r) r.mark i
       words_say =
           let lawful = kept.records.lawful at r has in

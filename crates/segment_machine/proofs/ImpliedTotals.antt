@@ -1,8 +1,8 @@
 -- The totals of a kept state are what was counted.
-use Rattle.std.proofs.Common.{◌≡◌, ◌≢◌, ◌⊎◌, Bool, true, false, ◌&&◌, if◌then◌else◌, ℕ, zero, suc, ◌+◌, ◌-◌, ◌<◌, ℤ, pos, List, [], ◌∷◌, ◌++◌, map, length, sum_by, length-append, inl, inr, ⊎_elim, refl, sym, ap, subst, ◌∙◌, arith, Option, Some, None}
+use Rattle.std.proofs.Common.{◌≡◌, ◌≢◌, ◌⊎◌, Bool, true, false, ◌&&◌, if◌then◌else◌, ℕ, zero, suc, ◌+◌, ◌-◌, ◌<◌, ℤ, pos, List, [], ◌∷◌, ◌++◌, length, sum_by, length-append, inl, inr, ⊎_elim, refl, sym, ap, subst, ◌∙◌, arith, Option, Some}
 use Rattle.std.specs.Prelude.{slice_index, ◌==◌}
 use Rattle.std.specs.Ordering.{int_eq}
-use Rattle.std.specs.List.{All, Contains}
+use Rattle.std.specs.List.{Contains}
 use Rattle.std.proofs.lemmas.Bool.{eqb-true, eqb-false, eq-eqb, ne_eqb}
 use Rattle.std.proofs.lemmas.List.Elements.{All-contains}
 use Rattle.std.proofs.lemmas.List.Sums.{sum_by-cons}
@@ -15,7 +15,7 @@ use Rattle.bucket_ranges.specs.declared.spec.Spec.{Spec}
 use Rattle.bucket_ranges.specs.declared.spec.Spec.TheVariants as spec
 use Rattle.bucket_ranges.specs.Spec.{buckets_of}
 use Rattle.bucket_ranges.specs.Ranges.{boundaries_of}
-use Rattle.bucket_ranges.specs.Reading.{is_sparse, record_buckets, count_at}
+use Rattle.bucket_ranges.specs.Reading.{is_sparse, count_at}
 use Rattle.bucket_ranges.specs.Single.{packed_bucket, units_packed}
 use Rattle.segment_machine.specs.declared.actor.Actor.{Actor}
 use Rattle.segment_machine.specs.declared.actor.Known.{Known}
@@ -25,15 +25,15 @@ use Rattle.segment_machine.specs.declared.place.Place.TheVariants.{Spent, Idle, 
 use Rattle.segment_machine.specs.State.{State}
 use Rattle.segment_machine.specs.Made.{spec_fields}
 use Rattle.segment_machine.specs.Form.{is_off, units_in}
-use Rattle.segment_machine.specs.Actor.{transit_at, transit_of, known_at, bucket_key, all_counted}
+use Rattle.segment_machine.specs.Actor.{transit_at, transit_of, known_at, all_counted}
 use Rattle.segment_machine.specs.Entry.{tally_units}
 use Rattle.segment_machine.proofs.Lists.{at_from}
 use Rattle.segment_machine.proofs.Singled.{sum_none}
-use Rattle.segment_machine.specs.Consistent.{IsHistogram, IsSample, bucket_total, key_at, single_at, HasPlace}
-use Rattle.segment_machine.specs.Body.{Record, Counts, Sample, histogram, counts, sample, Piece, order_of, blank, counts_words}
+use Rattle.segment_machine.specs.Consistent.{bucket_total, HasPlace}
+use Rattle.segment_machine.specs.Body.{Record, Counts, histogram, order_of, blank}
 use Rattle.segment_machine.specs.Ledger.{form_at, key_of_bucket, at_bucket, keyed, units_held, all_held, moving_of, moving_at, all_moving}
-use Rattle.segment_machine.specs.Seen.{HasRecord, HasCounts, HasSample, IsFirst, Knows}
-use Rattle.segment_machine.specs.Kept.{StandsRight, Kept, HasKey, IsCountsOf}
+use Rattle.segment_machine.specs.Seen.{HasRecord, HasCounts, IsFirst, Knows}
+use Rattle.segment_machine.specs.Kept.{StandsRight, Kept, HasKey}
 use Rattle.segment_machine.specs.Keeps.{KeptTotalsAreCounted}
 use Rattle.segment_machine.proofs.Pieces.{piece_word, one_stands}
 use Rattle.segment_machine.proofs.ImpliedRecords.{record_word}

@@ -52,20 +52,26 @@ module _ (records : List Listed) (P : Listed → Type 0) (Q : ℕ → Type 0)
   first_listed front behind at is none this =
       let (xs, ys, l, split, before, here) = split_map (λ (l : Listed). l.reference) records front behind at is in
       let others = unmapped (λ (l : Listed). l.reference) (λ other. ¬ (Q other)) xs (subst (All (λ other. ¬ (Q other))) (sym before) none) in
-      let among = λ (m : Listed) (there : Contains (xs ++ l ∷ ys) m). subst (λ (records : List Listed). Contains records m) (sym split) there in
-      (xs, ys, l, split,
-      all_from (λ l. ¬ (P l)) xs (λ i x there holds.
-      all_at (λ l. ¬ (Q l.reference)) xs i x others there (to x (among x (Contains-append_left xs (l ∷ ys) x (contains_at xs i x there))) holds)),
-      from l (among l (Contains-append_right xs (l ∷ ys) l (0, omega arith, refl))) (subst Q (sym here) this), here)
+      let among = λ (m : Listed) (there : Contains (xs ++ l ∷ ys) m). subst (λ (records : List Listed). Contains records m) (sym split) there in (
+        xs,
+        ys,
+        l,
+        split,
+        all_from (λ l. ¬ (P l)) xs (λ i x there holds.
+            all_at (λ l. ¬ (Q l.reference)) xs i x others there (to x (among x (Contains-append_left xs (l ∷ ys) x (contains_at xs i x there))) holds)),
+        from l (among l (Contains-append_right xs (l ∷ ys) l (0, omega arith, refl))) (subst Q (sym here) this),
+        here,
+      )
 
   first_reference : (xs ys : List Listed) (l : Listed) → records ≡ xs ++ l ∷ ys → All (λ l. ¬ (P l)) xs → P l
       → (references records ≡ references xs ++ l.reference ∷ references ys) × All (λ other. ¬ (Q other)) (references xs) × Q l.reference
   first_reference xs ys l split none this =
-      let among = λ (m : Listed) (there : Contains (xs ++ l ∷ ys) m). subst (λ (records : List Listed). Contains records m) (sym split) there in
-      (ap references split ∙ map-append (λ (l : Listed). l.reference) xs (l ∷ ys),
-      All-map (λ other. ¬ (Q other)) (λ (l : Listed). l.reference) xs (all_from (λ l. ¬ (Q l.reference)) xs (λ i x there holds.
-      all_at (λ l. ¬ (P l)) xs i x none there (from x (among x (Contains-append_left xs (l ∷ ys) x (contains_at xs i x there))) holds))),
-      to l (among l (Contains-append_right xs (l ∷ ys) l (0, omega arith, refl))) this)
+      let among = λ (m : Listed) (there : Contains (xs ++ l ∷ ys) m). subst (λ (records : List Listed). Contains records m) (sym split) there in (
+        ap references split ∙ map-append (λ (l : Listed). l.reference) xs (l ∷ ys),
+        All-map (λ other. ¬ (Q other)) (λ (l : Listed). l.reference) xs (all_from (λ l. ¬ (Q l.reference)) xs (λ i x there holds.
+            all_at (λ l. ¬ (P l)) xs i x none there (from x (among x (Contains-append_left xs (l ∷ ys) x (contains_at xs i x there))) holds))),
+        to l (among l (Contains-append_right xs (l ∷ ys) l (0, omega arith, refl))) this,
+      )
 
 -- ---- a kept state of a new segment
 
@@ -94,9 +100,11 @@ module _ (shape : Dimensions) (version id : ℕ) (state : State) (kept : Kept sh
   -- a sample says of what it is one
   pub is_sample_of : (at : ℕ) (s : Sample) → HasSample kept.anatomy.pieces at s → IsSampleOf state.words s.of s.value at
   is_sample_of at s (k, there) =
-      let word = λ (j : ℕ) (below : j < 8). piece_word shape state.words kept.anatomy kept.shown k _ j there (omega (arith, below)) in
-      (word 2 (omega arith), word 4 (omega arith),
-      ap (cast_signed w64) (word 5 (omega arith)) ∙ value_word s.value (kept.records.valued at s (k, there)).valued)
+      let word = λ (j : ℕ) (below : j < 8). piece_word shape state.words kept.anatomy kept.shown k _ j there (omega (arith, below)) in (
+        word 2 (omega arith),
+        word 4 (omega arith),
+        ap (cast_signed w64) (word 5 (omega arith)) ∙ value_word s.value (kept.records.valued at s (k, there)).valued,
+      )
 
   -- what was given to the maker of a record of a name
   pub given_name : (l : Listed) (name : List ℕ) → Contains kept.anatomy.records l → consistent.IsNamed state.words name l.reference

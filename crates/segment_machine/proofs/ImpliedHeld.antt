@@ -104,9 +104,10 @@ module _ (shape : Dimensions) (version id : ℕ) (state : State) (kept : Kept sh
       let here = subst (λ (at : ℕ). Stands kept.anatomy.pieces at none (sample s)) spot stands in
       let (t, first, has) = first_of_value shape version id state kept (field_at state.words at 4) (sample_value state.words at) place is in
       let nothing = kept.records.later_samples at place s here
-      (subst (λ (p : ℕ × ℤ). IsFirstOf kept.anatomy.records p.0 p.1 place) (λ j. (sym mine j, sym valued j)) first) apart in
-      (piece_word shape state.words kept.anatomy kept.shown here.0 _ 6 here.1 (omega arith) ∙ nothing.0,
-      piece_word shape state.words kept.anatomy kept.shown here.0 _ 7 here.1 (omega arith) ∙ nothing.1)
+      (subst (λ (p : ℕ × ℤ). IsFirstOf kept.anatomy.records p.0 p.1 place) (λ j. (sym mine j, sym valued j)) first) apart in (
+        piece_word shape state.words kept.anatomy kept.shown here.0 _ 6 here.1 (omega arith) ∙ nothing.0,
+        piece_word shape state.words kept.anatomy kept.shown here.0 _ 7 here.1 (omega arith) ∙ nothing.1,
+      )
 
   -- the list of a new segment has no record
   pub none_before : (front : List ℕ) (at : ℕ) → IsChain (new_opening shape version id).words (head_of (new_opening shape version id).words) front
@@ -123,14 +124,15 @@ module _ (shape : Dimensions) (version id : ℕ) (state : State) (kept : Kept sh
       let (l, name, kind, r, among, spot, made, (has, named, specified)) = listed_record shape version id state kept at there one in
       let (first_kind, q, first, its) = first_of_name shape version id state kept (name_of state.words at) place is in
       let mine : name_of state.words at ≡ r.name = (is_named shape version id state kept at r has).1 in
-      let nothing = kept.records.later at place r first_kind has (subst (λ (name : List ℕ). IsFirst kept.anatomy.records name first_kind place) mine first) apart in
-      (subst (λ (v : ℕ). (field_at state.words at 9 ≡ 0) ⊎ (field_at state.words at 9 ≡ off_word v 0)) kept.same.0
-      (subst (λ (n : ℕ). (n ≡ 0) ⊎ (n ≡ off_word kept.anatomy.version 0)) (sym (word at r has 9 (omega arith))) nothing.0.0),
-      (λ i from below. four (λ i. field_at state.words at i ≡ 0) (word at r has 10 (omega arith) ∙ nothing.0.1) (word at r has 11 (omega arith) ∙ nothing.0.2)
-      (word at r has 12 (omega arith) ∙ nothing.0.3) (word at r has 13 (omega arith) ∙ nothing.0.4) i from below),
-      (λ i below. in_counts at r has nothing.1 (r.counts == 0) (eqb-true r.counts 0) (eqb-false r.counts 0) i
-      (subst (λ (p : ℕ × ℕ). i < (if p.0 == 0 then 0 else 2 * p.1))
-      (λ j. (counts_ref at r has j, buckets_are shape state.words kept.anatomy kept.shown kept.anatomy.version at r has (kept.records.lawful at r has) j)) below)))
+      let nothing = kept.records.later at place r first_kind has (subst (λ (name : List ℕ). IsFirst kept.anatomy.records name first_kind place) mine first) apart in (
+        subst (λ (v : ℕ). (field_at state.words at 9 ≡ 0) ⊎ (field_at state.words at 9 ≡ off_word v 0)) kept.same.0
+            (subst (λ (n : ℕ). (n ≡ 0) ⊎ (n ≡ off_word kept.anatomy.version 0)) (sym (word at r has 9 (omega arith))) nothing.0.0),
+        (λ i from below. four (λ i. field_at state.words at i ≡ 0) (word at r has 10 (omega arith) ∙ nothing.0.1) (word at r has 11 (omega arith) ∙ nothing.0.2)
+            (word at r has 12 (omega arith) ∙ nothing.0.3) (word at r has 13 (omega arith) ∙ nothing.0.4) i from below),
+        (λ i below. in_counts at r has nothing.1 (r.counts == 0) (eqb-true r.counts 0) (eqb-false r.counts 0) i
+            (subst (λ (p : ℕ × ℕ). i < (if p.0 == 0 then 0 else 2 * p.1))
+            (λ j. (counts_ref at r has j, buckets_are shape state.words kept.anatomy kept.shown kept.anatomy.version at r has (kept.records.lawful at r has) j)) below)),
+      )
     where
       word : (at : ℕ) (r : Record) → HasRecord kept.anatomy.pieces at r → (j : ℕ) → j < 15 → field_at state.words at j ≡ slice_index (record_words r) j
       word at r has j below = record_word shape state.words kept.anatomy kept.shown at r j has below

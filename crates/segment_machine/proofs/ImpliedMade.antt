@@ -87,21 +87,22 @@ module _ (shape : Dimensions) (version id : ℕ) (state : State) (lawful : IsSha
       let spec_is = record_spec shape state.words kept.anatomy kept.shown kept.anatomy.version at r has right in
       let many = buckets_are shape state.words kept.anatomy kept.shown kept.anatomy.version at r has right in
       let page = ap (λ (s : Dimensions). s.page) (shape_is shape version id state lawful kept) in
-      let fits = right.fits in
-      (word 2 (omega arith),
-      and_from _ _ (le-leb (15 + name_words (field_at state.words at 14)) (field_at state.words at 0) (omega (arith, long, letters, size, sized)))
-      (ap is_name named ∙ right.named),
-      named,
-      and_from _ _ (le-leb (reading.record_words state.words at) (field_at state.words at 0)
-      (room at r has (field_at state.words at 4 == 3) (eqb-true (field_at state.words at 4) 3) (15 + name_words (field_at state.words at 14)) (field_at state.words at 7 - 1)
-      (omega (arith, long, letters))
-      (λ custom. ap (λ (n : ℕ). n - 1) (word 7 (omega arith)) ∙ ranges_fewer r.spec (sym (word 4 (omega arith)) ∙ custom))
-      (omega (arith, size, sized))))
-      ((λ j. is_spec_named (word 4 (omega arith) j) (word 5 (omega arith) j) (word 6 (omega arith) j) (word 7 (omega arith) j) (inner_ranges state.words at))
-      ∙ spec_is_named r.spec (inner_ranges state.words at) right.lawful ranges),
-      subst (λ (kind : Spec). SameSpec kind r.spec) (sym spec_is) (same_spelled r.spec),
-      omega (arith, fits, many, page),
-      subst (AreNameWords r.name) (sym (letters_part shape state.words kept.anatomy kept.shown kept.anatomy.version at r has right)) right.lettered)
+      let fits = right.fits in (
+        word 2 (omega arith),
+        and_from _ _ (le-leb (15 + name_words (field_at state.words at 14)) (field_at state.words at 0) (omega (arith, long, letters, size, sized)))
+            (ap is_name named ∙ right.named),
+        named,
+        and_from _ _ (le-leb (reading.record_words state.words at) (field_at state.words at 0)
+            (room at r has (field_at state.words at 4 == 3) (eqb-true (field_at state.words at 4) 3) (15 + name_words (field_at state.words at 14)) (field_at state.words at 7 - 1)
+            (omega (arith, long, letters))
+            (λ custom. ap (λ (n : ℕ). n - 1) (word 7 (omega arith)) ∙ ranges_fewer r.spec (sym (word 4 (omega arith)) ∙ custom))
+            (omega (arith, size, sized))))
+            ((λ j. is_spec_named (word 4 (omega arith) j) (word 5 (omega arith) j) (word 6 (omega arith) j) (word 7 (omega arith) j) (inner_ranges state.words at))
+            ∙ spec_is_named r.spec (inner_ranges state.words at) right.lawful ranges),
+        subst (λ (kind : Spec). SameSpec kind r.spec) (sym spec_is) (same_spelled r.spec),
+        omega (arith, fits, many, page),
+        subst (AreNameWords r.name) (sym (letters_part shape state.words kept.anatomy kept.shown kept.anatomy.version at r has right)) right.lettered,
+      )
     where
       room : (at : ℕ) (r : Record) → HasRecord kept.anatomy.pieces at r → (b : Bool) → (b ≡ true → field_at state.words at 4 ≡ 3) → (fields ranges : ℕ)
           → fields ≤ 15 + length r.letters → (field_at state.words at 4 ≡ 3 → ranges ≡ length (spec_ranges r.spec))
@@ -132,14 +133,21 @@ module _ (shape : Dimensions) (version id : ℕ) (state : State) (lawful : IsSha
       let (kind, r, again, (stands, called, sorted)) = first_of_name shape version id state kept s.name of histogram_is in
       let sparse : r.spec ≡ spec.Sparse = sorted ∙ (one_first shape version id state kept s.name kind spec.Sparse of of again first).1 in
       let references = λ (records : List Listed). map (λ (l : Listed). l.reference) records in
-      let says = is_sample_of shape version id state kept l.reference s has in
-      ((says.0, says.1 ∙ mine, says.2 ∙ valued),
-      omega (arith, size, sized), subst (λ (v : ℤ). reading.is_i32 v ≡ true) valued right.valued,
-      (s.name, references front, references behind, histogram_is,
-      kind_word shape version id state kept of r stands ∙ ap (λ (kind : Spec). slice_index (spec_fields kind) 0 == 4) sparse,
-      ap references split ∙ map-append (λ (l : Listed). l.reference) front (l ∷ behind),
-      subst (λ (list : List ℕ). Contains list of) (sym (ap references before ∙ map-append (λ (l : Listed). l.reference) xs _))
-      (Contains-append_right (references xs) (of ∷ references ys) of (0, omega arith, refl))))
+      let says = is_sample_of shape version id state kept l.reference s has in (
+        (says.0, says.1 ∙ mine, says.2 ∙ valued),
+        omega (arith, size, sized),
+        subst (λ (v : ℤ). reading.is_i32 v ≡ true) valued right.valued,
+        (
+          s.name,
+          references front,
+          references behind,
+          histogram_is,
+          kind_word shape version id state kept of r stands ∙ ap (λ (kind : Spec). slice_index (spec_fields kind) 0 == 4) sparse,
+          ap references split ∙ map-append (λ (l : Listed). l.reference) front (l ∷ behind),
+          subst (λ (list : List ℕ). Contains list of) (sym (ap references before ∙ map-append (λ (l : Listed). l.reference) xs _))
+              (Contains-append_right (references xs) (of ∷ references ys) of (0, omega arith, refl)),
+        ),
+      )
 
   -- a published record is on the list
   published_listed : (p : Published) → Contains (all_published state.actors) p → Contains kept.anatomy.records (listed p)
@@ -161,9 +169,10 @@ records_hold shape version id state lawful kept = record {
   claimed_counts = λ at there one some_there.
       let (l, name, kind, r, among, place, made, (has, named, specified)) = listed_record shape version id state kept at there one in
       let names_it = counts_ref shape version id state kept at r has in
-      let (c, mounted, of_it) = kept.records.mounted at r has (λ e. some_there (names_it ∙ e)) in
-      (subst (Contains _) (sym names_it) (claimed_at shape version id state lawful kept mounted.0 _ mounted.1 refl),
-      subst (λ (at : ℕ). ¬ (Contains (order_of kept.anatomy) at)) (sym names_it) (counts_unlisted shape version id state kept r.counts c mounted));
+      let (c, mounted, of_it) = kept.records.mounted at r has (λ e. some_there (names_it ∙ e)) in (
+        subst (Contains _) (sym names_it) (claimed_at shape version id state lawful kept mounted.0 _ mounted.1 refl),
+        subst (λ (at : ℕ). ¬ (Contains (order_of kept.anatomy) at)) (sym names_it) (counts_unlisted shape version id state kept r.counts c mounted),
+      );
   singles = λ who a alive lives s at seen there same. single_leads shape version id state kept s at
       (All-contains (WasSingle kept.anatomy.version kept.anatomy.pieces) a.seen_singles s (kept.each who a alive lives).sees.singles seen) same;
   later = λ at other there one is apart.

@@ -158,20 +158,27 @@ module _ (shape : Dimensions) (version id : ℕ) (state : State) (kept : Kept sh
       let is = name_of_first shape version id state kept name kind at first in
       let (other, r, again, (has, named, specified)) = first_of_name shape version id state kept name at is in
       let same : r.spec ≡ kind = specified ∙ (one_first shape version id state kept name other kind at at again first).1 in
-      let lawful = kept.records.lawful at r has in
-      (at, is, ⊎_elim
-      (λ by_bucket.
-      let (bucket, below, key_is_it) = by_bucket in
-      inl (bucket,
-      kind_word at r has ∙ (ap (λ (kind : Spec). slice_index (spec_fields kind) 0 == 4) same ∙ has_buckets kind bucket below),
-      subst (λ (n : ℕ). bucket < n) (sym (buckets_are shape state.words kept.anatomy kept.shown kept.anatomy.version at r has lawful ∙ ap buckets_of same)) below,
-      key_is_it ∙ sym (key_is shape state.words kept.anatomy kept.shown kept.anatomy.version at r has lawful bucket ∙ ap (λ (kind : Spec). key_of_bucket kind bucket) same)))
-      (λ by_value.
-      let (sparse, place, first_value) = by_value in
-      inr (place,
-      kind_word at r has ∙ ap (λ (kind : Spec). slice_index (spec_fields kind) 0 == 4) (same ∙ sparse),
-      value_of_first shape version id state kept at key place first_value))
-      keyed_by)
+      let lawful = kept.records.lawful at r has in (
+        at,
+        is,
+        ⊎_elim
+            (λ by_bucket.
+            let (bucket, below, key_is_it) = by_bucket in
+            inl (
+              bucket,
+              kind_word at r has ∙ (ap (λ (kind : Spec). slice_index (spec_fields kind) 0 == 4) same ∙ has_buckets kind bucket below),
+              subst (λ (n : ℕ). bucket < n) (sym (buckets_are shape state.words kept.anatomy kept.shown kept.anatomy.version at r has lawful ∙ ap buckets_of same)) below,
+              key_is_it ∙ sym (key_is shape state.words kept.anatomy kept.shown kept.anatomy.version at r has lawful bucket ∙ ap (λ (kind : Spec). key_of_bucket kind bucket) same),
+            ))
+            (λ by_value.
+            let (sparse, place, first_value) = by_value in
+            inr (
+              place,
+              kind_word at r has ∙ ap (λ (kind : Spec). slice_index (spec_fields kind) 0 == 4) (same ∙ sparse),
+              value_of_first shape version id state kept at key place first_value,
+            ))
+            keyed_by,
+      )
 
   module _ (name : List ℕ) (kind : Spec) (at : ℕ) (r : Record) (first : IsFirst kept.anatomy.records name kind at) (has : HasRecord kept.anatomy.pieces at r)
       (named : r.name ≡ name) (specified : r.spec ≡ kind) where

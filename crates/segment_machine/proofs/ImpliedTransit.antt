@@ -53,6 +53,8 @@ pub transit_is_local : KeptTransitIsLocal
 transit_is_local shape version id state lawful kept at i above =
     let (who, a, there, counts) = some_counts (λ (a : Actor). transit_at a.place at i) state.actors above in
     let (r, here, first, packed) = moves shape version id who state kept a at i a.place (kept.standing who a there) counts in
-    let one : version ≡ 1 = sym kept.same.0 ∙ first in
-    (one, ap packed_bucket (form_is shape state.words kept.anatomy kept.shown kept.anatomy.version at r here (kept.records.lawful at r here) version)
-    ∙ (ap (λ (v : ℕ). packed_bucket (form_at v r)) one ∙ packed))
+    let one : version ≡ 1 = sym kept.same.0 ∙ first in (
+      one,
+      ap packed_bucket (form_is shape state.words kept.anatomy kept.shown kept.anatomy.version at r here (kept.records.lawful at r here) version)
+          ∙ (ap (λ (v : ℕ). packed_bucket (form_at v r)) one ∙ packed),
+    )

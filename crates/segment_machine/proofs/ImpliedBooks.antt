@@ -44,7 +44,7 @@ first_unique P (z ∷ xs) (w ∷ ys) x y rest more e none_before others here the
     first_unique P xs ys x y rest more behind (All-tail (λ z. ¬ (P z)) z xs none_before) (All-tail (λ z. ¬ (P z)) w ys others) here there
 
 -- an element of a list has some before it and some behind it
-split_at : {X : Type 0} (l : List X) (i : ℕ) (x : X) → get_elem? l i ≡ some x → (front behind : List X) × (l ≡ front ++ x ∷ behind)
+pub split_at : {X : Type 0} (l : List X) (i : ℕ) (x : X) → get_elem? l i ≡ some x → (front behind : List X) × (l ≡ front ++ x ∷ behind)
 split_at [] i x there = absurd (some-ne-none x (sym there))
 split_at (y ∷ ys) zero x there = ([], ys, ap (λ z. z ∷ ys) (some-injective y x there))
 split_at (y ∷ ys) (suc i) x there = let (front, behind, is) = split_at ys i x there in (y ∷ front, behind, ap (λ l. y ∷ l) is)

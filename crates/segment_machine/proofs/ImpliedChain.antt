@@ -127,7 +127,7 @@ module _ (shape : Dimensions) (version id : ℕ) (state : State) (lawful : IsSha
       length_shown shape words (layout_of anatomy) kept.shown
       ∙ sym (length_shown shape opened (fresh shape version id) (record { shows = refl; sound = fresh_sound shape version id lawful }))
 
-  shape_is : (head_of words).shape ≡ shape
+  pub shape_is : (head_of words).shape ≡ shape
   shape_is =
       let size_word = ap (λ (ws : List ℕ). word_at ws 2) kept.shown.shows in
       let page_word = ap (λ (ws : List ℕ). word_at ws 3) kept.shown.shows in
@@ -187,13 +187,18 @@ module _ (shape : Dimensions) (version id : ℕ) (state : State) (lawful : IsSha
       → All P (all_claims [] state.actors)
   all_of_claims P each = All-permutation P (claims_of anatomy.pieces) (all_claims [] state.actors) claims_are (all_claims_of P anatomy.pieces each)
 
+  -- a claimed block was claimed
+  pub claimed_at : (k : ℕ) (p : Piece) → get_elem? anatomy.pieces k ≡ some p → is_claimed p.body ≡ true → Contains (places_of (all_claims [] state.actors)) p.at
+  claimed_at k p there claimed =
+      let claim = at_from (all_claims [] state.actors) (claim_of p)
+      (Contains-permutation _ _ _ claims_are (claim_there anatomy.pieces k p there claimed)) in
+      contains_at (places_of (all_claims [] state.actors)) claim.0 p.at
+      (at_map (λ (claim : Claim). claim.at) (all_claims [] state.actors) claim.0 (claim_of p) claim.1)
+
   claimed : (at : ℕ) → Contains chain at → Contains (places_of (all_claims [] state.actors)) at
   claimed at there =
       let block = record_block at there in
-      let claim = at_from (all_claims [] state.actors) (claim_of block.1)
-      (Contains-permutation _ _ _ claims_are (claim_there anatomy.pieces block.0 block.1 block.2 block.3)) in
-      contains_at (places_of (all_claims [] state.actors)) claim.0 at
-      (at_map (λ (claim : Claim). claim.at) (all_claims [] state.actors) claim.0 (claim_of block.1) claim.1 ∙ ap some block.4)
+      subst (Contains (places_of (all_claims [] state.actors))) block.4 (claimed_at block.0 block.1 block.2 block.3)
 
   is_chain : ListIsChain opened [] words state.cursors state.actors chain
   is_chain = record {

@@ -87,11 +87,11 @@ module _ (shape : Dimensions) (version id : ℕ) (state : State) (kept : Kept sh
   abbrev Valued : ℕ → ℤ → ℕ → Sample → Type 0
   Valued of value at s = HasSample kept.anatomy.pieces at s × (s.of ≡ of) × (s.value ≡ value)
 
-  standing_of : (l : Listed) → Contains kept.anatomy.records l → StandsAs kept.anatomy.pieces l l.made
+  pub standing_of : (l : Listed) → Contains kept.anatomy.records l → StandsAs kept.anatomy.pieces l l.made
   standing_of l there = All-contains (λ l. StandsAs kept.anatomy.pieces l l.made) kept.anatomy.records l kept.list.standing there
 
   -- a record says its name
-  says_name : (at : ℕ) (r : Record) → HasRecord kept.anatomy.pieces at r → name_of state.words at ≡ r.name
+  pub says_name : (at : ℕ) (r : Record) → HasRecord kept.anatomy.pieces at r → name_of state.words at ≡ r.name
   says_name at r there = record_name shape state.words kept.anatomy kept.shown kept.anatomy.version at r there (kept.records.lawful at r there)
 
   pub is_named : (at : ℕ) (r : Record) → HasRecord kept.anatomy.pieces at r → consistent.IsNamed state.words r.name at

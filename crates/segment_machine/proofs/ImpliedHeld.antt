@@ -38,7 +38,7 @@ module _ (shape : Dimensions) (version id : ℕ) (state : State) (kept : Kept sh
       let bodies : counts c ≡ counts d = (one_stands shape state.words kept.anatomy kept.shown at none none (counts c) (counts d) first second).1 in
       cc bodies
 
-  counts_ref : (at : ℕ) (r : Record) → HasRecord kept.anatomy.pieces at r → field_at state.words at 8 ≡ r.counts
+  pub counts_ref : (at : ℕ) (r : Record) → HasRecord kept.anatomy.pieces at r → field_at state.words at 8 ≡ r.counts
   counts_ref at r has = record_word shape state.words kept.anatomy kept.shown at r 8 has (omega arith)
 
   -- counts and marks that are all 0, by their words

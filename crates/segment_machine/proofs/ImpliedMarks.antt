@@ -85,9 +85,6 @@ module _ (shape : Dimensions) (version id : ℕ) (state : State) (kept : Kept sh
       → bucket_mark kept.anatomy.version state.words at i ≡ all_held (marks_held kept.anatomy.version name (key_of_bucket r.spec i)) kept.anatomy.pieces
   mark_held name kind at r first has named specified bucketed i below = words_say ∙ by_counts (r.counts == 0) (eqb-true r.counts 0) (eqb-false r.counts 0)
     where
-      marked : ℕ
-      marked = mark_at state.words r.counts (buckets_of r.spec) (form r) r.mark i
-
       words_say : bucket_mark kept.anatomy.version state.words at i ≡ mark_at state.words r.counts (buckets_of r.spec) (form r) r.mark i
       words_say =
           let lawful = kept.records.lawful at r has in

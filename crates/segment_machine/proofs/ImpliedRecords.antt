@@ -100,15 +100,19 @@ module _ (shape : Dimensions) (words : List ℕ) (anatomy : Anatomy) (shown : Is
       let zeros = length-replicate {A = ℕ} k 0 in
       omega (arith, bytes, words_long, name_long, zeros, few)
 
+  -- the words of its name
+  pub letters_part : (version : ℕ) (at : ℕ) (r : Record) → HasRecord anatomy.pieces at r → IsLawfulRecord version shape.page r
+      → slice_range words (at + 15) (at + 15 + name_words (length r.name)) ≡ r.letters
+  letters_part version at r there lawful =
+      let fields : List ℕ = take 15 (record_words r) in
+      ap (λ (n : ℕ). slice_range words (at + 15) (at + 15 + n)) (name_long version r lawful)
+      ∙ piece_part there.0 (record { at = at; owner = none; body = histogram r }) fields r.letters (spec_ranges r.spec ++ r.rest) there.1
+      (ap (λ (behind : List ℕ). fields ++ behind) (append_assoc r.letters (spec_ranges r.spec) r.rest))
+
   -- a record has the name that it was given
   pub record_name : (version : ℕ) (at : ℕ) (r : Record) → HasRecord anatomy.pieces at r → IsLawfulRecord version shape.page r → name_of words at ≡ r.name
   record_name version at r there lawful =
       let (k, few, is) = lawful.lettered in
-      let count = name_long version r lawful in
-      let fields : List ℕ = take 15 (record_words r) in
-      let part = piece_part there.0 (record { at = at; owner = none; body = histogram r }) fields r.letters (spec_ranges r.spec ++ r.rest) there.1
-      (ap (λ (behind : List ℕ). fields ++ behind) (append_assoc r.letters (spec_ranges r.spec) r.rest)) in
       ap (λ (len : ℕ). take len (bytes_of_words (slice_range words (at + 15) (at + 15 + name_words len)))) (record_word at r 14 there (omega arith))
-      ∙ (ap (λ (n : ℕ). take (length r.name) (bytes_of_words (slice_range words (at + 15) (at + 15 + n)))) count
-      ∙ (ap (λ (letters : List ℕ). take (length r.name) (bytes_of_words letters)) part
-      ∙ (ap (take (length r.name)) is ∙ take-append_seam r.name (replicate k 0))))
+      ∙ (ap (λ (letters : List ℕ). take (length r.name) (bytes_of_words letters)) (letters_part version at r there lawful)
+      ∙ (ap (take (length r.name)) is ∙ take-append_seam r.name (replicate k 0)))

@@ -66,7 +66,7 @@ named_by (Custom values) inner ranges = ap Custom (ranges refl)
 named_by Sparse inner ranges = refl
 
 -- a custom spec has one range fewer than buckets
-ranges_fewer : (spec : Spec) → slice_index (spec_fields spec) 0 ≡ 3 → slice_index (spec_fields spec) 3 - 1 ≡ length (spec_ranges spec)
+pub ranges_fewer : (spec : Spec) → slice_index (spec_fields spec) 0 ≡ 3 → slice_index (spec_fields spec) 3 - 1 ≡ length (spec_ranges spec)
 ranges_fewer (Linear min max n) e = absurd (omega (arith, e))
 ranges_fewer Boolean e = absurd (omega (arith, e))
 ranges_fewer (Custom values) e = omega arith
@@ -80,7 +80,7 @@ module _ (shape : Dimensions) (words : List ℕ) (anatomy : Anatomy) (shown : Is
   word j below = record_word shape words anatomy shown at r j there below
 
   -- the ranges of a custom record
-  ranges_part : slice_index (spec_fields r.spec) 0 ≡ 3 → inner_ranges words at ≡ spec_ranges r.spec
+  pub ranges_part : slice_index (spec_fields r.spec) 0 ≡ 3 → inner_ranges words at ≡ spec_ranges r.spec
   ranges_part custom =
       let fields : List ℕ = take 15 (record_words r) in
       let front : List ℕ = fields ++ r.letters in

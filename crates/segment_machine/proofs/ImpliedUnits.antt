@@ -1,26 +1,21 @@
 -- The units of a kept state are kept: its sums are near each other, by what was spent on their histogram.
-use Rattle.std.proofs.Common.{◌≡◌, ◌≢◌, Bool, true, false, ℕ, ◌+◌, ◌*◌, ◌≤◌, ℤ, pos, List, ◌∷◌, length, filter, inl, inr, refl, sym, ap, subst, ◌∙◌, arith, Some, None}
-use Rattle.std.specs.Prelude as std
+use Rattle.std.proofs.Common.{◌≡◌, Bool, true, false, ℕ, ◌+◌, ◌*◌, ◌≤◌, ℤ, pos, List, length, filter, inl, inr, refl, ap, subst, ◌∙◌, arith}
 use Rattle.std.specs.Prelude.{unsigned_abs, ◌==◌, ◌-ℤ◌, if◌then◌else◌}
 use Rattle.std.specs.Int.{w64, cast_signed}
-use Rattle.std.specs.List.{Contains}
 use Rattle.std.proofs.Math.IntN.{+ℤ_idr}
-use Rattle.std.proofs.lemmas.List.Elements.{Contains-append_right}
 use Rattle.std.proofs.lemmas.List.Sums.{sum_by-le-sum_by}
 use Rattle.segment_image.specs.Shape.{Dimensions}
-use Rattle.segment_image.specs.Blocks.{field_at}
 use Rattle.segment_machine.specs.declared.actor.Actor.{Actor}
-use Rattle.segment_machine.specs.declared.actor.Made.{Made}
-use Rattle.segment_machine.specs.declared.actor.Made.TheVariants as made
 use Rattle.segment_machine.specs.State.{State}
 use Rattle.segment_machine.specs.Actor.{cost_of, all_costs}
 use Rattle.segment_machine.specs.Consistent.{IsHistogram, IsSum}
-use Rattle.segment_machine.specs.Body.{Record, Listed, order_of, blank}
+use Rattle.segment_machine.specs.Body.{Record, order_of, blank}
 use Rattle.segment_machine.specs.Seen.{HasRecord}
-use Rattle.segment_machine.specs.Kept.{StandsAs, summed_cost, summed_costs, IsSumOf, Kept}
+use Rattle.segment_machine.specs.Kept.{summed_cost, summed_costs, IsSumOf, Kept}
 use Rattle.segment_machine.specs.Keeps.{KeptUnitsAreKept}
 use Rattle.segment_machine.proofs.Lists.{at_from}
-use Rattle.segment_machine.proofs.ImpliedRecords.{listed_there, each_given, record_word, sample_type, record_name}
+use Rattle.segment_machine.proofs.ImpliedFirsts.{first_of_name}
+use Rattle.segment_machine.proofs.ImpliedRecords.{record_word}
 
 -- what a sum has grown by was spent, or is held
 part_of : (b : Bool) (n : ℕ) → (if b then 0 else n) ≤ n
@@ -39,20 +34,7 @@ module _ (shape : Dimensions) (version id : ℕ) (state : State) (kept : Kept sh
   histogram_record : (name : List ℕ) (at : ℕ) → IsHistogram state.words (order_of kept.anatomy) name at
       → (r : Record) × HasRecord kept.anatomy.pieces at r × (r.name ≡ name)
   histogram_record name at is =
-      let there = subst (λ (chain : List ℕ). Contains chain at) (sym is.stands) (Contains-append_right is.front (at ∷ is.behind) at (0, omega arith, refl)) in
-      let (l, among, place, standing) = listed_there state.words (blank version id shape.size) kept.anatomy state.actors at kept.list there in
-      stands l l.made standing place (each_given state.words (blank version id shape.size) kept.anatomy state.actors l kept.list refl among)
-    where
-      stands : (l : Listed) (made : std.Option Made) → StandsAs kept.anatomy.pieces l made → l.reference ≡ at → made ≢ None
-          → (r : Record) × HasRecord kept.anatomy.pieces at r × (r.name ≡ name)
-      stands l (Some (made.Histogram other spec)) (r, has, named, specified) place given =
-          let here = subst (λ (at : ℕ). HasRecord kept.anatomy.pieces at r) place has in
-          (r, here, sym (record_name shape state.words kept.anatomy kept.shown kept.anatomy.version at r here (kept.records.lawful at r here)) ∙ is.named.1)
-      stands l (Some (made.Sample of value)) (s, has, mine, valued) place given =
-          let three = sample_type shape state.words kept.anatomy kept.shown l.reference s has in
-          let one = is.named.0 in
-          absurd (omega (arith, subst (λ (at : ℕ). field_at state.words at 2 ≡ 3) place three, one))
-      stands l None standing place given = absurd (given refl)
+      let (kind, r, first, (has, named, specified)) = first_of_name shape version id state kept name at is in (r, has, named)
 
   -- a sum of it is one of its record
   sum_of_record : (at : ℕ) (r : Record) (sum : ℤ) → HasRecord kept.anatomy.pieces at r → IsSum state.words state.actors at sum → IsSumOf state.actors at r sum

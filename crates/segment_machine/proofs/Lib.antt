@@ -12,10 +12,13 @@ pub mod Goings
 pub mod ImpliedBlocks
 pub mod ImpliedBooks
 pub mod ImpliedChain
+pub mod ImpliedConsistent
 pub mod ImpliedFirsts
 pub mod ImpliedFlags
+pub mod ImpliedForms
 pub mod ImpliedHeld
 pub mod ImpliedKeys
+pub mod ImpliedMade
 pub mod ImpliedMarks
 pub mod ImpliedRecords
 pub mod ImpliedSpecs

@@ -11,7 +11,7 @@ use Rattle.segment_machine.specs.Event.{Event, load_flags, load_free, exchange_f
 use Rattle.segment_machine.specs.Next.{next}
 use Rattle.segment_machine.specs.Ready.{Ready}
 use Rattle.segment_machine.specs.State.{State, memory}
-use Rattle.segment_machine.specs.Consistent.{ListIsChain, FlagsAreSet, UnitsAreKept, TotalsAreCounted, MarksAreTaken, SumsAreAmounts, TransitIsLocal, IsConsistent}
+use Rattle.segment_machine.specs.Consistent.{ListIsChain, FlagsAreSet, UnitsAreKept, RecordsHold, TotalsAreCounted, MarksAreTaken, SumsAreAmounts, TransitIsLocal, IsConsistent}
 use Rattle.segment_machine.specs.Promises.{new_opening, new_state, IsState, IsSplit, IsJoin, IsLent}
 use Rattle.segment_machine.specs.Body.{Anatomy, blank, order_of}
 use Rattle.segment_machine.specs.Learned.{Learned}
@@ -113,6 +113,11 @@ KeptMarksAreTaken = (shape : Dimensions) (version id : ℕ) (state : State) → 
 abbrev pub KeptSumsAreAmounts : Type 0
 KeptSumsAreAmounts = (shape : Dimensions) (version id : ℕ) (state : State) → IsShape shape → (kept : Kept shape (blank version id shape.size) state)
     → SumsAreAmounts (new_opening shape version id).words state.words state.actors (order_of kept.anatomy)
+
+-- its records hold what they were given
+abbrev pub KeptRecordsHold : Type 0
+KeptRecordsHold = (shape : Dimensions) (version id : ℕ) (state : State) → IsShape shape → (kept : Kept shape (blank version id shape.size) state)
+    → RecordsHold (new_opening shape version id).words [] state.words state.actors (order_of kept.anatomy)
 
 -- its totals are what was counted
 abbrev pub KeptTotalsAreCounted : Type 0

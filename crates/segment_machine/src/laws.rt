@@ -7,7 +7,7 @@ ghost use Rattle.segment_machine.specs.Promises.{StepsChangeOne, KeysAreLeast};
 ghost use Rattle.segment_machine.specs.Follows.{NotesKeep, StepsFollow, TablesFollow};
 ghost use Rattle.segment_machine.specs.Lives.{RecorderIsJoined, LinksLengthen, DeltaOwes, SnapshotOwes};
 ghost use Rattle.segment_machine.specs.Accounts.{MountedAgrees, TakersAgree, SparseAgrees, BatchAgrees};
-ghost use Rattle.segment_machine.specs.Keeps.{OpeningIsKept, AllocatingKeeps, ListingKeeps, SplitsKeep, JoinsKeep, LendsKeep, KeptFlagsAreSet, KeptIsChain, KeptUnitsAreKept, KeptTransitIsLocal, KeptSumsAreAmounts, KeptTotalsAreCounted, KeptMarksAreTaken};
+ghost use Rattle.segment_machine.specs.Keeps.{OpeningIsKept, AllocatingKeeps, ListingKeeps, SplitsKeep, JoinsKeep, LendsKeep, KeptFlagsAreSet, KeptIsChain, KeptUnitsAreKept, KeptTransitIsLocal, KeptSumsAreAmounts, KeptTotalsAreCounted, KeptMarksAreTaken, KeptRecordsHold, KeptIsConsistent};
 ghost use Rattle.segment_machine.specs.Examples.{Keys, PackedThenMounted, StoppedInTransit, PackingLimit, DeltasAndMarks, TwoTakers, PackedRun, MountingRun, TakerRuns, TakingRun, SparseSamples, Batches, MountedIsConsistent, ListBreaks, RecordsBreak, TotalsBreak, MarksBreak, SumsBreak, TransitBreaks, FlagsBreak, UnitsBreak};
 
 /// A step changes one word and one actor at most.
@@ -249,4 +249,14 @@ pub fn kept_marks_are_taken()
 /// known, that a delta or a snapshot begins, what a block of its own is to hold, or which histogram it was answered.
 pub fn notes_keep()
     ensures { NotesKeep }
+{}
+
+/// The records of a kept state hold what they were given, and have lawful forms.
+pub fn kept_records_hold()
+    ensures { KeptRecordsHold }
+{}
+
+/// A kept state is consistent, in all its parts.
+pub fn kept_is_consistent()
+    ensures { KeptIsConsistent }
 {}

@@ -77,6 +77,22 @@ MountedAgrees =
     AreOf mounted (mounted_anatomy settled) × Agree letter_a keys settled (mounter (1 ∷ 1 ∷ 0 ∷ []) ∷ [])
     × AreOf in_transit (mounted_anatomy moving) × Agree letter_a keys moving (mover ∷ [])
 
+-- ---- the packing limit
+
+-- samples of 1 with these units
+abbrev pub samples_of_one : List ℕ → Actor
+samples_of_one units = record (mounter []) { log = map (λ n. whole (sample_entry letter_a boolean (pos 1, n))) units }
+
+-- 70,000 units at once are counted and never packed; 65,535 are packed, and one more moves them to the counts
+abbrev pub LimitAgrees : Type 0
+LimitAgrees =
+    Agree letter_a keys
+    (mounted_pieces (2 ^ 63 + 65535) 0 70000 0 70000 (0 ∷ 70000 ∷ 0 ∷ []) (0 ∷ 0 ∷ 0 ∷ []))
+    (samples_of_one (70000 ∷ []) ∷ [])
+    × Agree letter_a keys
+    (mounted_pieces (2 ^ 63 + 1) 0 65536 0 65536 (0 ∷ 65536 ∷ 0 ∷ []) (0 ∷ 0 ∷ 0 ∷ []))
+    (samples_of_one (65535 ∷ 1 ∷ []) ∷ [])
+
 -- ---- what deltas took
 
 -- three deltas of one, and two takers of whom the second took nothing

@@ -10,6 +10,7 @@ doubling takes more than 2.3 times as long.
 """
 
 import argparse
+import os
 import pathlib
 import subprocess
 import sys
@@ -17,10 +18,15 @@ import sys
 PROGRAM = pathlib.Path(__file__).resolve().parent.parent / "crates/script_timing/out/script_timing"
 SIZES = [1, 2, 4, 8, 16]
 
+# The C library keeps what was freed, so that no turn measures how memory is given back and taken anew.
+KEEPS_MEMORY = {"MALLOC_TRIM_THRESHOLD_": str(1 << 28), "MALLOC_MMAP_THRESHOLD_": str(1 << 30)}
+
 
 def best_times(mib, step, turns):
     size = mib * 1024 * 1024
-    out = subprocess.run([PROGRAM, str(size), str(step), str(turns)], check=True, capture_output=True, text=True).stdout
+    environment = {**os.environ, **KEEPS_MEMORY}
+    command = [PROGRAM, str(size), str(step), str(turns)]
+    out = subprocess.run(command, env=environment, check=True, capture_output=True, text=True).stdout
     words = out.splitlines()[1].split()
     return int(words[0]), int(words[2])
 

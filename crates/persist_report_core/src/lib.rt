@@ -1,8 +1,10 @@
-//! The report of a segment's image.
+//! The report of a segment's image, and scripts of what is to be recorded in one.
 //!
 //! An image is read whole, then what its words read as is put into text, and only then is the text written: a
 //! report is written whole or, but for a writer that fails, not at all. The text of a report is defined in
 //! `specs/Text.antt`, and what a call answers in `specs/Report.antt`.
+//!
+//! A script is read whole too, and is then a value or its first faulty record: `specs/Script.antt`.
 #![tactic(auto)]
 
 mod fault;

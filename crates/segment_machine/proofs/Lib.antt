@@ -55,6 +55,7 @@ pub mod NotesTake
 pub mod Noting
 pub mod NotingFits
 pub mod Opening
+pub mod Openings
 pub mod Pairs
 pub mod Pieces
 pub mod SeatsBooks

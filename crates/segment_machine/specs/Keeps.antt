@@ -1,6 +1,6 @@
 -- What is to be shown of what holds between any two events: it holds of a new segment, each event keeps it, recorders that are made
 -- and joined keep it, and it has the parts of consistency in it.
-use Rattle.std.specs.Prelude.{◌≡◌, ◌⊎◌, ℕ, [], take, drop, length, slice_set, ⊤}
+use Rattle.std.specs.Prelude.{◌≡◌, ◌⊎◌, ℕ, zero, suc, [], take, drop, length, slice_set, ⊤}
 use mathlib.Core.Option.{some}
 use lib.ListN.{get_elem?}
 use Rattle.segment_image.specs.Shape.{Dimensions}
@@ -23,6 +23,16 @@ use Rattle.segment_machine.specs.Kept.{Kept}
 abbrev pub OpeningIsKept : Type 0
 OpeningIsKept = (shape : Dimensions) (version id cursors : ℕ) → IsShape shape → (version ≡ 1) ⊎ (version ≡ 2)
     → Kept shape (blank version id shape.size) (new_state shape version id cursors)
+
+-- from one state the first actor has made so many recorders, one after the other, each with units of its own
+abbrev pub HasMade : ℕ → State → State → Type 0
+HasMade zero old new = old ≡ new
+HasMade (suc n) old new = (mid : State) × (units : ℕ) × HasMade n old mid × IsSplit mid 0 units new
+
+-- a new segment is kept with any number of recorders
+abbrev pub OpeningsAreKept : Type 0
+OpeningsAreKept = (shape : Dimensions) (version id cursors recorders : ℕ) (state : State) → IsShape shape → (version ≡ 1) ⊎ (version ≡ 2)
+    → HasMade recorders (new_state shape version id cursors) state → Kept shape (blank version id shape.size) state
 
 -- ---- at events
 

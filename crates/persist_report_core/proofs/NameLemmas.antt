@@ -1,11 +1,15 @@
 -- Names in maps, by their bytes.
-use Rattle.std.proofs.Common.{◌≡◌, ◌∙◌, ℕ, Bool, true, false, List, Option, Some, None, if◌then◌else◌, Vec, Global, inl, inr, refl, sym, subst}
+use Rattle.std.proofs.Common.{◌≡◌, ◌∙◌, ◌==◌, ◌≤◌, ◌-◌, ◌++◌, ℕ, Bool, true, false, List, length, take, drop, Option, Some, None, if◌then◌else◌, Vec, Global, inl, inr, refl, sym, ap, subst, arith}
+use Rattle.std.specs.Prelude.{IfSome}
+use Rattle.std.specs.List.{slice_range}
+use Rattle.std.proofs.lemmas.List.{drop-append-le, take-append-le, take_all, length-drop, length-append}
+use Rattle.std.proofs.Math.Seq.{drop-append_seam}
 use Rattle.std.specs.Cmp.Lexicographic.{bytes_decides, nat_list_eq_equiv}
 use Rattle.std.specs.HashMap.{HashMap, UpdatesBy, get_by}
 use Rattle.std.specs.Map.{IsKeyTest, AreApart, KeepsOthers, lookup}
 use Rattle.std.specs.Str.{bytes_eq}
-use Rattle.std.proofs.lemmas.Bool.{cases_Bool}
-use Rattle.persist_report_core.specs.Names.{known_or}
+use Rattle.std.proofs.lemmas.Bool.{cases_Bool, eqb-true, eq-eqb}
+use Rattle.persist_report_core.specs.Names.{digest_of, known_or}
 use Rattle.persist_report_core.specs.declared.script.names.Known.{Known}
 
 -- a key of one name is none of another
@@ -31,24 +35,65 @@ get_by-updated {X} {S} name old new value updates other =
     ]
 
 -- a name that was not found is found where it is put among the others
-known_or-put : (known : Option Known) (name : List ℕ) (other : Option ℕ) (place : ℕ) → known_or known name other ≡ None
-    → known_or known name (Some place) ≡ Some place
-known_or-put None name other place fresh = refl
-known_or-put (Some known) name other place fresh = by (bytes_eq known.name.items name) fresh
+pub known_or-put : (bytes : List ℕ) (known : Option Known) (name : List ℕ) (other : Option ℕ) (place : ℕ) → known_or bytes known name other ≡ None
+    → known_or bytes known name (Some place) ≡ Some place
+known_or-put bytes None name other place fresh = refl
+known_or-put bytes (Some known) name other place fresh = by (bytes_eq (slice_range bytes known.start known.end) name) fresh
   where
     by : (same : Bool) → (if same then Some known.place else other) ≡ None → (if same then Some known.place else Some place) ≡ Some place
     by true e = cc e
     by false e = refl
 
 -- a name more among the others
-pub found-put : (first : List ℕ → Option Known) (old new : List ℕ → Option ℕ) (name : List ℕ) (place : ℕ)
-    → known_or (first name) name (old name) ≡ None
+pub found-put : (bytes : List ℕ) (first : List ℕ → Option Known) (old new : List ℕ → Option ℕ) (name : List ℕ) (place : ℕ)
+    → known_or bytes (first name) name (old name) ≡ None
     → ((other : List ℕ) → new other ≡ (if bytes_eq name other then Some place else old other))
-    → (other : List ℕ) → known_or (first other) other (new other)
-    ≡ (if bytes_eq name other then Some place else known_or (first other) other (old other))
-found-put first old new name place fresh put other =
+    → (other : List ℕ) → known_or bytes (first other) other (new other)
+    ≡ (if bytes_eq name other then Some place else known_or bytes (first other) other (old other))
+found-put bytes first old new name place fresh put other =
     elim (cases_Bool (bytes_eq name other)) [
-      | inl same ↦ rw (put other, same) (known_or-put (first other) other (old other) place
-          (subst (λ q. known_or (first q) q (old q) ≡ None) ((bytes_decides name other).0 same) fresh))
+      | inl same ↦ rw (put other, same) (known_or-put bytes (first other) other (old other) place
+          (subst (λ q. known_or bytes (first q) q (old q) ≡ None) ((bytes_decides name other).0 same) fresh))
       | inr differ ↦ rw (put other, differ) refl
+    ]
+
+-- bytes that stand there stay there with more behind them, and these stand behind them
+part-kept : (bytes more : List ℕ) (start end : ℕ) → start ≤ end → end ≤ length bytes
+    → slice_range (bytes ++ more) start end ≡ slice_range bytes start end
+part-kept bytes more start end ordered within =
+    ap (take (end - start)) (drop-append-le start bytes more (omega (arith, ordered, within)))
+    ∙ take-append-le (end - start) (drop start bytes) more (omega (arith, length-drop start bytes, within))
+
+part-new : (bytes more : List ℕ) → slice_range (bytes ++ more) (length bytes) (length (bytes ++ more)) ≡ more
+part-new bytes more =
+    ap (take (length (bytes ++ more) - length bytes)) (drop-append_seam bytes more)
+    ∙ take_all (length (bytes ++ more) - length bytes) more (omega (arith, length-append bytes more))
+
+-- so a name that was known is known
+known-kept : (bytes more : List ℕ) (known : Option Known) (name : List ℕ) (other : Option ℕ)
+    → IfSome known (λ one. (one.start ≤ one.end) × (one.end ≤ length bytes)) → known_or (bytes ++ more) known name other ≡ known_or bytes known name other
+known-kept bytes more None name other within = refl
+known-kept bytes more (Some known) name other within =
+    ap (λ part. if bytes_eq part name then Some known.place else other) (part-kept bytes more known.start known.end within.0 within.1)
+
+-- names of two numbers are two names
+unlike : (name other : List ℕ) (same : Bool) → (same ≡ true → name ≡ other) → (digest_of name == digest_of other) ≡ false → same ≡ false
+unlike name other true is differ = absurd (let e = eq-eqb (digest_of name) (digest_of other) (ap digest_of (is refl)) in cc)
+unlike name other false is differ = refl
+
+-- a name more that takes its number
+pub found-packed : (bytes : List ℕ) (old new : ℕ → Option Known) (others : List ℕ → Option ℕ) (name : List ℕ) (known : Known)
+    → ((number : ℕ) → IfSome (old number) (λ one. (one.start ≤ one.end) × (one.end ≤ length bytes)))
+    → ((number : ℕ) → new number ≡ (if digest_of name == number then Some known else old number))
+    → old (digest_of name) ≡ None → known.start ≡ length bytes → known.end ≡ length (bytes ++ name)
+    → (other : List ℕ) → known_or (bytes ++ name) (new (digest_of other)) other (others other)
+    ≡ (if bytes_eq name other then Some known.place else known_or bytes (old (digest_of other)) other (others other))
+found-packed bytes old new others name known packed put free start end other =
+    elim (cases_Bool (digest_of name == digest_of other)) [
+      | inl same ↦
+          let none : old (digest_of other) ≡ None = subst (λ number. old number ≡ None) (eqb-true (digest_of name) (digest_of other) same) free in
+          rw (put (digest_of other), same, none, start, end, part-new bytes name) refl
+      | inr differ ↦
+          let apart : bytes_eq name other ≡ false = unlike name other (bytes_eq name other) (bytes_decides name other).0 differ in
+          rw (put (digest_of other), differ, apart) (known-kept bytes name (old (digest_of other)) other (others other) (packed (digest_of other)))
     ]

@@ -3,7 +3,7 @@ use Rattle.std.specs.Prelude.{◌≡◌, true, false, if◌then◌else◌, ℕ, 
 use Rattle.persist_report_core.specs.declared.script.draft.Draft.{Draft}
 use Rattle.persist_report_core.specs.declared.script.fault.ScriptFault.{ScriptFault}
 use Rattle.persist_report_core.specs.declared.script.fault.ScriptFault.TheVariants.{Read, TooLong, NoMemory, BadLine, ZeroCount, NoUnits}
-use Rattle.persist_report_core.specs.Names.{found}
+use Rattle.persist_report_core.specs.Names.{found, IsPacked}
 use Rattle.persist_report_core.specs.Request.{Request, request_in}
 use Rattle.persist_report_core.specs.Script.{Script, HistRecord, is_known, place_of, units_of, hist_from, call_from, opening_fault, later_fault, script_along, script_view}
 
@@ -19,6 +19,7 @@ FindsPlace hists name number result = MatchResult result
 
 -- what a draft keeps beside its script: where each name stands first, and the units that were taken of the pool
 pub record IsDraft (draft : Draft) : Type 0 where
+  pub packed : IsPacked draft.names
   pub placed : (name : List ℕ) → found draft.names name ≡ known_place (script_view draft.script).hists name
   pub taken : draft.taken ≡ units_of draft.script.calls.items
   pub within : draft.taken ≤ draft.pool

@@ -3,7 +3,7 @@
 ghost use Rattle.std.specs.Prelude.{◌≡◌, ℕ, List, None, Some, OnOk, if◌then◌else◌};
 ghost use Rattle.std.specs.Option.{option_or};
 ghost use Rattle.std.specs.Str.{bytes_eq};
-ghost use Rattle.persist_report_core.specs.Names.{digest_of, found};
+ghost use Rattle.persist_report_core.specs.Names.{digest_of, found, IsPacked};
 
 use std::alloc::{AllocError, Global};
 use std::collections::HashMap;
@@ -13,15 +13,23 @@ use std::hash::{FoldHasher, Hasher};
 /// name has taken are found by their bytes alone.
 #[derive(Drop)]
 pub(crate) struct Names {
+    // The names that have taken their numbers.
     first: HashMap<u64, Known>,
+    // The bytes of these names, one behind the other, so that a look-up goes to few places of memory.
+    bytes: Vec<u8>,
     others: HashMap<Vec<u8>, u32>,
 }
 
-#[derive(Drop)]
+// Where the bytes of a name stand, and its place.
+#[derive(Clone, Copy)]
 struct Known {
-    name: Vec<u8>,
+    start: u32,
+    end: u32,
     place: u32,
 }
+
+// The names that are found by their numbers have at most so many bytes together.
+const MAX_BYTES: usize = 0xFFFF_FFFF;
 
 // The number that a name's bytes make.
 fn digest(name: &[u8]) -> u64
@@ -35,20 +43,23 @@ fn digest(name: &[u8]) -> u64
 impl Names {
     /// No names.
     pub(crate) fn new(alloc: Global) -> Names
-        ensures { (name : List ℕ) → found result name ≡ None }
+        ensures found { (name : List ℕ) → found result name ≡ None }
+        ensures packed { IsPacked result }
     {
         Names {
             first: HashMap::new(alloc),
+            bytes: Vec::new(alloc),
             others: HashMap::new(alloc),
         }
     }
 
     /// The place of a name.
     pub(crate) fn place(&self, name: &[u8]) -> Option<u32>
+        requires { IsPacked self.now }
         ensures { result ≡ found self.now name.now }
     {
         if let Some(known) = self.first.get(&digest(name)) {
-            if known.name.as_slice() == name {
+            if &self.bytes[known.start as usize..known.end as usize] == name {
                 return Some(known.place);
             }
         }
@@ -57,16 +68,20 @@ impl Names {
 
     // Adds a name that is not there.
     fn insert_new(&mut self, alloc: Global, name: &[u8], place: u32) -> Result<(), AllocError>
-        requires { found self.old name.now ≡ None }
-        ensures { OnOk result ((other : List ℕ) → found self.new other ≡ (if bytes_eq name.now other then Some place else found self.old other)) }
+        requires new { found self.old name.now ≡ None }
+        requires packed { IsPacked self.old }
+        ensures found { OnOk result ((other : List ℕ) → found self.new other ≡ (if bytes_eq name.now other then Some place else found self.old other)) }
+        ensures packed { OnOk result (IsPacked self.new) }
     {
         let digest = digest(name);
-        let name = Vec::from_slice(alloc, name)?;
-        if self.first.contains_key(&digest) {
-            self.others.insert(name, place)?;
+        if self.first.contains_key(&digest) || self.bytes.len() + name.len() > MAX_BYTES {
+            self.others.insert(Vec::from_slice(alloc, name)?, place)?;
             return Ok(());
         }
-        match self.first.insert(digest, Known { name, place }) {
+        let start = self.bytes.len() as u32;
+        self.bytes.extend_from_slice(name)?;
+        let end = self.bytes.len() as u32;
+        match self.first.insert(digest, Known { start, end, place }) {
             Ok(_) => Ok(()),
             Err(_) => Err(AllocError),
         }
@@ -79,7 +94,9 @@ impl Names {
         name: &[u8],
         place: u32,
     ) -> Result<(), AllocError>
-        ensures { OnOk result ((other : List ℕ) → found self.new other ≡ option_or (found self.old other) (if bytes_eq name.now other then Some place else None)) }
+        requires { IsPacked self.old }
+        ensures found { OnOk result ((other : List ℕ) → found self.new other ≡ option_or (found self.old other) (if bytes_eq name.now other then Some place else None)) }
+        ensures packed { OnOk result (IsPacked self.new) }
     {
         if self.place(name).is_some() {
             return Ok(());

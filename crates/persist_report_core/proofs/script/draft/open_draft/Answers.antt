@@ -63,7 +63,8 @@ returns c =
       lawful = ap opening_fault request ∙ lawful;
       script_is = opened (fields_of c.args.fields.now) opening.size opening.page opening.id c.in-Ok.shape _ _ request shape (ap (map hist_view) c.new.ensures.items) c.new-2.ensures.items;
       keeps = record {
-        placed = λ name. c.new-3.ensures name ∙ ap (λ hists. known_place hists name) (sym (ap (map hist_view) c.new.ensures.items));
+        packed = c.new-3.ensures.packed;
+        placed = λ name. c.new-3.ensures.found name ∙ ap (λ hists. known_place hists name) (sym (ap (map hist_view) c.new.ensures.items));
         taken = ap units_of (sym c.new-2.ensures.items);
         within = omega arith;
       };

@@ -1,5 +1,5 @@
 -- Keys in an ordered set, looked for by their names.
-use Rattle.std.proofs.Common.{◌≡◌, ◌≢◌, Bool, true, false, ◌||◌, ◌&&◌, ℕ, ◌<◌, ◌≤◌, List, [], ◌∷◌, ◌++◌, refl, ap, sym, subst, ◌∙◌, drop, length, length-drop, arith, Vec, Global}
+use Rattle.std.proofs.Common.{◌≡◌, ◌≢◌, Bool, true, false, ◌||◌, ◌&&◌, ℕ, ◌≤◌, List, [], ◌∷◌, refl, ap, sym, subst, ◌∙◌, length, Vec, Global}
 use Rattle.std.specs.List.{list_any, list_all, AllByRecursion}
 use Rattle.std.specs.Str.{bytes_eq}
 use Rattle.std.specs.declared.cmp.Ordering.{Ordering}
@@ -16,11 +16,12 @@ use Rattle.std.proofs.lemmas.Bool.{false_from_ne_true}
 use Rattle.std.proofs.lemmas.Map.Text.{is_eq-slice_cmp}
 use Rattle.std.proofs.lemmas.Slice.Eq.{bytes_eq-Decides}
 use Rattle.std.proofs.Math.Bool.{or_comm, or_assoc}
+use Rattle.image_reader.specs.Digest.{digest_of}
 use Rattle.image_reader.specs.Prefix.{prefix_of}
 use Rattle.bucket_ranges.specs.Reading.{is_name_byte}
 use Rattle.image_reader.specs.Names.{short_name, long_name, IsShort, IsLong}
 use Rattle.image_reader.proofs.Prefixes.{prefix_bytes-number}
-use Rattle.std.proofs.lemmas.List.{take-append-drop, take_all}
+use Rattle.std.proofs.lemmas.List.{take_all}
 
 -- an order of keys that ties only keys of the same bytes
 abbrev pub TiesSame : {K : Type 0} → (K → List ℕ) → (K → K → Ordering) → Type 0
@@ -63,15 +64,10 @@ list_any-insert_key items cmp ties (x ∷ xs) key name =
 slice_ties : (a b : List ℕ) → Equal ≡ slice_cmp nat_cmp a b → a ≡ b
 slice_ties a b e = (bytes_eq-Decides a b).0 (sym (is_eq-slice_cmp a b) ∙ ap is_eq (sym e))
 
-then_first : (o rest : Ordering) → Equal ≡ ordering_then o rest → Equal ≡ o
-then_first Less rest e = absurd (cc e)
-then_first Equal rest e = refl
-then_first Greater rest e = absurd (cc e)
-
 then_ties : (o : Ordering) (a b : List ℕ) → Equal ≡ ordering_then o (slice_cmp nat_cmp a b) → a ≡ b
-then_ties Less a b e = absurd (cc)
+then_ties Less a b e = absurd (cc e)
 then_ties Equal a b e = slice_ties a b e
-then_ties Greater a b e = absurd (cc)
+then_ties Greater a b e = absurd (cc e)
 
 -- keys of one name are tied
 abbrev pub SameTied : {K : Type 0} → (K → List ℕ) → (K → Type 0) → (K → K → Ordering) → Type 0
@@ -107,23 +103,19 @@ pub prefix-same : SameTied short_name IsShort nat_cmp
 prefix-same a b p q e =
     ap is_eq (sym (nat_cmp_is a b Equal (p.prefix ∙ (ap prefix_of e ∙ sym q.prefix))))
 
--- the order of keys: their prefixes, then what stands behind them
+-- the order of keys: their digests, then their names
 abbrev pub by_key : ℕ × Vec ℕ Global → ℕ × Vec ℕ Global → Ordering
 by_key a b = ordering_then (nat_cmp a.0 b.0) (slice_cmp nat_cmp a.1.items b.1.items)
 
 pub by_key-ties : TiesSame long_name by_key
-by_key-ties a b e =
-    let prefixes : a.0 ≡ b.0 = ranked a.0 b.0 Equal (then_first (nat_cmp a.0 b.0) _ e) in
-    let rests : a.1.items ≡ b.1.items = then_ties (nat_cmp a.0 b.0) a.1.items b.1.items e in
-    λ i. short_name (prefixes i) ++ rests i
+by_key-ties a b e = then_ties (nat_cmp a.0 b.0) a.1.items b.1.items e
 
 pub by_key-same : SameTied long_name IsLong by_key
 by_key-same a b p q e =
-    let prefixes : a.0 ≡ b.0 = p.prefix ∙ (ap prefix_of e ∙ sym q.prefix) in
-    let rests : a.1.items ≡ b.1.items = p.rest ∙ (ap (drop 8) e ∙ sym q.rest) in
+    let digests : a.0 ≡ b.0 = p.digest ∙ (ap digest_of e ∙ sym q.digest) in
     sym (tied_then (nat_cmp a.0 b.0) (slice_cmp nat_cmp a.1.items b.1.items))
-    ∙ (ap (λ o. is_eq o && is_eq (slice_cmp nat_cmp a.1.items b.1.items)) (sym (nat_cmp_is a.0 b.0 Equal prefixes))
-    ∙ (is_eq-slice_cmp a.1.items b.1.items ∙ (bytes_eq-Decides a.1.items b.1.items).1 rests))
+    ∙ (ap (λ o. is_eq o && is_eq (slice_cmp nat_cmp a.1.items b.1.items)) (sym (nat_cmp_is a.0 b.0 Equal digests))
+    ∙ (is_eq-slice_cmp a.1.items b.1.items ∙ (bytes_eq-Decides a.1.items b.1.items).1 e))
 
 -- a name of up to eight bytes is that of its prefix
 pub short_name-of : (name : List ℕ) → list_all is_name_byte name ≡ true → length name ≤ 8 → short_name (prefix_of name) ≡ name
@@ -133,23 +125,3 @@ pub IsShort-of : (name : List ℕ) → list_all is_name_byte name ≡ true → l
 IsShort-of name lawful few =
     let same : short_name (prefix_of name) ≡ name = short_name-of name lawful few in
     record { prefix = ap prefix_of (sym same); few = subst (λ n. length n ≤ 8) (sym same) few }
-
--- a longer one is that of its prefix and what stands behind its first eight bytes
-pub long_name-of : (prefix : ℕ) (rest : Vec ℕ Global) (name : List ℕ) → list_all is_name_byte name ≡ true
-    → prefix ≡ prefix_of name → rest.items ≡ drop 8 name → long_name (prefix, rest) ≡ name
-long_name-of prefix rest name lawful p q =
-    rw (p, q, prefix_bytes-number 8 name lawful) (take-append-drop 8 name)
-
-pub IsLong-of : (prefix : ℕ) (rest : Vec ℕ Global) (name : List ℕ) → list_all is_name_byte name ≡ true
-    → prefix ≡ prefix_of name → rest.items ≡ drop 8 name → 8 < length name → IsLong (prefix, rest)
-IsLong-of prefix rest name lawful p q many =
-    let same : long_name (prefix, rest) ≡ name = long_name-of prefix rest name lawful p q in
-    record {
-      prefix = p ∙ ap prefix_of (sym same);
-      rest = q ∙ ap (drop 8) (sym same);
-      more = omega (arith, ap length q, length-drop 8 name);
-    }
-
--- a key of a longer name has more than eight bytes
-pub IsLong-many : (key : ℕ × Vec ℕ Global) → IsLong key → 8 < length (long_name key)
-IsLong-many key p = omega (arith, p.more, ap length p.rest, length-drop 8 (long_name key))

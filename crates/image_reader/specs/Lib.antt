@@ -11,5 +11,6 @@ pub mod Records
 pub mod Buckets
 pub mod Samples
 pub mod Prefix
+pub mod Digest
 pub mod Names
 pub mod Gathering

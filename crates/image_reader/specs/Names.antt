@@ -1,9 +1,10 @@
 -- The names that a reader has met.
-use Rattle.std.specs.Prelude.{◌≡◌, Bool, ◌||◌, ℕ, ◌<◌, ◌≤◌, nat_lt, List, ◌++◌, length, drop, All}
+use Rattle.std.specs.Prelude.{◌≡◌, Bool, ◌||◌, ℕ, ◌<◌, ◌≤◌, nat_lt, List, length, All}
 use Rattle.std.specs.List.{list_any, filter}
 use Rattle.std.specs.Str.{bytes_eq}
 use Rattle.std.specs.declared.vec.Vec.{Vec}
 use Rattle.std.specs.declared.alloc.Global.{Global}
+use Rattle.image_reader.specs.Digest.{digest_of}
 use Rattle.image_reader.specs.Prefix.{prefix_of, prefix_bytes}
 use Rattle.image_reader.specs.declared.names.Names.{Names}
 
@@ -11,9 +12,9 @@ use Rattle.image_reader.specs.declared.names.Names.{Names}
 abbrev pub short_name : ℕ → List ℕ
 short_name prefix = filter (nat_lt 0) (prefix_bytes 8 prefix)
 
--- the name of a key: the bytes of its prefix, and those behind them
+-- the name of a key, behind its digest
 abbrev pub long_name : ℕ × Vec ℕ Global → List ℕ
-long_name key = short_name key.0 ++ key.1.items
+long_name key = key.1.items
 
 -- whether a name is among them
 abbrev pub holds : Names → List ℕ → Bool
@@ -26,11 +27,10 @@ pub record IsShort (number : ℕ) : Type 0 where
   pub prefix : number ≡ prefix_of (short_name number)
   pub few : length (short_name number) ≤ 8
 
--- a key is of its name: the name's prefix, and what stands behind its first eight bytes, which is not nothing
+-- a key is of its name, which has more than eight bytes
 pub record IsLong (key : ℕ × Vec ℕ Global) : Type 0 where
-  pub prefix : key.0 ≡ prefix_of (long_name key)
-  pub rest : key.1.items ≡ drop 8 (long_name key)
-  pub more : 0 < length key.1.items
+  pub digest : key.0 ≡ digest_of (long_name key)
+  pub more : 8 < length (long_name key)
 
 -- each key is of its name
 pub record AreKeys (names : Names) : Type 0 where

@@ -23,6 +23,6 @@ mod tests;
 mod walk;
 
 pub use bucket_ranges::reading::RecordFault;
-pub use names::name_prefix;
+pub use names::{name_digest, name_prefix};
 pub use reader::read;
 pub use reading::{BadRecord, HistReading, Reading};

@@ -1,6 +1,5 @@
 -- The sets' orders find a name by its key.
-use Rattle.std.proofs.Common.{arith, ◌≡◌, ◌<◌, ◌≤◌, ◌-◌, length, length-drop, ℕ, List, All, Bool, false, ap, not, sym, subst, ◌∙◌, ◌||◌, drop}
-use Rattle.std.proofs.lemmas.List.{take_all}
+use Rattle.std.proofs.Common.{arith, ◌≡◌, ◌<◌, ◌≤◌, length, ℕ, List, All, Bool, false, ap, not, sym, subst, ◌∙◌, ◌||◌}
 use Rattle.std.specs.Ordering.{nat_cmp}
 use Rattle.std.specs.List.{list_any}
 use Rattle.std.specs.Str.{bytes_eq}
@@ -9,17 +8,18 @@ use Rattle.std.proofs.lemmas.List.Elements.{recursion_from_All}
 use Rattle.std.proofs.lemmas.Map.Views.{All-insert_key}
 use Rattle.std.specs.declared.vec.Vec.{Vec}
 use Rattle.std.specs.declared.alloc.Global.{Global}
+use Rattle.image_reader.specs.Digest.{digest_of}
 use Rattle.image_reader.specs.Prefix.{prefix_of}
 use Rattle.image_reader.specs.Names.{short_name, long_name, IsShort, IsLong, AreKeys}
 use Rattle.image_reader.specs.declared.names.Names.{Names}
-use Rattle.image_reader.proofs.NameSets.{list_any-insert_key, look_up-is, look_up-none, prefix-ties, prefix-same, by_key, by_key-ties, by_key-same, short_name-of, IsShort-of, long_name-of, IsLong-of, IsLong-many}
+use Rattle.image_reader.proofs.NameSets.{list_any-insert_key, look_up-is, look_up-none, prefix-ties, prefix-same, by_key, by_key-ties, by_key-same, short_name-of, IsShort-of}
 use Rattle.image_reader.proofs.names.Names.insert.Goals as goal
 
 -- a short name is none of the long ones, and a long name none of the short ones
 not_long : (names : Names) (name : List ℕ) → AreKeys names → length name ≤ 8
     → list_any (λ key. bytes_eq name (long_name key)) names.long.keys ≡ false
 not_long names name keys few =
-    look_up-none long_name IsLong name (λ key is same. absurd (omega (arith, few, ap length same, IsLong-many key is)))
+    look_up-none long_name IsLong name (λ key is same. absurd (omega (arith, few, ap length same, is.more)))
     names.long.keys (recursion_from_All IsLong names.long.keys keys.long)
 
 not_short : (names : Names) (name : List ℕ) → AreKeys names → 8 < length name
@@ -70,22 +70,15 @@ returns-then-name-le8-clause-keys c =
       long = c.requires.keys.long;
     }
 
--- what stands behind the first eight bytes
-behind : (c : goal.In_ok-insert-2) → c.in_ok-rest.rest.items ≡ drop 8 c.args.name.now
-behind c =
-    let name : List ℕ = c.args.name.now in
-    let all : length (drop 8 name) ≤ length name - 8 = omega (arith, length-drop 8 name) in
-    c.in_ok-rest.ensures.items ∙ take_all (length name - 8) (drop 8 name) all
-
 -- a longer one as its key
-named : (c : goal.In_ok-insert-2) → long_name (c.name_prefix-prefix.result, c.in_ok-rest.rest) ≡ c.args.name.now
-named c =
-    long_name-of c.name_prefix-prefix.result c.in_ok-rest.rest c.args.name.now c.requires.lawful c.name_prefix-prefix.ensures (behind c)
+named : (c : goal.In_ok-insert-2) → c.in_ok-whole.whole.items ≡ c.args.name.now
+named c = c.in_ok-whole.ensures.items
 
-key : (c : goal.In_ok-insert-2) → IsLong (c.name_prefix-prefix.result, c.in_ok-rest.rest)
-key c =
-    IsLong-of c.name_prefix-prefix.result c.in_ok-rest.rest c.args.name.now c.requires.lawful c.name_prefix-prefix.ensures (behind c)
-    (omega (arith, c.if-name-le8.false))
+key : (c : goal.In_ok-insert-2) → IsLong (c.name_digest-digest.result, c.in_ok-whole.whole)
+key c = record {
+  digest = c.name_digest-digest.ensures ∙ ap digest_of (sym (named c));
+  more = omega (arith, c.if-name-le8.false, ap length (named c));
+}
 
 pub returns-clause-new : goal.returns-clause-new
 returns-clause-new c =
@@ -94,7 +87,7 @@ returns-clause-new c =
     let keys : List (ℕ × Vec ℕ Global) = names.long.keys in
     let long : Bool = list_any (λ x. bytes_eq name (long_name x)) keys in
     c.in_ok-insert-2.ensures.added
-    ∙ ap not (look_up-is long_name IsLong by_key by_key-ties by_key-same (c.name_prefix-prefix.result, c.in_ok-rest.rest) keys (key c)
+    ∙ ap not (look_up-is long_name IsLong by_key by_key-ties by_key-same (c.name_digest-digest.result, c.in_ok-whole.whole) keys (key c)
     (recursion_from_All IsLong keys c.requires.keys.long)
     ∙ (ap (λ n. list_any (λ x. bytes_eq n (long_name x)) keys) (named c)
     ∙ ap (λ b. b || long) (sym (not_short names name c.requires.keys (omega (arith, c.if-name-le8.false))))))
@@ -105,12 +98,12 @@ returns-clause-holds c other =
     let short : Bool = list_any (λ x. bytes_eq other (short_name x)) names.short.keys in
     let long : Bool = list_any (λ x. bytes_eq other (long_name x)) names.long.keys in
     ap (λ keys. short || list_any (λ x. bytes_eq other (long_name x)) keys) c.in_ok-insert-2.ensures.keys
-    ∙ (ap (λ b. short || b) (list_any-insert_key long_name by_key by_key-ties names.long.keys (c.name_prefix-prefix.result, c.in_ok-rest.rest) other)
+    ∙ (ap (λ b. short || b) (list_any-insert_key long_name by_key by_key-ties names.long.keys (c.name_digest-digest.result, c.in_ok-whole.whole) other)
     ∙ (ap (λ n. short || (long || bytes_eq other n)) (named c) ∙ sym (or_assoc short long (bytes_eq other c.args.name.now))))
 
 pub returns-clause-keys : goal.returns-clause-keys
 returns-clause-keys c = record {
   short = c.requires.keys.short;
   long = subst (All IsLong) (sym c.in_ok-insert-2.ensures.keys)
-      (All-insert_key by_key (c.name_prefix-prefix.result, c.in_ok-rest.rest) IsLong c.args.self.now.long.keys c.requires.keys.long (key c));
+      (All-insert_key by_key (c.name_digest-digest.result, c.in_ok-whole.whole) IsLong c.args.self.now.long.keys c.requires.keys.long (key c));
 }

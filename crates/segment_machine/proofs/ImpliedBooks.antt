@@ -21,7 +21,7 @@ use Rattle.segment_machine.specs.Body.{Record, Counts, Sample, Body, queue, plai
 use Rattle.segment_machine.specs.Ledger.{form_at, of_name, at_bucket, keyed, key_of_bucket, units_held, marks_held, all_held}
 use Rattle.segment_machine.specs.Seen.{HasRecord, HasCounts, HasSample, IsNamed, IsFirst, IsFirstOf}
 use Rattle.segment_machine.specs.Kept.{Kept, CountsNothing}
-use Rattle.segment_machine.proofs.Lists.{at_from}
+use Rattle.segment_machine.proofs.Lists.{at_from, split_at}
 use Rattle.segment_machine.proofs.Pieces.{one_piece, one_stands}
 use Rattle.segment_machine.proofs.Singled.{sum_none, sum_one, sum_pair}
 use Rattle.segment_machine.proofs.ImpliedBlocks.{claimed_piece}
@@ -42,12 +42,6 @@ first_unique P (z ∷ xs) [] x y rest more e none_before others here there =
 first_unique P (z ∷ xs) (w ∷ ys) x y rest more e none_before others here there =
     let behind : xs ++ x ∷ rest ≡ ys ++ y ∷ more = cc e in
     first_unique P xs ys x y rest more behind (All-tail (λ z. ¬ (P z)) z xs none_before) (All-tail (λ z. ¬ (P z)) w ys others) here there
-
--- an element of a list has some before it and some behind it
-pub split_at : {X : Type 0} (l : List X) (i : ℕ) (x : X) → get_elem? l i ≡ some x → (front behind : List X) × (l ≡ front ++ x ∷ behind)
-split_at [] i x there = absurd (some-ne-none x (sym there))
-split_at (y ∷ ys) zero x there = ([], ys, ap (λ z. z ∷ ys) (some-injective y x there))
-split_at (y ∷ ys) (suc i) x there = let (front, behind, is) = split_at ys i x there in (y ∷ front, behind, ap (λ l. y ∷ l) is)
 
 -- the numbers of a range
 range_at : (a n j y : ℕ) → get_elem? (range_with_len a n) j ≡ some y → (y ≡ a + j) × (j < n)
@@ -183,7 +177,7 @@ module _ (shape : Dimensions) (version id : ℕ) (state : State) (kept : Kept sh
   sample_first at s has =
       let l : Listed = record { reference = at; made = Some (made.Sample s.of s.value) } in
       let among = at_from records l (kept.list.alone at (sample s) has) in
-      let (front, behind, split) = split_at records among.0 l among.1 in
+      let (front, behind, split, others) = split_at records among.0 l among.1 in
       let (name, (xs, ys, is, before), named) = kept.records.sampled front behind at s.of s.value split in
       subst (λ (name : List ℕ). IsFirst records name spec.Sparse s.of) (sym (named s has))
       (xs, ys ++ l ∷ behind, split ∙ (ap (λ (front : List Listed). front ++ l ∷ behind) is ∙ append_assoc xs (made_of s.of name spec.Sparse ∷ ys) (l ∷ behind)), before)

@@ -6,7 +6,7 @@ use mathlib.Core.Option.{some}
 use mathlib.Core.Logic.{dite}
 use native.Mathlib.Decide.{ℕ_discrete}
 use lib.ListN.{get_elem?}
-use lib.Seq.{set-get_or}
+use lib.Seq.{set-get_or, get_or-append_seam}
 use Rattle.atomic_table.proofs.Lists.{at_longer}
 use Rattle.segment_image.specs.Shape.{Dimensions}
 use Rattle.segment_image.specs.Words.{word_at}
@@ -48,16 +48,12 @@ front_stop front chain at (rest, is) has =
     let there : get_elem? chain i ≡ some at = subst (λ (l : List ℕ). get_elem? l i ≡ some at) (sym is) (at_longer front rest i at here) in
     (suc i, below_length chain i at there, index_at chain i at 0 there)
 
-at_seam : (front rest : List ℕ) (r : ℕ) → slice_index (front ++ r ∷ rest) (length front) ≡ r
-at_seam [] rest r = refl
-at_seam (x ∷ front) rest r = at_seam front rest r
-
 -- a front with the next record of the chain is one
 prefix_longer : (front chain : List ℕ) (found : ℕ) → IsPrefix front chain → length front < length chain
     → slice_index chain (length front) ≡ found → IsPrefix (front ++ found ∷ []) chain
 prefix_longer front chain found ([], is) lt next = let long = ap length is in let e = length-append front [] in absurd (omega (arith, long, e, lt))
 prefix_longer front chain found (r ∷ rest, is) lt next =
-    let same : r ≡ found = sym (at_seam front rest r) ∙ (ap (λ (l : List ℕ). slice_index l (length front)) (sym is) ∙ next) in
+    let same : r ≡ found = sym (get_or-append_seam front r rest 0) ∙ (ap (λ (l : List ℕ). slice_index l (length front)) (sym is) ∙ next) in
     (rest, is ∙ (ap (λ (n : ℕ). front ++ n ∷ rest) same ∙ sym (append_assoc front (found ∷ []) rest)))
 
 -- so is what an actor has seen of the chain, when it loaded a next

@@ -1,8 +1,8 @@
 -- How a segment grows while records are put on its list: published blocks stay but for their nexts, the list becomes longer at its
 -- end, and what was seen stays true.
-use Rattle.std.proofs.Common.{◌≡◌, ◌≢◌, ◌⊎◌, ℕ, zero, suc, ◌+◌, ◌<◌, ◌≤◌, ℤ, Bool, true, List, [], ◌∷◌, ◌++◌, map, length, All, inl, inr, ⊎_elim, refl, sym, ap, ◌∙◌, subst, arith, append_assoc, append-nil, length-append}
+use Rattle.std.proofs.Common.{◌≡◌, ◌≢◌, ◌⊎◌, ℕ, zero, suc, ◌+◌, ◌<◌, ◌≤◌, ℤ, Bool, true, List, [], ◌++◌, map, length, All, inl, inr, ⊎_elim, refl, sym, ap, ◌∙◌, subst, arith, append_assoc, append-nil, length-append}
 use Rattle.std.specs.Prelude.{slice_index, Some}
-use Rattle.std.proofs.lemmas.List.{get_or_append_left}
+use Rattle.std.proofs.lemmas.List.{get_or_append_left, map-append}
 use Rattle.std.proofs.lemmas.List.Elements.{All-weaker}
 use mathlib.Core.Option.{none}
 use Rattle.bucket_ranges.specs.declared.spec.Spec.{Spec}
@@ -128,10 +128,6 @@ no_later_longer chain more seen present (i, j, le, within, is, then) =
     let long = longer_by chain more in
     (i, j, le, omega (arith, within, long), stop_at chain more i (omega (arith, le, within)) ∙ is, stop_at chain more j within ∙ then)
 
-pub order_longer : (records more : List Listed) → map (λ (l : Listed). l.reference) (records ++ more) ≡ map (λ (l : Listed). l.reference) records ++ map (λ (l : Listed). l.reference) more
-order_longer [] more = refl
-order_longer (l ∷ rest) more = ap (λ order. l.reference ∷ order) (order_longer rest more)
-
 -- the first record of a name, and of a value, stays the first
 pub first_longer : (records more : List Listed) (name : List ℕ) (spec : Spec) (at : ℕ) → IsFirst records name spec at → IsFirst (records ++ more) name spec at
 first_longer records more name spec at (front, behind, is, none_before) =
@@ -207,7 +203,7 @@ is_sample (other size tag next payload) n s is = absurd (cc is)
 
 module _ (old new : Anatomy) (added : ℕ → Body → Type 0) (grows : Grows old new added) where
   pub order_grows : order_of new ≡ order_of old ++ map (λ (l : Listed). l.reference) grows.more
-  order_grows = ap (map (λ (l : Listed). l.reference)) grows.records ∙ order_longer old.records grows.more
+  order_grows = ap (map (λ (l : Listed). l.reference)) grows.records ∙ map-append (λ (l : Listed). l.reference) old.records grows.more
 
   -- what is on the list stays where it is
   pub stop_grows : (at : ℕ) → IsStop (order_of old) at → IsStop (order_of new) at

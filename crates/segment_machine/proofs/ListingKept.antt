@@ -1,9 +1,9 @@
 -- A kept state in which one actor puts a record on the list or walks along it: all that is kept, from what changes.
-use Rattle.std.proofs.Common.{◌≡◌, ◌≢◌, ℕ, zero, suc, ◌+◌, ◌<◌, ◌≤◌, ◌&&◌, ℤ, Bool, true, false, List, [], ◌∷◌, ◌++◌, map, filter, flat_map, All, Contains, ⊎_elim, refl, sym, ap, ◌∙◌, subst, arith, eq-eqb}
+use Rattle.std.proofs.Common.{◌≡◌, ◌≢◌, ℕ, suc, ◌+◌, ◌<◌, ◌≤◌, ◌&&◌, ℤ, Bool, true, false, List, [], ◌∷◌, ◌++◌, map, filter, All, Contains, ⊎_elim, refl, sym, ap, ◌∙◌, subst, arith, eq-eqb}
 use Rattle.std.specs.Prelude.{slice_index, Some}
 use Rattle.std.specs.Prelude as std
 use Rattle.std.proofs.lemmas.List.Elements.{All-contains, Contains-append_left, Contains-append_right, Contains-append_cases}
-use mathlib.Core.Option.{some, some-injective, some-ne-none}
+use mathlib.Core.Option.{some, some-injective}
 use mathlib.Core.Logic.{dite}
 use native.Mathlib.Decide.{ℕ_discrete}
 use lib.ListN.{get_elem?}
@@ -23,6 +23,7 @@ use Rattle.segment_machine.specs.Ledger.{units_held, marks_held, sum_held, sum_m
 use Rattle.segment_machine.specs.Seen.{HasRecord, Knows, Sees}
 use Rattle.segment_machine.specs.State.{State}
 use Rattle.segment_machine.specs.Kept.{StandsAs, HasKey, is_living, StandsRight, HoldsOwn, Fits, Kept}
+use Rattle.segment_machine.proofs.Lists.{row_in}
 use Rattle.segment_machine.proofs.Actors.{Doing, doing, SameDeeds, living_at}
 use Rattle.segment_machine.proofs.ListingGrowth.{Grows}
 use Rattle.segment_machine.proofs.ListingActors.{SawMore, fits_grow}
@@ -44,12 +45,6 @@ counted_all (c ∷ rest) ended more =
     (ended_counted c (ended 0 c (omega arith)))
     ∙ ap (λ (entries : List Entry). c.entry ∷ entries) (counted_all rest (λ k d lt. ended (suc k) d (omega (arith, lt))) more)
 
-contains_rows : {A B : Type 0} (f : A → List B) (l : List A) (i : ℕ) (x : A) (y : B) → get_elem? l i ≡ some x → Contains (f x) y → Contains (flat_map f l) y
-contains_rows f [] i x y there has = absurd (some-ne-none x (sym there))
-contains_rows f (z ∷ zs) zero x y there has =
-    Contains-append_left (f z) (flat_map f zs) y (subst (λ w. Contains (f w) y) (sym (some-injective z x there)) has)
-contains_rows f (z ∷ zs) (suc i) x y there has = Contains-append_right (f z) (flat_map f zs) y (contains_rows f zs i x y there has)
-
 living_is : (a : Actor) → a.opener ≡ 0 → a.place ≢ Spent → is_living a ≡ true
 living_is a records lives = living_at a a.place lives ∙ ap (λ (b : Bool). b && true) (eq-eqb a.opener 0 records)
 
@@ -69,7 +64,7 @@ module _ (shape : Dimensions) (opened : Anatomy) (state : State) (kept : Kept sh
       let (more, log, last) = kept.roles.heirs id x there (living_is x (kept.roles.only id x there ne).0 lives) in
       let logged : Contains (log_of opener) entry = subst (λ (l : List Entry). Contains l entry) (sym log) (Contains-append_left x.inherited more entry has) in
       let ended = (kept.each 0 opener kept.roles.stands (λ spent. cc (sym kept.roles.idle ∙ spent))).calls.ended in
-      contains_rows counted_of state.actors 0 opener entry kept.roles.stands
+      row_in counted_of state.actors 0 opener entry kept.roles.stands
       (⊎_elim
       (λ left. Contains-append_left opener.first _ entry left)
       (λ right. Contains-append_right opener.first _ entry
@@ -82,7 +77,7 @@ module _ (shape : Dimensions) (opened : Anatomy) (state : State) (kept : Kept sh
   keyed id x there lives entry has units = kept.keys entry
       (⊎_elim
       (λ before. inherited_counted id x entry there lives before)
-      (λ own. contains_rows counted_of state.actors id x entry there own)
+      (λ own. row_in counted_of state.actors id x entry there own)
       (Contains-append_cases x.inherited (counted_of x) entry has))
       units
 

@@ -3,7 +3,7 @@
 use Rattle.std.proofs.Common.{◌≡◌, ◌≢◌, ℕ, suc, ◌+◌, ◌<◌, ◌≤◌, ℤ, Bool, true, false, List, [], ◌∷◌, ◌++◌, map, length, set, All, Contains, IsPermutation, inl, inr, ⊎_elim, refl, sym, ap, ◌∙◌, subst, arith, append_assoc}
 use Rattle.std.specs.Prelude.{slice_index, Some, None}
 use Rattle.std.specs.Prelude as std
-use Rattle.std.proofs.lemmas.List.{map-append}
+use Rattle.std.proofs.lemmas.List.{map-append, take-append-le}
 use Rattle.std.proofs.lemmas.List.Elements.{All-weaker, All-push, Contains-append_left}
 use Rattle.std.proofs.lemmas.List.Sorted.{IsPermutation-refl, IsPermutation-sym, IsPermutation-trans, IsPermutation-append, IsPermutation-map}
 use mathlib.Core.Option.{some, none, some-injective, some-ne-none}
@@ -41,11 +41,11 @@ use Rattle.segment_machine.proofs.Stops.{stop_open}
 use Rattle.segment_machine.proofs.Actors.{Doing, doing, doing_of, TurnsTo, turns_plain, is_plain, SameDeeds, same_deeds, roles_along}
 use Rattle.segment_machine.proofs.Goings.{not_opener}
 use Rattle.segment_machine.proofs.Acting.{still_put, right_put}
-use Rattle.segment_machine.proofs.ListingGrowth.{with_next, beside_next, Grows, order_longer, stop_at, longer_by, stop_grows, no_later_grows, sees_grow}
+use Rattle.segment_machine.proofs.ListingGrowth.{with_next, beside_next, Grows, stop_at, longer_by, stop_grows, no_later_grows, sees_grow}
 use Rattle.segment_machine.proofs.ListingActors.{follows_itself, stands_grow, saw_itself, own_stays}
 use Rattle.segment_machine.proofs.ListingRecords.{AddedRight, records_grow, key_grows, sums_grow}
 use Rattle.segment_machine.proofs.ListingKept.{balanced_same, loaded_record, fits_on}
-use Rattle.segment_machine.proofs.ListingLists.{snoc_split, take_longer, distinct_filter, all_without, own_found, published_is}
+use Rattle.segment_machine.proofs.ListingLists.{snoc_split, distinct_filter, all_without, own_found, published_is}
 use Rattle.segment_machine.proofs.ListingWalks.{stop_stands, stop_within}
 use Rattle.segment_machine.proofs.ListingPublishes.{SameHeld, next_held, unclaimed_held, holdings_set, holdings_both, next_stays, next_came, next_owned, next_was_owned, Publishes}
 
@@ -233,7 +233,7 @@ module _ (words chain more cursors : List ℕ) (actors : List Actor) (id : ℕ) 
           place,
           omega (arith, within, long),
           stop_at chain more place within ∙ is,
-          subst (λ (p : List ℕ × List ℕ). IsPermutation p.0 p.1) (λ i. (sym (same.given k) i, sym (take_longer chain more place within) i)) gave,
+          subst (λ (p : List ℕ × List ℕ). IsPermutation p.0 p.1) (λ i. (sym (same.given k) i, sym (take-append-le place chain more within) i)) gave,
         );
     ordered = λ who b there. elim (at_set actors id who (doing a d) b there) [
       | inl t ↦ λ recorder. subst (λ (b : Actor). OneCursor (chain ++ more) b) t.1 (one_grows a (kept.given id a mine) (kept.ordered id a mine records))
@@ -361,7 +361,7 @@ module _ (shape : Dimensions) (opened : Anatomy) (state : State) (kept : Kept sh
     same = same_deeds state.actors id a mine d turns (not_opener shape opened state kept id a mine records)
 
     order_is : order_of new ≡ order_of anatomy ++ own.at ∷ []
-    order_is = order_longer anatomy.records (l ∷ [])
+    order_is = map-append (λ (l : Listed). l.reference) anatomy.records (l ∷ [])
 
     free_is : free_of new ≡ free_of anatomy
     free_is = publishes.free ∙ free_with anatomy stored.index stored.piece stored.turned stored.there stored.long

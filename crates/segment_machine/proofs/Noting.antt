@@ -27,10 +27,9 @@ use Rattle.segment_machine.specs.State.{State}
 use Rattle.segment_machine.specs.Body.{Anatomy, listed, order_of, claims_of}
 use Rattle.segment_machine.specs.Ledger.{moving_at}
 use Rattle.segment_machine.specs.Kept.{summed_cost, is_living, RolesAreKept, LooksRight, StandsRight, Fits, ListIsKept, CursorsAreKept, HasKey, Kept}
-use Rattle.segment_machine.proofs.Lists.{rows, column, sum_same, sum_beside}
-use Rattle.segment_machine.proofs.Totals.{rows_total, row_in, row_from, HasUnits, tally_from, tally_at}
+use Rattle.segment_machine.proofs.Lists.{none_in, rows_total, rows, row_in, row_from, column, sum_same, sum_beside}
+use Rattle.segment_machine.proofs.Totals.{HasUnits, tally_from, tally_at}
 use Rattle.segment_machine.proofs.SeatsSums.{amounts_total}
-use Rattle.segment_machine.proofs.SeatsLists.{none_in}
 use Rattle.segment_machine.proofs.SeatsBooks.{GivenInOrder, LoadedBefore}
 use Rattle.segment_machine.proofs.SeatsDeeds.{SameSums}
 use Rattle.segment_machine.proofs.SeatsFrames.{IsLater, balanced, sums_near, fits}

@@ -22,8 +22,8 @@ use Rattle.segment_machine.specs.Keeps.{JoinsKeep}
 use Rattle.segment_machine.specs.Body.{plain, Anatomy, order_of}
 use Rattle.segment_machine.specs.Kept.{is_living, RolesAreKept, StandsRight, Fits, Kept}
 use Rattle.segment_machine.proofs.Anatomies.{standing_along}
-use Rattle.segment_machine.proofs.Lists.{sum_beside, below_length}
-use Rattle.segment_machine.proofs.SeatsLists.{each_of_two, none_at}
+use Rattle.segment_machine.proofs.Lists.{none_at, sum_beside, below_length}
+use Rattle.segment_machine.proofs.SeatsLists.{each_of_two}
 use Rattle.segment_machine.proofs.SeatsDeeds.{Deeds, deeds_set, sums_of}
 use Rattle.segment_machine.proofs.SeatsFrames.{IsLater, fits}
 use Rattle.segment_machine.proofs.SeatsBooks.{GivenInOrder, LoadedBefore, books_of, books_by, kept_by}

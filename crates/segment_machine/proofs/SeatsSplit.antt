@@ -25,8 +25,8 @@ use Rattle.segment_machine.specs.Keeps.{SplitsKeep}
 use Rattle.segment_machine.specs.Body.{Anatomy, order_of}
 use Rattle.segment_machine.specs.Seen.{Sees, Knows}
 use Rattle.segment_machine.specs.Kept.{is_living, HoldsOwn, CallsRight, IsAlone, LooksBack, FinalsAreExact, RolesAreKept, StandsRight, Fits, Kept}
-use Rattle.segment_machine.proofs.Lists.{sum_beside, below_length}
-use Rattle.segment_machine.proofs.SeatsLists.{each_of_more, none_in, contains_map, contains_mapped, contains_filter, one_at, sum_at_least, none_at}
+use Rattle.segment_machine.proofs.Lists.{none_in, none_at, contains_filter, sum_at_least, sum_beside, below_length}
+use Rattle.segment_machine.proofs.SeatsLists.{each_of_more, contains_map, contains_mapped, one_at}
 use Rattle.segment_machine.proofs.SeatsSums.{or_false}
 use Rattle.segment_machine.proofs.SeatsDeeds.{Deeds, took, deeds_more, sums_of}
 use Rattle.segment_machine.proofs.SeatsFrames.{IsLater, fits}

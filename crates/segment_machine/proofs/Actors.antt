@@ -1,6 +1,7 @@
 -- Actors together, where one goes on with a call and neither counts, takes nor gives back anything: what all of them did is the same.
-use Rattle.std.proofs.Common.{◌≡◌, ◌≢◌, ◌⊎◌, ℕ, ◌+◌, ◌<◌, ◌≤◌, ℤ, Bool, true, false, List, ◌++◌, set, sum_by, All, inl, inr, refl, sym, ap, ◌∙◌, subst}
-use Rattle.std.specs.Prelude.{if◌then◌else◌}
+use Rattle.std.proofs.Common.{◌≡◌, ◌≢◌, ◌⊎◌, ℕ, ◌+◌, ◌<◌, ◌≤◌, ℤ, Bool, true, false, ◌&&◌, List, ◌++◌, set, sum_by, All, inl, inr, refl, sym, ap, ◌∙◌, subst, arith, eq-eqb}
+use Rattle.std.specs.Prelude.{if◌then◌else◌, ◌==◌, length}
+use Rattle.std.specs.List.{filter}
 use mathlib.Core.Option.{some}
 use lib.ListN.{get_elem?}
 use Rattle.atomic_table.proofs.Lists.{at_set, set_else}
@@ -16,7 +17,7 @@ use Rattle.segment_machine.specs.declared.place.Look.{Look}
 use Rattle.segment_machine.specs.declared.place.Place.{Place}
 use Rattle.segment_machine.specs.declared.place.Place.TheVariants.{Spent, Idle, FlagsLoaded, FreeLoaded, Raised, Sized, Marked, TailLoaded, Beaten, Linked, Looking, Losing, Moving, CountLoaded, SampleLoaded, SumLoaded, CursorLoaded, BehindCursor}
 use Rattle.segment_machine.specs.Entry.{tally_units, tally_sum, tally_noted}
-use Rattle.segment_machine.specs.Actor.{is_bound, counted_of, summed_of, noted_of, units_of, given_by, all_counted, all_summed, all_noted, all_taken, all_given, taken_units, taken_sum}
+use Rattle.segment_machine.specs.Actor.{is_bound, cost_of, counted_of, summed_of, noted_of, units_of, given_by, all_counted, all_summed, all_noted, all_taken, all_given, taken_units, taken_sum}
 use Rattle.segment_machine.specs.Consistent.{IsWithinCounts}
 use Rattle.segment_machine.specs.Ledger.{moving_at, all_moving}
 use Rattle.segment_machine.specs.Kept.{summed_cost, summed_costs, is_living, RolesAreKept, IsAlone, IsMoment, FinalsAreExact}
@@ -133,6 +134,14 @@ turns_unbound a p unbound =
 pub turns_not : (a : Actor) → a.place ≢ Spent → TurnsTo a a.place
 turns_not a lived = record { lived = lived; lives = lived; moves = λ name key. refl; sums = λ at sum is. is }
 
+-- what its sums have grown by it has spent, or holds
+pub summed_most : (name : List ℕ) (a : Actor) → summed_cost name a ≤ cost_of a.costs name + cost_of a.held name
+summed_most name a = by_test (length (filter (λ c. c.summed) a.running) == 0)
+  where
+    by_test : (b : Bool) → cost_of a.costs name + (if b then 0 else cost_of a.held name) ≤ cost_of a.costs name + cost_of a.held name
+    by_test true = omega arith
+    by_test false = omega arith
+
 -- ---- all actors
 
 -- two actors have the same role
@@ -161,7 +170,7 @@ pub record SameDeeds (old new : List Actor) : Type 0 where
   pub opener : get_elem? new 0 ≡ get_elem? old 0
 
 -- of an actor that lives it is no matter where it stands
-pub living_at : (a : Actor) (p : Place) → p ≢ Spent → is_living (record a { place = p }) ≡ is_living (record a { place = Idle })
+living_at : (a : Actor) (p : Place) → p ≢ Spent → is_living (record a { place = p }) ≡ is_living (record a { place = Idle })
 living_at a Spent lives = absurd (lives refl)
 living_at a Idle lives = refl
 living_at a FlagsLoaded lives = refl
@@ -180,6 +189,10 @@ living_at a (SampleLoaded sample count) lives = refl
 living_at a (SumLoaded reference sum) lives = refl
 living_at a (CursorLoaded cursor at) lives = refl
 living_at a (BehindCursor cursor at behind) lives = refl
+
+-- a recorder that is not spent lives
+pub lives_on : (a : Actor) → a.opener ≡ 0 → a.place ≢ Spent → is_living a ≡ true
+lives_on a records lives = living_at a a.place lives ∙ ap (λ (b : Bool). b && true) (eq-eqb a.opener 0 records)
 
 same_living : (a : Actor) (d : Doing) → TurnsTo a d.place → is_living (doing a d) ≡ is_living a
 same_living a d turns = living_at a d.place turns.lives ∙ sym (living_at a a.place turns.lived)

@@ -23,7 +23,7 @@ use Rattle.segment_machine.specs.Seen.{HasRecord, HasCounts, HasSample, IsNamed,
 use Rattle.segment_machine.specs.Kept.{Kept, CountsNothing}
 use Rattle.segment_machine.proofs.Lists.{at_from, split_at}
 use Rattle.segment_machine.proofs.Pieces.{one_piece, one_stands}
-use Rattle.segment_machine.proofs.Singled.{sum_none, sum_one, sum_pair}
+use Rattle.segment_machine.proofs.Singled.{sum_one, sum_pair, keyed_none}
 use Rattle.segment_machine.proofs.ImpliedBlocks.{claimed_piece}
 use Rattle.segment_machine.proofs.ImpliedFirsts.{name_of_first}
 use Rattle.segment_machine.proofs.ImpliedKeys.{key_test, at_no_bucket, no_units, no_packed}
@@ -53,21 +53,6 @@ range_there : (a n j : ℕ) → j < n → get_elem? (range_with_len a n) j ≡ s
 range_there a zero j lt = absurd (omega (arith, lt))
 range_there a (suc n) zero lt = let e : a ≡ a + 0 = omega arith in ap some e
 range_there a (suc n) (suc j) lt = let e : a + 1 + j ≡ a + suc j = omega arith in range_there (a + 1) n j (omega (arith, lt)) ∙ ap some e
-
-pub zero_index : (l : List ℕ) (i : ℕ) → All (λ n. n ≡ 0) l → slice_index l i ≡ 0
-zero_index [] i zeros = refl
-zero_index (x ∷ xs) zero zeros = All-head (λ n. n ≡ 0) x xs zeros
-zero_index (x ∷ xs) (suc i) zeros = zero_index xs i (All-tail (λ n. n ≡ 0) x xs zeros)
-
--- numbers for buckets that are all 0 are nothing for a key
-if_nothing : (b : Bool) (n : ℕ) → n ≡ 0 → (if b then n else 0) ≡ 0
-if_nothing true n nothing = nothing
-if_nothing false n nothing = refl
-
-keyed_none : (kind : Spec) (key : ℤ) (numbers : List ℕ) → All (λ n. n ≡ 0) numbers → keyed kind key numbers ≡ 0
-keyed_none kind key numbers zeros =
-    sum_none (λ i. if int_eq (key_of_bucket kind i) key then slice_index numbers i else 0) (range_with_len 0 (length numbers))
-    (λ j y there _. if_nothing (int_eq (key_of_bucket kind y) key) (slice_index numbers y) (zero_index numbers y zeros))
 
 -- and for the key of a bucket they are that bucket's
 pub keyed_one : (kind : Spec) (numbers : List ℕ) (i : ℕ) → spec_fault kind ≡ None → kind ≢ spec.Sparse → length numbers ≡ buckets_of kind → i < buckets_of kind

@@ -5,6 +5,7 @@ pub mod AllocatingKeeps
 pub mod Alone
 pub mod Anatomies
 pub mod Asking
+pub mod Bodies
 pub mod Countings
 pub mod Filling
 pub mod Follow

@@ -1,5 +1,5 @@
 -- What holds of one actor stays true while a segment grows: of one that does nothing, and of one that publishes a record or walks.
-use Rattle.std.proofs.Common.{◌≡◌, ◌≢◌, ℕ, ◌+◌, ◌<◌, ◌≤◌, ℤ, List, ◌∷◌, ◌++◌, length, drop, All, Contains, inl, inr, ⊎_elim, refl, sym, ap, ◌∙◌, subst, arith, length-append}
+use Rattle.std.proofs.Common.{◌≡◌, ◌≢◌, ℕ, ◌+◌, ◌<◌, ◌≤◌, ℤ, List, ◌∷◌, ◌++◌, length, drop, All, Contains, inl, inr, ⊎_elim, refl, sym, ap, ◌∙◌, subst, arith}
 use Rattle.std.specs.Prelude.{Some}
 use Rattle.std.specs.Int.{w64, cast_signed}
 use Rattle.std.proofs.lemmas.List.Elements.{All-weaker, All-contains, All-drop, Contains-append_right}
@@ -24,10 +24,11 @@ use Rattle.segment_machine.specs.Actor.{word_seen, counted_of, bucket_key}
 use Rattle.segment_machine.specs.Note.{SawBucket}
 use Rattle.segment_machine.specs.Promises.{accepted_by}
 use Rattle.segment_machine.specs.Seats.{spent}
-use Rattle.segment_machine.specs.Body.{Record, Body, queue, plain, held, histogram, counts, sample, other, words_of, Listed, Anatomy}
+use Rattle.segment_machine.specs.Body.{Record, Body, histogram, sample, words_of, Listed, Anatomy}
 use Rattle.segment_machine.specs.Ledger.{form_at}
-use Rattle.segment_machine.specs.Seen.{HasPlain, HasOwn, HasRecord, IsNamed, IsFirstOf, IsCounterIn, WasCounter, Sees}
+use Rattle.segment_machine.specs.Seen.{HasPlain, HasOwn, HasRecord, IsNamed, IsFirstOf, WasCounter, Sees}
 use Rattle.segment_machine.specs.Kept.{LooksRight, StandsRight, HoldsOwn, CallsRight, HasKey, IsSettled, LooksBack, Fits}
+use Rattle.segment_machine.proofs.Bodies.{counter_within}
 use Rattle.segment_machine.proofs.Actors.{Doing, doing, doing_of, SameDeeds, alone_along, within_along, finals_along, finals_doing}
 use Rattle.segment_machine.proofs.ListingGrowth.{Grows, stop_grows, neighbours_grow, first_of_longer, record_stays, record_came}
 
@@ -78,20 +79,6 @@ module _ (shape : Dimensions) (old new : Anatomy) (added : ℕ → Body → Type
     stands_grow (SumLoaded reference sum) stands = stands
     stands_grow (CursorLoaded cursor at) stands = (stop_grows old new added grows at stands.0, stands.1)
     stands_grow (BehindCursor cursor at next) stands = (neighbours_grow old new added grows at next stands.0, stands.1)
-
--- a counter is a word of its block
-pub counter_within : (body : Body) (i : ℕ) → IsCounterIn body i → i < length (words_of body)
-counter_within (histogram r) i counter = ⊎_elim (λ a. let here : i < length (words_of (histogram r)) = omega (arith, a) in here) (λ b. let here : i < length (words_of (histogram r)) = omega (arith, b) in here) counter
-counter_within (counts c) i counter =
-    let below = counter.1 in
-    let a = length-append (c.units ++ c.marks) c.rest in
-    let b = length-append c.units c.marks in
-    omega (arith, below, a, b)
-counter_within (queue next) i counter = absurd counter
-counter_within (plain words) i counter = absurd counter
-counter_within (held block) i counter = absurd counter
-counter_within (other size tag next payload) i counter = absurd counter
-counter_within (sample s) i counter = ⊎_elim (λ a. let here : i < length (words_of (sample s)) = omega (arith, a) in here) (λ b. let here : i < length (words_of (sample s)) = omega (arith, b) in here) counter
 
 -- ---- what holds of one actor
 

@@ -1,7 +1,8 @@
 -- A kept state in which one actor puts a record on the list or walks along it: all that is kept, from what changes.
-use Rattle.std.proofs.Common.{◌≡◌, ◌≢◌, ℕ, suc, ◌+◌, ◌<◌, ◌≤◌, ◌&&◌, ℤ, Bool, true, false, List, [], ◌∷◌, ◌++◌, map, filter, All, Contains, ⊎_elim, refl, sym, ap, ◌∙◌, subst, arith, eq-eqb}
+use Rattle.std.proofs.Common.{◌≡◌, ◌≢◌, ℕ, suc, ◌+◌, ◌<◌, ◌≤◌, ℤ, Bool, true, List, [], ◌∷◌, ◌++◌, map, filter, All, Contains, ⊎_elim, refl, sym, ap, ◌∙◌, subst, arith}
 use Rattle.std.specs.Prelude.{slice_index, Some}
 use Rattle.std.specs.Prelude as std
+use Rattle.std.proofs.lemmas.Bool.{and_parts}
 use Rattle.std.proofs.lemmas.List.Elements.{All-contains, Contains-append_left, Contains-append_right, Contains-append_cases}
 use mathlib.Core.Option.{some, some-injective}
 use mathlib.Core.Logic.{dite}
@@ -22,20 +23,16 @@ use Rattle.segment_machine.specs.Body.{Record, Body, Piece, Listed, Anatomy}
 use Rattle.segment_machine.specs.Ledger.{units_held, marks_held, sum_held, sum_mark_held, noted_held, all_held, all_amounts, IsBalanced}
 use Rattle.segment_machine.specs.Seen.{HasRecord, Knows, Sees}
 use Rattle.segment_machine.specs.State.{State}
-use Rattle.segment_machine.specs.Kept.{StandsAs, HasKey, is_living, StandsRight, HoldsOwn, Fits, Kept}
+use Rattle.segment_machine.specs.Kept.{StandsAs, HasKey, StandsRight, HoldsOwn, Fits, Kept}
 use Rattle.segment_machine.proofs.Lists.{row_in}
-use Rattle.segment_machine.proofs.Actors.{Doing, doing, SameDeeds, living_at}
+use Rattle.segment_machine.proofs.Actors.{Doing, doing, SameDeeds, lives_on}
 use Rattle.segment_machine.proofs.ListingGrowth.{Grows}
 use Rattle.segment_machine.proofs.ListingActors.{SawMore, fits_grow}
 
 -- ---- entries that were accepted are counted
 
 ended_counted : (c : Counting) → has_ended c ≡ true → is_counted c ≡ true
-ended_counted c ended = and_left (is_counted c) _ (and_left _ _ ended)
-  where
-    and_left : (a b : Bool) → a && b ≡ true → a ≡ true
-    and_left true b e = refl
-    and_left false b e = e
+ended_counted c ended = (and_parts (is_counted c) _ (and_parts _ _ ended).0).0
 
 counted_all : (list : List Counting) → All (λ c. has_ended c ≡ true) list → (more : List Counting)
     → counted_among (list ++ more) ≡ map (λ c. c.entry) list ++ counted_among more
@@ -44,9 +41,6 @@ counted_all (c ∷ rest) ended more =
     ap (λ (b : Bool). map (λ (d : Counting). d.entry) (std.cond b (c ∷ filter is_counted (rest ++ more)) (filter is_counted (rest ++ more))))
     (ended_counted c (ended 0 c (omega arith)))
     ∙ ap (λ (entries : List Entry). c.entry ∷ entries) (counted_all rest (λ k d lt. ended (suc k) d (omega (arith, lt))) more)
-
-living_is : (a : Actor) → a.opener ≡ 0 → a.place ≢ Spent → is_living a ≡ true
-living_is a records lives = living_at a a.place lives ∙ ap (λ (b : Bool). b && true) (eq-eqb a.opener 0 records)
 
 -- ---- what a kept state says of its actors
 
@@ -61,7 +55,7 @@ module _ (shape : Dimensions) (opened : Anatomy) (state : State) (kept : Kept sh
       absurd (omega (arith, lt)))
       (λ ne.
       let opener : Actor = kept.roles.opener in
-      let (more, log, last) = kept.roles.heirs id x there (living_is x (kept.roles.only id x there ne).0 lives) in
+      let (more, log, last) = kept.roles.heirs id x there (lives_on x (kept.roles.only id x there ne).0 lives) in
       let logged : Contains (log_of opener) entry = subst (λ (l : List Entry). Contains l entry) (sym log) (Contains-append_left x.inherited more entry has) in
       let ended = (kept.each 0 opener kept.roles.stands (λ spent. cc (sym kept.roles.idle ∙ spent))).calls.ended in
       row_in counted_of state.actors 0 opener entry kept.roles.stands

@@ -28,10 +28,11 @@ use Rattle.segment_machine.specs.Next.{next, sight}
 use Rattle.segment_machine.specs.Made.{spec_ranges, AreNameWords}
 use Rattle.segment_machine.specs.Ready.{IsFixed}
 use Rattle.segment_machine.specs.Learned.{EndsWithin}
-use Rattle.segment_machine.specs.Body.{Record, Sample, Body, queue, plain, held, histogram, counts, sample, other, record_words, spec_field, words_of, is_claimed, Piece, Listed, Anatomy, layout_of, order_of}
+use Rattle.segment_machine.specs.Body.{Record, Sample, Body, histogram, sample, other, record_words, spec_field, words_of, is_claimed, Piece, Listed, Anatomy, layout_of, order_of}
 use Rattle.segment_machine.specs.Seen.{Stands, HasRecord, HasSample, IsFixedIn, WasFixed}
 use Rattle.segment_machine.specs.Kept.{StandsAs, Kept}
 use Rattle.segment_machine.proofs.Lists.{at_from, all_at, from_map}
+use Rattle.segment_machine.proofs.Bodies.{fixed_within}
 use Rattle.segment_machine.proofs.Pieces.{piece_word, one_index}
 use Rattle.segment_machine.proofs.Actors.{Doing, turns_not}
 use Rattle.segment_machine.proofs.Goings.{happens}
@@ -69,26 +70,6 @@ ranges_long (Linear min max n) kind = absurd (omega (arith, kind))
 ranges_long Boolean kind = absurd (omega (arith, kind))
 ranges_long (Custom values) kind = omega arith
 ranges_long Sparse kind = absurd (omega (arith, kind))
-
-fixed_within : (body : Body) (i : ℕ) → IsFixedIn body i → i < length (words_of body)
-fixed_within (histogram r) i fixed = within fixed
-  where
-    within : IsFixedIn (histogram r) i → i < length (words_of (histogram r))
-    within (inl two) = omega (arith, two)
-    within (inr (inl field)) = let below = field.1 in omega (arith, below)
-    within (inr (inr (inl named))) = let is = named.0 in omega (arith, is)
-    within (inr (inr (inr behind))) = behind.1
-fixed_within (sample s) i fixed = within fixed
-  where
-    within : IsFixedIn (sample s) i → i < length (words_of (sample s))
-    within (inl two) = omega (arith, two)
-    within (inr (inl four)) = omega (arith, four)
-    within (inr (inr five)) = omega (arith, five)
-fixed_within (other size tag next payload) i fixed = omega (arith, fixed)
-fixed_within (queue next) i fixed = absurd fixed
-fixed_within (plain words) i fixed = absurd fixed
-fixed_within (held block) i fixed = absurd fixed
-fixed_within (counts c) i fixed = absurd fixed
 
 -- ---- words that were seen
 

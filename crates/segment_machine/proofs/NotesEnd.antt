@@ -23,6 +23,7 @@ use Rattle.segment_machine.specs.Body.{Anatomy}
 use Rattle.segment_machine.specs.Kept.{AreInOrder, CallsRight, summed_cost, IsQuiet, Kept}
 use Rattle.segment_machine.specs.Follows.{NoteKeeps}
 use Rattle.segment_machine.proofs.Lists.{none_at, all_of}
+use Rattle.segment_machine.proofs.Actors.{summed_most}
 use Rattle.segment_machine.proofs.SeatsLists.{all_left, contains_map}
 use Rattle.segment_machine.proofs.Countings.{noted_total, untouched_counts, untouched_sums, untouched_notes, untouched_summed}
 use Rattle.segment_machine.proofs.Noting.{Noting, noting, noting_of, SameCounts, notes_on}
@@ -64,10 +65,6 @@ none_ordered = record {
 unbound_lives : (a : Actor) → is_bound a.place ≡ false → a.place ≢ Spent
 unbound_lives a unbound spent = cc (unbound, ap is_bound spent)
 
-at_most : (b : Bool) (n : ℕ) → (if b then 0 else n) ≤ n
-at_most true n = omega arith
-at_most false n = omega arith
-
 -- A call that has ended so many of its entries, and spent so much, is gone: what holds is kept.
 module _ (a : Actor) (share : ℕ) (spent : List Cost) (ended : List Counting) where
   abbrev gone : Noting
@@ -107,8 +104,8 @@ ends_counts a = record {
   costs = λ name.
       let all : cost_of (a.costs ++ a.held) name ≡ cost_of a.costs name + cost_of a.held name =
       sum_by-append (λ (cost : Cost). if bytes_eq cost.name name then cost.units else 0) a.costs a.held in
-      let some_held = at_most (length (filter (λ (c : Counting). c.summed) a.running) == 0) (cost_of a.held name) in
-      omega (arith, all, some_held);
+      let most = summed_most name a in
+      omega (arith, all, most);
   units =
       let all = sum_by-append (λ (cost : Cost). cost.units) a.costs a.held in
       omega (arith, all);

@@ -18,14 +18,12 @@ use Rattle.segment_machine.specs.Note.{takes, moment_of, nothing_taken}
 use Rattle.segment_machine.specs.Kept.{is_living, ended_deltas, IsMoment, FinalsAreExact}
 use Rattle.segment_machine.specs.Follows.{NoteKeeps}
 use Rattle.segment_machine.proofs.Lists.{one_in}
+use Rattle.segment_machine.proofs.Singled.{if_nothing}
 use Rattle.segment_machine.proofs.SeatsSums.{amounts_total}
-use Rattle.segment_machine.proofs.SeatsRoles.{lives_on}
-use Rattle.segment_machine.proofs.Noting.{Noting, noting, noting_of, SameCounts, SameTakes, not_first, notes_on}
+use Rattle.segment_machine.proofs.Actors.{lives_on}
+use Rattle.segment_machine.proofs.Goings.{not_opener}
+use Rattle.segment_machine.proofs.Noting.{Noting, noting, noting_of, SameCounts, SameTakes, notes_on}
 use Rattle.segment_machine.proofs.NotingFits.{noting_fits, looks_anew, calls_by}
-
-same_either : {X : Type 0} (b : Bool) (x : X) → (if b then x else x) ≡ x
-same_either true x = refl
-same_either false x = refl
 
 module _ (a : Actor) (name : List ℕ) where
   abbrev begun : Taken
@@ -46,11 +44,11 @@ module _ (a : Actor) (name : List ℕ) where
   takes_same = record {
     taken = λ of key.
         let all = sum_by_push (λ (t : Taken). if bytes_eq t.name of then units_listed t.counts key else 0) a.taken begun in
-        let none = same_either {X = ℕ} (bytes_eq name of) 0 in
+        let none = if_nothing {X = ℕ} (bytes_eq name of) 0 0 refl in
         omega (arith, all, none);
     taken_sums = λ of.
         amounts_total (λ (t : Taken). if bytes_eq t.name of then t.sum else pos 0) a.taken (begun ∷ [])
-        ∙ (ap (λ (z : ℤ). taken_sum a.taken of +ℤ (pos 0 +ℤ z)) (same_either (bytes_eq name of) (pos 0)) ∙ +ℤ_idr (taken_sum a.taken of));
+        ∙ (ap (λ (z : ℤ). taken_sum a.taken of +ℤ (pos 0 +ℤ z)) (if_nothing (bytes_eq name of) (pos 0) (pos 0) refl) ∙ +ℤ_idr (taken_sum a.taken of));
     from = λ t has. ⊎_elim (λ old. inl old) (λ new. inr (ap (λ (t : Taken). t.counts) (sym (one_in begun t new)))) (Contains-append_cases a.taken (begun ∷ []) t has);
   }
 
@@ -90,7 +88,7 @@ pub takes_kept : (name : List ℕ) → NoteKeeps (takes name)
 takes_kept name shape opened state id a kept mine records (lived, recorder, runs, rests, known) =
     let n : Noting = taker a name in
     let lives = lives_on a records lived in
-    let nothing = not_first shape opened state kept id a mine records in
+    let nothing = not_opener shape opened state kept id a mine records in
     notes_on shape opened state kept id a mine records n lived (takes_counts a name) (takes_same a name) (λ name key. refl) (λ known has. has)
     (λ fit. noting_fits shape kept.anatomy state.cursors _ kept.roles.opener id a n fit fit.sees.names
     (calls_by kept.anatomy a n fit.calls (takes_counts a name) fit.calls.ordered fit.calls.within fit.calls.held fit.calls.ended

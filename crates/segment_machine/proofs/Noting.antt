@@ -2,7 +2,7 @@
 use Rattle.std.proofs.Common.{◌≡◌, ◌≢◌, ◌⊎◌, ℕ, ◌+◌, ◌<◌, ◌≤◌, ℤ, Bool, false, ◌||◌, fold, List, [], ◌++◌, map, take, set, All, Contains, inl, inr, refl, sym, ap, ◌∙◌, subst, subst₂, arith}
 use Rattle.std.specs.Prelude.{if◌then◌else◌, IsPermutation}
 use Rattle.std.proofs.lemmas.List.Sums.{sum_by-append}
-use mathlib.Core.Option.{some, some-injective}
+use mathlib.Core.Option.{some}
 use lib.ListN.{get_elem?}
 use Rattle.atomic_table.proofs.Lists.{at_set, set_else}
 use Rattle.segment_image.specs.Shape.{Dimensions}
@@ -18,17 +18,18 @@ use Rattle.segment_machine.specs.declared.actor.Cost.{Cost}
 use Rattle.segment_machine.specs.declared.actor.Known.{Known}
 use Rattle.segment_machine.specs.declared.actor.Published.{Published}
 use Rattle.segment_machine.specs.declared.actor.Taken.{Taken}
-use Rattle.segment_machine.specs.Entry.{tally_units, tally_sum, tally_noted, is_of}
+use Rattle.segment_machine.specs.Entry.{tally_units, tally_sum, tally_noted}
 use Rattle.std.specs.Str.{bytes_eq}
-use Rattle.std.specs.Ordering.{int_eq}
-use Rattle.std.specs.Prelude.{◌&&◌, pos, ◌+ℤ◌}
+use Rattle.std.specs.Prelude.{pos, ◌+ℤ◌}
 use Rattle.segment_machine.specs.Actor.{counted_of, summed_of, noted_of, given_by, units_of, units_listed, taken_units, taken_sum, all_counted, all_taken}
 use Rattle.segment_machine.specs.State.{State}
 use Rattle.segment_machine.specs.Body.{Anatomy, listed, order_of, claims_of}
 use Rattle.segment_machine.specs.Ledger.{moving_at}
 use Rattle.segment_machine.specs.Kept.{summed_cost, is_living, RolesAreKept, LooksRight, StandsRight, Fits, ListIsKept, CursorsAreKept, HasKey, Kept}
 use Rattle.segment_machine.proofs.Lists.{none_in, rows_total, rows, row_in, row_from, column, sum_same, sum_beside}
+use Rattle.segment_machine.proofs.Countings.{units_total, sum_total, noted_total}
 use Rattle.segment_machine.proofs.Totals.{HasUnits, tally_from, tally_at}
+use Rattle.segment_machine.proofs.Goings.{not_opener}
 use Rattle.segment_machine.proofs.SeatsSums.{amounts_total}
 use Rattle.segment_machine.proofs.SeatsBooks.{GivenInOrder, LoadedBefore}
 use Rattle.segment_machine.proofs.SeatsDeeds.{SameSums}
@@ -133,14 +134,6 @@ module _ (anatomy : Anatomy) (a : Actor) (n : Noting) (knows : (known : Known) �
 
 module _ (shape : Dimensions) (opened : Anatomy) (state : State) (kept : Kept shape opened state) (id : ℕ) (a : Actor)
     (mine : get_elem? state.actors id ≡ some a) (records : a.opener ≡ 0) where
-  -- a recorder is not the first actor
-  pub not_first : id ≢ 0
-  not_first zero_is =
-      let opener : kept.roles.opener ≡ a = some-injective _ _ (sym kept.roles.stands ∙ (ap (get_elem? state.actors) (sym zero_is) ∙ mine)) in
-      let one = ap (λ (b : Actor). b.opener) opener in
-      let opens = kept.roles.opens in
-      omega (arith, one, opens, records)
-
   module _ (n : Noting) (lived : a.place ≢ Spent) where
     abbrev pub later : Actor
     later = noting a n
@@ -153,14 +146,11 @@ module _ (shape : Dimensions) (opened : Anatomy) (state : State) (kept : Kept sh
       pub sums : SameSums state.actors noters
       sums = record {
         counted = λ name key. rows_total ◌+◌ (λ entries. tally_units entries name key)
-            (sum_by-append (λ (entry : Entry). if is_of name entry && int_eq entry.key key then entry.units else 0))
-            counted_of state.actors id a later mine (counts.counted name key);
+            (units_total name key) counted_of state.actors id a later mine (counts.counted name key);
         summed = λ name. rows_total ◌+ℤ◌ (λ entries. tally_sum entries name)
-            (amounts_total (λ (entry : Entry). if is_of name entry then entry.amount else pos 0))
-            summed_of state.actors id a later mine (counts.summed name);
+            (sum_total name) summed_of state.actors id a later mine (counts.summed name);
         noted = λ name. rows_total ◌+◌ (λ entries. tally_noted entries name)
-            (sum_by-append (λ (entry : Entry). if is_of name entry then entry.units else 0))
-            noted_of state.actors id a later mine (counts.noted name);
+            (noted_total name) noted_of state.actors id a later mine (counts.noted name);
         taken = λ name key. rows_total ◌+◌ (λ taken. taken_units taken name key)
             (sum_by-append (λ (t : Taken). if bytes_eq t.name name then units_listed t.counts key else 0))
             (λ (a : Actor). a.taken) state.actors id a later mine (takes.taken name key);
@@ -189,7 +179,7 @@ module _ (shape : Dimensions) (opened : Anatomy) (state : State) (kept : Kept sh
       ]
 
       first : get_elem? noters 0 ≡ some kept.roles.opener
-      first = set_else state.actors id 0 later (λ same. not_first (sym same)) ∙ kept.roles.stands
+      first = set_else state.actors id 0 later (λ same. not_opener shape opened state kept id a mine records (sym same)) ∙ kept.roles.stands
 
       roles : RolesAreKept noters
       roles = record {
@@ -199,7 +189,7 @@ module _ (shape : Dimensions) (opened : Anatomy) (state : State) (kept : Kept sh
         idle = kept.roles.idle;
         rests = kept.roles.rests;
         only = λ k c at away. elim (at_set state.actors id k later c at) [
-          | inl t ↦ subst (λ (c : Actor). (c.opener ≡ 0) × (c.first ≡ [])) t.1 (kept.roles.only id a mine not_first)
+          | inl t ↦ subst (λ (c : Actor). (c.opener ≡ 0) × (c.first ≡ [])) t.1 (kept.roles.only id a mine (not_opener shape opened state kept id a mine records))
           | inr t ↦ kept.roles.only k c t.1 away
         ];
         living = sum_same (λ c. if is_living c then 1 else 0) state.actors id a later mine refl ∙ kept.roles.living;

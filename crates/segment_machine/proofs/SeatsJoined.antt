@@ -1,5 +1,6 @@
 -- What an opener has that has joined a recorder: what both had.
-use Rattle.std.proofs.Common.{◌≡◌, ℕ, ◌+◌, ◌<◌, ◌≤◌, max, ℤ, pos, ◌+ℤ◌, Bool, true, false, true≢false, ◌||◌, List, [], ◌∷◌, ◌++◌, map, length, inl, inr, ⊎_elim, refl, sym, ap, ap₂, ◌∙◌, subst, append_assoc, append-nil, eqb-true, ltb-true, ltb-false, arith}
+use Rattle.std.proofs.Common.{◌≡◌, ℕ, ◌+◌, ◌<◌, ◌≤◌, max, ℤ, pos, ◌+ℤ◌, Bool, true, false, true≢false, ◌||◌, List, [], ◌∷◌, ◌++◌, map, length, ⊎_elim, refl, sym, ap, ap₂, ◌∙◌, subst, append_assoc, append-nil, eqb-true, ltb-true, ltb-false, arith}
+use Rattle.std.proofs.Math.Bool.{or-false}
 use Rattle.std.specs.Prelude.{fold, if◌then◌else◌, ◌==◌, nat_lt, slice_index, unwrap_or, Option, Some, IsPermutation}
 use Rattle.std.specs.Str.{bytes_eq}
 use Rattle.std.specs.List.{filter, Contains}
@@ -29,11 +30,11 @@ use lib.ListN.{get_elem?}
 use Rattle.segment_image.specs.Shape.{Dimensions}
 use Rattle.alloc_core.specs.Layout.{IsShown}
 use Rattle.segment_machine.specs.declared.actor.Sighting.{Sighting}
-use Rattle.segment_machine.specs.Body.{Body, queue, plain, held, histogram, counts, sample, other, words_of, Piece, Anatomy, layout_of, order_of, free_of}
-use Rattle.segment_machine.specs.Seen.{WasSingle, WasCounter, WasInUse, WasFixed, IsFixedIn, IsNoLater, IsFirstOf, Knows, Sees}
+use Rattle.segment_machine.specs.Body.{Body, words_of, Piece, Anatomy, layout_of, order_of, free_of}
+use Rattle.segment_machine.specs.Seen.{WasSingle, WasCounter, WasInUse, WasFixed, IsNoLater, IsFirstOf, Knows, Sees}
+use Rattle.segment_machine.proofs.Bodies.{fixed_within}
 use Rattle.segment_machine.proofs.Pieces.{one_index}
 use Rattle.segment_machine.proofs.SeatsLists.{map_after, front_of_front}
-use Rattle.segment_machine.proofs.SeatsSums.{or_false}
 use Rattle.segment_machine.proofs.SeatsDeeds.{Deeds, timeless}
 
 -- ---- entries
@@ -153,8 +154,8 @@ module _ (a b : Actor) (may : Joins a b) where
         let all = sum_by-append (λ (cost : Cost). cost.units) a.costs b.costs in
         let nothing : cost_total b.held ≡ 0 = ap cost_total may.holds in
         omega (arith, all, nothing));
-    spoiled = or_false (a.spoiled || b.spoiled);
-    filled = or_false (a.filled || b.filled);
+    spoiled = or-false (a.spoiled || b.spoiled);
+    filled = or-false (a.filled || b.filled);
   }
 
 -- ---- what both have seen
@@ -245,22 +246,7 @@ seen_behind (s ∷ xs) ys at word same e = here (s.at == at) refl
     here true found behind = ap Some (same s (Contains-append_left (s ∷ []) xs s (0, omega arith, refl)) (eqb-true s.at at found))
     here false apart behind = behind
 
--- a word that is fixed in a block is one of its words
-fixed_within : (body : Body) (i : ℕ) → IsFixedIn body i → i < length (words_of body)
-fixed_within (histogram r) i (inl e) = omega (arith, e)
-fixed_within (histogram r) i (inr (inl between)) = let high = between.1 in omega (arith, high)
-fixed_within (histogram r) i (inr (inr (inl mounted))) = let e = mounted.0 in omega (arith, e)
-fixed_within (histogram r) i (inr (inr (inr behind))) = behind.1
-fixed_within (sample s) i (inl e) = omega (arith, e)
-fixed_within (sample s) i (inr (inl e)) = omega (arith, e)
-fixed_within (sample s) i (inr (inr e)) = omega (arith, e)
-fixed_within (other size tag next payload) i e = omega (arith, e)
-fixed_within (queue next) i e = absurd e
-fixed_within (plain words) i e = absurd e
-fixed_within (held block) i e = absurd e
-fixed_within (counts block) i e = absurd e
-
--- so at one place one word was seen
+-- at one place one word was seen
 one_word : (shape : Dimensions) (words : List ℕ) (anatomy : Anatomy) → IsShown shape words (layout_of anatomy) → (s t : Sighting)
     → WasFixed anatomy.pieces s → WasFixed anatomy.pieces t → s.at ≡ t.at → s.word ≡ t.word
 one_word shape words anatomy shown s t first second same =

@@ -3,8 +3,6 @@ use Rattle.std.proofs.Common.{◌≡◌, ◌≢◌, ℕ, ◌<◌, ◌≤◌, tru
 use native.Mathlib.Decide.{ℕ_discrete}
 use mathlib.Core.Option.{some}
 use lib.ListN.{get_elem?}
-use Rattle.segment_machine.specs.declared.place.Place.{Place}
-use Rattle.segment_machine.specs.declared.place.Place.TheVariants.{Spent, Idle, FlagsLoaded, FreeLoaded, Raised, Sized, Marked, TailLoaded, Beaten, Linked, Looking, Losing, Moving, CountLoaded, SampleLoaded, SumLoaded, CursorLoaded, BehindCursor}
 use Rattle.segment_machine.specs.declared.actor.Actor.{Actor}
 use Rattle.segment_machine.specs.Kept.{is_living, RolesAreKept, IsAlone}
 use Rattle.segment_machine.proofs.SeatsLists.{one_at}
@@ -15,30 +13,6 @@ opens_nothing a opens lives = absurd (true≢false (sym lives ∙ no_recorder a.
   where
     no_recorder : (n : ℕ) → n ≡ 1 → is_living (record a { opener = n }) ≡ false
     no_recorder n e = subst (λ (k : ℕ). is_living (record a { opener = k }) ≡ false) (sym e) refl
-
--- a recorder that is not spent lives
-pub lives_on : (a : Actor) → a.opener ≡ 0 → a.place ≢ Spent → is_living a ≡ true
-lives_on a records live = subst (λ (n : ℕ). is_living (record a { opener = n }) ≡ true) (sym records) (at_place a.place live)
-  where
-    at_place : (place : Place) → place ≢ Spent → is_living (record a { opener = 0; place = place }) ≡ true
-    at_place Spent ne = absurd (ne refl)
-    at_place Idle ne = refl
-    at_place FlagsLoaded ne = refl
-    at_place (FreeLoaded free) ne = refl
-    at_place (Raised at size) ne = refl
-    at_place (Sized at size) ne = refl
-    at_place (Marked at size) ne = refl
-    at_place (TailLoaded tail) ne = refl
-    at_place (Beaten tail behind) ne = refl
-    at_place (Linked at tail) ne = refl
-    at_place (Looking look) ne = refl
-    at_place (Losing look at) ne = refl
-    at_place (Moving look bucket units) ne = refl
-    at_place (CountLoaded look bucket count) ne = refl
-    at_place (SampleLoaded reference count) ne = refl
-    at_place (SumLoaded reference sum) ne = refl
-    at_place (CursorLoaded cursor at) ne = refl
-    at_place (BehindCursor cursor at behind) ne = refl
 
 -- a recorder that lives has lived, made when it is said to be, with what it is said to have inherited
 pub record Stood (old : List Actor) (k : ℕ) (c : Actor) : Type 0 where

@@ -31,10 +31,10 @@ use Rattle.segment_machine.proofs.Countings.{units_total, sum_total, noted_total
 use Rattle.segment_machine.proofs.Totals.{HasUnits, tally_from, tally_at}
 use Rattle.segment_machine.proofs.Goings.{not_opener}
 use Rattle.segment_machine.proofs.SeatsSums.{amounts_total}
-use Rattle.segment_machine.proofs.SeatsBooks.{GivenInOrder, LoadedBefore}
+use Rattle.segment_machine.proofs.SeatsBooks.{cursors_set, listed_set}
 use Rattle.segment_machine.proofs.SeatsDeeds.{SameSums}
-use Rattle.segment_machine.proofs.SeatsFrames.{IsLater, balanced, sums_near, fits}
-use Rattle.segment_machine.proofs.SeatsRoles.{AllStood, still_younger, still_apart, still_eldest, alone_before}
+use Rattle.segment_machine.proofs.SeatsFrames.{LoadedBefore, balanced, sums_near}
+use Rattle.segment_machine.proofs.SeatsRoles.{SameRole, stood_set, roles_set, fits_beside}
 
 -- ---- what changes of an actor that notes something
 
@@ -164,60 +164,18 @@ module _ (shape : Dimensions) (opened : Anatomy) (state : State) (kept : Kept sh
             omega (arith, all, more);
       }
 
-      -- others were there, and it stands where it stood
-      stood : AllStood state.actors noters
-      stood k c at lives = elim (at_set state.actors id k later c at) [
-        | inl t ↦ record {
-          was = a;
-          at = ap (get_elem? state.actors) t.0 ∙ mine;
-          lives = ap is_living t.1 ∙ lives;
-          made = ap (λ (c : Actor). c.made) t.1;
-          outstanding = ap (λ (c : Actor). c.outstanding) t.1;
-          inherited = ap (λ (c : Actor). c.inherited) t.1;
-        }
-        | inr t ↦ record { was = c; at = t.1; lives = lives; made = refl; outstanding = refl; inherited = refl }
-      ]
+      -- it has the role that it had
+      role : SameRole later a
+      role = record { living = refl; opener = refl; first = refl; made = refl; outstanding = refl; inherited = refl }
 
-      first : get_elem? noters 0 ≡ some kept.roles.opener
-      first = set_else state.actors id 0 later (λ same. not_opener shape opened state kept id a mine records (sym same)) ∙ kept.roles.stands
-
-      roles : RolesAreKept noters
-      roles = record {
-        opener = kept.roles.opener;
-        stands = first;
-        opens = kept.roles.opens;
-        idle = kept.roles.idle;
-        rests = kept.roles.rests;
-        only = λ k c at away. elim (at_set state.actors id k later c at) [
-          | inl t ↦ subst (λ (c : Actor). (c.opener ≡ 0) × (c.first ≡ [])) t.1 (kept.roles.only id a mine (not_opener shape opened state kept id a mine records))
-          | inr t ↦ kept.roles.only k c t.1 away
-        ];
-        living = sum_same (λ c. if is_living c then 1 else 0) state.actors id a later mine refl ∙ kept.roles.living;
-        few = kept.roles.few;
-        younger = still_younger state.actors noters kept.roles stood kept.roles.opener.made (omega arith);
-        apart = still_apart state.actors noters kept.roles stood;
-        eldest = still_eldest state.actors noters kept.roles stood;
-        heirs = λ k c at lives.
-            let s = stood k c at lives in
-            let was = kept.roles.heirs k s.was s.at s.lives in (
-              was.0,
-              was.1 ∙ ap (λ (list : List Entry). list ++ was.0) s.inherited,
-              λ none last. was.2 (s.outstanding ∙ none) (ap (λ (n : ℕ). n + 1) s.made ∙ last),
-            );
-      }
-
-      since : IsLater state.actors noters kept.roles.opener kept.roles.opener
-      since = record {
-        more = omega arith;
-        last = λ n below e. e;
-        lives = λ k c at lives. let s = stood k c at lives in inl (s.was, s.at, s.lives, s.made);
-      }
+      not_first : id ≢ 0
+      not_first = not_opener shape opened state kept id a mine records
 
       -- who fitted beside the others fits still
       pub beside : (k : ℕ) (c : Actor) → Fits shape kept.anatomy state.cursors state.actors kept.roles.opener k c
           → Fits shape kept.anatomy state.cursors noters kept.roles.opener k c
-      beside k c fit = fits shape kept.anatomy state.cursors state.actors noters kept.roles.opener kept.roles.opener k c sums since
-          (λ either. alone_before state.actors noters kept.roles.opener kept.roles.opener c kept.roles.stands first refl) fit
+      beside k c = fits_beside shape kept.anatomy state.cursors state.actors noters kept.roles.opener k c sums
+          (stood_set state.actors id a later mine role) (set_else state.actors id 0 later (λ same. not_first (sym same)))
 
       module _ (knows : (known : Known) → Contains a.names known → Contains n.names known)
           (refits : Fits shape kept.anatomy state.cursors noters kept.roles.opener id a → Fits shape kept.anatomy state.cursors noters kept.roles.opener id later) where
@@ -234,40 +192,6 @@ module _ (shape : Dimensions) (opened : Anatomy) (state : State) (kept : Kept sh
               (noting_stands kept.anatomy a n knows shape id a.place lived (kept.standing id a mine))
           | inr t ↦ kept.standing k c t.1
         ]
-
-        list : ListIsKept state.words opened kept.anatomy noters
-        list = record {
-          linked = kept.list.linked;
-          once = (
-            kept.list.once.0,
-            kept.list.once.1,
-            subst (λ (made : List Published). IsPermutation kept.list.once.0 (map listed made))
-                (sym (rows (λ (a : Actor). a.published) state.actors id a later mine refl)) kept.list.once.2,
-          );
-          standing = kept.list.standing;
-          alone = kept.list.alone;
-          tail = kept.list.tail;
-        }
-
-        cursors : CursorsAreKept (order_of kept.anatomy) state.cursors noters
-        cursors = record {
-          stand = λ k below.
-              let (place, within, is, gave) = kept.cursors.stand k below in (
-                place,
-                within,
-                is,
-                subst (λ given. IsPermutation given (take place (order_of kept.anatomy)))
-                    (sym (rows (λ (a : Actor). given_by k a.given) state.actors id a later mine refl)) gave,
-              );
-          ordered = λ k c at. elim (at_set state.actors id k later c at) [
-            | inl t ↦ λ recorder. subst (λ (c : Actor). GivenInOrder (order_of kept.anatomy) c.given) t.1 (kept.cursors.ordered id a mine records)
-            | inr t ↦ kept.cursors.ordered k c t.1
-          ];
-          given = λ k c at. elim (at_set state.actors id k later c at) [
-            | inl t ↦ subst (λ (c : Actor). All (λ g. Contains (order_of kept.anatomy) g.reference) c.given) t.1 (kept.cursors.given id a mine)
-            | inr t ↦ kept.cursors.given k c t.1
-          ];
-        }
 
         keys : (entry : Entry) → Contains (all_counted noters) entry → 0 < entry.units → HasKey kept.anatomy.records entry.name entry.key
         keys entry there some_units = elim (row_from counted_of state.actors id later entry there) [
@@ -294,7 +218,6 @@ module _ (shape : Dimensions) (opened : Anatomy) (state : State) (kept : Kept sh
 
         -- the state with that note is kept
         pub notes_on : Kept shape opened (record state { actors = noters })
-        unfolding roles
         notes_on = record {
           anatomy = kept.anatomy;
           shown = kept.shown;
@@ -302,7 +225,7 @@ module _ (shape : Dimensions) (opened : Anatomy) (state : State) (kept : Kept sh
           versions = kept.versions;
           still = kept.still;
           blocks = kept.blocks;
-          list = list;
+          list = listed_set state.words opened kept.anatomy state.actors id a later mine refl kept.list;
           claims = subst (λ (claimed : List Claim). IsPermutation (claims_of kept.anatomy.pieces) (claims_of opened.pieces ++ claimed))
               (sym (rows (λ (a : Actor). a.claimed) state.actors id a later mine refl)) kept.claims;
           records = kept.records;
@@ -313,8 +236,8 @@ module _ (shape : Dimensions) (opened : Anatomy) (state : State) (kept : Kept sh
           pool = sum_same units_of state.actors id a later mine counts.units ∙ kept.pool;
           corrupt = kept.corrupt ∙ ap (λ set. opened.corrupt || fold ◌||◌ false set) (sym (column (λ (a : Actor). a.spoiled) state.actors id a later mine refl));
           full = kept.full ∙ ap (λ set. opened.full || fold ◌||◌ false set) (sym (column (λ (a : Actor). a.filled) state.actors id a later mine refl));
-          roles = roles;
-          cursors = cursors;
+          roles = roles_set state.actors id a later mine role not_first kept.roles;
+          cursors = cursors_set (order_of kept.anatomy) state.cursors state.actors id a later mine records refl kept.cursors;
           standing = standing;
           each = each;
         }

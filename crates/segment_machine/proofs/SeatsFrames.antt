@@ -45,11 +45,13 @@ balanced version opened pieces old new same books = record {
       omega (arith, was, counted, took);
 }
 
--- sums of a record stay near where no sum is loaded that was not loaded before
-pub sums_near : (pieces : List Piece) (old new : List Actor) → SameSums old new
-    → ((at : ℕ) (sum : ℤ) (id : ℕ) (a : Actor) → get_elem? new id ≡ some a → a.place ≡ SumLoaded at sum
-    → (k : ℕ) × (b : Actor) × (get_elem? old k ≡ some b) × (b.place ≡ SumLoaded at sum))
-    → SumsAreNear pieces old → SumsAreNear pieces new
+-- each sum that is loaded now was loaded before
+abbrev pub LoadedBefore : List Actor → List Actor → Type 0
+LoadedBefore old new = (at : ℕ) (sum : ℤ) (id : ℕ) (a : Actor) → get_elem? new id ≡ some a → a.place ≡ SumLoaded at sum
+    → (k : ℕ) × (b : Actor) × (get_elem? old k ≡ some b) × (b.place ≡ SumLoaded at sum)
+
+-- so sums of a record stay near
+pub sums_near : (pieces : List Piece) (old new : List Actor) → SameSums old new → LoadedBefore old new → SumsAreNear pieces old → SumsAreNear pieces new
 sums_near pieces old new same loaded near at r x y there first last =
     let bound = near at r x y there (before at r x first) (before at r y last) in
     let costs = same.costs r.name in

@@ -26,8 +26,8 @@ use Rattle.segment_machine.proofs.Anatomies.{standing_along}
 use Rattle.segment_machine.proofs.Lists.{none_at, sum_beside, below_length}
 use Rattle.segment_machine.proofs.SeatsLists.{each_of_two}
 use Rattle.segment_machine.proofs.SeatsDeeds.{Deeds, deeds_set, sums_of}
-use Rattle.segment_machine.proofs.SeatsFrames.{IsLater, fits}
-use Rattle.segment_machine.proofs.SeatsBooks.{GivenInOrder, LoadedBefore, books_of, books_by, kept_by}
+use Rattle.segment_machine.proofs.SeatsFrames.{LoadedBefore, IsLater, fits}
+use Rattle.segment_machine.proofs.SeatsBooks.{GivenInOrder, books_of, books_by, kept_by}
 use Rattle.segment_machine.proofs.SeatsRoles.{opens_nothing, Stood, AllStood, still_younger, still_apart, still_eldest, alone_before, opens_first}
 use Rattle.segment_machine.proofs.SeatsPassed.{handed, stays_passed, stands_left, books_passed, sees_passed, calls_passed, fits_passed}
 use Rattle.segment_machine.proofs.SeatsJoined.{Joins, joined_deeds, joined_sees, joined_calls}

@@ -19,8 +19,8 @@ use Rattle.segment_machine.specs.Kept.{is_living, RolesAreKept, StandsRight, Fit
 use Rattle.segment_machine.proofs.Lists.{sum_beside, below_length}
 use Rattle.segment_machine.proofs.SeatsLists.{each_of_two}
 use Rattle.segment_machine.proofs.SeatsDeeds.{Deeds, took, deeds_set, sums_of}
-use Rattle.segment_machine.proofs.SeatsFrames.{IsLater, fits}
-use Rattle.segment_machine.proofs.SeatsBooks.{GivenInOrder, LoadedBefore, books_of, books_by, kept_by}
+use Rattle.segment_machine.proofs.SeatsFrames.{LoadedBefore, IsLater, fits}
+use Rattle.segment_machine.proofs.SeatsBooks.{GivenInOrder, books_of, books_by, kept_by}
 use Rattle.segment_machine.proofs.SeatsRoles.{opens_nothing, Stood, AllStood, still_younger, still_apart, still_eldest, alone_before, opens_first}
 use Rattle.segment_machine.proofs.SeatsTurned.{turned_stands, shared_fits}
 

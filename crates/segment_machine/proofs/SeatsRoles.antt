@@ -1,10 +1,18 @@
 -- Openers and recorders, where the recorders that live now lived before.
-use Rattle.std.proofs.Common.{◌≡◌, ◌≢◌, ℕ, ◌<◌, ◌≤◌, true, false, List, refl, sym, ap, ◌∙◌, subst, true≢false, arith}
+use Rattle.std.proofs.Common.{◌≡◌, ◌≢◌, ℕ, ◌+◌, ◌<◌, ◌≤◌, true, false, List, [], ◌++◌, set, inl, inr, refl, sym, ap, ◌∙◌, subst, true≢false, arith}
+use Rattle.std.specs.Prelude.{if◌then◌else◌}
 use native.Mathlib.Decide.{ℕ_discrete}
 use mathlib.Core.Option.{some}
 use lib.ListN.{get_elem?}
+use Rattle.atomic_table.proofs.Lists.{at_set, set_else}
+use Rattle.segment_image.specs.Shape.{Dimensions}
+use Rattle.segment_machine.specs.declared.entry.Entry.{Entry}
 use Rattle.segment_machine.specs.declared.actor.Actor.{Actor}
-use Rattle.segment_machine.specs.Kept.{is_living, RolesAreKept, IsAlone}
+use Rattle.segment_machine.specs.Body.{Anatomy}
+use Rattle.segment_machine.specs.Kept.{is_living, RolesAreKept, IsAlone, Fits}
+use Rattle.segment_machine.proofs.Lists.{sum_same}
+use Rattle.segment_machine.proofs.SeatsDeeds.{SameSums}
+use Rattle.segment_machine.proofs.SeatsFrames.{fits}
 use Rattle.segment_machine.proofs.SeatsLists.{one_at}
 
 -- an opener is no recorder that lives
@@ -50,6 +58,72 @@ module _ (old new : List Actor) (roles : RolesAreKept old) (stood : AllStood old
       let e = s.made in
       let f = t.made in
       omega (arith, below, e, f)
+
+-- who fitted beside the others fits still
+pub fits_beside : (shape : Dimensions) (anatomy : Anatomy) (cursors : List ℕ) (old new : List Actor) (opener : Actor) (id : ℕ) (a : Actor)
+    → SameSums old new → AllStood old new → get_elem? new 0 ≡ get_elem? old 0
+    → Fits shape anatomy cursors old opener id a → Fits shape anatomy cursors new opener id a
+fits_beside shape anatomy cursors old new opener id a sums stood first = fits shape anatomy cursors old new opener opener id a sums
+    (record {
+      more = omega arith;
+      last = λ n below e. e;
+      lives = λ k c at lives. let s = stood k c at lives in inl (s.was, s.at, s.lives, s.made);
+    })
+    (λ either alone. (alone.0, sym first ∙ alone.1, alone.2, alone.3))
+
+-- ---- one recorder becomes another
+
+-- two actors have the same role
+pub record SameRole (b c : Actor) : Type 0 where
+  pub living : is_living b ≡ is_living c
+  pub opener : b.opener ≡ c.opener
+  pub first : b.first ≡ c.first
+  pub made : b.made ≡ c.made
+  pub outstanding : b.outstanding ≡ c.outstanding
+  pub inherited : b.inherited ≡ c.inherited
+
+module _ (actors : List Actor) (id : ℕ) (a b : Actor) (mine : get_elem? actors id ≡ some a) (same : SameRole b a) where
+  pub stood_set : AllStood actors (set actors id b)
+  stood_set k c at lives = elim (at_set actors id k b c at) [
+    | inl t ↦ record {
+      was = a;
+      at = ap (get_elem? actors) t.0 ∙ mine;
+      lives = sym same.living ∙ (ap is_living t.1 ∙ lives);
+      made = sym same.made ∙ ap (λ (c : Actor). c.made) t.1;
+      outstanding = sym same.outstanding ∙ ap (λ (c : Actor). c.outstanding) t.1;
+      inherited = sym same.inherited ∙ ap (λ (c : Actor). c.inherited) t.1;
+    }
+    | inr t ↦ record { was = c; at = t.1; lives = lives; made = refl; outstanding = refl; inherited = refl }
+  ]
+
+  abbrev pub roles_set : id ≢ 0 → RolesAreKept actors → RolesAreKept (set actors id b)
+  roles_set records roles = record {
+    opener = roles.opener;
+    stands = set_else actors id 0 b (λ first. records (sym first)) ∙ roles.stands;
+    opens = roles.opens;
+    idle = roles.idle;
+    rests = roles.rests;
+    only = λ k c at away. elim (at_set actors id k b c at) [
+      | inl t ↦
+          let was = roles.only id a mine records in
+          subst (λ (c : Actor). (c.opener ≡ 0) × (c.first ≡ [])) t.1 (same.opener ∙ was.0, same.first ∙ was.1)
+      | inr t ↦ roles.only k c t.1 away
+    ];
+    living = sum_same (λ c. if is_living c then 1 else 0) actors id a b mine (ap (λ lives. if lives then 1 else 0) same.living) ∙ roles.living;
+    few = roles.few;
+    younger = still_younger actors (set actors id b) roles stood_set roles.opener.made (omega arith);
+    apart = still_apart actors (set actors id b) roles stood_set;
+    eldest = still_eldest actors (set actors id b) roles stood_set;
+    heirs = λ k c at lives.
+        let s = stood_set k c at lives in
+        let was = roles.heirs k s.was s.at s.lives in (
+          was.0,
+          was.1 ∙ ap (λ (list : List Entry). list ++ was.0) s.inherited,
+          λ none last. was.2 (s.outstanding ∙ none) (ap (λ (n : ℕ). n + 1) s.made ∙ last),
+        );
+  }
+
+-- ---- who opens, and who is alone
 
 -- what is said of the opener where only one is alone is said of it as it was
 pub alone_before : (old new : List Actor) (opener later a : Actor) → get_elem? old 0 ≡ some opener → get_elem? new 0 ≡ some later

@@ -31,8 +31,8 @@ use Rattle.segment_machine.proofs.Lists.{none_in, none_at, contains_filter, sum_
 use Rattle.segment_machine.proofs.Actors.{lives_on}
 use Rattle.segment_machine.proofs.SeatsLists.{each_of_more, contains_map, contains_mapped, one_at}
 use Rattle.segment_machine.proofs.SeatsDeeds.{Deeds, took, deeds_more, sums_of}
-use Rattle.segment_machine.proofs.SeatsFrames.{IsLater, fits}
-use Rattle.segment_machine.proofs.SeatsBooks.{GivenInOrder, LoadedBefore, books_of, books_by, kept_by}
+use Rattle.segment_machine.proofs.SeatsFrames.{LoadedBefore, IsLater, fits}
+use Rattle.segment_machine.proofs.SeatsBooks.{GivenInOrder, books_of, books_by, kept_by}
 use Rattle.segment_machine.proofs.SeatsRoles.{opens_nothing, opens_first}
 use Rattle.segment_machine.proofs.SeatsTurned.{opener_fits}
 

@@ -29,7 +29,7 @@ use Rattle.segment_machine.specs.Ledger.{form_at}
 use Rattle.segment_machine.specs.Seen.{HasPlain, HasOwn, HasRecord, IsNamed, IsFirstOf, WasCounter, Sees}
 use Rattle.segment_machine.specs.Kept.{LooksRight, StandsRight, HoldsOwn, CallsRight, HasKey, IsSettled, LooksBack, Fits}
 use Rattle.segment_machine.proofs.Bodies.{counter_within}
-use Rattle.segment_machine.proofs.Actors.{Doing, doing, doing_of, SameDeeds, alone_along, within_along, finals_along, finals_doing}
+use Rattle.segment_machine.proofs.Actors.{Doing, doing, doing_of, finals_doing}
 use Rattle.segment_machine.proofs.ListingGrowth.{Grows, stop_grows, neighbours_grow, first_of_longer, record_stays, record_came}
 
 -- ---- where it stands
@@ -99,8 +99,7 @@ saw_itself x = record {
   loaded = λ reference sum is. is;
 }
 
-module _ (shape : Dimensions) (old new : Anatomy) (added : ℕ → Body → Type 0) (grows : Grows old new added) (actors actors' : List Actor)
-    (same : SameDeeds actors actors') (x : Actor) (c : Doing) (more : SawMore x c)
+module _ (shape : Dimensions) (old new : Anatomy) (added : ℕ → Body → Type 0) (grows : Grows old new added) (actors : List Actor) (x : Actor) (c : Doing) (more : SawMore x c)
     (keyed : (entry : Entry) → Contains (x.inherited ++ counted_of x) entry → 0 < entry.units → HasKey old.records entry.name entry.key)
     (known_record : (known : Known) → Contains x.names known → (r : Record) × HasRecord old.pieces known.reference r)
     (loaded_record : (reference : ℕ) (sum : ℤ) → x.place ≡ SumLoaded reference sum → (r : Record) × HasRecord old.pieces reference r)
@@ -141,18 +140,17 @@ module _ (shape : Dimensions) (old new : Anatomy) (added : ℕ → Body → Type
   saw_before known bucket total named (word, single, inr (off, (place, count, seen, saw, is))) =
       (word, single, inr (off, (place, count, more.counts known place named seen, saw, is)))
 
-  settled_before : (known : Known) (bucket : ℕ) → IsSettled new actors' (doing x c) known bucket → IsSettled old actors x known bucket
+  settled_before : (known : Known) (bucket : ℕ) → IsSettled new actors (doing x c) known bucket → IsSettled old actors x known bucket
   settled_before known bucket (inl two) = inl (sym grows.version ∙ two)
-  settled_before known bucket (inr (inl alone)) = inr (inl (alone_along actors actors' same x alone))
+  settled_before known bucket (inr (inl alone)) = inr (inl alone)
   settled_before known bucket (inr (inr apart)) = inr (inr (λ r there.
       let (n, still) = record_stays old new added grows known.reference r there in
       subst (λ (version : ℕ). packed_bucket (form_at version r) ≢ Some bucket) grows.version (apart (record r { next = n }) still)))
 
-  looks_grow : LooksBack old actors x → LooksBack new actors' (doing x c)
+  looks_grow : LooksBack old actors x → LooksBack new actors (doing x c)
   looks_grow looks = record {
     most = λ known bucket total named below saw.
-        subst (λ (entries : List Entry). total ≤ tally_units entries known.name (bucket_key (Some known) bucket)) (sym same.counted)
-        (looks.most known bucket total named below (saw_before known bucket total named saw));
+        looks.most known bucket total named below (saw_before known bucket total named saw);
     packed = λ known bucket word named below saw on.
         subst (λ (version : ℕ). tally_units (accepted_by x) known.name (bucket_key (Some known) bucket) ≤ units_packed (form_of version (buckets_of known.spec) word) bucket)
         (sym grows.version) (looks.packed known bucket word named below saw on);
@@ -176,7 +174,7 @@ module _ (shape : Dimensions) (old new : Anatomy) (added : ℕ → Body → Type
     noted = looks.noted;
     sum = λ reference sum r stood alone there. ⊎_elim
         (λ t. let (r0, n, before, is) = t in
-        looks.sum reference sum r0 (more.loaded reference sum stood) (alone_along actors actors' same x alone) before
+        looks.sum reference sum r0 (more.loaded reference sum stood) alone before
         ∙ ap (λ (z : Record). cast_signed w64 z.sum) (sym is))
         (λ new_one. let (r1, was) = loaded_record reference sum (more.loaded reference sum stood) in
         absurd (no_record reference (histogram r) r1 (omega arith) new_one was))
@@ -186,7 +184,7 @@ module _ (shape : Dimensions) (old new : Anatomy) (added : ℕ → Body → Type
   -- all that holds of it
   pub fits_grow : (cursors : List ℕ) (opener : Actor) (id : ℕ) → Sees new cursors (doing x c) → All (HoldsOwn shape new.pieces id) c.own
       → ((i j : ℕ) (y z : Own) → get_elem? c.own i ≡ some y → get_elem? c.own j ≡ some z → y.at ≡ z.at → i ≡ j)
-      → Fits shape old cursors actors opener id x → Fits shape new cursors actors' opener id (doing x c)
+      → Fits shape old cursors actors opener id x → Fits shape new cursors actors opener id (doing x c)
   fits_grow cursors opener id sees own apart fits = record {
     shaped = fits.shaped;
     versioned = fits.versioned ∙ sym grows.version;
@@ -195,8 +193,8 @@ module _ (shape : Dimensions) (old new : Anatomy) (added : ℕ → Body → Type
     apart = apart;
     calls = calls_grow fits.calls;
     looks = λ records. looks_grow (fits.looks records);
-    finals = finals_doing actors' opener id x c (finals_along actors actors' same opener id x fits.finals);
-    snapshots = within_along actors actors' same x fits.snapshots;
+    finals = finals_doing actors opener id x c fits.finals;
+    snapshots = fits.snapshots;
   }
 
 -- a block of another actor stays

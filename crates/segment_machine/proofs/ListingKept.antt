@@ -1,5 +1,5 @@
 -- A kept state in which one actor puts a record on the list or walks along it: all that is kept, from what changes.
-use Rattle.std.proofs.Common.{◌≡◌, ◌≢◌, ℕ, suc, ◌+◌, ◌<◌, ◌≤◌, ℤ, Bool, true, List, [], ◌∷◌, ◌++◌, map, filter, All, Contains, ⊎_elim, refl, sym, ap, ◌∙◌, subst, arith}
+use Rattle.std.proofs.Common.{◌≡◌, ◌≢◌, ℕ, suc, ◌<◌, ℤ, Bool, true, List, [], ◌∷◌, ◌++◌, map, filter, All, Contains, ⊎_elim, refl, sym, ap, ◌∙◌, subst, arith}
 use Rattle.std.specs.Prelude.{slice_index, Some}
 use Rattle.std.specs.Prelude as std
 use Rattle.std.proofs.lemmas.Bool.{and_parts}
@@ -15,17 +15,15 @@ use Rattle.segment_machine.specs.declared.actor.Actor.{Actor}
 use Rattle.segment_machine.specs.declared.actor.Known.{Known}
 use Rattle.segment_machine.specs.declared.actor.Made.TheVariants as made
 use Rattle.segment_machine.specs.declared.actor.Own.{Own}
-use Rattle.segment_machine.specs.declared.actor.Taken.{Taken}
 use Rattle.segment_machine.specs.declared.place.Place.TheVariants.{Spent, SumLoaded}
-use Rattle.segment_machine.specs.Entry.{is_counted, has_ended, counted_among, tally_units, tally_sum, tally_noted}
-use Rattle.segment_machine.specs.Actor.{log_of, counted_of, all_counted, taken_units, taken_sum}
-use Rattle.segment_machine.specs.Body.{Record, Body, Piece, Listed, Anatomy}
-use Rattle.segment_machine.specs.Ledger.{units_held, marks_held, sum_held, sum_mark_held, noted_held, all_held, all_amounts, IsBalanced}
+use Rattle.segment_machine.specs.Entry.{is_counted, has_ended, counted_among}
+use Rattle.segment_machine.specs.Actor.{log_of, counted_of, all_counted}
+use Rattle.segment_machine.specs.Body.{Record, Body, Listed, Anatomy}
 use Rattle.segment_machine.specs.Seen.{HasRecord, Knows, Sees}
 use Rattle.segment_machine.specs.State.{State}
 use Rattle.segment_machine.specs.Kept.{StandsAs, HasKey, StandsRight, HoldsOwn, Fits, Kept}
 use Rattle.segment_machine.proofs.Lists.{row_in}
-use Rattle.segment_machine.proofs.Actors.{Doing, doing, SameDeeds, lives_on}
+use Rattle.segment_machine.proofs.Actors.{Doing, doing, lives_on}
 use Rattle.segment_machine.proofs.ListingGrowth.{Grows}
 use Rattle.segment_machine.proofs.ListingActors.{SawMore, fits_grow}
 
@@ -94,41 +92,12 @@ module _ (shape : Dimensions) (opened : Anatomy) (state : State) (kept : Kept sh
       (r, subst (λ (at : ℕ). HasRecord kept.anatomy.pieces at r) same stands)
 
   -- running calls, and what was seen since a delta or a snapshot began, where one actor goes on and the segment grows
-  module _ (new : Anatomy) (added : ℕ → Body → Type 0) (grows : Grows kept.anatomy new added) (actors' : List Actor)
-      (same : SameDeeds state.actors actors') where
+  module _ (new : Anatomy) (added : ℕ → Body → Type 0) (grows : Grows kept.anatomy new added) where
     pub fits_on : (id : ℕ) (x : Actor) (d : Doing) → get_elem? state.actors id ≡ some x → x.place ≢ Spent → SawMore x d
         → Sees new state.cursors (doing x d) → All (HoldsOwn shape new.pieces id) d.own
         → ((i j : ℕ) (y z : Own) → get_elem? d.own i ≡ some y → get_elem? d.own j ≡ some z → y.at ≡ z.at → i ≡ j)
-        → Fits shape new state.cursors actors' kept.roles.opener id (doing x d)
+        → Fits shape new state.cursors state.actors kept.roles.opener id (doing x d)
     fits_on id x d there lives more sees own apart =
         let fits = kept.each id x there lives in
-        fits_grow shape kept.anatomy new added grows state.actors actors' same x d more (keyed id x there lives) (known_record id x there lives)
+        fits_grow shape kept.anatomy new added grows state.actors x d more (keyed id x there lives) (known_record id x there lives)
         (λ reference sum is. loaded_record id x reference sum there is) fits.sees.counters state.cursors kept.roles.opener id sees own apart fits
-
--- ---- what is kept of what a segment holds
-
-pub record SameHoldings (version : ℕ) (old new : List Piece) : Type 0 where
-  pub units : (name : List ℕ) (key : ℤ) → all_held (units_held version name key) new ≡ all_held (units_held version name key) old
-  pub marks : (name : List ℕ) (key : ℤ) → all_held (marks_held version name key) new ≡ all_held (marks_held version name key) old
-  pub sums : (name : List ℕ) → all_amounts (sum_held name) new ≡ all_amounts (sum_held name) old
-  pub sum_marks : (name : List ℕ) → all_amounts (sum_mark_held name) new ≡ all_amounts (sum_mark_held name) old
-  pub noted : (name : List ℕ) → all_held (noted_held name) new ≡ all_held (noted_held name) old
-
-pub balanced_same : (version : ℕ) (opened old new : List Piece) (before after : List Actor) → SameHoldings version old new → SameDeeds before after
-    → IsBalanced version opened old before → IsBalanced version opened new after
-balanced_same version opened old new before after holdings same is = record {
-  units = λ name key.
-      let h = is.units name key in
-      let held = holdings.units name key in
-      let moving = same.moving name key in
-      let counted = ap (λ (entries : List Entry). tally_units entries name key) same.counted in
-      omega (arith, h, held, moving, counted);
-  marks = λ name key. holdings.marks name key ∙ (is.marks name key ∙ ap (λ (taken : List Taken). taken_units taken name key) (sym same.taken));
-  sums = λ name. holdings.sums name ∙ (is.sums name ∙ ap (λ (entries : List Entry). tally_sum entries name) (sym same.summed));
-  sum_marks = λ name. holdings.sum_marks name ∙ (is.sum_marks name ∙ ap (λ (taken : List Taken). taken_sum taken name) (sym same.taken));
-  noted = λ name. holdings.noted name ∙ (is.noted name ∙ ap (λ (entries : List Entry). all_held (noted_held name) opened + tally_noted entries name) (sym same.noted));
-  taken = λ name key.
-      subst (λ (p : ℕ × ℕ). p.0 ≤ p.1)
-      (λ i. (ap (λ (taken : List Taken). taken_units taken name key) (sym same.taken) i, ap (λ (entries : List Entry). tally_units entries name key) (sym same.counted) i))
-      (is.taken name key);
-}

@@ -22,7 +22,7 @@ use Rattle.segment_machine.specs.Kept.{StandStill}
 use Rattle.segment_machine.proofs.Pieces.{piece_word, not_first, with_piece, piece_stored, free_with, stands_beside, stood_beside, claims_same, held_same, amounts_same}
 use Rattle.segment_machine.proofs.Acting.{still_put, AllClaimedRight, right_put}
 use Rattle.segment_machine.proofs.ListingGrowth.{with_next, same_next}
-use Rattle.segment_machine.proofs.ListingKept.{SameHoldings}
+use Rattle.segment_machine.proofs.Anatomies.{SameHoldings}
 use Rattle.segment_machine.proofs.ListingBodies.{IsBlank}
 use Rattle.segment_machine.proofs.Singled.{if_nothing, keyed_none}
 

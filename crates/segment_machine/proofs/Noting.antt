@@ -1,5 +1,5 @@
 -- A state is kept where an actor notes something in its own record, and the words stay.
-use Rattle.std.proofs.Common.{◌≡◌, ◌≢◌, ◌⊎◌, ℕ, ◌+◌, ◌<◌, ◌≤◌, ℤ, Bool, false, ◌||◌, fold, List, [], ◌++◌, map, take, set, All, Contains, inl, inr, refl, sym, ap, ◌∙◌, subst, subst₂, arith}
+use Rattle.std.proofs.Common.{◌≡◌, ◌≢◌, ◌⊎◌, ℕ, ◌+◌, ◌<◌, ◌≤◌, ℤ, Bool, false, ◌||◌, fold, List, [], ◌++◌, set, Contains, inl, inr, refl, sym, ap, ◌∙◌, subst, subst₂, arith}
 use Rattle.std.specs.Prelude.{if◌then◌else◌, IsPermutation}
 use Rattle.std.proofs.lemmas.List.Sums.{sum_by-append}
 use mathlib.Core.Option.{some}
@@ -16,16 +16,15 @@ use Rattle.segment_machine.specs.declared.actor.Answered.{Answered}
 use Rattle.segment_machine.specs.declared.actor.Claim.{Claim}
 use Rattle.segment_machine.specs.declared.actor.Cost.{Cost}
 use Rattle.segment_machine.specs.declared.actor.Known.{Known}
-use Rattle.segment_machine.specs.declared.actor.Published.{Published}
 use Rattle.segment_machine.specs.declared.actor.Taken.{Taken}
 use Rattle.segment_machine.specs.Entry.{tally_units, tally_sum, tally_noted}
 use Rattle.std.specs.Str.{bytes_eq}
 use Rattle.std.specs.Prelude.{pos, ◌+ℤ◌}
-use Rattle.segment_machine.specs.Actor.{counted_of, summed_of, noted_of, given_by, units_of, units_listed, taken_units, taken_sum, all_counted, all_taken}
+use Rattle.segment_machine.specs.Actor.{counted_of, summed_of, noted_of, units_of, units_listed, taken_units, taken_sum, all_counted, all_taken}
 use Rattle.segment_machine.specs.State.{State}
-use Rattle.segment_machine.specs.Body.{Anatomy, listed, order_of, claims_of}
+use Rattle.segment_machine.specs.Body.{Anatomy, order_of, claims_of}
 use Rattle.segment_machine.specs.Ledger.{moving_at}
-use Rattle.segment_machine.specs.Kept.{summed_cost, is_living, RolesAreKept, LooksRight, StandsRight, Fits, ListIsKept, CursorsAreKept, HasKey, Kept}
+use Rattle.segment_machine.specs.Kept.{summed_cost, LooksRight, StandsRight, Fits, HasKey, Kept}
 use Rattle.segment_machine.proofs.Lists.{none_in, rows_total, rows, row_in, row_from, column, sum_same, sum_beside}
 use Rattle.segment_machine.proofs.Countings.{units_total, sum_total, noted_total}
 use Rattle.segment_machine.proofs.Totals.{HasUnits, tally_from, tally_at}

@@ -16,7 +16,7 @@ use Rattle.segment_machine.specs.declared.place.Look.{Look}
 use Rattle.segment_machine.specs.declared.place.Place.{Place}
 use Rattle.segment_machine.specs.declared.place.Place.TheVariants.{Spent, Idle, FlagsLoaded, FreeLoaded, Raised, Sized, Marked, TailLoaded, Beaten, Linked, Looking, Losing, Moving, CountLoaded, SampleLoaded, SumLoaded, CursorLoaded, BehindCursor}
 use Rattle.segment_machine.specs.Entry.{tally_units, tally_sum, tally_noted}
-use Rattle.segment_machine.specs.Actor.{is_bound, cost_of, counted_of, summed_of, noted_of, units_of, given_by, all_counted, all_summed, all_noted, all_taken, all_given, taken_units, taken_sum}
+use Rattle.segment_machine.specs.Actor.{is_bound, cost_of, counted_of, summed_of, noted_of, units_of, all_counted, all_summed, all_noted, all_taken, taken_units, taken_sum}
 use Rattle.segment_machine.specs.Ledger.{moving_at, all_moving}
 use Rattle.segment_machine.specs.Kept.{summed_cost, summed_costs, is_living, IsMoment, FinalsAreExact, Fits}
 use Rattle.segment_machine.specs.Body.{Anatomy}
@@ -152,7 +152,6 @@ pub record SameDeeds (old new : List Actor) : Type 0 where
   pub summed : all_summed new ≡ all_summed old
   pub noted : all_noted new ≡ all_noted old
   pub taken : all_taken new ≡ all_taken old
-  pub given : (cursor : ℕ) → all_given new cursor ≡ all_given old cursor
   pub units : sum_by units_of new ≡ sum_by units_of old
   pub costs : (name : List ℕ) → summed_costs name new ≡ summed_costs name old
   pub moving : (name : List ℕ) (key : ℤ) → all_moving name key new ≡ all_moving name key old
@@ -210,7 +209,6 @@ module _ (actors : List Actor) (id : ℕ) (a : Actor) (mine : get_elem? actors i
     summed = rows summed_of actors id a (doing a d) mine refl;
     noted = rows noted_of actors id a (doing a d) mine refl;
     taken = rows (λ (a : Actor). a.taken) actors id a (doing a d) mine refl;
-    given = λ cursor. rows (λ (a : Actor). given_by cursor a.given) actors id a (doing a d) mine refl;
     units = sum_same units_of actors id a (doing a d) mine refl;
     costs = λ name. sum_same (summed_cost name) actors id a (doing a d) mine refl;
     moving = λ name key. sum_same (λ a. moving_at a name key a.place) actors id a (doing a d) mine (turns.moves name key);

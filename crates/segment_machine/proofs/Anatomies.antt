@@ -1,5 +1,5 @@
 -- What holds of an anatomy, where blocks in the making change and what was published stays.
-use Rattle.std.proofs.Common.{◌≡◌, ◌≢◌, ℕ, ◌+◌, ℤ, pos, Bool, List, All, Contains, inl, inr, ⊎_elim, refl, ap, ◌∙◌}
+use Rattle.std.proofs.Common.{◌≡◌, ℕ, ◌+◌, ℤ, pos, Bool, List, All, inl, inr, ⊎_elim, refl, ap, ◌∙◌}
 use Rattle.std.specs.Prelude.{slice_index, unsigned_abs, ◌*◌, ◌-ℤ◌, IsPermutation}
 use Rattle.std.specs.Prelude as std
 use Rattle.std.proofs.lemmas.List.Elements.{All-weaker}
@@ -12,13 +12,11 @@ use Rattle.segment_machine.specs.declared.actor.Actor.{Actor}
 use Rattle.segment_machine.specs.declared.actor.Made.{Made}
 use Rattle.segment_machine.specs.declared.actor.Made.TheVariants as made
 use Rattle.segment_machine.specs.declared.actor.Own.{Own}
-use Rattle.segment_machine.specs.declared.place.Look.{Look}
-use Rattle.segment_machine.specs.declared.place.Place.{Place}
-use Rattle.segment_machine.specs.declared.place.Place.TheVariants.{Spent, Idle, FlagsLoaded, FreeLoaded, Raised, Sized, Marked, TailLoaded, Beaten, Linked, Looking, Losing, Moving, CountLoaded, SampleLoaded, SumLoaded, CursorLoaded, BehindCursor}
 use Rattle.segment_machine.specs.Body.{Body, queue, plain, held, Piece, Listed, Anatomy, order_of, free_of}
 use Rattle.segment_machine.specs.Ledger.{units_held, marks_held, sum_held, sum_mark_held, noted_held, all_held, all_amounts, all_moving, IsBalanced}
 use Rattle.segment_machine.specs.Seen.{Stands, HasPlain, WasFixed, WasCounter, WasInUse, WasSingle, IsNoLater, Knows, Sees}
-use Rattle.segment_machine.specs.Kept.{StandsAs, ListIsKept, RecordsAreKept, SumsAreNear, Fits, StandsRight, LooksRight, HoldsOwn, CallsRight, LooksBack}
+use Rattle.segment_machine.specs.Kept.{StandsAs, ListIsKept, RecordsAreKept, SumsAreNear, Fits, HoldsOwn, CallsRight, LooksBack}
+use Rattle.segment_machine.proofs.Standing.{Grounds}
 use Rattle.segment_machine.proofs.Actors.{Doing, doing, TurnsTo}
 
 -- the anatomy with other blocks, other flags and another tail, and the same records
@@ -185,62 +183,17 @@ module _ (anatomy : Anatomy) (pieces : List Piece) (spare : ℕ) (corrupt full :
     snapshots = fits.snapshots;
   }
 
-  -- and where somebody stands whose words in the making stay
-  module _ (shape : Dimensions) (id : ℕ) (others : (at : ℕ) (words : List ℕ) → HasPlain anatomy.pieces id at words → HasPlain pieces id at words) where
-    pub standing_along : (a : Actor) (p : Place) → StandsRight shape anatomy id a p → StandsRight shape later id a p
-    standing_along a Spent is = is
-    standing_along a Idle is = is
-    standing_along a FlagsLoaded is = is
-    standing_along a (FreeLoaded free) is = is
-    standing_along a (Raised at size) (placed, has) = (placed, others _ _ has)
-    standing_along a (Sized at size) (placed, has) = (placed, others _ _ has)
-    standing_along a (Marked at size) (placed, has) = (placed, others _ _ has)
-    standing_along a (TailLoaded tail) is = is
-    standing_along a (Beaten tail behind) is = is
-    standing_along a (Linked at tail) is = is
-    standing_along a (Looking look) is = is
-    standing_along a (Losing look at) is = is
-    standing_along a (Moving look bucket units) (right, first, counts, least, most, (r, has, packed, off), fresh) =
-        (right, first, counts, least, most, (r, stays.there _ _ has, packed, off), fresh)
-    standing_along a (CountLoaded look bucket count) is = is
-    standing_along a (SampleLoaded reference count) is = is
-    standing_along a (SumLoaded reference sum) is = is
-    standing_along a (CursorLoaded cursor at) is = is
-    standing_along a (BehindCursor cursor at behind) is = is
+  -- and what he stands on whose words in the making stay
+  pub grounds_along : (id : ℕ) → ((at : ℕ) (words : List ℕ) → HasPlain anatomy.pieces id at words → HasPlain pieces id at words) → Grounds anatomy later id
+  grounds_along id others = record {
+    version = refl;
+    stop = λ at there. there;
+    near = λ at next there. there;
+    recorded = λ at r has. (r.next, stays.there _ _ has);
+    making = others;
+  }
 
 -- ---- the actor that goes on
-
--- It stands right with other blocks of its own, where it saw no less: each block that it had has one of the same place and type.
-module _ (shape : Dimensions) (anatomy : Anatomy) (id : ℕ) (a : Actor) (own : List Own)
-    (others : (x : Own) → Contains a.own x → (y : Own) × Contains own y × (y.at ≡ x.at) × (y.tag ≡ x.tag)) where
-  abbrev holder : Actor
-  holder = record a { own = own }
-
-  looks_right : (look : Look) → LooksRight a look → LooksRight holder look
-  looks_right look right = record { known = right.known; knows = right.knows; single = right.single; counts = right.counts }
-
-  pub standing_holder : (p : Place) → p ≢ Spent → StandsRight shape anatomy id a p → StandsRight shape anatomy id holder p
-  standing_holder Spent lives is = absurd (lives refl)
-  standing_holder Idle lives is = is
-  standing_holder FlagsLoaded lives is = is
-  standing_holder (FreeLoaded free) lives is = is
-  standing_holder (Raised at size) lives is = is
-  standing_holder (Sized at size) lives is = is
-  standing_holder (Marked at size) lives is = is
-  standing_holder (TailLoaded tail) lives is = is
-  standing_holder (Beaten tail behind) lives is = is
-  standing_holder (Linked at tail) lives is = is
-  standing_holder (Looking look) lives is = looks_right look is
-  standing_holder (Losing look at) lives (right, counts, other, (x, there, place, tag)) =
-      let (y, here, same_place, same_tag) = others x there in
-      (looks_right look right, counts, other, (y, here, same_place ∙ place, same_tag ∙ tag))
-  standing_holder (Moving look bucket units) lives (right, version, counts, least, most, has, fresh) =
-      (looks_right look right, version, counts, least, most, has, fresh)
-  standing_holder (CountLoaded look bucket count) lives ((right, counts, off), seen) = ((looks_right look right, counts, off), seen)
-  standing_holder (SampleLoaded reference count) lives is = is
-  standing_holder (SumLoaded reference sum) lives is = is
-  standing_holder (CursorLoaded cursor at) lives is = is
-  standing_holder (BehindCursor cursor at behind) lives is = is
 
 -- what it saw and looks back at, where it sees nothing but the free pointer
 abbrev pub sees_no_more : Actor → Doing → Doing

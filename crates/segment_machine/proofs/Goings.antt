@@ -24,11 +24,12 @@ use Rattle.segment_machine.specs.Keeps.{found_at, happened}
 use Rattle.segment_machine.specs.Body.{Body, plain, Piece, Anatomy, layout_of, order_of, free_of, claims_of}
 use Rattle.segment_machine.specs.Seen.{Stands, IsNoLater, Sees}
 use Rattle.segment_machine.specs.Kept.{StandsRight, HoldsOwn, CallsRight, LooksBack, Fits, IsSetBy, ClaimedRight, StandStill, Kept}
+use Rattle.segment_machine.proofs.Standing.{follows_itself, stands_on}
 use Rattle.segment_machine.proofs.SeatsFrames.{balanced, sums_near}
 use Rattle.segment_machine.proofs.SeatsBooks.{cursors_set, listed_set}
 use Rattle.segment_machine.proofs.SeatsRoles.{roles_set}
 use Rattle.segment_machine.proofs.Actors.{Doing, doing, TurnsTo, SameDeeds, same_role, same_deeds, same_sums, fits_same, finals_doing}
-use Rattle.segment_machine.proofs.Anatomies.{reshaped, Stays, balanced_along, list_along, records_along, sums_along, fits_along, standing_along}
+use Rattle.segment_machine.proofs.Anatomies.{reshaped, Stays, balanced_along, list_along, records_along, sums_along, fits_along, grounds_along}
 
 -- What has to be shown where an actor goes on to a doing: of the blocks and the words that are then there, and of the actor itself.
 pub record Goes (shape : Dimensions) (opened : Anatomy) (state : State) (old new : Anatomy) (id : ℕ) (a : Actor) (d : Doing) (words : List ℕ) : Type 0 where
@@ -108,8 +109,9 @@ module _ (shape : Dimensions) (opened : Anatomy) (state : State) (kept : Kept sh
     stands_all : (other : ℕ) (b : Actor) → get_elem? actors other ≡ some b → StandsRight shape behind other b b.place
     stands_all other b there = elim (at_set state.actors id other (doing a d) b there) [
       | inl t ↦ subst (λ (p : ℕ × Actor). StandsRight shape behind p.0 p.1 p.1.place) (λ i. (sym t.0 i, t.1 i)) goes.stands
-      | inr t ↦ standing_along before pieces spare corrupt full tail goes.stays shape other (λ at words. goes.others other at (plain words) t.0) b b.place
-          (kept.standing other b t.1)
+      | inr t ↦ stands_on shape before behind other b b
+          (grounds_along before pieces spare corrupt full tail goes.stays other (λ at words. goes.others other at (plain words) t.0)) (follows_itself b)
+          b.place (kept.standing other b t.1)
     ]
 
     still_all : StandStill opened.pieces pieces

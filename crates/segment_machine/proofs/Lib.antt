@@ -73,6 +73,7 @@ pub mod SeatsSplit
 pub mod SeatsSums
 pub mod SeatsTurned
 pub mod Singled
+pub mod Standing
 pub mod Stops
 pub mod Storing
 pub mod Taking

@@ -10,9 +10,7 @@ use Rattle.bucket_ranges.specs.declared.spec.Spec.TheVariants as spec
 use Rattle.bucket_ranges.specs.Spec.{buckets_of}
 use Rattle.bucket_ranges.specs.Single.{packed_bucket, units_packed}
 use Rattle.segment_machine.specs.declared.entry.Entry.{Entry}
-use Rattle.segment_machine.specs.declared.place.Look.{Look}
-use Rattle.segment_machine.specs.declared.place.Place.{Place}
-use Rattle.segment_machine.specs.declared.place.Place.TheVariants.{Spent, Idle, FlagsLoaded, FreeLoaded, Raised, Sized, Marked, TailLoaded, Beaten, Linked, Looking, Losing, Moving, CountLoaded, SampleLoaded, SumLoaded, CursorLoaded, BehindCursor}
+use Rattle.segment_machine.specs.declared.place.Place.TheVariants.{SumLoaded}
 use Rattle.segment_machine.specs.declared.actor.Actor.{Actor}
 use Rattle.segment_machine.specs.declared.actor.Known.{Known}
 use Rattle.segment_machine.specs.declared.actor.Made.TheVariants as made
@@ -23,62 +21,25 @@ use Rattle.segment_machine.specs.Form.{form_of}
 use Rattle.segment_machine.specs.Actor.{word_seen, counted_of, bucket_key}
 use Rattle.segment_machine.specs.Note.{SawBucket}
 use Rattle.segment_machine.specs.Promises.{accepted_by}
-use Rattle.segment_machine.specs.Seats.{spent}
 use Rattle.segment_machine.specs.Body.{Record, Body, histogram, sample, words_of, Listed, Anatomy}
 use Rattle.segment_machine.specs.Ledger.{form_at}
 use Rattle.segment_machine.specs.Seen.{HasPlain, HasOwn, HasRecord, IsNamed, IsFirstOf, WasCounter, Sees}
-use Rattle.segment_machine.specs.Kept.{LooksRight, StandsRight, HoldsOwn, CallsRight, HasKey, IsSettled, LooksBack, Fits}
+use Rattle.segment_machine.specs.Kept.{HoldsOwn, CallsRight, HasKey, IsSettled, LooksBack, Fits}
+use Rattle.segment_machine.proofs.Standing.{Grounds}
 use Rattle.segment_machine.proofs.Bodies.{counter_within}
 use Rattle.segment_machine.proofs.Actors.{Doing, doing, doing_of, finals_doing}
 use Rattle.segment_machine.proofs.ListingGrowth.{Grows, stop_grows, neighbours_grow, first_of_longer, record_stays, record_came}
 
--- ---- where it stands
-
--- what a call rests on that goes on: the free pointer and the tail that it saw, the words that it saw, and its blocks
-pub record Follows (x : Actor) (c : Doing) : Type 0 where
-  pub free : c.seen_free ≡ x.seen_free
-  pub tail : c.seen_tail ≡ x.seen_tail
-  pub words : (s : Sighting) → Contains x.seen_words s → Contains c.seen_words s
-  pub own : (block : Own) → Contains x.own block → (still : Own) × Contains c.own still × (still.at ≡ block.at) × (still.tag ≡ block.tag)
-  pub spent : x ≡ spent → doing x c ≡ spent
-
-pub follows_itself : (x : Actor) → Follows x (doing_of x)
-follows_itself x = record { free = refl; tail = refl; words = λ s there. there; own = λ block there. (block, there, refl, refl); spent = λ is. is }
-
-looks_right : (x : Actor) (c : Doing) (look : Look) → Follows x c → LooksRight x look → LooksRight (doing x c) look
-looks_right x c look follows right = record {
-  known = right.known;
-  knows = right.knows;
-  single = right.single;
-  counts = λ some_counts. follows.words _ (right.counts some_counts);
+-- what an actor stands on whose words in the making stay
+pub grounds_grow : (old new : Anatomy) (added : ℕ → Body → Type 0) → Grows old new added → (id : ℕ)
+    → ((at : ℕ) (words : List ℕ) → HasPlain old.pieces id at words → HasPlain new.pieces id at words) → Grounds old new id
+grounds_grow old new added grows id others = record {
+  version = grows.version;
+  stop = stop_grows old new added grows;
+  near = neighbours_grow old new added grows;
+  recorded = record_stays old new added grows;
+  making = others;
 }
-
-module _ (shape : Dimensions) (old new : Anatomy) (added : ℕ → Body → Type 0) (grows : Grows old new added) where
-  module _ (id : ℕ) (plain_stays : (at : ℕ) (words : List ℕ) → HasPlain old.pieces id at words → HasPlain new.pieces id at words) (x : Actor) (c : Doing)
-      (follows : Follows x c) where
-    pub stands_grow : (place : Place) → StandsRight shape old id x place → StandsRight shape new id (doing x c) place
-    stands_grow Spent stands = follows.spent stands
-    stands_grow Idle stands = tt
-    stands_grow FlagsLoaded stands = tt
-    stands_grow (FreeLoaded free) stands = follows.free ∙ stands
-    stands_grow (Raised at size) stands = (stands.0, plain_stays at _ stands.1)
-    stands_grow (Sized at size) stands = (stands.0, plain_stays at _ stands.1)
-    stands_grow (Marked at size) stands = (stands.0, plain_stays at _ stands.1)
-    stands_grow (TailLoaded tail) stands = (follows.tail ∙ stands.0, stop_grows old new added grows tail stands.1)
-    stands_grow (Beaten tail behind) stands = neighbours_grow old new added grows tail behind stands
-    stands_grow (Linked at tail) stands = neighbours_grow old new added grows tail at stands
-    stands_grow (Looking look) stands = looks_right x c look follows stands
-    stands_grow (Losing look at) (right, there, apart, (block, mine, place, tag)) =
-        let (still, has, same, kind) = follows.own block mine in
-        (looks_right x c look follows right, there, apart, (still, has, same ∙ place, kind ∙ tag))
-    stands_grow (Moving look bucket units) (right, one, there, least, most, (r, stands, packed, off), apart) =
-        let (n, still) = record_stays old new added grows look.histogram r stands in
-        (looks_right x c look follows right, grows.version ∙ one, there, least, most, (record r { next = n }, still, packed, off), apart)
-    stands_grow (CountLoaded look bucket count) ((right, there, off), saw) = ((looks_right x c look follows right, there, off), saw)
-    stands_grow (SampleLoaded reference count) stands = stands
-    stands_grow (SumLoaded reference sum) stands = stands
-    stands_grow (CursorLoaded cursor at) stands = (stop_grows old new added grows at stands.0, stands.1)
-    stands_grow (BehindCursor cursor at next) stands = (neighbours_grow old new added grows at next stands.0, stands.1)
 
 -- ---- what holds of one actor
 

@@ -34,9 +34,9 @@ use Rattle.segment_machine.proofs.Lists.{at_from, below_length, index_at}
 use Rattle.segment_machine.proofs.Stops.{linked_beside_head}
 use Rattle.segment_machine.proofs.Actors.{Doing, doing, TurnsTo, is_plain, turns_plain, turns_unbound, turns_not}
 use Rattle.segment_machine.proofs.Goings.{happens}
-use Rattle.segment_machine.proofs.Acting.{stays_same}
-use Rattle.segment_machine.proofs.ListingGrowth.{grows_not, stop_at}
-use Rattle.segment_machine.proofs.ListingActors.{Follows, stands_grow, SawMore}
+use Rattle.segment_machine.proofs.ListingGrowth.{stop_at}
+use Rattle.segment_machine.proofs.ListingActors.{SawMore}
+use Rattle.segment_machine.proofs.Standing.{grounds_itself, Follows, stands_on}
 use Rattle.segment_machine.proofs.ListingWalks.{stop_within, tail_word, walking, reference_is, looks_on}
 
 -- ---- fronts of the list
@@ -224,7 +224,7 @@ module _ (shape : Dimensions) (opened : Anatomy) (state : State) (kept : Kept sh
       (λ ends. (0, omega arith, sym ends))
       (λ goes. behind_stop order at _ (link_missed state.words order at kept.list.linked stop goes))
 
-  module _ (d : Doing) (follows : Follows a d) (from found : ℕ) (near : found ≢ 12 → AreNeighbours order from found) where
+  module _ (d : Doing) (follows : Follows a (doing a d)) (from found : ℕ) (near : found ≢ 12 → AreNeighbours order from found) where
     stands_behind : (place : Place) → StandsRight shape kept.anatomy id a place → StandsRight shape kept.anatomy id (doing a d) (behind place from found)
     stands_behind (CursorLoaded cursor at) (stop, saw) =
         let by : Bool → Bool → Type 0 =
@@ -236,9 +236,7 @@ module _ (shape : Dimensions) (opened : Anatomy) (state : State) (kept : Kept sh
         (subst (λ (n : ℕ). AreNeighbours order n found) here (near goes), saw)))
         (λ apart. subst (λ (b : Bool). by b (found == 12)) (sym (ne_eqb from at apart)) (stop, saw))
     stands_behind place stands =
-        stands_grow shape kept.anatomy kept.anatomy (λ at body. ⊥)
-        (grows_not kept.anatomy kept.anatomy.pieces kept.anatomy.spare kept.anatomy.corrupt kept.anatomy.full kept.anatomy.tail (stays_same kept.anatomy.pieces))
-        id (λ at words has. has) a d follows place stands
+        stands_on shape kept.anatomy kept.anatomy id a (doing a d) (grounds_itself kept.anatomy id) follows place stands
 
   pub next_loaded : (at : ℕ) → Ready a (load_next at) → Goes (load_next at)
   next_loaded at (unbound, follow) =
@@ -250,9 +248,9 @@ module _ (shape : Dimensions) (opened : Anatomy) (state : State) (kept : Kept sh
       let turns = turns_behind a at found a.place refl lives in
       let fits = kept.each id a mine lives in
       let d : Doing = walking shape opened state kept id a mine records place a.own a.seen_tail chain a.seen_words in
-      let follows : Follows a d = record {
-        free = refl;
-        tail = refl;
+      let follows : Follows a (doing a d) = record {
+        saw = (refl, refl, refl, refl, refl);
+        names = λ known has. has;
         words = λ s has. has;
         own = λ block has. (block, has, refl, refl);
         spent = λ spent. absurd (lives (ap (λ (b : Actor). b.place) spent));

@@ -46,7 +46,8 @@ use Rattle.segment_machine.proofs.SeatsRoles.{roles_set}
 use Rattle.segment_machine.proofs.Goings.{not_opener}
 use Rattle.segment_machine.proofs.Acting.{still_put, right_put}
 use Rattle.segment_machine.proofs.ListingGrowth.{with_next, beside_next, Grows, stop_at, longer_by, stop_grows, no_later_grows, sees_grow}
-use Rattle.segment_machine.proofs.ListingActors.{follows_itself, stands_grow, saw_itself, own_stays}
+use Rattle.segment_machine.proofs.ListingActors.{grounds_grow, saw_itself, own_stays}
+use Rattle.segment_machine.proofs.Standing.{follows_itself, stands_on}
 use Rattle.segment_machine.proofs.ListingRecords.{AddedRight, records_grow, key_grows, sums_grow}
 use Rattle.segment_machine.proofs.ListingKept.{loaded_record, fits_on}
 use Rattle.segment_machine.proofs.ListingLists.{snoc_split, distinct_filter, all_without, own_found, published_is}
@@ -489,8 +490,8 @@ module _ (shape : Dimensions) (opened : Anatomy) (state : State) (kept : Kept sh
       standing = λ who b here. elim (at_set state.actors id who (doing a d) b here) [
         | inl t ↦ subst (λ (p : ℕ × Actor). StandsRight shape new p.0 p.1 p.1.place) (λ j. (sym t.0 j, t.1 j))
             (subst (λ (chain : List ℕ). AreNeighbours chain tail own.at) (sym order_is) through.1)
-        | inr t ↦ stands_grow shape anatomy new added grows who (λ at words. others_stay who at (plain words) t.0) b (doing_of b) (follows_itself b) b.place
-            (kept.standing who b t.1)
+        | inr t ↦ stands_on shape anatomy new who b b (grounds_grow anatomy new added grows who (λ at words. others_stay who at (plain words) t.0))
+            (follows_itself b) b.place (kept.standing who b t.1)
       ];
       each = λ who b here lives. fits_same state.actors actors' same shape new state.cursors kept.roles.opener who b
           (elim (at_set state.actors id who (doing a d) b here) [

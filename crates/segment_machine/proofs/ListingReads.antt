@@ -34,11 +34,10 @@ use Rattle.segment_machine.specs.Kept.{StandsAs, Kept}
 use Rattle.segment_machine.proofs.Lists.{at_from, all_at, from_map}
 use Rattle.segment_machine.proofs.Bodies.{fixed_within}
 use Rattle.segment_machine.proofs.Pieces.{piece_word, one_index}
-use Rattle.segment_machine.proofs.Actors.{Doing, turns_not}
+use Rattle.segment_machine.proofs.Actors.{Doing, turns_not, doing}
 use Rattle.segment_machine.proofs.Goings.{happens}
-use Rattle.segment_machine.proofs.Acting.{stays_same}
-use Rattle.segment_machine.proofs.ListingGrowth.{grows_not}
-use Rattle.segment_machine.proofs.ListingActors.{Follows, stands_grow, SawMore}
+use Rattle.segment_machine.proofs.ListingActors.{SawMore}
+use Rattle.segment_machine.proofs.Standing.{grounds_itself, Follows, stands_on}
 use Rattle.segment_machine.proofs.ListingKept.{known_record}
 use Rattle.segment_machine.proofs.ListingWalks.{block_within, walking, looks_on}
 use Rattle.segment_machine.proofs.ListingEvents.{Goes, loaded}
@@ -154,9 +153,9 @@ module _ (shape : Dimensions) (opened : Anatomy) (state : State) (kept : Kept sh
         let size = length_shown shape state.words (layout_of anatomy) kept.shown in
         let (from, five, within) = block_within shape opened state kept at body stands claimed in
         let d : Doing = walking shape opened state kept id a mine records a.place a.own a.seen_tail a.seen_chain words in
-        let follows : Follows a d = record {
-          free = refl;
-          tail = refl;
+        let follows : Follows a (doing a d) = record {
+          saw = (refl, refl, refl, refl, refl);
+          names = λ known has. has;
           words = λ t has. Contains-append_left a.seen_words (sight (at + index) found) t has;
           own = λ block has. (block, has, refl, refl);
           spent = λ spent. absurd (lives (ap (λ (b : Actor). b.place) spent));
@@ -177,9 +176,7 @@ module _ (shape : Dimensions) (opened : Anatomy) (state : State) (kept : Kept sh
           loaded shape opened state kept id a mine records (at + index) (next a (load_published at index) found)
               (looks_on shape opened state kept id a mine records a.place a.seen_tail a.seen_chain words turns more anatomy.tail state.words
               kept.shown kept.list.linked kept.list.tail (λ seen before. before)
-              (stands_grow shape anatomy anatomy (λ at body. ⊥)
-              (grows_not anatomy anatomy.pieces anatomy.spare anatomy.corrupt anatomy.full anatomy.tail (stays_same anatomy.pieces))
-              id (λ at words has. has) a d follows a.place (kept.standing id a mine))
+              (stands_on shape anatomy anatomy id a (doing a d) (grounds_itself anatomy id) follows a.place (kept.standing id a mine))
               fits.sees.walked fits.sees.tail
               (All-push (WasFixed anatomy.pieces) a.seen_words s fits.sees.fixed (at, index, body, stands, refl, fixed, sym found_is))),
           subst (EndsWithin a at index) (sym found_is) ends,

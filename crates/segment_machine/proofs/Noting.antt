@@ -8,9 +8,7 @@ use Rattle.atomic_table.proofs.Lists.{at_set, set_else}
 use Rattle.segment_image.specs.Shape.{Dimensions}
 use Rattle.segment_machine.specs.declared.entry.Entry.{Entry}
 use Rattle.segment_machine.specs.declared.entry.Counting.{Counting}
-use Rattle.segment_machine.specs.declared.place.Look.{Look}
-use Rattle.segment_machine.specs.declared.place.Place.{Place}
-use Rattle.segment_machine.specs.declared.place.Place.TheVariants.{Spent, Idle, FlagsLoaded, FreeLoaded, Raised, Sized, Marked, TailLoaded, Beaten, Linked, Looking, Losing, Moving, CountLoaded, SampleLoaded, SumLoaded, CursorLoaded, BehindCursor}
+use Rattle.segment_machine.specs.declared.place.Place.TheVariants.{Spent}
 use Rattle.segment_machine.specs.declared.actor.Actor.{Actor}
 use Rattle.segment_machine.specs.declared.actor.Answered.{Answered}
 use Rattle.segment_machine.specs.declared.actor.Claim.{Claim}
@@ -24,7 +22,7 @@ use Rattle.segment_machine.specs.Actor.{counted_of, summed_of, noted_of, units_o
 use Rattle.segment_machine.specs.State.{State}
 use Rattle.segment_machine.specs.Body.{Anatomy, order_of, claims_of}
 use Rattle.segment_machine.specs.Ledger.{moving_at}
-use Rattle.segment_machine.specs.Kept.{summed_cost, LooksRight, StandsRight, Fits, HasKey, Kept}
+use Rattle.segment_machine.specs.Kept.{summed_cost, StandsRight, Fits, HasKey, Kept}
 use Rattle.segment_machine.proofs.Lists.{none_in, rows_total, rows, row_in, row_from, column, sum_same, sum_beside}
 use Rattle.segment_machine.proofs.Countings.{units_total, sum_total, noted_total}
 use Rattle.segment_machine.proofs.Totals.{HasUnits, tally_from, tally_at}
@@ -32,6 +30,7 @@ use Rattle.segment_machine.proofs.Goings.{not_opener}
 use Rattle.segment_machine.proofs.SeatsSums.{amounts_total}
 use Rattle.segment_machine.proofs.SeatsBooks.{cursors_set, listed_set}
 use Rattle.segment_machine.proofs.SeatsDeeds.{SameSums}
+use Rattle.segment_machine.proofs.Standing.{grounds_itself, stands_on}
 use Rattle.segment_machine.proofs.SeatsFrames.{LoadedBefore, balanced, sums_near}
 use Rattle.segment_machine.proofs.SeatsRoles.{SameRole, stood_set, roles_set, fits_beside}
 
@@ -102,33 +101,6 @@ counted_before a b same e there some_units =
     let counted = same.counted e.name e.key in
     tally_at (counted_of a) e.name e.key (omega (arith, now, counted))
 
--- it stands right where it knows no less
-module _ (anatomy : Anatomy) (a : Actor) (n : Noting) (knows : (known : Known) → Contains a.names known → Contains n.names known) where
-  noting_look : (look : Look) → LooksRight a look → LooksRight (noting a n) look
-  noting_look look right = record { known = right.known; knows = (knows right.known right.knows.0, right.knows.1, right.knows.2); single = right.single; counts = right.counts }
-
-  pub noting_stands : (shape : Dimensions) (id : ℕ) (place : Place) → place ≢ Spent → StandsRight shape anatomy id a place
-      → StandsRight shape anatomy id (noting a n) place
-  noting_stands shape id Spent live right = absurd (live refl)
-  noting_stands shape id Idle live right = right
-  noting_stands shape id FlagsLoaded live right = right
-  noting_stands shape id (FreeLoaded free) live right = right
-  noting_stands shape id (Raised at size) live right = right
-  noting_stands shape id (Sized at size) live right = right
-  noting_stands shape id (Marked at size) live right = right
-  noting_stands shape id (TailLoaded tail) live right = right
-  noting_stands shape id (Beaten tail behind) live right = right
-  noting_stands shape id (Linked at tail) live right = right
-  noting_stands shape id (Looking look) live right = noting_look look right
-  noting_stands shape id (Losing look at) live right = (noting_look look right.0, right.1, right.2, right.3)
-  noting_stands shape id (Moving look bucket units) live right =
-      (noting_look look right.0, right.1, right.2, right.3, right.4, right.5, right.6)
-  noting_stands shape id (CountLoaded look bucket count) live right = ((noting_look look right.0.0, right.0.1, right.0.2), right.1)
-  noting_stands shape id (SampleLoaded reference count) live right = right
-  noting_stands shape id (SumLoaded reference sum) live right = (right.0, knows right.0 right.1, right.2)
-  noting_stands shape id (CursorLoaded cursor at) live right = right
-  noting_stands shape id (BehindCursor cursor at behind) live right = right
-
 -- ---- all actors
 
 module _ (shape : Dimensions) (opened : Anatomy) (state : State) (kept : Kept shape opened state) (id : ℕ) (a : Actor)
@@ -188,7 +160,15 @@ module _ (shape : Dimensions) (opened : Anatomy) (state : State) (kept : Kept sh
         standing : (k : ℕ) (c : Actor) → get_elem? noters k ≡ some c → StandsRight shape kept.anatomy k c c.place
         standing k c at = elim (at_set state.actors id k later c at) [
           | inl t ↦ subst₂ (λ k (c : Actor). StandsRight shape kept.anatomy k c c.place) (sym t.0) t.1
-              (noting_stands kept.anatomy a n knows shape id a.place lived (kept.standing id a mine))
+              (stands_on shape kept.anatomy kept.anatomy id a later (grounds_itself kept.anatomy id)
+              (record {
+                saw = (refl, refl, refl, refl, refl);
+                names = knows;
+                words = λ s has. has;
+                own = λ block has. (block, has, refl, refl);
+                spent = λ is. absurd (lived (ap (λ (b : Actor). b.place) is));
+              })
+              a.place (kept.standing id a mine))
           | inr t ↦ kept.standing k c t.1
         ]
 

@@ -22,7 +22,8 @@ use Rattle.segment_machine.specs.Keeps.{JoinsKeep}
 use Rattle.segment_machine.specs.Body.{plain, Anatomy, order_of}
 use Rattle.segment_machine.specs.Kept.{is_living, RolesAreKept, StandsRight, Fits, Kept}
 use Rattle.segment_machine.proofs.Actors.{lives_on}
-use Rattle.segment_machine.proofs.Anatomies.{standing_along}
+use Rattle.segment_machine.proofs.Anatomies.{grounds_along}
+use Rattle.segment_machine.proofs.Standing.{follows_itself, stands_on}
 use Rattle.segment_machine.proofs.Lists.{none_at, sum_beside, below_length}
 use Rattle.segment_machine.proofs.SeatsLists.{each_of_two}
 use Rattle.segment_machine.proofs.SeatsDeeds.{Deeds, deeds_set, sums_of}
@@ -203,8 +204,9 @@ module _ (shape : Dimensions) (opened : Anatomy) (old : State) (kept : Kept shap
       (subst (StandsRight shape anatomy 0 later) (sym kept.roles.idle) tt)
       refl
       (λ k c past front here.
-      standing_along kept.anatomy anatomy.pieces anatomy.spare anatomy.corrupt anatomy.full anatomy.tail (stays_passed other 0 kept.anatomy.pieces)
-      shape k (λ at words. stands_left other 0 kept.anatomy.pieces k past at (plain words)) c c.place (kept.standing k c here))
+      stands_on shape kept.anatomy anatomy k c c
+      (grounds_along kept.anatomy anatomy.pieces anatomy.spare anatomy.corrupt anatomy.full anatomy.tail (stays_passed other 0 kept.anatomy.pieces)
+      k (λ at words. stands_left other 0 kept.anatomy.pieces k past at (plain words))) (follows_itself c) c.place (kept.standing k c here))
 
   loaded : LoadedBefore old.actors merged
   loaded at sum = each_of_two

@@ -22,7 +22,8 @@ use Rattle.segment_machine.proofs.SeatsDeeds.{Deeds, took, deeds_set, sums_of}
 use Rattle.segment_machine.proofs.SeatsFrames.{LoadedBefore, IsLater, fits}
 use Rattle.segment_machine.proofs.SeatsBooks.{GivenInOrder, books_of, books_by, kept_by}
 use Rattle.segment_machine.proofs.SeatsRoles.{opens_nothing, Stood, AllStood, still_younger, still_apart, still_eldest, alone_before, opens_first}
-use Rattle.segment_machine.proofs.SeatsTurned.{turned_stands, shared_fits}
+use Rattle.segment_machine.proofs.SeatsTurned.{shared_fits}
+use Rattle.segment_machine.proofs.Standing.{grounds_itself, stands_on}
 
 -- ---- what both did together
 
@@ -117,7 +118,15 @@ module _ (shape : Dimensions) (opened : Anatomy) (old : State) (kept : Kept shap
   standing : (k : ℕ) (c : Actor) → get_elem? lent k ≡ some c → StandsRight shape kept.anatomy k c c.place
   standing = each_of_two (λ k c. StandsRight shape kept.anatomy k c c.place) old.actors 0 other later (borrower b units)
       (subst (StandsRight shape kept.anatomy 0 later) (sym kept.roles.idle) tt)
-      (turned_stands kept.anatomy b (b.share + units) b.made b.outstanding shape other b.place may.2 (kept.standing other b there))
+      (stands_on shape kept.anatomy kept.anatomy other b (borrower b units) (grounds_itself kept.anatomy other)
+      (record {
+        saw = (refl, refl, refl, refl, refl);
+        names = λ known has. has;
+        words = λ s has. has;
+        own = λ block has. (block, has, refl, refl);
+        spent = λ is. absurd (may.2 (ap (λ (c : Actor). c.place) is));
+      })
+      b.place (kept.standing other b there))
       (λ k c past front at. kept.standing k c at)
 
   since : IsLater old.actors lent opener later

@@ -1,10 +1,10 @@
 -- Actors together, where one goes on with a call and neither counts, takes nor gives back anything: what all of them did is the same.
-use Rattle.std.proofs.Common.{◌≡◌, ◌≢◌, ℕ, ◌+◌, ◌≤◌, ℤ, Bool, true, false, ◌&&◌, List, set, sum_by, inl, inr, refl, sym, ap, ◌∙◌, arith, eq-eqb}
+use Rattle.std.proofs.Common.{◌⊎◌, ◌≡◌, ◌≢◌, ℕ, ◌+◌, ◌≤◌, ℤ, Bool, true, false, ◌&&◌, List, set, sum_by, inl, inr, ⊎_elim, refl, sym, ap, ◌∙◌, arith, eq-eqb}
 use Rattle.std.specs.Prelude.{if◌then◌else◌, ◌==◌, length}
 use Rattle.std.specs.List.{filter}
 use mathlib.Core.Option.{some}
 use lib.ListN.{get_elem?}
-use Rattle.atomic_table.proofs.Lists.{at_set, set_else}
+use Rattle.atomic_table.proofs.Lists.{set_else}
 use Rattle.segment_image.specs.Shape.{Dimensions}
 use Rattle.segment_machine.specs.declared.actor.Actor.{Actor}
 use Rattle.segment_machine.specs.declared.actor.Claim.{Claim}
@@ -16,13 +16,13 @@ use Rattle.segment_machine.specs.declared.place.Look.{Look}
 use Rattle.segment_machine.specs.declared.place.Place.{Place}
 use Rattle.segment_machine.specs.declared.place.Place.TheVariants.{Spent, Idle, FlagsLoaded, FreeLoaded, Raised, Sized, Marked, TailLoaded, Beaten, Linked, Looking, Losing, Moving, CountLoaded, SampleLoaded, SumLoaded, CursorLoaded, BehindCursor}
 use Rattle.segment_machine.specs.Entry.{tally_units, tally_sum, tally_noted}
-use Rattle.segment_machine.specs.Actor.{is_bound, cost_of, counted_of, summed_of, noted_of, units_of, all_counted, all_summed, all_noted, all_taken, taken_units, taken_sum}
+use Rattle.segment_machine.specs.Actor.{is_bound, cost_of, counted_of, summed_of, noted_of, units_of, all_counted, all_summed, all_noted, all_taken, taken_units, taken_sum, transit_at}
 use Rattle.segment_machine.specs.Ledger.{moving_at, all_moving}
 use Rattle.segment_machine.specs.Kept.{summed_cost, summed_costs, is_living, IsMoment, FinalsAreExact, Fits}
 use Rattle.segment_machine.specs.Body.{Anatomy}
 use Rattle.segment_machine.proofs.Lists.{rows, sum_same}
 use Rattle.segment_machine.proofs.SeatsDeeds.{SameSums}
-use Rattle.segment_machine.proofs.SeatsFrames.{LoadedBefore}
+use Rattle.segment_machine.proofs.SeatsFrames.{LoadedBefore, loaded_set}
 use Rattle.segment_machine.proofs.SeatsRoles.{AllStood, SameRole, stood_set, fits_beside}
 
 -- ---- one actor
@@ -88,26 +88,32 @@ is_plain _ = true
 plain_lives : (p : Place) → is_plain p ≡ true → p ≢ Spent
 plain_lives p plain spent = cc (plain, ap is_plain spent)
 
--- an actor that does not stand where units move moves none
-rests_at : (a : Actor) (name : List ℕ) (key : ℤ) (p : Place) → ((look : Look) (bucket units : ℕ) → p ≢ Moving look bucket units) → moving_at a name key p ≡ 0
-rests_at a name key Spent rests = refl
-rests_at a name key Idle rests = refl
-rests_at a name key FlagsLoaded rests = refl
-rests_at a name key (FreeLoaded free) rests = refl
-rests_at a name key (Raised at size) rests = refl
-rests_at a name key (Sized at size) rests = refl
-rests_at a name key (Marked at size) rests = refl
-rests_at a name key (TailLoaded tail) rests = refl
-rests_at a name key (Beaten tail behind) rests = refl
-rests_at a name key (Linked at tail) rests = refl
-rests_at a name key (Looking look) rests = refl
-rests_at a name key (Losing look at) rests = refl
-rests_at a name key (Moving look bucket units) rests = absurd (rests look bucket units refl)
-rests_at a name key (CountLoaded look bucket count) rests = refl
-rests_at a name key (SampleLoaded sample count) rests = refl
-rests_at a name key (SumLoaded reference sum) rests = refl
-rests_at a name key (CursorLoaded cursor at) rests = refl
-rests_at a name key (BehindCursor cursor at behind) rests = refl
+-- an actor moves units, or has none in transit
+abbrev pub Still : Place → Type 0
+Still place = ((a : Actor) (name : List ℕ) (key : ℤ) → moving_at a name key place ≡ 0) × ((at i : ℕ) → transit_at place at i ≡ 0)
+
+pub moves_or_not : (place : Place) → ((look : Look) × (bucket units : ℕ) × (place ≡ Moving look bucket units)) ⊎ Still place
+moves_or_not (Moving look bucket units) = inl (look, bucket, units, refl)
+moves_or_not Spent = inr (λ a name key. refl, λ at i. refl)
+moves_or_not Idle = inr (λ a name key. refl, λ at i. refl)
+moves_or_not FlagsLoaded = inr (λ a name key. refl, λ at i. refl)
+moves_or_not (FreeLoaded free) = inr (λ a name key. refl, λ at i. refl)
+moves_or_not (Raised place size) = inr (λ a name key. refl, λ at i. refl)
+moves_or_not (Sized place size) = inr (λ a name key. refl, λ at i. refl)
+moves_or_not (Marked place size) = inr (λ a name key. refl, λ at i. refl)
+moves_or_not (TailLoaded tail) = inr (λ a name key. refl, λ at i. refl)
+moves_or_not (Beaten tail behind) = inr (λ a name key. refl, λ at i. refl)
+moves_or_not (Linked place tail) = inr (λ a name key. refl, λ at i. refl)
+moves_or_not (Looking look) = inr (λ a name key. refl, λ at i. refl)
+moves_or_not (Losing look place) = inr (λ a name key. refl, λ at i. refl)
+moves_or_not (CountLoaded look bucket count) = inr (λ a name key. refl, λ at i. refl)
+moves_or_not (SampleLoaded reference count) = inr (λ a name key. refl, λ at i. refl)
+moves_or_not (SumLoaded reference sum) = inr (λ a name key. refl, λ at i. refl)
+moves_or_not (CursorLoaded cursor place) = inr (λ a name key. refl, λ at i. refl)
+moves_or_not (BehindCursor cursor place next) = inr (λ a name key. refl, λ at i. refl)
+
+pub rests_at : (a : Actor) (name : List ℕ) (key : ℤ) (p : Place) → ((look : Look) (bucket units : ℕ) → p ≢ Moving look bucket units) → moving_at a name key p ≡ 0
+rests_at a name key p rests = ⊎_elim (λ moves. absurd (rests moves.0 moves.1 moves.2 moves.3)) (λ still. still.0 a name key) (moves_or_not p)
 
 plain_rests : (p : Place) → is_plain p ≡ true → (look : Look) (bucket units : ℕ) → p ≢ Moving look bucket units
 plain_rests p plain look bucket units moving = cc (plain, ap is_plain moving)
@@ -196,12 +202,6 @@ same_role a d turns = record {
 }
 
 module _ (actors : List Actor) (id : ℕ) (a : Actor) (mine : get_elem? actors id ≡ some a) (d : Doing) (turns : TurnsTo a d.place) where
-  loaded_of : LoadedBefore actors (set actors id (doing a d))
-  loaded_of at sum j b there is = elim (at_set actors id j (doing a d) b there) [
-    | inl t ↦ (id, a, mine, turns.sums at sum (ap (λ (b : Actor). b.place) t.1 ∙ is))
-    | inr t ↦ (j, b, t.1, is)
-  ]
-
   -- what all of them did is the same
   pub same_deeds : id ≢ 0 → SameDeeds actors (set actors id (doing a d))
   same_deeds records = record {
@@ -212,7 +212,7 @@ module _ (actors : List Actor) (id : ℕ) (a : Actor) (mine : get_elem? actors i
     units = sum_same units_of actors id a (doing a d) mine refl;
     costs = λ name. sum_same (summed_cost name) actors id a (doing a d) mine refl;
     moving = λ name key. sum_same (λ a. moving_at a name key a.place) actors id a (doing a d) mine (turns.moves name key);
-    loaded = loaded_of;
+    loaded = loaded_set actors id a (doing a d) mine turns.sums;
     stood = stood_set actors id a (doing a d) mine (same_role a d turns);
     opener = set_else actors id 0 (doing a d) (λ same. records (sym same));
   }

@@ -31,7 +31,7 @@ use Rattle.segment_machine.proofs.SeatsSums.{amounts_total}
 use Rattle.segment_machine.proofs.SeatsBooks.{cursors_set, listed_set}
 use Rattle.segment_machine.proofs.SeatsDeeds.{SameSums}
 use Rattle.segment_machine.proofs.Standing.{grounds_itself, stands_on}
-use Rattle.segment_machine.proofs.SeatsFrames.{LoadedBefore, balanced, sums_near}
+use Rattle.segment_machine.proofs.SeatsFrames.{loaded_set, balanced, sums_near}
 use Rattle.segment_machine.proofs.SeatsRoles.{SameRole, stood_set, roles_set, fits_beside}
 
 -- ---- what changes of an actor that notes something
@@ -189,12 +189,6 @@ module _ (shape : Dimensions) (opened : Anatomy) (state : State) (kept : Kept sh
           ]
         ]
 
-        loaded : LoadedBefore state.actors noters
-        loaded at sum k c there stands = elim (at_set state.actors id k later c there) [
-          | inl t ↦ (id, a, mine, ap (λ (c : Actor). c.place) t.1 ∙ stands)
-          | inr t ↦ (k, c, t.1, stands)
-        ]
-
         -- the state with that note is kept
         pub notes_on : Kept shape opened (record state { actors = noters })
         notes_on = record {
@@ -211,7 +205,7 @@ module _ (shape : Dimensions) (opened : Anatomy) (state : State) (kept : Kept sh
           balanced = balanced kept.anatomy.version opened.pieces kept.anatomy.pieces state.actors noters sums kept.balanced;
           keys = keys;
           taken_keys = taken_keys;
-          sums = sums_near kept.anatomy.pieces state.actors noters sums loaded kept.sums;
+          sums = sums_near kept.anatomy.pieces state.actors noters sums (loaded_set state.actors id a later mine (λ at sum is. is)) kept.sums;
           pool = sum_same units_of state.actors id a later mine counts.units ∙ kept.pool;
           corrupt = kept.corrupt ∙ ap (λ set. opened.corrupt || fold ◌||◌ false set) (sym (column (λ (a : Actor). a.spoiled) state.actors id a later mine refl));
           full = kept.full ∙ ap (λ set. opened.full || fold ◌||◌ false set) (sym (column (λ (a : Actor). a.filled) state.actors id a later mine refl));

@@ -13,8 +13,7 @@ use Rattle.alloc_core.specs.Laws.{Behind}
 use Rattle.list_core.specs.Walk.{IsPrefix}
 use Rattle.segment_machine.specs.declared.entry.Entry.{Entry}
 use Rattle.segment_machine.specs.declared.entry.Counting.{Counting}
-use Rattle.segment_machine.specs.declared.place.Place.{Place}
-use Rattle.segment_machine.specs.declared.place.Place.TheVariants.{Spent, Idle, FlagsLoaded, FreeLoaded, Raised, Sized, Marked, TailLoaded, Beaten, Linked, Looking, Losing, Moving, CountLoaded, SampleLoaded, SumLoaded, CursorLoaded, BehindCursor}
+use Rattle.segment_machine.specs.declared.place.Place.TheVariants.{Idle}
 use Rattle.segment_machine.specs.declared.actor.Actor.{Actor}
 use Rattle.segment_machine.specs.declared.actor.Cost.{Cost}
 use Rattle.segment_machine.specs.declared.actor.Given.{Given}
@@ -32,6 +31,7 @@ use Rattle.alloc_core.specs.Layout.{IsShown}
 use Rattle.segment_machine.specs.declared.actor.Sighting.{Sighting}
 use Rattle.segment_machine.specs.Body.{Body, words_of, Piece, Anatomy, layout_of, order_of, free_of}
 use Rattle.segment_machine.specs.Seen.{WasSingle, WasCounter, WasInUse, WasFixed, IsNoLater, IsFirstOf, Knows, Sees}
+use Rattle.segment_machine.proofs.Actors.{rests_at}
 use Rattle.segment_machine.proofs.Bodies.{fixed_within}
 use Rattle.segment_machine.proofs.Pieces.{one_index}
 use Rattle.segment_machine.proofs.SeatsLists.{map_after, front_of_front}
@@ -76,27 +76,6 @@ taken_joined {Y} n g same xs ys =
     map-append g xs (shifted_taken n ys)
     ∙ ap (λ (list : List Y). map g xs ++ list) (map_after (λ (t : Taken). record t { moment = shifted n t.moment }) g same ys)
 
--- who is not bound moves no units
-moves_nothing : (a : Actor) (name : List ℕ) (key : ℤ) (place : Place) → is_bound place ≡ false → moving_at a name key place ≡ 0
-moves_nothing a name key Spent free = refl
-moves_nothing a name key Idle free = refl
-moves_nothing a name key FlagsLoaded free = refl
-moves_nothing a name key (FreeLoaded at) free = refl
-moves_nothing a name key (Raised at size) free = refl
-moves_nothing a name key (Sized at size) free = refl
-moves_nothing a name key (Marked at size) free = refl
-moves_nothing a name key (TailLoaded tail) free = refl
-moves_nothing a name key (Beaten tail behind) free = refl
-moves_nothing a name key (Linked at tail) free = refl
-moves_nothing a name key (Looking look) free = refl
-moves_nothing a name key (Losing look at) free = refl
-moves_nothing a name key (Moving look bucket units) free = absurd (true≢false free)
-moves_nothing a name key (CountLoaded look bucket count) free = refl
-moves_nothing a name key (SampleLoaded reference count) free = refl
-moves_nothing a name key (SumLoaded reference sum) free = refl
-moves_nothing a name key (CursorLoaded cursor at) free = refl
-moves_nothing a name key (BehindCursor cursor at behind) free = refl
-
 -- who runs nothing has in a sum what it has spent
 rests_cost : (name : List ℕ) (a : Actor) → a.running ≡ [] → summed_cost name a ≡ cost_of a.costs name
 rests_cost name a rests =
@@ -124,7 +103,7 @@ module _ (a b : Actor) (may : Joins a b) where
   joined_moving name key =
       let now = ap (moving_at (joined a b) name key) may.idle in
       let was = ap (moving_at a name key) may.idle in
-      let nothing = moves_nothing b name key b.place may.free in
+      let nothing = rests_at b name key b.place (λ look bucket units moving. cc (may.free, ap is_bound moving)) in
       omega (arith, now, was, nothing)
 
   pub joined_deeds : Deeds (a ∷ b ∷ []) (joined a b ∷ spent ∷ [])

@@ -232,9 +232,10 @@ module _ (old new : List Actor) (same : SameDeeds old new) where
   }
 
   -- who fitted beside the others fits still
-  pub fits_same : (shape : Dimensions) (anatomy : Anatomy) (cursors : List ℕ) (opener : Actor) (id : ℕ) (a : Actor)
+  pub fits_same : (shape : Dimensions) (anatomy : Anatomy) (cursors : List ℕ) (opener : Actor) (id : ℕ) (a : Actor) → get_elem? old 0 ≡ some opener
       → Fits shape anatomy cursors old opener id a → Fits shape anatomy cursors new opener id a
-  fits_same shape anatomy cursors opener id a = fits_beside shape anatomy cursors old new opener id a same_sums same.stood same.opener
+  fits_same shape anatomy cursors opener id a first =
+      fits_beside shape anatomy cursors old new opener opener id a first (same.opener ∙ first) refl same_sums same.stood
 
 -- the actor that goes on has the deltas, the snapshots and the log that it had
 moment_of_doing : (actors : List Actor) (opener : Actor) (id : ℕ) (a : Actor) (d : Doing) (m : Moment)

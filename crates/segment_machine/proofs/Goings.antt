@@ -100,7 +100,7 @@ module _ (shape : Dimensions) (opened : Anatomy) (state : State) (kept : Kept sh
 
     fits_all : (other : ℕ) (b : Actor) → get_elem? actors other ≡ some b → b.place ≢ Spent
         → Fits shape behind state.cursors actors kept.roles.opener other b
-    fits_all other b there lives = fits_same state.actors actors same shape behind state.cursors kept.roles.opener other b
+    fits_all other b there lives = fits_same state.actors actors same shape behind state.cursors kept.roles.opener other b kept.roles.stands
         (elim (at_set state.actors id other (doing a d) b there) [
           | inl t ↦ subst (λ (p : ℕ × Actor). Fits shape behind state.cursors state.actors kept.roles.opener p.0 p.1) (λ i. (sym t.0 i, t.1 i)) fits_mine
           | inr t ↦ fits_else other b t.0 (kept.each other b t.1 lives)

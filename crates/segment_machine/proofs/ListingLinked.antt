@@ -493,7 +493,7 @@ module _ (shape : Dimensions) (opened : Anatomy) (state : State) (kept : Kept sh
         | inr t ↦ stands_on shape anatomy new who b b (grounds_grow anatomy new added grows who (λ at words. others_stay who at (plain words) t.0))
             (follows_itself b) b.place (kept.standing who b t.1)
       ];
-      each = λ who b here lives. fits_same state.actors actors' same shape new state.cursors kept.roles.opener who b
+      each = λ who b here lives. fits_same state.actors actors' same shape new state.cursors kept.roles.opener who b kept.roles.stands
           (elim (at_set state.actors id who (doing a d) b here) [
             | inl t ↦ subst (λ (p : ℕ × Actor). Fits shape new state.cursors state.actors kept.roles.opener p.0 p.1) (λ j. (sym t.0 j, t.1 j)) fits_mine
             | inr t ↦ fits_else who b t.0 t.1 lives

@@ -145,8 +145,8 @@ module _ (shape : Dimensions) (opened : Anatomy) (state : State) (kept : Kept sh
       -- who fitted beside the others fits still
       pub beside : (k : ℕ) (c : Actor) → Fits shape kept.anatomy state.cursors state.actors kept.roles.opener k c
           → Fits shape kept.anatomy state.cursors noters kept.roles.opener k c
-      beside k c = fits_beside shape kept.anatomy state.cursors state.actors noters kept.roles.opener k c sums
-          (stood_set state.actors id a later mine role) (set_else state.actors id 0 later (λ same. not_first (sym same)))
+      beside k c = fits_beside shape kept.anatomy state.cursors state.actors noters kept.roles.opener kept.roles.opener k c kept.roles.stands
+          (set_else state.actors id 0 later (λ same. not_first (sym same)) ∙ kept.roles.stands) refl sums (stood_set state.actors id a later mine role)
 
       module _ (knows : (known : Known) → Contains a.names known → Contains n.names known)
           (refits : Fits shape kept.anatomy state.cursors noters kept.roles.opener id a → Fits shape kept.anatomy state.cursors noters kept.roles.opener id later) where

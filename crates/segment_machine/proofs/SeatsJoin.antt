@@ -27,9 +27,9 @@ use Rattle.segment_machine.proofs.Standing.{follows_itself, stands_on}
 use Rattle.segment_machine.proofs.Lists.{none_at, sum_beside, below_length}
 use Rattle.segment_machine.proofs.SeatsLists.{each_of_two}
 use Rattle.segment_machine.proofs.SeatsDeeds.{Deeds, deeds_set, sums_of}
-use Rattle.segment_machine.proofs.SeatsFrames.{LoadedBefore, IsLater, fits}
+use Rattle.segment_machine.proofs.SeatsFrames.{LoadedBefore}
 use Rattle.segment_machine.proofs.SeatsBooks.{GivenInOrder, books_of, books_by, kept_by}
-use Rattle.segment_machine.proofs.SeatsRoles.{opens_nothing, Stood, AllStood, still_younger, still_apart, still_eldest, alone_before, opens_first}
+use Rattle.segment_machine.proofs.SeatsRoles.{opens_nothing, Stood, AllStood, still_younger, still_apart, still_eldest, opens_first, fits_beside}
 use Rattle.segment_machine.proofs.SeatsPassed.{handed, stays_passed, stands_left, books_passed, sees_passed, calls_passed, fits_passed}
 use Rattle.segment_machine.proofs.SeatsJoined.{Joins, joined_deeds, joined_sees, joined_calls}
 use Rattle.segment_machine.proofs.SeatsFinals.{joined_finals, joined_own, joined_apart}
@@ -146,18 +146,10 @@ module _ (shape : Dimensions) (opened : Anatomy) (old : State) (kept : Kept shap
         ));
   }
 
-  since : IsLater old.actors merged opener later
-  since = record {
-    more = omega arith;
-    last = λ n below e. e;
-    lives = λ k c at alive. let s = stood k c at alive in inl (s.was, s.at, s.lives, s.made);
-  }
-
   -- ---- each actor
 
   beside : (k : ℕ) (c : Actor) → Fits shape kept.anatomy old.cursors old.actors opener k c → Fits shape kept.anatomy old.cursors merged later k c
-  beside k c fit = fits shape kept.anatomy old.cursors old.actors merged opener later k c (sums_of old.actors merged deeds) since
-      (λ either. alone_before old.actors merged opener later c kept.roles.stands first refl) fit
+  beside k c = fits_beside shape kept.anatomy old.cursors old.actors merged opener later k c kept.roles.stands first refl (sums_of old.actors merged deeds) stood
 
   mine : Fits shape kept.anatomy old.cursors merged later 0 opener
   mine = beside 0 opener (kept.each 0 opener kept.roles.stands opener_lives)

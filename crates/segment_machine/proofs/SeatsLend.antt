@@ -19,9 +19,9 @@ use Rattle.segment_machine.specs.Kept.{is_living, RolesAreKept, StandsRight, Fit
 use Rattle.segment_machine.proofs.Lists.{sum_beside, below_length}
 use Rattle.segment_machine.proofs.SeatsLists.{each_of_two}
 use Rattle.segment_machine.proofs.SeatsDeeds.{Deeds, took, deeds_set, sums_of}
-use Rattle.segment_machine.proofs.SeatsFrames.{LoadedBefore, IsLater, fits}
+use Rattle.segment_machine.proofs.SeatsFrames.{LoadedBefore}
 use Rattle.segment_machine.proofs.SeatsBooks.{GivenInOrder, books_of, books_by, kept_by}
-use Rattle.segment_machine.proofs.SeatsRoles.{opens_nothing, Stood, AllStood, still_younger, still_apart, still_eldest, alone_before, opens_first}
+use Rattle.segment_machine.proofs.SeatsRoles.{opens_nothing, Stood, AllStood, still_younger, still_apart, still_eldest, opens_first, still_heirs, fits_beside}
 use Rattle.segment_machine.proofs.SeatsTurned.{shared_fits}
 use Rattle.segment_machine.proofs.Standing.{grounds_itself, stands_on}
 
@@ -94,13 +94,7 @@ module _ (shape : Dimensions) (opened : Anatomy) (old : State) (kept : Kept shap
     younger = still_younger old.actors lent kept.roles stood later.made (omega arith);
     apart = still_apart old.actors lent kept.roles stood;
     eldest = still_eldest old.actors lent kept.roles stood;
-    heirs = λ id c at lives.
-        let s = stood id c at lives in
-        let was = kept.roles.heirs id s.was s.at s.lives in (
-          was.0,
-          was.1 ∙ ap (λ (list : List Entry). list ++ was.0) s.inherited,
-          λ none last. was.2 (s.outstanding ∙ none) (ap (λ (n : ℕ). n + 1) s.made ∙ last),
-        );
+    heirs = still_heirs old.actors lent kept.roles stood later refl refl;
   }
 
   ordered : (k : ℕ) (c : Actor) → get_elem? lent k ≡ some c → c.opener ≡ 0 → GivenInOrder (order_of kept.anatomy) c.given
@@ -129,16 +123,8 @@ module _ (shape : Dimensions) (opened : Anatomy) (old : State) (kept : Kept shap
       b.place (kept.standing other b there))
       (λ k c past front at. kept.standing k c at)
 
-  since : IsLater old.actors lent opener later
-  since = record {
-    more = omega arith;
-    last = λ n below e. e;
-    lives = λ k c at lives. let s = stood k c at lives in inl (s.was, s.at, s.lives, s.made);
-  }
-
   beside : (k : ℕ) (c : Actor) → Fits shape kept.anatomy old.cursors old.actors opener k c → Fits shape kept.anatomy old.cursors lent later k c
-  beside k c fit = fits shape kept.anatomy old.cursors old.actors lent opener later k c (sums_of old.actors lent deeds) since
-      (λ either. alone_before old.actors lent opener later c kept.roles.stands first refl) fit
+  beside k c = fits_beside shape kept.anatomy old.cursors old.actors lent opener later k c kept.roles.stands first refl (sums_of old.actors lent deeds) stood
 
   each : (k : ℕ) (c : Actor) → get_elem? lent k ≡ some c → c.place ≢ Spent → Fits shape kept.anatomy old.cursors lent later k c
   each = each_of_two (λ k c. c.place ≢ Spent → Fits shape kept.anatomy old.cursors lent later k c) old.actors 0 other later (borrower b units)

@@ -8,6 +8,7 @@ use Rattle.atomic_table.proofs.Lists.{at_set, set_else}
 use Rattle.segment_image.specs.Shape.{Dimensions}
 use Rattle.segment_machine.specs.declared.entry.Entry.{Entry}
 use Rattle.segment_machine.specs.declared.actor.Actor.{Actor}
+use Rattle.segment_machine.specs.Actor.{log_of}
 use Rattle.segment_machine.specs.Body.{Anatomy}
 use Rattle.segment_machine.specs.Kept.{is_living, RolesAreKept, IsAlone, Fits}
 use Rattle.segment_machine.proofs.Lists.{sum_same}
@@ -59,17 +60,36 @@ module _ (old new : List Actor) (roles : RolesAreKept old) (stood : AllStood old
       let f = t.made in
       omega (arith, below, e, f)
 
+  -- of another opener with the same log, who made as many, they are heirs too
+  pub still_heirs : (later : Actor) → log_of later ≡ log_of roles.opener → later.made ≡ roles.opener.made → (id : ℕ) (a : Actor) → get_elem? new id ≡ some a
+      → is_living a ≡ true
+      → (more : List Entry) × (log_of later ≡ a.inherited ++ more) × (a.outstanding ≡ 0 → a.made + 1 ≡ later.made → more ≡ [])
+  still_heirs later log made id a at lives =
+      let s = stood id a at lives in
+      let was = roles.heirs id s.was s.at s.lives in (
+        was.0,
+        log ∙ (was.1 ∙ ap (λ (list : List Entry). list ++ was.0) s.inherited),
+        λ none last. was.2 (s.outstanding ∙ none) (ap (λ (n : ℕ). n + 1) s.made ∙ (last ∙ made)),
+      )
+
+-- what is said of the opener where only one is alone is said of it as it was
+pub alone_before : (old new : List Actor) (opener later a : Actor) → get_elem? old 0 ≡ some opener → get_elem? new 0 ≡ some later
+    → later.made ≡ opener.made → IsAlone new a → IsAlone old a
+alone_before old new opener later a first last e alone =
+    let same = one_at new 0 alone.0 later alone.1 last in
+    (opener, first, alone.2, alone.3 ∙ ap (λ (c : Actor). c.made) same ∙ e)
+
 -- who fitted beside the others fits still
-pub fits_beside : (shape : Dimensions) (anatomy : Anatomy) (cursors : List ℕ) (old new : List Actor) (opener : Actor) (id : ℕ) (a : Actor)
-    → SameSums old new → AllStood old new → get_elem? new 0 ≡ get_elem? old 0
-    → Fits shape anatomy cursors old opener id a → Fits shape anatomy cursors new opener id a
-fits_beside shape anatomy cursors old new opener id a sums stood first = fits shape anatomy cursors old new opener opener id a sums
+pub fits_beside : (shape : Dimensions) (anatomy : Anatomy) (cursors : List ℕ) (old new : List Actor) (opener later : Actor) (id : ℕ) (a : Actor)
+    → get_elem? old 0 ≡ some opener → get_elem? new 0 ≡ some later → later.made ≡ opener.made → SameSums old new → AllStood old new
+    → Fits shape anatomy cursors old opener id a → Fits shape anatomy cursors new later id a
+fits_beside shape anatomy cursors old new opener later id a first last made sums stood = fits shape anatomy cursors old new opener later id a sums
     (record {
-      more = omega arith;
-      last = λ n below e. e;
+      more = omega (arith, made);
+      last = λ n below e. e ∙ made;
       lives = λ k c at lives. let s = stood k c at lives in inl (s.was, s.at, s.lives, s.made);
     })
-    (λ either alone. (alone.0, sym first ∙ alone.1, alone.2, alone.3))
+    (λ either. alone_before old new opener later a first last made)
 
 -- ---- one recorder becomes another
 
@@ -114,23 +134,10 @@ module _ (actors : List Actor) (id : ℕ) (a b : Actor) (mine : get_elem? actors
     younger = still_younger actors (set actors id b) roles stood_set roles.opener.made (omega arith);
     apart = still_apart actors (set actors id b) roles stood_set;
     eldest = still_eldest actors (set actors id b) roles stood_set;
-    heirs = λ k c at lives.
-        let s = stood_set k c at lives in
-        let was = roles.heirs k s.was s.at s.lives in (
-          was.0,
-          was.1 ∙ ap (λ (list : List Entry). list ++ was.0) s.inherited,
-          λ none last. was.2 (s.outstanding ∙ none) (ap (λ (n : ℕ). n + 1) s.made ∙ last),
-        );
+    heirs = still_heirs actors (set actors id b) roles stood_set roles.opener refl refl;
   }
 
--- ---- who opens, and who is alone
-
--- what is said of the opener where only one is alone is said of it as it was
-pub alone_before : (old new : List Actor) (opener later a : Actor) → get_elem? old 0 ≡ some opener → get_elem? new 0 ≡ some later
-    → later.made ≡ opener.made → IsAlone new a → IsAlone old a
-alone_before old new opener later a first last e alone =
-    let same = one_at new 0 alone.0 later alone.1 last in
-    (opener, first, alone.2, alone.3 ∙ ap (λ (c : Actor). c.made) same ∙ e)
+-- ---- who opens
 
 -- whoever opens is the first
 pub opens_first : (actors : List Actor) (roles : RolesAreKept actors) (id : ℕ) (a : Actor) → get_elem? actors id ≡ some a → a.opener ≡ 1

@@ -20,8 +20,9 @@ use Rattle.segment_machine.specs.Seen.{Stands}
 use Rattle.segment_machine.specs.Kept.{StandsRight, HoldsOwn, IsSetBy, ClaimedRight, StandStill, Kept}
 use Rattle.segment_machine.proofs.Pieces.{stands_beside, stood_beside, stands_longer, stood_longer, held_same, amounts_same, held_grown, amounts_grown}
 use Rattle.segment_machine.proofs.Actors.{Doing, doing, TurnsTo}
-use Rattle.segment_machine.proofs.Anatomies.{reshaped, IsSilent, Stays, sees_along, calls_along, looks_along, sees_no_more, sees_doing, calls_doing, looks_doing}
+use Rattle.segment_machine.proofs.Anatomies.{sees_along, calls_along, looks_along, sees_no_more, sees_doing, calls_doing, looks_doing}
 use Rattle.segment_machine.proofs.Goings.{goes_on}
+use Rattle.segment_machine.proofs.ListingGrowth.{reshaped, IsSilent, Stays}
 
 -- ---- blocks in the making
 

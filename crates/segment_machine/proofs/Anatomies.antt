@@ -1,41 +1,19 @@
 -- What holds of an anatomy, where blocks in the making change and what was published stays.
-use Rattle.std.proofs.Common.{◌≡◌, ℕ, ◌+◌, ℤ, pos, Bool, List, All, inl, inr, ⊎_elim, refl, ap, ◌∙◌}
-use Rattle.std.specs.Prelude.{slice_index, unsigned_abs, ◌*◌, ◌-ℤ◌, IsPermutation}
-use Rattle.std.specs.Prelude as std
+use Rattle.std.proofs.Common.{◌≡◌, ℕ, ◌+◌, ℤ, Bool, List, inl, inr, ⊎_elim, refl, ap, ◌∙◌}
 use Rattle.std.proofs.lemmas.List.Elements.{All-weaker}
-use mathlib.Core.Option.{some, none}
+use mathlib.Core.Option.{some}
 use Rattle.segment_image.specs.Shape.{Dimensions}
 use Rattle.alloc_core.specs.Laws.{Behind}
 use Rattle.list_core.specs.Chain.{IsLinked}
 use Rattle.list_core.specs.Laws.{IsStop}
 use Rattle.segment_machine.specs.declared.actor.Actor.{Actor}
-use Rattle.segment_machine.specs.declared.actor.Made.{Made}
-use Rattle.segment_machine.specs.declared.actor.Made.TheVariants as made
-use Rattle.segment_machine.specs.declared.actor.Own.{Own}
-use Rattle.segment_machine.specs.Body.{Body, queue, plain, held, Piece, Listed, Anatomy, order_of, free_of}
+use Rattle.segment_machine.specs.Body.{Body, held, Piece, Anatomy, order_of, free_of}
 use Rattle.segment_machine.specs.Ledger.{units_held, marks_held, sum_held, sum_mark_held, noted_held, all_held, all_amounts, all_moving, IsBalanced}
-use Rattle.segment_machine.specs.Seen.{Stands, HasPlain, WasFixed, WasCounter, WasInUse, WasSingle, IsNoLater, Knows, Sees}
-use Rattle.segment_machine.specs.Kept.{StandsAs, ListIsKept, RecordsAreKept, SumsAreNear, Fits, HoldsOwn, CallsRight, LooksBack}
-use Rattle.segment_machine.proofs.Standing.{Grounds}
+use Rattle.segment_machine.specs.Seen.{Stands, HasPlain, IsNoLater, Sees}
+use Rattle.segment_machine.specs.Kept.{StandsAs, ListIsKept, RecordsAreKept, SumsAreNear, Fits, CallsRight, LooksBack}
+use Rattle.segment_machine.proofs.Standing.{Grounds, own_stays}
+use Rattle.segment_machine.proofs.ListingGrowth.{reshaped, Stays, Grows, grows_not, stands_as_grows, sees_grow, grounds_grow}
 use Rattle.segment_machine.proofs.Actors.{Doing, doing, TurnsTo}
-
--- the anatomy with other blocks, other flags and another tail, and the same records
-abbrev pub reshaped : Anatomy → List Piece → ℕ → Bool → Bool → ℕ → Anatomy
-reshaped anatomy pieces spare corrupt full tail =
-    record anatomy { pieces = pieces; spare = spare; corrupt = corrupt; full = full; tail = tail }
-
--- a number that blocks in the making, one's own blocks and the queue block do not have
-abbrev pub IsSilent : {X : Type 0} → X → (Body → X) → Type 0
-IsSilent nothing holds =
-    ((words : List ℕ) → holds (plain words) ≡ nothing) × ((block : Own) → holds (held block) ≡ nothing)
-    × ((next : ℕ) → holds (queue next) ≡ nothing)
-
--- What was published stays: a block without owner stands where it stood, and no other has come; and together they hold what they held.
-pub record Stays (old new : List Piece) : Type 0 where
-  pub there : (at : ℕ) (body : Body) → Stands old at none body → Stands new at none body
-  pub back : (at : ℕ) (body : Body) → Stands new at none body → Stands old at none body
-  pub held : (holds : Body → ℕ) → IsSilent 0 holds → all_held holds new ≡ all_held holds old
-  pub amounts : (holds : Body → ℤ) → IsSilent (pos 0) holds → all_amounts holds new ≡ all_amounts holds old
 
 -- What pieces hold together is the same.
 pub record SameHoldings (version : ℕ) (old new : List Piece) : Type 0 where
@@ -61,6 +39,9 @@ module _ (anatomy : Anatomy) (pieces : List Piece) (spare : ℕ) (corrupt full :
   abbrev later : Anatomy
   later = reshaped anatomy pieces spare corrupt full tail
 
+  grows : Grows anatomy later (λ at body. ⊥)
+  grows = grows_not anatomy pieces spare corrupt full tail stays
+
   -- the ledger
   pub balanced_along : (opened : List Piece) (actors : List Actor) → IsBalanced anatomy.version opened anatomy.pieces actors
       → IsBalanced anatomy.version opened pieces actors
@@ -73,17 +54,12 @@ module _ (anatomy : Anatomy) (pieces : List Piece) (spare : ℕ) (corrupt full :
   })
 
   -- the list
-  stands_as_along : (l : Listed) (given : std.Option Made) → StandsAs anatomy.pieces l given → StandsAs pieces l given
-  stands_as_along l (std.Some (made.Histogram name spec)) (r, has, named, is) = (r, stays.there _ _ has, named, is)
-  stands_as_along l (std.Some (made.Sample of value)) (s, has, named, is) = (s, stays.there _ _ has, named, is)
-  stands_as_along l std.None (size, tag, next, payload, has, first, third, long) = (size, tag, next, payload, stays.there _ _ has, first, third, long)
-
   pub list_along : (words words' : List ℕ) (opened : Anatomy) (actors : List Actor) → IsLinked words' (order_of anatomy) → IsStop (order_of anatomy) tail
       → ListIsKept words opened anatomy actors → ListIsKept words' opened later actors
   list_along words words' opened actors linked stop list = record {
     linked = linked;
     once = list.once;
-    standing = All-weaker (λ l. StandsAs anatomy.pieces l l.made) (λ l. StandsAs pieces l l.made) (λ l. stands_as_along l l.made)
+    standing = All-weaker (λ l. StandsAs anatomy.pieces l l.made) (λ l. StandsAs pieces l l.made) (λ l. stands_as_grows anatomy later (λ at body. ⊥) grows l l.made)
         anatomy.records list.standing;
     alone = λ at body has. list.alone at body (stays.back at body has);
     tail = stop;
@@ -114,24 +90,7 @@ module _ (anatomy : Anatomy) (pieces : List Piece) (spare : ℕ) (corrupt full :
   -- what an actor has seen
   pub sees_along : (cursors : List ℕ) (a : Actor) → Behind a.seen_free (free_of later) → IsNoLater (order_of anatomy) a.seen_tail tail
       → Sees anatomy cursors a → Sees later cursors a
-  sees_along cursors a free no_later sees = record {
-    free = free;
-    walked = sees.walked;
-    tail = no_later;
-    singles = All-weaker (WasSingle anatomy.version anatomy.pieces) (WasSingle anatomy.version pieces)
-        (λ s was. (was.0, was.1, stays.there _ _ was.2, was.3, was.4)) a.seen_singles sees.singles;
-    counters = All-weaker (WasCounter anatomy.pieces) (WasCounter pieces)
-        (λ s was. (was.0, was.1, was.2, stays.there _ _ was.3, was.4, was.5, was.6)) a.seen_counts sees.counters;
-    in_use = All-weaker (WasInUse anatomy.pieces) (WasInUse pieces)
-        (λ s was at i c has here from to.
-        let (r, record_of, off) = was at i c (stays.back _ _ has) here from to in (r, stays.there _ _ record_of, off))
-        a.seen_counts sees.in_use;
-    fixed = All-weaker (WasFixed anatomy.pieces) (WasFixed pieces)
-        (λ s was. (was.0, was.1, was.2, stays.there _ _ was.3, was.4, was.5, was.6)) a.seen_words sees.fixed;
-    shared = sees.shared;
-    names = All-weaker (Knows anatomy) (Knows later)
-        (λ known knows. record { first_spec = knows.first_spec; first = knows.first; same = knows.same }) a.names sees.names;
-  }
+  sees_along = sees_grow anatomy later (λ at body. ⊥) grows
 
   -- running calls
   pub calls_along : (a : Actor) → CallsRight anatomy a → CallsRight later a
@@ -158,14 +117,6 @@ module _ (anatomy : Anatomy) (pieces : List Piece) (spare : ℕ) (corrupt full :
     sum = λ reference sum r loaded alone has. looks.sum reference sum r loaded alone (stays.back _ _ has);
   }
 
-  -- a block of somebody who stores nothing now
-  pub own_along : (shape : Dimensions) (id : ℕ) → ((at : ℕ) (body : Body) → Stands anatomy.pieces at (some id) body → Stands pieces at (some id) body)
-      → (own : List Own) → All (HoldsOwn shape anatomy.pieces id) own → All (HoldsOwn shape pieces id) own
-  own_along shape id others own holds =
-      All-weaker (HoldsOwn shape anatomy.pieces id) (HoldsOwn shape pieces id)
-      (λ block is. record { stands = others _ _ is.stands; placed = is.placed; room = is.room; tagged = is.tagged; ends = is.ends })
-      own holds
-
   -- all that holds of him
   pub fits_along : (shape : Dimensions) (cursors : List ℕ) (actors : List Actor) (opener : Actor) (id : ℕ) (a : Actor)
       → ((at : ℕ) (body : Body) → Stands anatomy.pieces at (some id) body → Stands pieces at (some id) body)
@@ -175,7 +126,7 @@ module _ (anatomy : Anatomy) (pieces : List Piece) (spare : ℕ) (corrupt full :
     shaped = fits.shaped;
     versioned = fits.versioned;
     sees = sees_along cursors a free no_later fits.sees;
-    own = own_along shape id others a.own fits.own;
+    own = own_stays shape anatomy later id (λ own. others own.at (held own)) a.own fits.own;
     apart = fits.apart;
     calls = calls_along a fits.calls;
     looks = λ recorder. looks_along actors a (fits.looks recorder);
@@ -185,13 +136,7 @@ module _ (anatomy : Anatomy) (pieces : List Piece) (spare : ℕ) (corrupt full :
 
   -- and what he stands on whose words in the making stay
   pub grounds_along : (id : ℕ) → ((at : ℕ) (words : List ℕ) → HasPlain anatomy.pieces id at words → HasPlain pieces id at words) → Grounds anatomy later id
-  grounds_along id others = record {
-    version = refl;
-    stop = λ at there. there;
-    near = λ at next there. there;
-    recorded = λ at r has. (r.next, stays.there _ _ has);
-    making = others;
-  }
+  grounds_along = grounds_grow anatomy later (λ at body. ⊥) grows
 
 -- ---- the actor that goes on
 

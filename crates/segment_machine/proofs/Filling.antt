@@ -24,11 +24,12 @@ use Rattle.segment_machine.proofs.Lists.{at_from, contains_at, all_at, all_from}
 use Rattle.segment_machine.proofs.Pieces.{stands_here, stands_beside, not_first, piece_stored, claims_same, with_piece}
 use Rattle.segment_machine.proofs.Stops.{linked_beside_own}
 use Rattle.segment_machine.proofs.Actors.{Doing, doing_of, turns_not, doing}
-use Rattle.segment_machine.proofs.Anatomies.{Stays, grounds_along}
+use Rattle.segment_machine.proofs.Anatomies.{grounds_along}
 use Rattle.segment_machine.proofs.Standing.{stands_on}
 use Rattle.segment_machine.proofs.Acting.{stays_put}
 use Rattle.segment_machine.proofs.Making.{IsStore, stores, claims_kept}
 use Rattle.segment_machine.proofs.Allocating.{Keeps}
+use Rattle.segment_machine.proofs.ListingGrowth.{Stays}
 
 -- ---- lists
 

@@ -29,7 +29,8 @@ use Rattle.segment_machine.proofs.SeatsFrames.{balanced, sums_near}
 use Rattle.segment_machine.proofs.SeatsBooks.{cursors_set, listed_set}
 use Rattle.segment_machine.proofs.SeatsRoles.{roles_set}
 use Rattle.segment_machine.proofs.Actors.{Doing, doing, TurnsTo, SameDeeds, same_role, same_deeds, same_sums, fits_same, finals_doing}
-use Rattle.segment_machine.proofs.Anatomies.{reshaped, Stays, balanced_along, list_along, records_along, sums_along, fits_along, grounds_along}
+use Rattle.segment_machine.proofs.Anatomies.{balanced_along, list_along, records_along, sums_along, fits_along, grounds_along}
+use Rattle.segment_machine.proofs.ListingGrowth.{reshaped, Stays}
 
 -- What has to be shown where an actor goes on to a doing: of the blocks and the words that are then there, and of the actor itself.
 pub record Goes (shape : Dimensions) (opened : Anatomy) (state : State) (old new : Anatomy) (id : ℕ) (a : Actor) (d : Doing) (words : List ℕ) : Type 0 where

@@ -2,7 +2,7 @@
 use Rattle.std.proofs.Common.{◌≡◌, ◌≢◌, ℕ, ◌+◌, ◌<◌, ◌≤◌, ℤ, List, ◌∷◌, ◌++◌, length, drop, All, Contains, inl, inr, ⊎_elim, refl, sym, ap, ◌∙◌, subst, arith}
 use Rattle.std.specs.Prelude.{Some}
 use Rattle.std.specs.Int.{w64, cast_signed}
-use Rattle.std.proofs.lemmas.List.Elements.{All-weaker, All-contains, All-drop, Contains-append_right}
+use Rattle.std.proofs.lemmas.List.Elements.{All-contains, All-drop, Contains-append_right}
 use mathlib.Core.Option.{some}
 use lib.ListN.{get_elem?}
 use Rattle.segment_image.specs.Shape.{Dimensions}
@@ -23,23 +23,11 @@ use Rattle.segment_machine.specs.Note.{SawBucket}
 use Rattle.segment_machine.specs.Promises.{accepted_by}
 use Rattle.segment_machine.specs.Body.{Record, Body, histogram, sample, words_of, Listed, Anatomy}
 use Rattle.segment_machine.specs.Ledger.{form_at}
-use Rattle.segment_machine.specs.Seen.{HasPlain, HasOwn, HasRecord, IsNamed, IsFirstOf, WasCounter, Sees}
+use Rattle.segment_machine.specs.Seen.{HasRecord, IsNamed, IsFirstOf, WasCounter, Sees}
 use Rattle.segment_machine.specs.Kept.{HoldsOwn, CallsRight, HasKey, IsSettled, LooksBack, Fits}
-use Rattle.segment_machine.proofs.Standing.{Grounds}
 use Rattle.segment_machine.proofs.Bodies.{counter_within}
 use Rattle.segment_machine.proofs.Actors.{Doing, doing, doing_of, finals_doing}
-use Rattle.segment_machine.proofs.ListingGrowth.{Grows, stop_grows, neighbours_grow, first_of_longer, record_stays, record_came}
-
--- what an actor stands on whose words in the making stay
-pub grounds_grow : (old new : Anatomy) (added : ℕ → Body → Type 0) → Grows old new added → (id : ℕ)
-    → ((at : ℕ) (words : List ℕ) → HasPlain old.pieces id at words → HasPlain new.pieces id at words) → Grounds old new id
-grounds_grow old new added grows id others = record {
-  version = grows.version;
-  stop = stop_grows old new added grows;
-  near = neighbours_grow old new added grows;
-  recorded = record_stays old new added grows;
-  making = others;
-}
+use Rattle.segment_machine.proofs.ListingGrowth.{Grows, first_of_longer, record_stays, record_came}
 
 -- ---- what holds of one actor
 
@@ -157,10 +145,3 @@ module _ (shape : Dimensions) (old new : Anatomy) (added : ℕ → Body → Type
     finals = finals_doing actors opener id x c fits.finals;
     snapshots = fits.snapshots;
   }
-
--- a block of another actor stays
-pub own_stays : (shape : Dimensions) (old new : Anatomy) (id : ℕ) → ((own : Own) → HasOwn old.pieces id own → HasOwn new.pieces id own)
-    → (list : List Own) → All (HoldsOwn shape old.pieces id) list → All (HoldsOwn shape new.pieces id) list
-own_stays shape old new id stays list all = All-weaker (HoldsOwn shape old.pieces id) (HoldsOwn shape new.pieces id)
-    (λ own holds. record { stands = stays own holds.stands; placed = holds.placed; room = holds.room; tagged = holds.tagged; ends = holds.ends })
-    list all

@@ -1,8 +1,7 @@
 -- A record is put on the list: the block at the tail gets its next, the actor's own block and the counts block that it names are
 -- published, and all that holds is kept.
 use Rattle.std.proofs.Common.{◌≡◌, ◌≢◌, ℕ, suc, ◌+◌, ◌≤◌, ℤ, Bool, true, false, List, [], ◌∷◌, ◌++◌, map, length, set, All, Contains, IsPermutation, inl, inr, ⊎_elim, refl, sym, ap, ◌∙◌, subst, arith, append_assoc}
-use Rattle.std.specs.Prelude.{slice_index, Some, None}
-use Rattle.std.specs.Prelude as std
+use Rattle.std.specs.Prelude.{Some}
 use Rattle.std.proofs.lemmas.List.{map-append, take-append-le}
 use Rattle.std.proofs.lemmas.List.Elements.{All-weaker, All-push, Contains-append_left}
 use Rattle.std.proofs.lemmas.List.Sorted.{IsPermutation-refl, IsPermutation-sym, IsPermutation-trans, IsPermutation-append, IsPermutation-map}
@@ -45,9 +44,9 @@ use Rattle.segment_machine.proofs.SeatsBooks.{cursors_set}
 use Rattle.segment_machine.proofs.SeatsRoles.{roles_set}
 use Rattle.segment_machine.proofs.Goings.{not_opener}
 use Rattle.segment_machine.proofs.Acting.{still_put, right_put}
-use Rattle.segment_machine.proofs.ListingGrowth.{with_next, beside_next, Grows, stop_at, longer_by, stop_grows, no_later_grows, sees_grow}
-use Rattle.segment_machine.proofs.ListingActors.{grounds_grow, saw_itself, own_stays}
-use Rattle.segment_machine.proofs.Standing.{follows_itself, stands_on}
+use Rattle.segment_machine.proofs.ListingGrowth.{grounds_grow, stands_as_grows, with_next, beside_next, Grows, stop_at, longer_by, stop_grows, no_later_grows, sees_grow}
+use Rattle.segment_machine.proofs.ListingActors.{saw_itself}
+use Rattle.segment_machine.proofs.Standing.{own_stays, follows_itself, stands_on}
 use Rattle.segment_machine.proofs.ListingRecords.{AddedRight, records_grow, key_grows, sums_grow}
 use Rattle.segment_machine.proofs.ListingKept.{loaded_record, fits_on}
 use Rattle.segment_machine.proofs.ListingLists.{snoc_split, distinct_filter, all_without, own_found, published_is}
@@ -192,15 +191,6 @@ listed_claimed records at (histogram r) is = is refl
 listed_claimed records at (counts c) is = tt
 listed_claimed records at (sample s) is = is refl
 listed_claimed records at (other size tag next payload) is = is refl
-
-stands_as_grows : (old new : Anatomy) (added : ℕ → Body → Type 0) → Grows old new added → (l : Listed) (given : std.Option Made)
-    → StandsAs old.pieces l given → StandsAs new.pieces l given
-stands_as_grows old new added grows l (Some (made.Histogram name spec)) (r, stands, named, same) =
-    let (n, still) = grows.stays l.reference (histogram r) refl stands in (record r { next = n }, still, named, same)
-stands_as_grows old new added grows l (Some (made.Sample of value)) (s, stands, named, same) =
-    let (n, still) = grows.stays l.reference (sample s) refl stands in (record s { next = n }, still, named, same)
-stands_as_grows old new added grows l None (size, tag, next, payload, stands, first, third, long) =
-    let (n, still) = grows.stays l.reference (other size tag next payload) refl stands in (size, tag, n, payload, still, first, third, long)
 
 -- ---- shared cursors
 

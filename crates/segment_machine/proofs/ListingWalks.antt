@@ -31,10 +31,10 @@ use Rattle.segment_machine.specs.Kept.{StandsAs, StandsRight, HoldsOwn, IsSetBy,
 use Rattle.segment_machine.proofs.Lists.{rows, column, there_below, index_at, all_at}
 use Rattle.segment_machine.proofs.Pieces.{piece_from, piece_ends, free_within}
 use Rattle.segment_machine.proofs.Actors.{Doing, doing, doing_of, TurnsTo}
-use Rattle.segment_machine.proofs.Anatomies.{reshaped, Stays, sees_along}
+use Rattle.segment_machine.proofs.Anatomies.{sees_along}
 use Rattle.segment_machine.proofs.Goings.{goes_on}
 use Rattle.segment_machine.proofs.Acting.{AllClaimedRight, stays_same, still_same}
-use Rattle.segment_machine.proofs.ListingGrowth.{with_next, grows_not}
+use Rattle.segment_machine.proofs.ListingGrowth.{reshaped, Stays, with_next, grows_not}
 use Rattle.segment_machine.proofs.ListingActors.{SawMore}
 use Rattle.segment_machine.proofs.ListingKept.{fits_on}
 

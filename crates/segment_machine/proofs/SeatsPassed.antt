@@ -15,9 +15,10 @@ use Rattle.segment_machine.specs.Body.{Body, words_of, Piece, extent_of, block_o
 use Rattle.segment_machine.specs.Seen.{Stands, Sees}
 use Rattle.segment_machine.specs.Kept.{StandStill, ClaimedRight, CallsRight, Fits}
 use Rattle.segment_machine.proofs.Lists.{from_map}
-use Rattle.segment_machine.proofs.Anatomies.{reshaped, Stays, balanced_along, list_along, records_along, sums_along, sees_along, calls_along, fits_along}
+use Rattle.segment_machine.proofs.Anatomies.{balanced_along, list_along, records_along, sums_along, sees_along, calls_along, fits_along}
 use Rattle.segment_machine.proofs.SeatsLists.{map_after}
 use Rattle.segment_machine.proofs.SeatsBooks.{Books}
+use Rattle.segment_machine.proofs.ListingGrowth.{reshaped, Stays}
 
 -- whose a block is that was another's
 abbrev pub passed : (from to : ℕ) → Option ℕ → Option ℕ

@@ -1,5 +1,6 @@
 -- Where an actor stands, it stands right on while it knows no less, and while the blocks and the list stay that this rests on.
 use Rattle.std.proofs.Common.{◌≡◌, ◌≢◌, ℕ, ◌+◌, List, All, Contains, refl, sym, ◌∙◌, subst}
+use Rattle.std.proofs.lemmas.List.Elements.{All-weaker}
 use Rattle.segment_image.specs.Shape.{Dimensions}
 use Rattle.list_core.specs.Laws.{IsStop, AreNeighbours}
 use Rattle.segment_machine.specs.declared.place.Look.{Look}
@@ -11,8 +12,8 @@ use Rattle.segment_machine.specs.declared.actor.Own.{Own}
 use Rattle.segment_machine.specs.declared.actor.Sighting.{Sighting}
 use Rattle.segment_machine.specs.Body.{Record, Anatomy, order_of}
 use Rattle.segment_machine.specs.Seats.{spent}
-use Rattle.segment_machine.specs.Seen.{HasPlain, HasRecord}
-use Rattle.segment_machine.specs.Kept.{LooksRight, StandsRight}
+use Rattle.segment_machine.specs.Seen.{HasPlain, HasOwn, HasRecord}
+use Rattle.segment_machine.specs.Kept.{LooksRight, StandsRight, HoldsOwn}
 
 -- what it rests on of the segment: the list, which may become longer, records, whose nexts may change, and its words in the making
 pub record Grounds (old new : Anatomy) (id : ℕ) : Type 0 where
@@ -94,3 +95,12 @@ module _ (shape : Dimensions) (old new : Anatomy) (id : ℕ) (x y : Actor) (grou
   stands_on (SumLoaded reference sum) (known, has, same) = (known, follows.names known has, same)
   stands_on (CursorLoaded cursor at) stands = (grounds.stop at stands.0, cursors_on _ stands.1)
   stands_on (BehindCursor cursor at next) stands = (grounds.near at next stands.0, cursors_on _ stands.1)
+
+-- ---- its blocks
+
+-- blocks of an actor that stand on are what they were
+pub own_stays : (shape : Dimensions) (old new : Anatomy) (id : ℕ) → ((own : Own) → HasOwn old.pieces id own → HasOwn new.pieces id own)
+    → (list : List Own) → All (HoldsOwn shape old.pieces id) list → All (HoldsOwn shape new.pieces id) list
+own_stays shape old new id stays list all = All-weaker (HoldsOwn shape old.pieces id) (HoldsOwn shape new.pieces id)
+    (λ own holds. record { stands = stays own holds.stands; placed = holds.placed; room = holds.room; tagged = holds.tagged; ends = holds.ends })
+    list all

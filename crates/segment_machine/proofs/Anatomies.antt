@@ -15,7 +15,7 @@ use Rattle.segment_machine.proofs.Standing.{Grounds, own_stays}
 use Rattle.segment_machine.proofs.ListingGrowth.{reshaped, Stays, Grows, grows_not, stands_as_grows, sees_grow, grounds_grow}
 use Rattle.segment_machine.proofs.Actors.{Doing, doing, TurnsTo}
 
--- What pieces hold together is the same.
+-- what blocks hold together is the same
 pub record SameHoldings (version : ℕ) (old new : List Piece) : Type 0 where
   pub units : (name : List ℕ) (key : ℤ) → all_held (units_held version name key) new ≡ all_held (units_held version name key) old
   pub marks : (name : List ℕ) (key : ℤ) → all_held (marks_held version name key) new ≡ all_held (marks_held version name key) old
@@ -117,7 +117,7 @@ module _ (anatomy : Anatomy) (pieces : List Piece) (spare : ℕ) (corrupt full :
     sum = λ reference sum r loaded alone has. looks.sum reference sum r loaded alone (stays.back _ _ has);
   }
 
-  -- all that holds of him
+  -- all that holds of an actor that stores nothing now
   pub fits_along : (shape : Dimensions) (cursors : List ℕ) (actors : List Actor) (opener : Actor) (id : ℕ) (a : Actor)
       → ((at : ℕ) (body : Body) → Stands anatomy.pieces at (some id) body → Stands pieces at (some id) body)
       → Behind a.seen_free (free_of later) → IsNoLater (order_of anatomy) a.seen_tail tail
@@ -134,7 +134,7 @@ module _ (anatomy : Anatomy) (pieces : List Piece) (spare : ℕ) (corrupt full :
     snapshots = fits.snapshots;
   }
 
-  -- and what he stands on whose words in the making stay
+  -- what an actor stands on whose words in the making stay
   pub grounds_along : (id : ℕ) → ((at : ℕ) (words : List ℕ) → HasPlain anatomy.pieces id at words → HasPlain pieces id at words) → Grounds anatomy later id
   grounds_along = grounds_grow anatomy later (λ at body. ⊥) grows
 

@@ -19,9 +19,10 @@ use Rattle.segment_machine.specs.Body.{Body, queue, plain, held, Piece, Anatomy,
 use Rattle.segment_machine.specs.Seen.{Stands}
 use Rattle.segment_machine.specs.Kept.{StandsRight, HoldsOwn, IsSetBy, ClaimedRight, StandStill, Kept}
 use Rattle.segment_machine.proofs.Pieces.{stands_beside, stood_beside, stands_longer, stood_longer, held_same, amounts_same, held_grown, amounts_grown}
-use Rattle.segment_machine.proofs.Actors.{Doing, doing, TurnsTo, SameDeeds, same_deeds}
-use Rattle.segment_machine.proofs.Anatomies.{reshaped, IsSilent, Stays, sees_along, calls_along, looks_along, sees_no_more, sees_doing, calls_doing, looks_doing}
-use Rattle.segment_machine.proofs.Goings.{not_opener, goes_on}
+use Rattle.segment_machine.proofs.Actors.{Doing, doing, TurnsTo}
+use Rattle.segment_machine.proofs.Anatomies.{sees_along, calls_along, looks_along, sees_no_more, sees_doing, calls_doing, looks_doing}
+use Rattle.segment_machine.proofs.Goings.{goes_on}
+use Rattle.segment_machine.proofs.ListingGrowth.{reshaped, IsSilent, Stays}
 
 -- ---- blocks in the making
 
@@ -139,9 +140,6 @@ module _ (shape : Dimensions) (opened : Anatomy) (state : State) (kept : Kept sh
 
   module _ (d : Doing) (turns : TurnsTo a d.place) (pieces : List Piece) (spare : ℕ) (corrupt full : Bool) (words : List ℕ)
       (acts : Acts shape opened state before (reshaped before pieces spare corrupt full before.tail) id a (unlisted a d) words) where
-    same : SameDeeds state.actors (set state.actors id (doing a (unlisted a d)))
-    same = same_deeds state.actors id a mine (unlisted a d) turns (not_opener shape opened state kept id a mine records)
-
     -- it goes on, and the state is kept
     pub acts_on : Kept shape opened (record { words = words; cursors = state.cursors; actors = set state.actors id (doing a (unlisted a d)) })
     acts_on =
@@ -169,6 +167,6 @@ module _ (shape : Dimensions) (opened : Anatomy) (state : State) (kept : Kept sh
           own = acts.own;
           apart = acts.apart;
           calls = calls_doing new a (unlisted a d) (calls_along before pieces spare corrupt full before.tail acts.stays a fits.calls);
-          looks = looks_doing new a (unlisted a d) (set state.actors id (doing a (unlisted a d))) turns
-              (looks_along before pieces spare corrupt full before.tail acts.stays state.actors _ a same (fits.looks records));
+          looks = looks_doing new a (unlisted a d) state.actors turns
+              (looks_along before pieces spare corrupt full before.tail acts.stays state.actors a (fits.looks records));
         })

@@ -1,26 +1,29 @@
 -- Actors together, where one goes on with a call and neither counts, takes nor gives back anything: what all of them did is the same.
-use Rattle.std.proofs.Common.{◌≡◌, ◌≢◌, ◌⊎◌, ℕ, ◌+◌, ◌<◌, ◌≤◌, ℤ, Bool, true, false, List, ◌++◌, set, sum_by, All, inl, inr, refl, sym, ap, ◌∙◌, subst}
-use Rattle.std.specs.Prelude.{if◌then◌else◌}
+use Rattle.std.proofs.Common.{◌⊎◌, ◌≡◌, ◌≢◌, ℕ, ◌+◌, ◌≤◌, ℤ, Bool, true, false, ◌&&◌, List, set, sum_by, inl, inr, ⊎_elim, refl, sym, ap, ◌∙◌, arith, eq-eqb}
+use Rattle.std.specs.Prelude.{if◌then◌else◌, ◌==◌, length}
+use Rattle.std.specs.List.{filter}
 use mathlib.Core.Option.{some}
 use lib.ListN.{get_elem?}
-use Rattle.atomic_table.proofs.Lists.{at_set, set_else}
+use Rattle.atomic_table.proofs.Lists.{set_else}
+use Rattle.segment_image.specs.Shape.{Dimensions}
 use Rattle.segment_machine.specs.declared.actor.Actor.{Actor}
-use Rattle.segment_machine.specs.declared.actor.Answered.{Answered}
 use Rattle.segment_machine.specs.declared.actor.Claim.{Claim}
 use Rattle.segment_machine.specs.declared.actor.Moment.{Moment}
 use Rattle.segment_machine.specs.declared.actor.Own.{Own}
 use Rattle.segment_machine.specs.declared.actor.Published.{Published}
 use Rattle.segment_machine.specs.declared.actor.Sighting.{Sighting}
-use Rattle.segment_machine.specs.declared.entry.Entry.{Entry}
 use Rattle.segment_machine.specs.declared.place.Look.{Look}
 use Rattle.segment_machine.specs.declared.place.Place.{Place}
 use Rattle.segment_machine.specs.declared.place.Place.TheVariants.{Spent, Idle, FlagsLoaded, FreeLoaded, Raised, Sized, Marked, TailLoaded, Beaten, Linked, Looking, Losing, Moving, CountLoaded, SampleLoaded, SumLoaded, CursorLoaded, BehindCursor}
 use Rattle.segment_machine.specs.Entry.{tally_units, tally_sum, tally_noted}
-use Rattle.segment_machine.specs.Actor.{is_bound, counted_of, summed_of, noted_of, units_of, given_by, all_counted, all_summed, all_noted, all_taken, all_given, taken_units, taken_sum}
-use Rattle.segment_machine.specs.Consistent.{IsWithinCounts}
+use Rattle.segment_machine.specs.Actor.{is_bound, cost_of, counted_of, summed_of, noted_of, units_of, all_counted, all_summed, all_noted, all_taken, taken_units, taken_sum, transit_at}
 use Rattle.segment_machine.specs.Ledger.{moving_at, all_moving}
-use Rattle.segment_machine.specs.Kept.{summed_cost, summed_costs, is_living, RolesAreKept, IsAlone, IsMoment, FinalsAreExact}
+use Rattle.segment_machine.specs.Kept.{summed_cost, summed_costs, is_living, IsMoment, FinalsAreExact, Fits}
+use Rattle.segment_machine.specs.Body.{Anatomy}
 use Rattle.segment_machine.proofs.Lists.{rows, sum_same}
+use Rattle.segment_machine.proofs.SeatsDeeds.{SameSums}
+use Rattle.segment_machine.proofs.SeatsFrames.{LoadedBefore, loaded_set}
+use Rattle.segment_machine.proofs.SeatsRoles.{AllStood, SameRole, stood_set, fits_beside}
 
 -- ---- one actor
 
@@ -85,26 +88,32 @@ is_plain _ = true
 plain_lives : (p : Place) → is_plain p ≡ true → p ≢ Spent
 plain_lives p plain spent = cc (plain, ap is_plain spent)
 
--- an actor that does not stand where units move moves none
-rests_at : (a : Actor) (name : List ℕ) (key : ℤ) (p : Place) → ((look : Look) (bucket units : ℕ) → p ≢ Moving look bucket units) → moving_at a name key p ≡ 0
-rests_at a name key Spent rests = refl
-rests_at a name key Idle rests = refl
-rests_at a name key FlagsLoaded rests = refl
-rests_at a name key (FreeLoaded free) rests = refl
-rests_at a name key (Raised at size) rests = refl
-rests_at a name key (Sized at size) rests = refl
-rests_at a name key (Marked at size) rests = refl
-rests_at a name key (TailLoaded tail) rests = refl
-rests_at a name key (Beaten tail behind) rests = refl
-rests_at a name key (Linked at tail) rests = refl
-rests_at a name key (Looking look) rests = refl
-rests_at a name key (Losing look at) rests = refl
-rests_at a name key (Moving look bucket units) rests = absurd (rests look bucket units refl)
-rests_at a name key (CountLoaded look bucket count) rests = refl
-rests_at a name key (SampleLoaded sample count) rests = refl
-rests_at a name key (SumLoaded reference sum) rests = refl
-rests_at a name key (CursorLoaded cursor at) rests = refl
-rests_at a name key (BehindCursor cursor at behind) rests = refl
+-- an actor moves units, or has none in transit
+abbrev pub Still : Place → Type 0
+Still place = ((a : Actor) (name : List ℕ) (key : ℤ) → moving_at a name key place ≡ 0) × ((at i : ℕ) → transit_at place at i ≡ 0)
+
+pub moves_or_not : (place : Place) → ((look : Look) × (bucket units : ℕ) × (place ≡ Moving look bucket units)) ⊎ Still place
+moves_or_not (Moving look bucket units) = inl (look, bucket, units, refl)
+moves_or_not Spent = inr (λ a name key. refl, λ at i. refl)
+moves_or_not Idle = inr (λ a name key. refl, λ at i. refl)
+moves_or_not FlagsLoaded = inr (λ a name key. refl, λ at i. refl)
+moves_or_not (FreeLoaded free) = inr (λ a name key. refl, λ at i. refl)
+moves_or_not (Raised place size) = inr (λ a name key. refl, λ at i. refl)
+moves_or_not (Sized place size) = inr (λ a name key. refl, λ at i. refl)
+moves_or_not (Marked place size) = inr (λ a name key. refl, λ at i. refl)
+moves_or_not (TailLoaded tail) = inr (λ a name key. refl, λ at i. refl)
+moves_or_not (Beaten tail behind) = inr (λ a name key. refl, λ at i. refl)
+moves_or_not (Linked place tail) = inr (λ a name key. refl, λ at i. refl)
+moves_or_not (Looking look) = inr (λ a name key. refl, λ at i. refl)
+moves_or_not (Losing look place) = inr (λ a name key. refl, λ at i. refl)
+moves_or_not (CountLoaded look bucket count) = inr (λ a name key. refl, λ at i. refl)
+moves_or_not (SampleLoaded reference count) = inr (λ a name key. refl, λ at i. refl)
+moves_or_not (SumLoaded reference sum) = inr (λ a name key. refl, λ at i. refl)
+moves_or_not (CursorLoaded cursor place) = inr (λ a name key. refl, λ at i. refl)
+moves_or_not (BehindCursor cursor place next) = inr (λ a name key. refl, λ at i. refl)
+
+pub rests_at : (a : Actor) (name : List ℕ) (key : ℤ) (p : Place) → ((look : Look) (bucket units : ℕ) → p ≢ Moving look bucket units) → moving_at a name key p ≡ 0
+rests_at a name key p rests = ⊎_elim (λ moves. absurd (rests moves.0 moves.1 moves.2 moves.3)) (λ still. still.0 a name key) (moves_or_not p)
 
 plain_rests : (p : Place) → is_plain p ≡ true → (look : Look) (bucket units : ℕ) → p ≢ Moving look bucket units
 plain_rests p plain look bucket units moving = cc (plain, ap is_plain moving)
@@ -133,16 +142,15 @@ turns_unbound a p unbound =
 pub turns_not : (a : Actor) → a.place ≢ Spent → TurnsTo a a.place
 turns_not a lived = record { lived = lived; lives = lived; moves = λ name key. refl; sums = λ at sum is. is }
 
--- ---- all actors
+-- what its sums have grown by it has spent, or holds
+pub summed_most : (name : List ℕ) (a : Actor) → summed_cost name a ≤ cost_of a.costs name + cost_of a.held name
+summed_most name a = by_test (length (filter (λ c. c.summed) a.running) == 0)
+  where
+    by_test : (b : Bool) → cost_of a.costs name + (if b then 0 else cost_of a.held name) ≤ cost_of a.costs name + cost_of a.held name
+    by_test true = omega arith
+    by_test false = omega arith
 
--- two actors have the same role
-pub record SameRole (b c : Actor) : Type 0 where
-  pub living : is_living b ≡ is_living c
-  pub opener : b.opener ≡ c.opener
-  pub first : b.first ≡ c.first
-  pub made : b.made ≡ c.made
-  pub outstanding : b.outstanding ≡ c.outstanding
-  pub inherited : b.inherited ≡ c.inherited
+-- ---- all actors
 
 -- the same actors have done the same
 pub record SameDeeds (old new : List Actor) : Type 0 where
@@ -150,18 +158,15 @@ pub record SameDeeds (old new : List Actor) : Type 0 where
   pub summed : all_summed new ≡ all_summed old
   pub noted : all_noted new ≡ all_noted old
   pub taken : all_taken new ≡ all_taken old
-  pub given : (cursor : ℕ) → all_given new cursor ≡ all_given old cursor
   pub units : sum_by units_of new ≡ sum_by units_of old
   pub costs : (name : List ℕ) → summed_costs name new ≡ summed_costs name old
   pub moving : (name : List ℕ) (key : ℤ) → all_moving name key new ≡ all_moving name key old
-  pub living : sum_by (λ a. if is_living a then 1 else 0) new ≡ sum_by (λ a. if is_living a then 1 else 0) old
-  pub loaded : (id : ℕ) (b : Actor) (at : ℕ) (sum : ℤ) → get_elem? new id ≡ some b → b.place ≡ SumLoaded at sum
-      → (c : Actor) × (get_elem? old id ≡ some c) × (c.place ≡ SumLoaded at sum)
-  pub roles : (id : ℕ) (b : Actor) → get_elem? new id ≡ some b → (c : Actor) × (get_elem? old id ≡ some c) × SameRole b c
+  pub loaded : LoadedBefore old new
+  pub stood : AllStood old new
   pub opener : get_elem? new 0 ≡ get_elem? old 0
 
 -- of an actor that lives it is no matter where it stands
-pub living_at : (a : Actor) (p : Place) → p ≢ Spent → is_living (record a { place = p }) ≡ is_living (record a { place = Idle })
+living_at : (a : Actor) (p : Place) → p ≢ Spent → is_living (record a { place = p }) ≡ is_living (record a { place = Idle })
 living_at a Spent lives = absurd (lives refl)
 living_at a Idle lives = refl
 living_at a FlagsLoaded lives = refl
@@ -181,139 +186,56 @@ living_at a (SumLoaded reference sum) lives = refl
 living_at a (CursorLoaded cursor at) lives = refl
 living_at a (BehindCursor cursor at behind) lives = refl
 
-same_living : (a : Actor) (d : Doing) → TurnsTo a d.place → is_living (doing a d) ≡ is_living a
-same_living a d turns = living_at a d.place turns.lives ∙ sym (living_at a a.place turns.lived)
+-- a recorder that is not spent lives
+pub lives_on : (a : Actor) → a.opener ≡ 0 → a.place ≢ Spent → is_living a ≡ true
+lives_on a records lives = living_at a a.place lives ∙ ap (λ (b : Bool). b && true) (eq-eqb a.opener 0 records)
 
-module _ (actors : List Actor) (id : ℕ) (a : Actor) (mine : get_elem? actors id ≡ some a) where
-  -- an actor among them is the one that went on, or was there
-  pub either_actor : (b c : Actor) (j : ℕ) → get_elem? (set actors id b) j ≡ some c
-      → ((j ≡ id) × (b ≡ c)) ⊎ ((j ≢ id) × (get_elem? actors j ≡ some c))
-  either_actor b c j there = at_set actors id j b c there
+-- the actor that goes on has the role that it had
+pub same_role : (a : Actor) (d : Doing) → TurnsTo a d.place → SameRole (doing a d) a
+same_role a d turns = record {
+  living = living_at a d.place turns.lives ∙ sym (living_at a a.place turns.lived);
+  opener = refl;
+  first = refl;
+  made = refl;
+  outstanding = refl;
+  inherited = refl;
+}
 
-  module _ (d : Doing) (turns : TurnsTo a d.place) where
-    same_role : SameRole (doing a d) a
-    same_role = record { living = same_living a d turns; opener = refl; first = refl; made = refl; outstanding = refl; inherited = refl }
-
-    roles_of : (j : ℕ) (b : Actor) → get_elem? (set actors id (doing a d)) j ≡ some b
-        → (c : Actor) × (get_elem? actors j ≡ some c) × SameRole b c
-    roles_of j b there = elim (either_actor (doing a d) b j there) [
-      | inl t ↦ (a, ap (get_elem? actors) t.0 ∙ mine, subst (λ b. SameRole b a) t.1 same_role)
-      | inr t ↦ (
-        b,
-        t.1,
-        record { living = refl; opener = refl; first = refl; made = refl; outstanding = refl; inherited = refl },
-      )
-    ]
-
-    loaded_of : (j : ℕ) (b : Actor) (at : ℕ) (sum : ℤ) → get_elem? (set actors id (doing a d)) j ≡ some b → b.place ≡ SumLoaded at sum
-        → (c : Actor) × (get_elem? actors j ≡ some c) × (c.place ≡ SumLoaded at sum)
-    loaded_of j b at sum there is = elim (either_actor (doing a d) b j there) [
-      | inl t ↦ (a, ap (get_elem? actors) t.0 ∙ mine, turns.sums at sum (ap (λ (b : Actor). b.place) t.1 ∙ is))
-      | inr t ↦ (b, t.1, is)
-    ]
-
-    -- what all of them did is the same
-    pub same_deeds : id ≢ 0 → SameDeeds actors (set actors id (doing a d))
-    same_deeds records = record {
-      counted = rows counted_of actors id a (doing a d) mine refl;
-      summed = rows summed_of actors id a (doing a d) mine refl;
-      noted = rows noted_of actors id a (doing a d) mine refl;
-      taken = rows (λ (a : Actor). a.taken) actors id a (doing a d) mine refl;
-      given = λ cursor. rows (λ (a : Actor). given_by cursor a.given) actors id a (doing a d) mine refl;
-      units = sum_same units_of actors id a (doing a d) mine refl;
-      costs = λ name. sum_same (summed_cost name) actors id a (doing a d) mine refl;
-      moving = λ name key. sum_same (λ a. moving_at a name key a.place) actors id a (doing a d) mine (turns.moves name key);
-      living = sum_same (λ a. if is_living a then 1 else 0) actors id a (doing a d) mine
-          (ap (λ b. if b then 1 else 0) (same_living a d turns));
-      loaded = loaded_of;
-      roles = roles_of;
-      opener = set_else actors id 0 (doing a d) (λ same. records (sym same));
-    }
+module _ (actors : List Actor) (id : ℕ) (a : Actor) (mine : get_elem? actors id ≡ some a) (d : Doing) (turns : TurnsTo a d.place) where
+  -- what all of them did is the same
+  pub same_deeds : id ≢ 0 → SameDeeds actors (set actors id (doing a d))
+  same_deeds records = record {
+    counted = rows counted_of actors id a (doing a d) mine refl;
+    summed = rows summed_of actors id a (doing a d) mine refl;
+    noted = rows noted_of actors id a (doing a d) mine refl;
+    taken = rows (λ (a : Actor). a.taken) actors id a (doing a d) mine refl;
+    units = sum_same units_of actors id a (doing a d) mine refl;
+    costs = λ name. sum_same (summed_cost name) actors id a (doing a d) mine refl;
+    moving = λ name key. sum_same (λ a. moving_at a name key a.place) actors id a (doing a d) mine (turns.moves name key);
+    loaded = loaded_set actors id a (doing a d) mine turns.sums;
+    stood = stood_set actors id a (doing a d) mine (same_role a d turns);
+    opener = set_else actors id 0 (doing a d) (λ same. records (sym same));
+  }
 
 -- ---- what holds of what all of them did
 
 module _ (old new : List Actor) (same : SameDeeds old new) where
-  pub alone_along : (a : Actor) → IsAlone new a → IsAlone old a
-  alone_along a (opener, there, none, youngest) = (opener, sym same.opener ∙ there, none, youngest)
-
-  pub within_along : (a : Actor) → All (IsWithinCounts old) a.snapshots → All (IsWithinCounts new) a.snapshots
-  within_along a within =
-      subst (λ (entries : List Entry). All (λ (answered : Answered). All (λ count. count.1 ≤ tally_units entries answered.name count.0) answered.counts) a.snapshots)
-      (sym same.counted) within
-
-  -- roles
-  pub roles_along : (r : RolesAreKept old) → (s : RolesAreKept new) × (s.opener ≡ r.opener)
-  roles_along r = (
-    record {
-      opener = r.opener;
-      stands = same.opener ∙ r.stands;
-      opens = r.opens;
-      idle = r.idle;
-      rests = r.rests;
-      only = λ id b there ne. let (c, was, is) = same.roles id b there in let h = r.only id c was ne in (is.opener ∙ h.0, is.first ∙ h.1);
-      living = same.living ∙ r.living;
-      few = r.few;
-      younger = λ id b there lives.
-          let (c, was, is) = same.roles id b there in
-          subst (λ n. n < r.opener.made) (sym is.made) (r.younger id c was (sym is.living ∙ lives));
-      apart = λ i j a b x y one two ne.
-          let (c, was, is) = same.roles i a x in
-          let (d, were, are) = same.roles j b y in
-          λ made. r.apart i j c d was were (sym is.living ∙ one) (sym are.living ∙ two) ne (sym is.made ∙ (made ∙ are.made));
-      eldest = λ i j a b x y one two ne none.
-          let (c, was, is) = same.roles i a x in
-          let (d, were, are) = same.roles j b y in
-          subst (λ (p : ℕ × ℕ). p.0 < p.1) (λ k. (sym is.made k, sym are.made k))
-          (r.eldest i j c d was were (sym is.living ∙ one) (sym are.living ∙ two) ne (sym is.outstanding ∙ none));
-      heirs = λ id b there lives.
-          let (c, was, is) = same.roles id b there in
-          let (more, log, last) = r.heirs id c was (sym is.living ∙ lives) in (
-            more,
-            log ∙ ap (λ entries. entries ++ more) (sym is.inherited),
-            λ none youngest. last (sym is.outstanding ∙ none) (ap (λ n. n + 1) (sym is.made) ∙ youngest),
-          );
-    },
-    refl,
-  )
-
-  -- final deltas and snapshots
-  moment_along : (opener : Actor) (id : ℕ) (a : Actor) (m : Moment) → IsMoment old opener id a m → IsMoment new opener id a m
-  moment_along opener id a m is = record {
-    logged = is.logged;
-    before = is.before;
-    mine = is.mine;
-    eldest = λ none other b there lives ne.
-        let (c, was, role) = same.roles other b there in
-        subst (λ n. m.before < n) (sym role.made) (is.eldest none other c was (sym role.living ∙ lives) ne);
+  pub same_sums : SameSums old new
+  same_sums = record {
+    counted = λ name key. ap (λ entries. tally_units entries name key) same.counted;
+    summed = λ name. ap (λ entries. tally_sum entries name) same.summed;
+    noted = λ name. ap (λ entries. tally_noted entries name) same.noted;
+    taken = λ name key. ap (λ taken. taken_units taken name key) same.taken;
+    taken_sums = λ name. ap (λ taken. taken_sum taken name) same.taken;
+    moving = same.moving;
+    costs = λ name. let costs = same.costs name in omega (arith, costs);
   }
 
-  -- units that are counted, sums and redundant units of a name
-  pub units_along : (name : List ℕ) (key : ℤ) → tally_units (all_counted old) name key ≡ tally_units (all_counted new) name key
-  units_along name key = ap (λ entries. tally_units entries name key) (sym same.counted)
-
-  pub sum_along : (name : List ℕ) → tally_sum (all_summed old) name ≡ tally_sum (all_summed new) name
-  sum_along name = ap (λ entries. tally_sum entries name) (sym same.summed)
-
-  pub noted_along : (name : List ℕ) → tally_noted (all_noted old) name ≡ tally_noted (all_noted new) name
-  noted_along name = ap (λ entries. tally_noted entries name) (sym same.noted)
-
-  taken_along : (name : List ℕ) → taken_sum (all_taken new) name ≡ taken_sum (all_taken old) name
-  taken_along name = ap (λ taken. taken_sum taken name) same.taken
-
-  pub finals_along : (opener : Actor) (id : ℕ) (a : Actor) → FinalsAreExact old opener id a → FinalsAreExact new opener id a
-  finals_along opener id a finals = record {
-    deltas = λ t there none youngest quiet.
-        let h = finals.deltas t there none youngest quiet in (
-          λ key. ap (λ taken. taken_units taken t.name key) same.taken ∙ (h.0 key ∙ units_along t.name key),
-          taken_along t.name ∙ (h.1 ∙ sum_along t.name),
-        );
-    snapshots = λ s there none youngest quiet.
-        let h = finals.snapshots s there none youngest quiet in
-        (λ key. h.0 key ∙ units_along s.name key, h.1 ∙ sum_along s.name, h.2 ∙ noted_along s.name);
-    moments = λ m is. moment_along opener id a m (finals.moments m is);
-    swapped = λ before last goes is swapped alone.
-        taken_along last.name ∙ (finals.swapped before last goes is swapped (alone_along a alone) ∙ sum_along last.name);
-  }
+  -- who fitted beside the others fits still
+  pub fits_same : (shape : Dimensions) (anatomy : Anatomy) (cursors : List ℕ) (opener : Actor) (id : ℕ) (a : Actor) → get_elem? old 0 ≡ some opener
+      → Fits shape anatomy cursors old opener id a → Fits shape anatomy cursors new opener id a
+  fits_same shape anatomy cursors opener id a first =
+      fits_beside shape anatomy cursors old new opener opener id a first (same.opener ∙ first) refl same_sums same.stood
 
 -- the actor that goes on has the deltas, the snapshots and the log that it had
 moment_of_doing : (actors : List Actor) (opener : Actor) (id : ℕ) (a : Actor) (d : Doing) (m : Moment)

@@ -1,5 +1,6 @@
 -- Each event that allocates a block or sets a flag keeps what holds, and its actor learns of the free pointer.
 use Rattle.std.proofs.Common.{◌≡◌, ◌≢◌, ℕ, ◌-◌, ◌==◌, Bool, true, false, List, map, length, set, inl, inr, refl, sym, ap, ◌∙◌, subst, eq-eqb, ne_eqb, le-leb, arith}
+use Rattle.std.proofs.Math.Bool.{or-true}
 use Rattle.std.specs.Prelude.{bit_and, bit_or, nat_le, ◌&&◌, ◌||◌, fold, if◌then◌else◌}
 use Rattle.std.proofs.lemmas.Bool.{and_from}
 use mathlib.Core.Logic.{dite}
@@ -32,14 +33,10 @@ use Rattle.segment_machine.proofs.Goings.{after_word}
 use Rattle.segment_machine.proofs.Making.{waits, takes, flags_set}
 
 -- a flag that an actor sets is set
-or_true : (b : Bool) → b || true ≡ true
-or_true true = refl
-or_true false = refl
-
 set_now : (opened : Bool) (actors : List Actor) (id : ℕ) (a b : Actor) (flag : Actor → Bool) → get_elem? actors id ≡ some a → flag b ≡ true
     → IsSetBy true opened (map flag (set actors id b))
 set_now opened actors id a b flag there is =
-    sym (or_true opened)
+    sym (or-true opened)
     ∙ ap (λ now. opened || now)
     (sym (any_there (map flag (set actors id b)) id false (at_map flag (set actors id b) id b (set_at actors id a b there) ∙ ap some is)))
 

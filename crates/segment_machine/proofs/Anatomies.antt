@@ -1,98 +1,65 @@
 -- What holds of an anatomy, where blocks in the making change and what was published stays.
-use Rattle.std.proofs.Common.{◌≡◌, ◌≢◌, ℕ, ◌+◌, ◌≤◌, ℤ, pos, Bool, List, map, All, Contains, inl, inr, refl, sym, ap, ◌∙◌, subst}
-use Rattle.std.specs.Prelude.{slice_index, unsigned_abs, ◌*◌, ◌-ℤ◌, IsPermutation}
-use Rattle.std.specs.Prelude as std
+use Rattle.std.proofs.Common.{◌≡◌, ℕ, ◌+◌, ℤ, Bool, List, inl, inr, ⊎_elim, refl, ap, ◌∙◌}
 use Rattle.std.proofs.lemmas.List.Elements.{All-weaker}
-use mathlib.Core.Option.{some, none}
+use mathlib.Core.Option.{some}
 use Rattle.segment_image.specs.Shape.{Dimensions}
 use Rattle.alloc_core.specs.Laws.{Behind}
 use Rattle.list_core.specs.Chain.{IsLinked}
 use Rattle.list_core.specs.Laws.{IsStop}
 use Rattle.segment_machine.specs.declared.actor.Actor.{Actor}
-use Rattle.segment_machine.specs.declared.actor.Known.{Known}
-use Rattle.segment_machine.specs.declared.actor.Made.{Made}
-use Rattle.segment_machine.specs.declared.actor.Made.TheVariants as made
-use Rattle.segment_machine.specs.declared.actor.Own.{Own}
-use Rattle.segment_machine.specs.declared.place.Look.{Look}
-use Rattle.segment_machine.specs.declared.place.Place.{Place}
-use Rattle.segment_machine.specs.declared.place.Place.TheVariants.{Spent, Idle, FlagsLoaded, FreeLoaded, Raised, Sized, Marked, TailLoaded, Beaten, Linked, Looking, Losing, Moving, CountLoaded, SampleLoaded, SumLoaded, CursorLoaded, BehindCursor}
-use Rattle.segment_machine.specs.Entry.{tally_units, tally_noted}
-use Rattle.segment_machine.specs.Actor.{all_counted, all_taken, all_published, taken_units, taken_sum, bucket_key}
-use Rattle.segment_machine.specs.Body.{Body, queue, plain, held, Piece, Listed, listed, Anatomy, order_of, free_of}
+use Rattle.segment_machine.specs.Body.{Body, held, Piece, Anatomy, order_of, free_of}
 use Rattle.segment_machine.specs.Ledger.{units_held, marks_held, sum_held, sum_mark_held, noted_held, all_held, all_amounts, all_moving, IsBalanced}
-use Rattle.segment_machine.specs.Seen.{Stands, HasPlain, WasFixed, WasCounter, WasInUse, WasSingle, IsNoLater, Knows, Sees}
-use Rattle.segment_machine.specs.Kept.{StandsAs, ListIsKept, RecordsAreKept, SumsAreNear, IsSumOf, StandsRight, LooksRight, HoldsOwn, CallsRight, LooksBack, IsSettled}
-use Rattle.segment_machine.proofs.Actors.{Doing, doing, TurnsTo, SameDeeds, alone_along, units_along, sum_along}
+use Rattle.segment_machine.specs.Seen.{Stands, HasPlain, IsNoLater, Sees}
+use Rattle.segment_machine.specs.Kept.{StandsAs, ListIsKept, RecordsAreKept, SumsAreNear, Fits, CallsRight, LooksBack}
+use Rattle.segment_machine.proofs.Standing.{Grounds, own_stays}
+use Rattle.segment_machine.proofs.ListingGrowth.{reshaped, Stays, Grows, grows_not, stands_as_grows, sees_grow, grounds_grow}
+use Rattle.segment_machine.proofs.Actors.{Doing, doing, TurnsTo}
 
--- the anatomy with other blocks, other flags and another tail, and the same records
-abbrev pub reshaped : Anatomy → List Piece → ℕ → Bool → Bool → ℕ → Anatomy
-reshaped anatomy pieces spare corrupt full tail =
-    record anatomy { pieces = pieces; spare = spare; corrupt = corrupt; full = full; tail = tail }
+-- what blocks hold together is the same
+pub record SameHoldings (version : ℕ) (old new : List Piece) : Type 0 where
+  pub units : (name : List ℕ) (key : ℤ) → all_held (units_held version name key) new ≡ all_held (units_held version name key) old
+  pub marks : (name : List ℕ) (key : ℤ) → all_held (marks_held version name key) new ≡ all_held (marks_held version name key) old
+  pub sums : (name : List ℕ) → all_amounts (sum_held name) new ≡ all_amounts (sum_held name) old
+  pub sum_marks : (name : List ℕ) → all_amounts (sum_mark_held name) new ≡ all_amounts (sum_mark_held name) old
+  pub noted : (name : List ℕ) → all_held (noted_held name) new ≡ all_held (noted_held name) old
 
--- a number that blocks in the making, one's own blocks and the queue block do not have
-abbrev pub IsSilent : {X : Type 0} → X → (Body → X) → Type 0
-IsSilent nothing holds =
-    ((words : List ℕ) → holds (plain words) ≡ nothing) × ((block : Own) → holds (held block) ≡ nothing)
-    × ((next : ℕ) → holds (queue next) ≡ nothing)
-
--- What was published stays: a block without owner stands where it stood, and no other has come; and together they hold what they held.
-pub record Stays (old new : List Piece) : Type 0 where
-  pub there : (at : ℕ) (body : Body) → Stands old at none body → Stands new at none body
-  pub back : (at : ℕ) (body : Body) → Stands new at none body → Stands old at none body
-  pub held : (holds : Body → ℕ) → IsSilent 0 holds → all_held holds new ≡ all_held holds old
-  pub amounts : (holds : Body → ℤ) → IsSilent (pos 0) holds → all_amounts holds new ≡ all_amounts holds old
+-- so the ledger is
+pub balanced_same : (version : ℕ) (opened old new : List Piece) (actors : List Actor) → SameHoldings version old new
+    → IsBalanced version opened old actors → IsBalanced version opened new actors
+balanced_same version opened old new actors same is = record {
+  units = λ name key. ap (λ n. n + all_moving name key actors) (same.units name key) ∙ is.units name key;
+  marks = λ name key. same.marks name key ∙ is.marks name key;
+  sums = λ name. same.sums name ∙ is.sums name;
+  sum_marks = λ name. same.sum_marks name ∙ is.sum_marks name;
+  noted = λ name. same.noted name ∙ is.noted name;
+  taken = is.taken;
+}
 
 module _ (anatomy : Anatomy) (pieces : List Piece) (spare : ℕ) (corrupt full : Bool) (tail : ℕ) (stays : Stays anatomy.pieces pieces) where
   abbrev later : Anatomy
   later = reshaped anatomy pieces spare corrupt full tail
 
+  grows : Grows anatomy later (λ at body. ⊥)
+  grows = grows_not anatomy pieces spare corrupt full tail stays
+
   -- the ledger
-  pub balanced_along : (opened : List Piece) (before after : List Actor) → SameDeeds before after
-      → IsBalanced anatomy.version opened anatomy.pieces before → IsBalanced anatomy.version opened pieces after
-  balanced_along opened before after same is =
-      let units_same : (name : List ℕ) (key : ℤ) → tally_units (all_counted before) name key ≡ tally_units (all_counted after) name key =
-      units_along before after same in
-      let taken_same : (name : List ℕ) (key : ℤ) → taken_units (all_taken before) name key ≡ taken_units (all_taken after) name key =
-      λ name key. ap (λ taken. taken_units taken name key) (sym same.taken) in
-      record {
-        units = λ name key.
-            let held = stays.held (units_held anatomy.version name key) (λ words. refl, λ block. refl, λ next. refl) in
-            let moving = same.moving name key in
-            ap (λ n. n + all_moving name key after) held
-            ∙ (ap (λ n. all_held (units_held anatomy.version name key) anatomy.pieces + n) moving ∙ (is.units name key ∙ units_same name key));
-        marks = λ name key.
-            stays.held (marks_held anatomy.version name key) (λ words. refl, λ block. refl, λ next. refl)
-            ∙ (is.marks name key ∙ taken_same name key);
-        sums = λ name.
-            stays.amounts (sum_held name) (λ words. refl, λ block. refl, λ next. refl)
-            ∙ (is.sums name ∙ sum_along before after same name);
-        sum_marks = λ name.
-            stays.amounts (sum_mark_held name) (λ words. refl, λ block. refl, λ next. refl)
-            ∙ (is.sum_marks name ∙ ap (λ taken. taken_sum taken name) (sym same.taken));
-        noted = λ name.
-            stays.held (noted_held name) (λ words. refl, λ block. refl, λ next. refl)
-            ∙ (is.noted name ∙ ap (λ entries. all_held (noted_held name) opened + tally_noted entries name) (sym same.noted));
-        taken = λ name key.
-            subst (λ (p : ℕ × ℕ). p.0 ≤ p.1) (λ i. (taken_same name key i, units_same name key i)) (is.taken name key);
-      }
+  pub balanced_along : (opened : List Piece) (actors : List Actor) → IsBalanced anatomy.version opened anatomy.pieces actors
+      → IsBalanced anatomy.version opened pieces actors
+  balanced_along opened actors = balanced_same anatomy.version opened anatomy.pieces pieces actors (record {
+    units = λ name key. stays.held (units_held anatomy.version name key) (λ words. refl, λ block. refl, λ next. refl);
+    marks = λ name key. stays.held (marks_held anatomy.version name key) (λ words. refl, λ block. refl, λ next. refl);
+    sums = λ name. stays.amounts (sum_held name) (λ words. refl, λ block. refl, λ next. refl);
+    sum_marks = λ name. stays.amounts (sum_mark_held name) (λ words. refl, λ block. refl, λ next. refl);
+    noted = λ name. stays.held (noted_held name) (λ words. refl, λ block. refl, λ next. refl);
+  })
 
   -- the list
-  stands_as_along : (l : Listed) (given : std.Option Made) → StandsAs anatomy.pieces l given → StandsAs pieces l given
-  stands_as_along l (std.Some (made.Histogram name spec)) (r, has, named, is) = (r, stays.there _ _ has, named, is)
-  stands_as_along l (std.Some (made.Sample of value)) (s, has, named, is) = (s, stays.there _ _ has, named, is)
-  stands_as_along l std.None (size, tag, next, payload, has, first, third, long) = (size, tag, next, payload, stays.there _ _ has, first, third, long)
-
-  pub list_along : (words words' : List ℕ) (opened : Anatomy) (before after : List Actor) → IsLinked words' (order_of anatomy)
-      → all_published after ≡ all_published before → IsStop (order_of anatomy) tail
-      → ListIsKept words opened anatomy before → ListIsKept words' opened later after
-  list_along words words' opened before after linked same stop list = record {
+  pub list_along : (words words' : List ℕ) (opened : Anatomy) (actors : List Actor) → IsLinked words' (order_of anatomy) → IsStop (order_of anatomy) tail
+      → ListIsKept words opened anatomy actors → ListIsKept words' opened later actors
+  list_along words words' opened actors linked stop list = record {
     linked = linked;
-    once = (
-      list.once.0,
-      list.once.1,
-      subst (λ made. IsPermutation list.once.0 (map listed made)) (sym same) list.once.2,
-    );
-    standing = All-weaker (λ l. StandsAs anatomy.pieces l l.made) (λ l. StandsAs pieces l l.made) (λ l. stands_as_along l l.made)
+    once = list.once;
+    standing = All-weaker (λ l. StandsAs anatomy.pieces l l.made) (λ l. StandsAs pieces l l.made) (λ l. stands_as_grows anatomy later (λ at body. ⊥) grows l l.made)
         anatomy.records list.standing;
     alone = λ at body has. list.alone at body (stays.back at body has);
     tail = stop;
@@ -117,39 +84,13 @@ module _ (anatomy : Anatomy) (pieces : List Piece) (spare : ℕ) (corrupt full :
   }
 
   -- sums
-  pub sums_along : (before after : List Actor) → SameDeeds before after → SumsAreNear anatomy.pieces before → SumsAreNear pieces after
-  sums_along before after same near at r x y has one two =
-      subst (λ n. unsigned_abs (x -ℤ y) ≤ 2147483648 * n) (sym (same.costs r.name))
-      (near at r x y (stays.back at _ has) (sum_of x one) (sum_of y two))
-    where
-      sum_of : (x : ℤ) → IsSumOf after at r x → IsSumOf before at r x
-      sum_of x (inl nothing) = inl nothing
-      sum_of x (inr (inl now)) = inr (inl now)
-      sum_of x (inr (inr (inl mark))) = inr (inr (inl mark))
-      sum_of x (inr (inr (inr (id, a, there, loaded)))) =
-          let (b, was, is) = same.loaded id a at x there loaded in inr (inr (inr (id, b, was, is)))
+  pub sums_along : (actors : List Actor) → SumsAreNear anatomy.pieces actors → SumsAreNear pieces actors
+  sums_along actors near at r x y has = near at r x y (stays.back at _ has)
 
   -- what an actor has seen
   pub sees_along : (cursors : List ℕ) (a : Actor) → Behind a.seen_free (free_of later) → IsNoLater (order_of anatomy) a.seen_tail tail
       → Sees anatomy cursors a → Sees later cursors a
-  sees_along cursors a free no_later sees = record {
-    free = free;
-    walked = sees.walked;
-    tail = no_later;
-    singles = All-weaker (WasSingle anatomy.version anatomy.pieces) (WasSingle anatomy.version pieces)
-        (λ s was. (was.0, was.1, stays.there _ _ was.2, was.3, was.4)) a.seen_singles sees.singles;
-    counters = All-weaker (WasCounter anatomy.pieces) (WasCounter pieces)
-        (λ s was. (was.0, was.1, was.2, stays.there _ _ was.3, was.4, was.5, was.6)) a.seen_counts sees.counters;
-    in_use = All-weaker (WasInUse anatomy.pieces) (WasInUse pieces)
-        (λ s was at i c has here from to.
-        let (r, record_of, off) = was at i c (stays.back _ _ has) here from to in (r, stays.there _ _ record_of, off))
-        a.seen_counts sees.in_use;
-    fixed = All-weaker (WasFixed anatomy.pieces) (WasFixed pieces)
-        (λ s was. (was.0, was.1, was.2, stays.there _ _ was.3, was.4, was.5, was.6)) a.seen_words sees.fixed;
-    shared = sees.shared;
-    names = All-weaker (Knows anatomy) (Knows later)
-        (λ known knows. record { first_spec = knows.first_spec; first = knows.first; same = knows.same }) a.names sees.names;
-  }
+  sees_along = sees_grow anatomy later (λ at body. ⊥) grows
 
   -- running calls
   pub calls_along : (a : Actor) → CallsRight anatomy a → CallsRight later a
@@ -163,91 +104,41 @@ module _ (anatomy : Anatomy) (pieces : List Piece) (spare : ℕ) (corrupt full :
   }
 
   -- what was seen since a delta or a snapshot began
-  settled_along : (before after : List Actor) (a : Actor) (known : Known) (bucket : ℕ) → SameDeeds before after
-      → IsSettled later after a known bucket → IsSettled anatomy before a known bucket
-  settled_along before after a known bucket same (inl second) = inl second
-  settled_along before after a known bucket same (inr (inl alone)) = inr (inl (alone_along before after same a alone))
-  settled_along before after a known bucket same (inr (inr apart)) = inr (inr (λ r has. apart r (stays.there _ _ has)))
-
-  pub looks_along : (before after : List Actor) (a : Actor) → SameDeeds before after → LooksBack anatomy before a → LooksBack later after a
-  looks_along before after a same looks = record {
-    most = λ known bucket total there below saw.
-        subst (λ entries. total ≤ tally_units entries known.name (bucket_key (std.Some known) bucket)) (sym same.counted)
-        (looks.most known bucket total there below saw);
+  pub looks_along : (actors : List Actor) (a : Actor) → LooksBack anatomy actors a → LooksBack later actors a
+  looks_along actors a looks = record {
+    most = looks.most;
     packed = looks.packed;
     counted = λ known bucket counts count r there below saw counted has settled.
         looks.counted known bucket counts count r there below saw counted (stays.back _ _ has)
-        (settled_along before after a known bucket same settled);
+        (⊎_elim (λ second. inl second) (λ rest. inr (⊎_elim (λ alone. inl alone) (λ apart. inr (λ r has. apart r (stays.there _ _ has))) rest)) settled);
     samples = looks.samples;
     rising = looks.rising;
     noted = looks.noted;
-    sum = λ reference sum r loaded alone has. looks.sum reference sum r loaded (alone_along before after same a alone) (stays.back _ _ has);
+    sum = λ reference sum r loaded alone has. looks.sum reference sum r loaded alone (stays.back _ _ has);
   }
 
-  -- a block of somebody who stores nothing now
-  pub own_along : (shape : Dimensions) (id : ℕ) → ((at : ℕ) (body : Body) → Stands anatomy.pieces at (some id) body → Stands pieces at (some id) body)
-      → (own : List Own) → All (HoldsOwn shape anatomy.pieces id) own → All (HoldsOwn shape pieces id) own
-  own_along shape id others own holds =
-      All-weaker (HoldsOwn shape anatomy.pieces id) (HoldsOwn shape pieces id)
-      (λ block is. record { stands = others _ _ is.stands; placed = is.placed; room = is.room; tagged = is.tagged; ends = is.ends })
-      own holds
+  -- all that holds of an actor that stores nothing now
+  pub fits_along : (shape : Dimensions) (cursors : List ℕ) (actors : List Actor) (opener : Actor) (id : ℕ) (a : Actor)
+      → ((at : ℕ) (body : Body) → Stands anatomy.pieces at (some id) body → Stands pieces at (some id) body)
+      → Behind a.seen_free (free_of later) → IsNoLater (order_of anatomy) a.seen_tail tail
+      → Fits shape anatomy cursors actors opener id a → Fits shape later cursors actors opener id a
+  fits_along shape cursors actors opener id a others free no_later fits = record {
+    shaped = fits.shaped;
+    versioned = fits.versioned;
+    sees = sees_along cursors a free no_later fits.sees;
+    own = own_stays shape anatomy later id (λ own. others own.at (held own)) a.own fits.own;
+    apart = fits.apart;
+    calls = calls_along a fits.calls;
+    looks = λ recorder. looks_along actors a (fits.looks recorder);
+    finals = fits.finals;
+    snapshots = fits.snapshots;
+  }
 
-  -- and where somebody stands whose words in the making stay
-  module _ (shape : Dimensions) (id : ℕ) (others : (at : ℕ) (words : List ℕ) → HasPlain anatomy.pieces id at words → HasPlain pieces id at words) where
-    pub standing_along : (a : Actor) (p : Place) → StandsRight shape anatomy id a p → StandsRight shape later id a p
-    standing_along a Spent is = is
-    standing_along a Idle is = is
-    standing_along a FlagsLoaded is = is
-    standing_along a (FreeLoaded free) is = is
-    standing_along a (Raised at size) (placed, has) = (placed, others _ _ has)
-    standing_along a (Sized at size) (placed, has) = (placed, others _ _ has)
-    standing_along a (Marked at size) (placed, has) = (placed, others _ _ has)
-    standing_along a (TailLoaded tail) is = is
-    standing_along a (Beaten tail behind) is = is
-    standing_along a (Linked at tail) is = is
-    standing_along a (Looking look) is = is
-    standing_along a (Losing look at) is = is
-    standing_along a (Moving look bucket units) (right, first, counts, least, most, (r, has, packed, off), fresh) =
-        (right, first, counts, least, most, (r, stays.there _ _ has, packed, off), fresh)
-    standing_along a (CountLoaded look bucket count) is = is
-    standing_along a (SampleLoaded reference count) is = is
-    standing_along a (SumLoaded reference sum) is = is
-    standing_along a (CursorLoaded cursor at) is = is
-    standing_along a (BehindCursor cursor at behind) is = is
+  -- what an actor stands on whose words in the making stay
+  pub grounds_along : (id : ℕ) → ((at : ℕ) (words : List ℕ) → HasPlain anatomy.pieces id at words → HasPlain pieces id at words) → Grounds anatomy later id
+  grounds_along = grounds_grow anatomy later (λ at body. ⊥) grows
 
 -- ---- the actor that goes on
-
--- It stands right with other blocks of its own, where it saw no less: each block that it had has one of the same place and type.
-module _ (shape : Dimensions) (anatomy : Anatomy) (id : ℕ) (a : Actor) (own : List Own)
-    (others : (x : Own) → Contains a.own x → (y : Own) × Contains own y × (y.at ≡ x.at) × (y.tag ≡ x.tag)) where
-  abbrev holder : Actor
-  holder = record a { own = own }
-
-  looks_right : (look : Look) → LooksRight a look → LooksRight holder look
-  looks_right look right = record { known = right.known; knows = right.knows; single = right.single; counts = right.counts }
-
-  pub standing_holder : (p : Place) → p ≢ Spent → StandsRight shape anatomy id a p → StandsRight shape anatomy id holder p
-  standing_holder Spent lives is = absurd (lives refl)
-  standing_holder Idle lives is = is
-  standing_holder FlagsLoaded lives is = is
-  standing_holder (FreeLoaded free) lives is = is
-  standing_holder (Raised at size) lives is = is
-  standing_holder (Sized at size) lives is = is
-  standing_holder (Marked at size) lives is = is
-  standing_holder (TailLoaded tail) lives is = is
-  standing_holder (Beaten tail behind) lives is = is
-  standing_holder (Linked at tail) lives is = is
-  standing_holder (Looking look) lives is = looks_right look is
-  standing_holder (Losing look at) lives (right, counts, other, (x, there, place, tag)) =
-      let (y, here, same_place, same_tag) = others x there in
-      (looks_right look right, counts, other, (y, here, same_place ∙ place, same_tag ∙ tag))
-  standing_holder (Moving look bucket units) lives (right, version, counts, least, most, has, fresh) =
-      (looks_right look right, version, counts, least, most, has, fresh)
-  standing_holder (CountLoaded look bucket count) lives ((right, counts, off), seen) = ((looks_right look right, counts, off), seen)
-  standing_holder (SampleLoaded reference count) lives is = is
-  standing_holder (SumLoaded reference sum) lives is = is
-  standing_holder (CursorLoaded cursor at) lives is = is
-  standing_holder (BehindCursor cursor at behind) lives is = is
 
 -- what it saw and looks back at, where it sees nothing but the free pointer
 abbrev pub sees_no_more : Actor → Doing → Doing

@@ -11,6 +11,7 @@ use Rattle.segment_machine.specs.declared.entry.Entry.{Entry}
 use Rattle.segment_machine.specs.declared.entry.Counting.{Counting}
 use Rattle.segment_machine.specs.Entry.{is_counted, is_summed, is_noted, is_of, tally_units, tally_sum, tally_noted, counted_among, summed_among, noted_among}
 use Rattle.segment_machine.specs.Note.{is_untouched}
+use Rattle.segment_machine.proofs.Singled.{if_nothing}
 use Rattle.segment_machine.proofs.SeatsSums.{IsTotal, amounts_total}
 
 module _ {M : Type 0} (add : M → M → M) (total : List Entry → M) (sums : IsTotal add total) (test : Counting → Bool) where
@@ -54,25 +55,13 @@ noted_total name = sum_by-append (λ (entry : Entry). if is_of name entry then e
 
 -- an entry without units, or without an amount, comes to nothing
 no_units : (name : List ℕ) (key : ℤ) (e : Entry) → e.units ≡ 0 → tally_units (e ∷ []) name key ≡ 0
-no_units name key e none = by_test (is_of name e && int_eq e.key key)
-  where
-    by_test : (b : Bool) → 0 + (if b then e.units else 0) ≡ 0
-    by_test true = omega (arith, none)
-    by_test false = refl
+no_units name key e none = let h = if_nothing (is_of name e && int_eq e.key key) e.units 0 none in omega (arith, h)
 
 no_noted : (name : List ℕ) (e : Entry) → e.units ≡ 0 → tally_noted (e ∷ []) name ≡ 0
-no_noted name e none = by_test (is_of name e)
-  where
-    by_test : (b : Bool) → 0 + (if b then e.units else 0) ≡ 0
-    by_test true = omega (arith, none)
-    by_test false = refl
+no_noted name e none = let h = if_nothing (is_of name e) e.units 0 none in omega (arith, h)
 
 pub no_amount : (name : List ℕ) (e : Entry) → e.amount ≡ pos 0 → tally_sum (e ∷ []) name ≡ pos 0
-no_amount name e none = by_test (is_of name e)
-  where
-    by_test : (b : Bool) → pos 0 +ℤ (if b then e.amount else pos 0) ≡ pos 0
-    by_test true = ap (λ z. pos 0 +ℤ z) none
-    by_test false = refl
+no_amount name e none = ap (λ z. pos 0 +ℤ z) (if_nothing (is_of name e) e.amount (pos 0) none)
 
 -- ---- countings of which nothing has happened
 

@@ -23,11 +23,13 @@ use Rattle.segment_machine.specs.Kept.{StandsRight, HoldsOwn, Kept}
 use Rattle.segment_machine.proofs.Lists.{at_from, contains_at, all_at, all_from}
 use Rattle.segment_machine.proofs.Pieces.{stands_here, stands_beside, not_first, piece_stored, claims_same, with_piece}
 use Rattle.segment_machine.proofs.Stops.{linked_beside_own}
-use Rattle.segment_machine.proofs.Actors.{Doing, doing_of, turns_not}
-use Rattle.segment_machine.proofs.Anatomies.{Stays, standing_along, standing_holder}
+use Rattle.segment_machine.proofs.Actors.{Doing, doing_of, turns_not, doing}
+use Rattle.segment_machine.proofs.Anatomies.{grounds_along}
+use Rattle.segment_machine.proofs.Standing.{stands_on}
 use Rattle.segment_machine.proofs.Acting.{stays_put}
 use Rattle.segment_machine.proofs.Making.{IsStore, stores, claims_kept}
 use Rattle.segment_machine.proofs.Allocating.{Keeps}
+use Rattle.segment_machine.proofs.ListingGrowth.{Stays}
 
 -- ---- lists
 
@@ -185,11 +187,17 @@ module _ (shape : Dimensions) (opened : Anatomy) (state : State) (kept : Kept sh
         stores shape opened state kept id a mine records k p q words store d (turns_not a lived)
         (claims_kept shape opened state kept id a mine records pieces d (claims_same anatomy.pieces k p q at_k refl same_at long) refl)
         refl refl refl
-        (standing_holder shape after id a (set a.own i y) own_others a.place lived
-        (standing_along anatomy pieces anatomy.spare anatomy.corrupt anatomy.full anatomy.tail stays shape id
-        (λ at ws. stands_beside anatomy.pieces k p q at_k at (some id) (plain ws)
-        (λ same. true≢false (sym (ap (λ (piece : Piece). is_claimed piece.body) same))))
-        a a.place (kept.standing id a mine)))
+        (stands_on shape anatomy after id a (doing a d)
+        (grounds_along anatomy pieces anatomy.spare anatomy.corrupt anatomy.full anatomy.tail stays id (λ at ws.
+        stands_beside anatomy.pieces k p q at_k at (some id) (plain ws) (λ same. true≢false (sym (ap (λ (piece : Piece). is_claimed piece.body) same)))))
+        (record {
+          saw = (refl, refl, refl, refl, refl);
+          names = λ known has. has;
+          words = λ s has. has;
+          own = own_others;
+          spent = λ is. absurd (lived (ap (λ (b : Actor). b.place) is));
+        })
+        a.place (kept.standing id a mine))
         own_holds own_apart
 
   -- ---- a word of a payload

@@ -1,5 +1,5 @@
 -- A state is kept where one actor goes on, and at most one of the blocks in the making changes.
-use Rattle.std.proofs.Common.{◌≡◌, ◌≢◌, ℕ, ◌<◌, Bool, List, ◌++◌, map, length, set, take, drop, All, Contains, inl, inr, sym, ap, ◌∙◌, subst, arith, length-set}
+use Rattle.std.proofs.Common.{◌≡◌, ◌≢◌, ℕ, ◌<◌, Bool, List, ◌++◌, map, length, set, take, drop, All, Contains, inl, inr, refl, sym, ap, ◌∙◌, subst, arith, length-set}
 use Rattle.std.proofs.Math.Seq.{take-append_seam, drop-append_seam}
 use Rattle.std.proofs.lemmas.List.{set-append_left, get_or_append_left}
 use Rattle.std.specs.Prelude.{IsPermutation}
@@ -14,7 +14,6 @@ use Rattle.alloc_core.specs.Laws.{Behind}
 use Rattle.list_core.specs.Chain.{IsLinked}
 use Rattle.list_core.specs.Laws.{IsStop}
 use Rattle.segment_machine.specs.declared.actor.Actor.{Actor}
-use Rattle.segment_machine.specs.declared.actor.Given.{Given}
 use Rattle.segment_machine.specs.declared.actor.Own.{Own}
 use Rattle.segment_machine.specs.declared.place.Place.TheVariants.{Spent}
 use Rattle.segment_machine.specs.State.{State, memory}
@@ -24,10 +23,14 @@ use Rattle.segment_machine.specs.Learned.{Learned}
 use Rattle.segment_machine.specs.Keeps.{found_at, happened}
 use Rattle.segment_machine.specs.Body.{Body, plain, Piece, Anatomy, layout_of, order_of, free_of, claims_of}
 use Rattle.segment_machine.specs.Seen.{Stands, IsNoLater, Sees}
-use Rattle.segment_machine.specs.Kept.{StandsRight, HoldsOwn, CallsRight, LooksBack, Fits, CursorsAreKept, IsSetBy, ClaimedRight, StandStill, Kept}
-use Rattle.segment_machine.proofs.Lists.{rows}
-use Rattle.segment_machine.proofs.Actors.{Doing, doing, TurnsTo, SameDeeds, same_deeds, roles_along, finals_along, finals_doing, within_along}
-use Rattle.segment_machine.proofs.Anatomies.{reshaped, Stays, balanced_along, list_along, records_along, sums_along, sees_along, calls_along, looks_along, own_along, standing_along}
+use Rattle.segment_machine.specs.Kept.{StandsRight, HoldsOwn, CallsRight, LooksBack, Fits, IsSetBy, ClaimedRight, StandStill, Kept}
+use Rattle.segment_machine.proofs.Standing.{follows_itself, stands_on}
+use Rattle.segment_machine.proofs.SeatsFrames.{balanced, sums_near}
+use Rattle.segment_machine.proofs.SeatsBooks.{cursors_set, listed_set}
+use Rattle.segment_machine.proofs.SeatsRoles.{roles_set}
+use Rattle.segment_machine.proofs.Actors.{Doing, doing, TurnsTo, SameDeeds, same_role, same_deeds, same_sums, fits_same, finals_doing}
+use Rattle.segment_machine.proofs.Anatomies.{balanced_along, list_along, records_along, sums_along, fits_along, grounds_along}
+use Rattle.segment_machine.proofs.ListingGrowth.{reshaped, Stays}
 
 -- What has to be shown where an actor goes on to a doing: of the blocks and the words that are then there, and of the actor itself.
 pub record Goes (shape : Dimensions) (opened : Anatomy) (state : State) (old new : Anatomy) (id : ℕ) (a : Actor) (d : Doing) (words : List ℕ) : Type 0 where
@@ -49,13 +52,7 @@ pub record Goes (shape : Dimensions) (opened : Anatomy) (state : State) (old new
   pub own : All (HoldsOwn shape new.pieces id) d.own
   pub apart : (i j : ℕ) (x y : Own) → get_elem? d.own i ≡ some x → get_elem? d.own j ≡ some y → x.at ≡ y.at → i ≡ j
   pub calls : CallsRight new (doing a d)
-  pub looks : LooksBack new (set state.actors id (doing a d)) (doing a d)
-
--- shared cursors gave an actor records in the order of the list
-abbrev Ordered : List ℕ → Actor → Type 0
-Ordered chain b =
-    (i j k l : ℕ) (x y : Given) → i < j → get_elem? b.given i ≡ some x → get_elem? b.given j ≡ some y → x.cursor ≡ y.cursor
-    → get_elem? chain k ≡ some x.reference → get_elem? chain l ≡ some y.reference → k < l
+  pub looks : LooksBack new state.actors (doing a d)
 
 module _ (shape : Dimensions) (opened : Anatomy) (state : State) (kept : Kept shape opened state) (id : ℕ) (a : Actor)
     (mine : get_elem? state.actors id ≡ some a) (records : a.opener ≡ 0) where
@@ -83,22 +80,12 @@ module _ (shape : Dimensions) (opened : Anatomy) (state : State) (kept : Kept sh
 
     -- another actor
     fits_else : (other : ℕ) (b : Actor) → other ≢ id → Fits shape before state.cursors state.actors kept.roles.opener other b
-        → Fits shape behind state.cursors actors kept.roles.opener other b
-    fits_else other b ne fits = record {
-      shaped = fits.shaped;
-      versioned = fits.versioned;
-      sees = sees_along before pieces spare corrupt full tail goes.stays state.cursors b (goes.free b.seen_free fits.sees.free)
-          (goes.tail_later b.seen_tail fits.sees.tail) fits.sees;
-      own = own_along before pieces spare corrupt full tail goes.stays shape other (λ at body. goes.others other at body ne) b.own fits.own;
-      apart = fits.apart;
-      calls = calls_along before pieces spare corrupt full tail goes.stays b fits.calls;
-      looks = λ recorder. looks_along before pieces spare corrupt full tail goes.stays state.actors actors b same (fits.looks recorder);
-      finals = finals_along state.actors actors same kept.roles.opener other b fits.finals;
-      snapshots = within_along state.actors actors same b fits.snapshots;
-    }
+        → Fits shape behind state.cursors state.actors kept.roles.opener other b
+    fits_else other b ne fits = fits_along before pieces spare corrupt full tail goes.stays shape state.cursors state.actors kept.roles.opener other b
+        (λ at body. goes.others other at body ne) (goes.free b.seen_free fits.sees.free) (goes.tail_later b.seen_tail fits.sees.tail) fits
 
     -- the actor that goes on
-    fits_mine : Fits shape behind state.cursors actors kept.roles.opener id (doing a d)
+    fits_mine : Fits shape behind state.cursors state.actors kept.roles.opener id (doing a d)
     fits_mine =
         let fits = kept.each id a mine turns.lived in record {
           shaped = fits.shaped;
@@ -108,38 +95,25 @@ module _ (shape : Dimensions) (opened : Anatomy) (state : State) (kept : Kept sh
           apart = goes.apart;
           calls = goes.calls;
           looks = λ recorder. goes.looks;
-          finals = finals_doing actors kept.roles.opener id a d (finals_along state.actors actors same kept.roles.opener id a fits.finals);
-          snapshots = within_along state.actors actors same a fits.snapshots;
+          finals = finals_doing state.actors kept.roles.opener id a d fits.finals;
+          snapshots = fits.snapshots;
         }
 
     fits_all : (other : ℕ) (b : Actor) → get_elem? actors other ≡ some b → b.place ≢ Spent
         → Fits shape behind state.cursors actors kept.roles.opener other b
-    fits_all other b there lives = elim (at_set state.actors id other (doing a d) b there) [
-      | inl t ↦ subst (λ (p : ℕ × Actor). Fits shape behind state.cursors actors kept.roles.opener p.0 p.1) (λ i. (sym t.0 i, t.1 i)) fits_mine
-      | inr t ↦ fits_else other b t.0 (kept.each other b t.1 lives)
-    ]
+    fits_all other b there lives = fits_same state.actors actors same shape behind state.cursors kept.roles.opener other b kept.roles.stands
+        (elim (at_set state.actors id other (doing a d) b there) [
+          | inl t ↦ subst (λ (p : ℕ × Actor). Fits shape behind state.cursors state.actors kept.roles.opener p.0 p.1) (λ i. (sym t.0 i, t.1 i)) fits_mine
+          | inr t ↦ fits_else other b t.0 (kept.each other b t.1 lives)
+        ])
 
     stands_all : (other : ℕ) (b : Actor) → get_elem? actors other ≡ some b → StandsRight shape behind other b b.place
     stands_all other b there = elim (at_set state.actors id other (doing a d) b there) [
       | inl t ↦ subst (λ (p : ℕ × Actor). StandsRight shape behind p.0 p.1 p.1.place) (λ i. (sym t.0 i, t.1 i)) goes.stands
-      | inr t ↦ standing_along before pieces spare corrupt full tail goes.stays shape other (λ at words. goes.others other at (plain words) t.0) b b.place
-          (kept.standing other b t.1)
+      | inr t ↦ stands_on shape before behind other b b
+          (grounds_along before pieces spare corrupt full tail goes.stays other (λ at words. goes.others other at (plain words) t.0)) (follows_itself b)
+          b.place (kept.standing other b t.1)
     ]
-
-    cursors_all : CursorsAreKept (order_of before) state.cursors actors
-    cursors_all = record {
-      stand = λ k below.
-          let (place, within, is, gave) = kept.cursors.stand k below in
-          (place, within, is, subst (λ given. IsPermutation given (take place (order_of before))) (sym (same.given k)) gave);
-      ordered = λ other b there. elim (at_set state.actors id other (doing a d) b there) [
-        | inl t ↦ λ recorder. subst (λ (b : Actor). Ordered (order_of before) b) t.1 (kept.cursors.ordered id a mine records)
-        | inr t ↦ kept.cursors.ordered other b t.1
-      ];
-      given = λ other b there. elim (at_set state.actors id other (doing a d) b there) [
-        | inl t ↦ subst (λ (b : Actor). All (λ g. Contains (order_of before) g.reference) b.given) t.1 (kept.cursors.given id a mine)
-        | inr t ↦ kept.cursors.given other b t.1
-      ];
-    }
 
     still_all : StandStill opened.pieces pieces
     still_all k p there =
@@ -149,29 +123,30 @@ module _ (shape : Dimensions) (opened : Anatomy) (state : State) (kept : Kept sh
 
     -- the state that is left is kept
     pub goes_on : Kept shape opened (record { words = words; cursors = state.cursors; actors = actors })
-    goes_on = let roles = roles_along state.actors actors same kept.roles in record {
+    goes_on = record {
       anatomy = behind;
       shown = goes.shown;
       same = kept.same;
       versions = kept.versions;
       still = still_all;
       blocks = goes.blocks;
-      list = list_along before pieces spare corrupt full tail goes.stays state.words words opened state.actors actors goes.linked
-          (rows (λ (a : Actor). a.published) state.actors id a (doing a d) mine goes.published) goes.tail kept.list;
+      list = listed_set words opened behind state.actors id a (doing a d) mine goes.published
+          (list_along before pieces spare corrupt full tail goes.stays state.words words opened state.actors goes.linked goes.tail kept.list);
       claims = goes.claims;
       records = records_along before pieces spare corrupt full tail goes.stays shape.page kept.records;
-      balanced = balanced_along before pieces spare corrupt full tail goes.stays opened.pieces state.actors actors same kept.balanced;
+      balanced = balanced before.version opened.pieces pieces state.actors actors (same_sums state.actors actors same)
+          (balanced_along before pieces spare corrupt full tail goes.stays opened.pieces state.actors kept.balanced);
       keys = λ entry there. kept.keys entry (subst (λ entries. Contains entries entry) same.counted there);
       taken_keys = λ t count there. kept.taken_keys t count (subst (λ taken. Contains taken t) same.taken there);
-      sums = sums_along before pieces spare corrupt full tail goes.stays state.actors actors same kept.sums;
+      sums = sums_near pieces state.actors actors (same_sums state.actors actors same) same.loaded
+          (sums_along before pieces spare corrupt full tail goes.stays state.actors kept.sums);
       pool = same.units ∙ kept.pool;
       corrupt = goes.corrupt;
       full = goes.full;
-      roles = roles.0;
-      cursors = cursors_all;
+      roles = roles_set state.actors id a (doing a d) mine (same_role a d turns) not_opener kept.roles;
+      cursors = cursors_set (order_of before) state.cursors state.actors id a (doing a d) mine records refl kept.cursors;
       standing = stands_all;
-      each = subst (λ opener. (other : ℕ) (b : Actor) → get_elem? actors other ≡ some b → b.place ≢ Spent
-          → Fits shape behind state.cursors actors opener other b) (sym roles.1) fits_all;
+      each = fits_all;
     }
 
 -- ---- an event at a word of the segment

@@ -1,5 +1,5 @@
 -- The claimed blocks of a kept segment among its words: lawful ones, apart from each other, and not too many.
-use Rattle.std.proofs.Common.{◌≡◌, Bool, true, false, cond, ℕ, zero, suc, ◌+◌, ◌*◌, ◌<◌, ◌≤◌, List, [], ◌∷◌, map, length, filter, get_or, inl, inr, ⊎_elim, refl, sym, ap, subst, ◌∙◌, arith}
+use Rattle.std.proofs.Common.{◌≡◌, Bool, true, false, cond, ℕ, suc, ◌+◌, ◌*◌, ◌<◌, ◌≤◌, List, [], ◌∷◌, map, length, filter, get_or, inl, inr, ⊎_elim, refl, sym, ap, subst, ◌∙◌, arith}
 use Rattle.std.specs.Prelude.{slice_index}
 use Rattle.std.specs.List.{All, Contains}
 use Rattle.std.proofs.lemmas.Bool.{cases_order}
@@ -20,7 +20,8 @@ use Rattle.segment_machine.specs.declared.actor.Claim.{Claim}
 use Rattle.segment_machine.specs.Consistent.{run_of}
 use Rattle.segment_machine.specs.Body.{Body, queue, plain, held, histogram, counts, sample, other, words_of, is_claimed, Piece, extent_of, block_of, Anatomy, layout_of, claims_of}
 use Rattle.segment_machine.specs.Kept.{ClaimedRight}
-use Rattle.segment_machine.proofs.Lists.{from_map, all_from, at_from, contains_at, below_length}
+use Rattle.segment_machine.proofs.Lists.{from_map, all_from, contains_at, contains_filter, below_length}
+use Rattle.segment_machine.proofs.SeatsLists.{contains_map}
 use Rattle.segment_machine.proofs.Pieces.{claim_of, piece_word, first_piece, some_first, one_piece, pieces_apart, piece_from, piece_ends}
 use Rattle.segment_machine.proofs.Pairs.{AnyTwo, element_at}
 
@@ -45,24 +46,10 @@ all_claims_of P pieces each =
     (all_from (λ p. is_claimed p.body ≡ true → P (claim_of p)) pieces each) in
     All-map P claim_of (filter claimed pieces) (λ k d below. all k d below (filter_passes claimed pieces k d below))
 
--- an element that passes a test is among those that do
-kept_there : {X : Type 0} (x y : X) (b : Bool) (rest : List X) → Contains rest x → Contains (cond b (y ∷ rest) rest) x
-kept_there x y true rest (k, below, e) = (suc k, omega (arith, below), e)
-kept_there x y false rest there = there
-
-pub passes_there : {X : Type 0} (test : X → Bool) (l : List X) (k : ℕ) (x : X) → get_elem? l k ≡ some x → test x ≡ true → Contains (filter test l) x
-passes_there test [] k x there passes = absurd (some-ne-none x (sym there))
-passes_there test (y ∷ ys) zero x there passes =
-    let same : y ≡ x = some-injective y x there in
-    subst (λ (b : Bool). Contains (cond b (y ∷ filter test ys) (filter test ys)) x) (sym (ap test same ∙ passes)) (0, omega arith, same)
-passes_there test (y ∷ ys) (suc k) x there passes = kept_there x y (test y) (filter test ys) (passes_there test ys k x there passes)
-
 -- the claim of a claimed block is among them
 pub claim_there : (pieces : List Piece) (k : ℕ) (p : Piece) → get_elem? pieces k ≡ some p → is_claimed p.body ≡ true → Contains (claims_of pieces) (claim_of p)
 claim_there pieces k p there claimed =
-    let kept = filter (λ piece. is_claimed piece.body) pieces in
-    let h = at_from kept p (passes_there (λ piece. is_claimed piece.body) pieces k p there claimed) in
-    contains_at (claims_of pieces) h.0 (claim_of p) (at_map claim_of kept h.0 p h.1)
+    contains_map claim_of _ p (contains_filter (λ piece. is_claimed piece.body) pieces p (contains_at pieces k p there) claimed)
 
 -- the claims of blocks of which it holds, by their order
 pub two_claims_of : (R : Claim → Claim → Type 0) (pieces : List Piece)

@@ -21,9 +21,9 @@ use Rattle.segment_machine.specs.Body.{Record, Counts, Sample, Body, queue, plai
 use Rattle.segment_machine.specs.Ledger.{form_at, of_name, at_bucket, keyed, key_of_bucket, units_held, marks_held, all_held}
 use Rattle.segment_machine.specs.Seen.{HasRecord, HasCounts, HasSample, IsNamed, IsFirst, IsFirstOf}
 use Rattle.segment_machine.specs.Kept.{Kept, CountsNothing}
-use Rattle.segment_machine.proofs.Lists.{at_from}
+use Rattle.segment_machine.proofs.Lists.{at_from, split_at}
 use Rattle.segment_machine.proofs.Pieces.{one_piece, one_stands}
-use Rattle.segment_machine.proofs.Singled.{sum_none, sum_one, sum_pair}
+use Rattle.segment_machine.proofs.Singled.{sum_one, sum_pair, keyed_none}
 use Rattle.segment_machine.proofs.ImpliedBlocks.{claimed_piece}
 use Rattle.segment_machine.proofs.ImpliedFirsts.{name_of_first}
 use Rattle.segment_machine.proofs.ImpliedKeys.{key_test, at_no_bucket, no_units, no_packed}
@@ -43,12 +43,6 @@ first_unique P (z ∷ xs) (w ∷ ys) x y rest more e none_before others here the
     let behind : xs ++ x ∷ rest ≡ ys ++ y ∷ more = cc e in
     first_unique P xs ys x y rest more behind (All-tail (λ z. ¬ (P z)) z xs none_before) (All-tail (λ z. ¬ (P z)) w ys others) here there
 
--- an element of a list has some before it and some behind it
-pub split_at : {X : Type 0} (l : List X) (i : ℕ) (x : X) → get_elem? l i ≡ some x → (front behind : List X) × (l ≡ front ++ x ∷ behind)
-split_at [] i x there = absurd (some-ne-none x (sym there))
-split_at (y ∷ ys) zero x there = ([], ys, ap (λ z. z ∷ ys) (some-injective y x there))
-split_at (y ∷ ys) (suc i) x there = let (front, behind, is) = split_at ys i x there in (y ∷ front, behind, ap (λ l. y ∷ l) is)
-
 -- the numbers of a range
 range_at : (a n j y : ℕ) → get_elem? (range_with_len a n) j ≡ some y → (y ≡ a + j) × (j < n)
 range_at a zero j y there = absurd (some-ne-none y (sym there))
@@ -59,21 +53,6 @@ range_there : (a n j : ℕ) → j < n → get_elem? (range_with_len a n) j ≡ s
 range_there a zero j lt = absurd (omega (arith, lt))
 range_there a (suc n) zero lt = let e : a ≡ a + 0 = omega arith in ap some e
 range_there a (suc n) (suc j) lt = let e : a + 1 + j ≡ a + suc j = omega arith in range_there (a + 1) n j (omega (arith, lt)) ∙ ap some e
-
-pub zero_index : (l : List ℕ) (i : ℕ) → All (λ n. n ≡ 0) l → slice_index l i ≡ 0
-zero_index [] i zeros = refl
-zero_index (x ∷ xs) zero zeros = All-head (λ n. n ≡ 0) x xs zeros
-zero_index (x ∷ xs) (suc i) zeros = zero_index xs i (All-tail (λ n. n ≡ 0) x xs zeros)
-
--- numbers for buckets that are all 0 are nothing for a key
-if_nothing : (b : Bool) (n : ℕ) → n ≡ 0 → (if b then n else 0) ≡ 0
-if_nothing true n nothing = nothing
-if_nothing false n nothing = refl
-
-keyed_none : (kind : Spec) (key : ℤ) (numbers : List ℕ) → All (λ n. n ≡ 0) numbers → keyed kind key numbers ≡ 0
-keyed_none kind key numbers zeros =
-    sum_none (λ i. if int_eq (key_of_bucket kind i) key then slice_index numbers i else 0) (range_with_len 0 (length numbers))
-    (λ j y there _. if_nothing (int_eq (key_of_bucket kind y) key) (slice_index numbers y) (zero_index numbers y zeros))
 
 -- and for the key of a bucket they are that bucket's
 pub keyed_one : (kind : Spec) (numbers : List ℕ) (i : ℕ) → spec_fault kind ≡ None → kind ≢ spec.Sparse → length numbers ≡ buckets_of kind → i < buckets_of kind
@@ -183,7 +162,7 @@ module _ (shape : Dimensions) (version id : ℕ) (state : State) (kept : Kept sh
   sample_first at s has =
       let l : Listed = record { reference = at; made = Some (made.Sample s.of s.value) } in
       let among = at_from records l (kept.list.alone at (sample s) has) in
-      let (front, behind, split) = split_at records among.0 l among.1 in
+      let (front, behind, split, others) = split_at records among.0 l among.1 in
       let (name, (xs, ys, is, before), named) = kept.records.sampled front behind at s.of s.value split in
       subst (λ (name : List ℕ). IsFirst records name spec.Sparse s.of) (sym (named s has))
       (xs, ys ++ l ∷ behind, split ∙ (ap (λ (front : List Listed). front ++ l ∷ behind) is ∙ append_assoc xs (made_of s.of name spec.Sparse ∷ ys) (l ∷ behind)), before)

@@ -1,5 +1,5 @@
 -- The first record of a name, and of a value, on the list of a kept segment: by the words as by what each record was given.
-use Rattle.std.proofs.Common.{◌≡◌, ◌≢◌, true, ℕ, ◌<◌, ℤ, pos, negsuc, List, [], ◌∷◌, ◌++◌, map, refl, sym, ap, subst, ◌∙◌, arith, rules, Some, None}
+use Rattle.std.proofs.Common.{◌≡◌, ◌≢◌, true, ℕ, ◌<◌, ℤ, pos, negsuc, List, ◌∷◌, ◌++◌, map, refl, sym, ap, subst, ◌∙◌, arith, rules, Some, None}
 use Rattle.std.specs.Prelude as std
 use Rattle.std.specs.Int.{w64, cast_signed, cast_unsigned}
 use Rattle.std.specs.List.{All, Contains}
@@ -20,23 +20,11 @@ use Rattle.segment_machine.specs.Consistent as consistent
 use Rattle.segment_machine.specs.Body.{Record, Sample, Listed, order_of, blank}
 use Rattle.segment_machine.specs.Seen.{HasRecord, HasSample, IsNamed, IsFirst, IsFirstOf}
 use Rattle.segment_machine.specs.Kept.{StandsAs, Kept}
-use Rattle.segment_machine.proofs.Lists.{all_from, all_at, contains_at}
+use Rattle.segment_machine.proofs.Lists.{all_from, all_at, contains_at, split_map}
 use Rattle.segment_machine.proofs.Pieces.{piece_word}
 use Rattle.segment_machine.proofs.ImpliedRecords.{listed_there, each_given, record_word, sample_type, record_name}
 
 -- ---- lists and what they map to
-
--- where a mapped list has an element, the list has one
-split_map : {X Y : Type 0} (f : X → Y) (l : List X) (front behind : List Y) (y : Y) → map f l ≡ front ++ y ∷ behind
-    → (xs ys : List X) × (x : X) × (l ≡ xs ++ x ∷ ys) × (map f xs ≡ front) × (f x ≡ y)
-split_map f [] [] behind y e = cc e
-split_map f [] (z ∷ front) behind y e = cc e
-split_map f (x ∷ l) [] behind y e = ([], l, x, refl, refl, cc e)
-split_map {X} f (x ∷ l) (z ∷ front) behind y e =
-    let rest : map f l ≡ front ++ y ∷ behind = cc e in
-    let first : f x ≡ z = cc e in
-    let (xs, ys, w, is, before, here) = split_map f l front behind y rest in
-    (x ∷ xs, ys, w, ap (λ (l : List X). x ∷ l) is, (λ i. first i ∷ before i), here)
 
 unmapped : {X Y : Type 0} (f : X → Y) (P : Y → Type 0) (l : List X) → All P (map f l) → All (λ x. P (f x)) l
 unmapped f P l all = all_from (λ x. P (f x)) l (λ i x there. all_at P (map f l) i (f x) all (at_map f l i x there))

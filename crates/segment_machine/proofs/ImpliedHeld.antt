@@ -27,7 +27,7 @@ use Rattle.segment_machine.proofs.Pieces.{piece_word, one_stands}
 use Rattle.segment_machine.proofs.ImpliedRecords.{record_word, listed_there}
 use Rattle.segment_machine.proofs.ImpliedSpecs.{buckets_are}
 use Rattle.segment_machine.proofs.ImpliedFirsts.{listed_record, is_named, given_value, first_of_name, first_of_value}
-use Rattle.segment_machine.proofs.ImpliedBooks.{zero_index}
+use Rattle.segment_machine.proofs.Singled.{zero_index}
 use Rattle.segment_machine.proofs.Alone.{below_three}
 use Rattle.segment_machine.proofs.ImpliedTotals.{count_word, mark_word}
 

@@ -16,6 +16,7 @@ use Rattle.bucket_ranges.proofs.Buckets.{ascends}
 use Rattle.segment_machine.specs.Form.{form_of, off_word, is_off, units_in}
 use Rattle.segment_machine.specs.Made.{spec_ranges, SameSpec}
 use Rattle.segment_machine.specs.Ledger.{key_of_bucket, at_bucket}
+use Rattle.segment_machine.proofs.Singled.{if_nothing}
 use Rattle.segment_machine.proofs.ImpliedSpecs.{spelled, field_named, named_by, boundaries_spelled}
 
 -- ---- specs that are the same
@@ -92,11 +93,7 @@ no_packed version n word (inr two) empty = (λ i. packed_bucket (form_of (two i)
 
 pub at_no_bucket : (spec : Spec) (key : ℤ) (packed : Option ℕ) → at_bucket spec key packed 0 ≡ 0
 at_no_bucket spec key None = refl
-at_no_bucket spec key (Some bucket) = same_either (int_eq (key_of_bucket spec bucket) key)
-  where
-    same_either : (b : Bool) → ◌≡◌ {A = ℕ} (if b then 0 else 0) 0
-    same_either true = refl
-    same_either false = refl
+at_no_bucket spec key (Some bucket) = if_nothing (int_eq (key_of_bucket spec bucket) key) 0 0 refl
 
 module _ (spec : Spec) (lawful : spec_fault spec ≡ None) (bucketed : spec ≢ Sparse) (i : ℕ) (below : i < buckets_of spec) where
   -- a bucket has the key of another where it is that one

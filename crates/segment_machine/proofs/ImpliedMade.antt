@@ -28,14 +28,14 @@ use Rattle.segment_machine.specs.Body.{Record, Listed, listed, order_of, blank}
 use Rattle.segment_machine.specs.Seen.{HasRecord, IsFirst, WasSingle}
 use Rattle.segment_machine.specs.Kept.{StandsAs, Kept}
 use Rattle.segment_machine.specs.Keeps.{KeptRecordsHold}
-use Rattle.segment_machine.proofs.Lists.{at_from, contains_at}
+use Rattle.segment_machine.proofs.Lists.{at_from, contains_at, split_at}
 use Rattle.segment_machine.proofs.Pieces.{piece_word}
 use Rattle.segment_machine.proofs.ImpliedBlocks.{claimed_piece}
 use Rattle.segment_machine.proofs.ImpliedChain.{shape_is, claimed_at}
 use Rattle.segment_machine.proofs.ImpliedRecords.{record_word, name_long, letters_part}
 use Rattle.segment_machine.proofs.ImpliedSpecs.{same_spelled, record_spec, ranges_part, ranges_fewer, buckets_are}
 use Rattle.segment_machine.proofs.ImpliedFirsts.{standing_of, says_name, is_sample_of, listed_record, first_of_name, name_of_first}
-use Rattle.segment_machine.proofs.ImpliedBooks.{split_at, one_first, sample_first}
+use Rattle.segment_machine.proofs.ImpliedBooks.{one_first, sample_first}
 use Rattle.segment_machine.proofs.ImpliedTotals.{kind_word}
 use Rattle.segment_machine.proofs.ImpliedHeld.{counts_ref, own_counts, counts_unlisted, single_leads, later_record, later_sample, none_before}
 use Rattle.segment_machine.proofs.ImpliedForms.{formed_as}
@@ -123,7 +123,7 @@ module _ (shape : Dimensions) (version id : ℕ) (state : State) (lawful : IsSha
       let sized = right.sized in
       let size = piece_word shape state.words kept.anatomy kept.shown has.0 _ 0 has.1 (omega arith) in
       let among = at_from kept.anatomy.records l there in
-      let (front, behind, split) = split_at kept.anatomy.records among.0 l among.1 in
+      let (front, behind, split, others) = split_at kept.anatomy.records among.0 l among.1 in
       let here : kept.anatomy.records ≡ front ++ record { reference = l.reference; made = Some (made.Sample of value) } ∷ behind =
       split ∙ ap (λ (m : Option Made). front ++ record { reference = l.reference; made = m } ∷ behind) is in
       let (name, (xs, ys, before, none_first), its_name) = kept.records.sampled front behind l.reference of value here in

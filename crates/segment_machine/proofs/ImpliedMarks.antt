@@ -1,5 +1,5 @@
 -- The marks of a kept state are what was taken.
-use Rattle.std.proofs.Common.{◌≡◌, ◌≢◌, Bool, true, false, if◌then◌else◌, ℕ, ◌+◌, ◌<◌, ◌≤◌, max, List, ◌++◌, length, length-append, inl, inr, refl, sym, ap, subst, ◌∙◌, arith, Option, Some, None}
+use Rattle.std.proofs.Common.{◌≡◌, ◌≢◌, Bool, true, false, if◌then◌else◌, ℕ, ◌+◌, ◌<◌, ◌≤◌, max, List, length, refl, sym, ap, subst, ◌∙◌, arith, Option, Some, None}
 use Rattle.std.specs.Prelude.{slice_index, ◌==◌}
 use Rattle.std.specs.Int.{w64, cast_signed}
 use Rattle.std.proofs.lemmas.Bool.{eqb-true, eqb-false, eq-eqb, ne_eqb}
@@ -20,11 +20,12 @@ use Rattle.segment_machine.specs.Entry.{tally_units}
 use Rattle.segment_machine.specs.Form.{units_in}
 use Rattle.segment_machine.specs.Actor.{all_counted}
 use Rattle.segment_machine.specs.Consistent.{bucket_total, bucket_mark, key_at, units_taken}
-use Rattle.segment_machine.specs.Body.{Record, Body, queue, plain, held, histogram, counts, sample, other, words_of, blank}
+use Rattle.segment_machine.specs.Body.{Record, blank}
 use Rattle.segment_machine.specs.Ledger.{form_at, key_of_bucket, at_bucket, keyed, marks_held, all_held}
-use Rattle.segment_machine.specs.Seen.{HasRecord, IsFirst, IsCounterIn, WasCounter}
+use Rattle.segment_machine.specs.Seen.{HasRecord, IsFirst, WasCounter}
 use Rattle.segment_machine.specs.Kept.{Kept}
 use Rattle.segment_machine.specs.Keeps.{KeptMarksAreTaken}
+use Rattle.segment_machine.proofs.Bodies.{counter_within}
 use Rattle.segment_machine.proofs.Pieces.{piece_word}
 use Rattle.segment_machine.proofs.ImpliedRecords.{record_word}
 use Rattle.segment_machine.proofs.ImpliedSpecs.{buckets_are, key_is, form_is}
@@ -53,21 +54,6 @@ packed_all (Some (Packed bucket units)) i is =
 packed_all (Some Empty) i is = refl
 packed_all (Some (Disabled packed)) i is = refl
 packed_all None i is = refl
-
--- a counter is a word of its block
-counter_within : (body : Body) (i : ℕ) → IsCounterIn body i → i < length (words_of body)
-counter_within (histogram r) i (inl is) = omega (arith, is)
-counter_within (histogram r) i (inr is) = omega (arith, is)
-counter_within (counts c) i (from, below) =
-    let long = length-append c.units c.marks in
-    let all = length-append (c.units ++ c.marks) c.rest in
-    omega (arith, below, long, all)
-counter_within (sample s) i (inl is) = omega (arith, is)
-counter_within (sample s) i (inr is) = omega (arith, is)
-counter_within (queue next) i is = absurd is
-counter_within (plain words) i is = absurd is
-counter_within (held block) i is = absurd is
-counter_within (other size tag next payload) i is = absurd is
 
 -- the greater of two numbers is no less than the first
 at_most_greater : (k n m : ℕ) → k ≤ n → k ≤ max n m

@@ -1,5 +1,5 @@
 -- The totals of a kept state are what was counted.
-use Rattle.std.proofs.Common.{◌≡◌, ◌≢◌, ◌⊎◌, Bool, true, false, ◌&&◌, if◌then◌else◌, ℕ, zero, suc, ◌+◌, ◌-◌, ◌<◌, ℤ, pos, List, [], ◌∷◌, ◌++◌, length, sum_by, length-append, inl, inr, ⊎_elim, refl, sym, ap, subst, ◌∙◌, arith, Option, Some}
+use Rattle.std.proofs.Common.{◌≡◌, ◌≢◌, Bool, true, false, ◌&&◌, if◌then◌else◌, ℕ, zero, suc, ◌+◌, ◌-◌, ◌<◌, ℤ, pos, List, [], ◌∷◌, ◌++◌, length, sum_by, length-append, inl, inr, ⊎_elim, refl, sym, ap, subst, ◌∙◌, arith, Option, Some}
 use Rattle.std.specs.Prelude.{slice_index, ◌==◌}
 use Rattle.std.specs.Ordering.{int_eq}
 use Rattle.std.specs.List.{Contains}
@@ -21,12 +21,13 @@ use Rattle.segment_machine.specs.declared.actor.Actor.{Actor}
 use Rattle.segment_machine.specs.declared.actor.Known.{Known}
 use Rattle.segment_machine.specs.declared.place.Place.{Place}
 use Rattle.segment_machine.specs.declared.place.Look.{Look}
-use Rattle.segment_machine.specs.declared.place.Place.TheVariants.{Spent, Idle, FlagsLoaded, FreeLoaded, Raised, Sized, Marked, TailLoaded, Beaten, Linked, Looking, Losing, Moving, CountLoaded, SampleLoaded, SumLoaded, CursorLoaded, BehindCursor}
+use Rattle.segment_machine.specs.declared.place.Place.TheVariants.{Moving}
 use Rattle.segment_machine.specs.State.{State}
 use Rattle.segment_machine.specs.Made.{spec_fields}
 use Rattle.segment_machine.specs.Form.{is_off, units_in}
 use Rattle.segment_machine.specs.Actor.{transit_at, transit_of, known_at, all_counted}
 use Rattle.segment_machine.specs.Entry.{tally_units}
+use Rattle.segment_machine.proofs.Actors.{moves_or_not}
 use Rattle.segment_machine.proofs.Lists.{at_from}
 use Rattle.segment_machine.proofs.Singled.{sum_none}
 use Rattle.segment_machine.specs.Consistent.{bucket_total, HasPlace}
@@ -88,30 +89,6 @@ find_known (x ∷ xs) reference (suc k) known there same = either (x.reference =
         (x, ap (λ (b : Bool). if b then Some x else known_at xs reference) here, (0, omega arith, refl), eqb-true x.reference reference here)
     either false other (found, is, (i, below, at), names_it) =
         (found, ap (λ (b : Bool). if b then Some x else known_at xs reference) other ∙ is, (suc i, omega (arith, below), at), names_it)
-
--- an actor moves units, or has none in transit
-abbrev Still : Place → Type 0
-Still place = ((a : Actor) (name : List ℕ) (key : ℤ) → moving_at a name key place ≡ 0) × ((at i : ℕ) → transit_at place at i ≡ 0)
-
-moves_or_not : (place : Place) → ((look : Look) × (bucket units : ℕ) × (place ≡ Moving look bucket units)) ⊎ Still place
-moves_or_not (Moving look bucket units) = inl (look, bucket, units, refl)
-moves_or_not Spent = inr (λ a name key. refl, λ at i. refl)
-moves_or_not Idle = inr (λ a name key. refl, λ at i. refl)
-moves_or_not FlagsLoaded = inr (λ a name key. refl, λ at i. refl)
-moves_or_not (FreeLoaded free) = inr (λ a name key. refl, λ at i. refl)
-moves_or_not (Raised place size) = inr (λ a name key. refl, λ at i. refl)
-moves_or_not (Sized place size) = inr (λ a name key. refl, λ at i. refl)
-moves_or_not (Marked place size) = inr (λ a name key. refl, λ at i. refl)
-moves_or_not (TailLoaded tail) = inr (λ a name key. refl, λ at i. refl)
-moves_or_not (Beaten tail behind) = inr (λ a name key. refl, λ at i. refl)
-moves_or_not (Linked place tail) = inr (λ a name key. refl, λ at i. refl)
-moves_or_not (Looking look) = inr (λ a name key. refl, λ at i. refl)
-moves_or_not (Losing look place) = inr (λ a name key. refl, λ at i. refl)
-moves_or_not (CountLoaded look bucket count) = inr (λ a name key. refl, λ at i. refl)
-moves_or_not (SampleLoaded reference count) = inr (λ a name key. refl, λ at i. refl)
-moves_or_not (SumLoaded reference sum) = inr (λ a name key. refl, λ at i. refl)
-moves_or_not (CursorLoaded cursor place) = inr (λ a name key. refl, λ at i. refl)
-moves_or_not (BehindCursor cursor place next) = inr (λ a name key. refl, λ at i. refl)
 
 -- ---- a kept state of a new segment
 

@@ -1,11 +1,10 @@
 -- Units of a kept state are in transit in version 1 alone, and in the packed bucket alone.
-use Rattle.std.proofs.Common.{◌≡◌, Bool, true, false, ◌&&◌, ◌==◌, ℕ, ◌<◌, if◌then◌else◌, sym, ap, subst, ◌∙◌, refl, arith, Some}
+use Rattle.std.proofs.Common.{⊎_elim, ◌≡◌, Bool, true, false, ◌&&◌, ◌==◌, ℕ, ◌<◌, if◌then◌else◌, sym, ap, subst, ◌∙◌, refl, arith, Some}
 use Rattle.std.proofs.lemmas.Bool.{eqb-true, and_parts}
 use Rattle.segment_image.specs.Shape.{Dimensions}
 use Rattle.bucket_ranges.specs.Single.{packed_bucket}
 use Rattle.segment_machine.specs.declared.actor.Actor.{Actor}
 use Rattle.segment_machine.specs.declared.place.Place.{Place}
-use Rattle.segment_machine.specs.declared.place.Place.TheVariants.{Spent, Idle, FlagsLoaded, FreeLoaded, Raised, Sized, Marked, TailLoaded, Beaten, Linked, Looking, Losing, Moving, CountLoaded, SampleLoaded, SumLoaded, CursorLoaded, BehindCursor}
 use Rattle.segment_machine.specs.Actor.{transit_at}
 use Rattle.segment_machine.specs.State.{State}
 use Rattle.segment_machine.specs.Body.{Record, blank}
@@ -13,6 +12,7 @@ use Rattle.segment_machine.specs.Ledger.{form_at}
 use Rattle.segment_machine.specs.Seen.{HasRecord}
 use Rattle.segment_machine.specs.Kept.{StandsRight, Kept}
 use Rattle.segment_machine.specs.Keeps.{KeptTransitIsLocal}
+use Rattle.segment_machine.proofs.Actors.{moves_or_not}
 use Rattle.segment_machine.proofs.Singled.{some_counts}
 use Rattle.segment_machine.proofs.ImpliedSpecs.{form_is}
 
@@ -25,29 +25,16 @@ local_to false units above = absurd (omega (arith, above))
 moves : (shape : Dimensions) (version id who : ℕ) (state : State) (kept : Kept shape (blank version id shape.size) state) (a : Actor) (at i : ℕ) (place : Place)
     → StandsRight shape kept.anatomy who a place → 0 < transit_at place at i
     → (r : Record) × HasRecord kept.anatomy.pieces at r × (kept.anatomy.version ≡ 1) × (packed_bucket (form_at 1 r) ≡ Some i)
-moves shape version id who state kept a at i (Moving look bucket units) (looks, first, counts, least, most, (r, there, packed, off), unseen) above =
-    let both = local_to ((look.histogram == at) && (bucket == i)) units above in
+moves shape version id who state kept a at i place stands above = ⊎_elim
+    (λ (look, bucket, units, is).
+    let (looks, first, counts, least, most, (r, there, packed, off), unseen) = subst (StandsRight shape kept.anatomy who a) is stands in
+    let both = local_to ((look.histogram == at) && (bucket == i)) units (subst (λ place. 0 < transit_at place at i) is above) in
     let same = and_parts (look.histogram == at) (bucket == i) both in
     let here : look.histogram ≡ at = eqb-true look.histogram at same.0 in
     let this : bucket ≡ i = eqb-true bucket i same.1 in
-    (r, subst (λ (at : ℕ). HasRecord kept.anatomy.pieces at r) here there, first, packed ∙ ap Some this)
-moves shape version id who state kept a at i Spent stands above = absurd (omega (arith, above))
-moves shape version id who state kept a at i Idle stands above = absurd (omega (arith, above))
-moves shape version id who state kept a at i FlagsLoaded stands above = absurd (omega (arith, above))
-moves shape version id who state kept a at i (FreeLoaded free) stands above = absurd (omega (arith, above))
-moves shape version id who state kept a at i (Raised place size) stands above = absurd (omega (arith, above))
-moves shape version id who state kept a at i (Sized place size) stands above = absurd (omega (arith, above))
-moves shape version id who state kept a at i (Marked place size) stands above = absurd (omega (arith, above))
-moves shape version id who state kept a at i (TailLoaded tail) stands above = absurd (omega (arith, above))
-moves shape version id who state kept a at i (Beaten tail behind) stands above = absurd (omega (arith, above))
-moves shape version id who state kept a at i (Linked place tail) stands above = absurd (omega (arith, above))
-moves shape version id who state kept a at i (Looking look) stands above = absurd (omega (arith, above))
-moves shape version id who state kept a at i (Losing look place) stands above = absurd (omega (arith, above))
-moves shape version id who state kept a at i (CountLoaded look bucket count) stands above = absurd (omega (arith, above))
-moves shape version id who state kept a at i (SampleLoaded reference count) stands above = absurd (omega (arith, above))
-moves shape version id who state kept a at i (SumLoaded reference sum) stands above = absurd (omega (arith, above))
-moves shape version id who state kept a at i (CursorLoaded cursor place) stands above = absurd (omega (arith, above))
-moves shape version id who state kept a at i (BehindCursor cursor place next) stands above = absurd (omega (arith, above))
+    (r, subst (λ (at : ℕ). HasRecord kept.anatomy.pieces at r) here there, first, packed ∙ ap Some this))
+    (λ still. let none = still.1 at i in absurd (omega (arith, none, above)))
+    (moves_or_not place)
 
 pub transit_is_local : KeptTransitIsLocal
 transit_is_local shape version id state lawful kept at i above =

@@ -1,6 +1,6 @@
 -- The units of a kept state are kept: its sums are near each other, by what was spent on their histogram.
-use Rattle.std.proofs.Common.{◌≡◌, Bool, true, false, ℕ, ◌+◌, ◌*◌, ◌≤◌, ℤ, pos, List, length, filter, inl, inr, refl, ap, subst, ◌∙◌, arith}
-use Rattle.std.specs.Prelude.{unsigned_abs, ◌==◌, ◌-ℤ◌, if◌then◌else◌}
+use Rattle.std.proofs.Common.{◌≡◌, ℕ, ◌+◌, ◌*◌, ◌≤◌, ℤ, pos, List, inl, inr, refl, ap, subst, ◌∙◌, arith}
+use Rattle.std.specs.Prelude.{unsigned_abs, ◌-ℤ◌}
 use Rattle.std.specs.Int.{w64, cast_signed}
 use Rattle.std.proofs.Math.IntN.{+ℤ_idr}
 use Rattle.std.proofs.lemmas.List.Sums.{sum_by-le-sum_by}
@@ -14,18 +14,15 @@ use Rattle.segment_machine.specs.Seen.{HasRecord}
 use Rattle.segment_machine.specs.Kept.{summed_cost, summed_costs, IsSumOf, Kept}
 use Rattle.segment_machine.specs.Keeps.{KeptUnitsAreKept}
 use Rattle.segment_machine.proofs.Lists.{at_from}
+use Rattle.segment_machine.proofs.Actors.{summed_most}
 use Rattle.segment_machine.proofs.ImpliedFirsts.{first_of_name}
 use Rattle.segment_machine.proofs.ImpliedRecords.{record_word}
 
 -- what a sum has grown by was spent, or is held
-part_of : (b : Bool) (n : ℕ) → (if b then 0 else n) ≤ n
-part_of true n = omega arith
-part_of false n = omega arith
-
 summed_is_spent : (name : List ℕ) (actors : List Actor) → summed_costs name actors ≤ all_costs actors name
 summed_is_spent name actors =
     sum_by-le-sum_by (summed_cost name) (λ a. cost_of a.costs name + cost_of a.held name) actors
-    (λ a. let part = part_of (length (filter (λ c. c.summed) a.running) == 0) (cost_of a.held name) in omega (arith, part))
+    (summed_most name)
 
 -- ---- a kept state of a new segment
 

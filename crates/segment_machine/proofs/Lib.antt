@@ -5,6 +5,7 @@ pub mod AllocatingKeeps
 pub mod Alone
 pub mod Anatomies
 pub mod Asking
+pub mod Bodies
 pub mod Countings
 pub mod Filling
 pub mod Follow
@@ -72,6 +73,7 @@ pub mod SeatsSplit
 pub mod SeatsSums
 pub mod SeatsTurned
 pub mod Singled
+pub mod Standing
 pub mod Stops
 pub mod Storing
 pub mod Taking

@@ -1,8 +1,8 @@
 -- What holds of one actor stays true while a segment grows: of one that does nothing, and of one that publishes a record or walks.
-use Rattle.std.proofs.Common.{◌≡◌, ◌≢◌, ℕ, ◌+◌, ◌<◌, ◌≤◌, ℤ, List, ◌∷◌, ◌++◌, length, drop, All, Contains, inl, inr, ⊎_elim, refl, sym, ap, ◌∙◌, subst, arith, length-append}
+use Rattle.std.proofs.Common.{◌≡◌, ◌≢◌, ℕ, ◌+◌, ◌<◌, ◌≤◌, ℤ, List, ◌∷◌, ◌++◌, length, drop, All, Contains, inl, inr, ⊎_elim, refl, sym, ap, ◌∙◌, subst, arith}
 use Rattle.std.specs.Prelude.{Some}
 use Rattle.std.specs.Int.{w64, cast_signed}
-use Rattle.std.proofs.lemmas.List.Elements.{All-weaker, All-contains, All-drop, Contains-append_right}
+use Rattle.std.proofs.lemmas.List.Elements.{All-contains, All-drop, Contains-append_right}
 use mathlib.Core.Option.{some}
 use lib.ListN.{get_elem?}
 use Rattle.segment_image.specs.Shape.{Dimensions}
@@ -10,9 +10,7 @@ use Rattle.bucket_ranges.specs.declared.spec.Spec.TheVariants as spec
 use Rattle.bucket_ranges.specs.Spec.{buckets_of}
 use Rattle.bucket_ranges.specs.Single.{packed_bucket, units_packed}
 use Rattle.segment_machine.specs.declared.entry.Entry.{Entry}
-use Rattle.segment_machine.specs.declared.place.Look.{Look}
-use Rattle.segment_machine.specs.declared.place.Place.{Place}
-use Rattle.segment_machine.specs.declared.place.Place.TheVariants.{Spent, Idle, FlagsLoaded, FreeLoaded, Raised, Sized, Marked, TailLoaded, Beaten, Linked, Looking, Losing, Moving, CountLoaded, SampleLoaded, SumLoaded, CursorLoaded, BehindCursor}
+use Rattle.segment_machine.specs.declared.place.Place.TheVariants.{SumLoaded}
 use Rattle.segment_machine.specs.declared.actor.Actor.{Actor}
 use Rattle.segment_machine.specs.declared.actor.Known.{Known}
 use Rattle.segment_machine.specs.declared.actor.Made.TheVariants as made
@@ -23,75 +21,13 @@ use Rattle.segment_machine.specs.Form.{form_of}
 use Rattle.segment_machine.specs.Actor.{word_seen, counted_of, bucket_key}
 use Rattle.segment_machine.specs.Note.{SawBucket}
 use Rattle.segment_machine.specs.Promises.{accepted_by}
-use Rattle.segment_machine.specs.Seats.{spent}
-use Rattle.segment_machine.specs.Body.{Record, Body, queue, plain, held, histogram, counts, sample, other, words_of, Listed, Anatomy}
+use Rattle.segment_machine.specs.Body.{Record, Body, histogram, sample, words_of, Listed, Anatomy}
 use Rattle.segment_machine.specs.Ledger.{form_at}
-use Rattle.segment_machine.specs.Seen.{HasPlain, HasOwn, HasRecord, IsNamed, IsFirstOf, IsCounterIn, WasCounter, Sees}
-use Rattle.segment_machine.specs.Kept.{LooksRight, StandsRight, HoldsOwn, CallsRight, HasKey, IsSettled, LooksBack, Fits}
-use Rattle.segment_machine.proofs.Actors.{Doing, doing, doing_of, SameDeeds, alone_along, within_along, finals_along, finals_doing}
-use Rattle.segment_machine.proofs.ListingGrowth.{Grows, stop_grows, neighbours_grow, first_of_longer, record_stays, record_came}
-
--- ---- where it stands
-
--- what a call rests on that goes on: the free pointer and the tail that it saw, the words that it saw, and its blocks
-pub record Follows (x : Actor) (c : Doing) : Type 0 where
-  pub free : c.seen_free ≡ x.seen_free
-  pub tail : c.seen_tail ≡ x.seen_tail
-  pub words : (s : Sighting) → Contains x.seen_words s → Contains c.seen_words s
-  pub own : (block : Own) → Contains x.own block → (still : Own) × Contains c.own still × (still.at ≡ block.at) × (still.tag ≡ block.tag)
-  pub spent : x ≡ spent → doing x c ≡ spent
-
-pub follows_itself : (x : Actor) → Follows x (doing_of x)
-follows_itself x = record { free = refl; tail = refl; words = λ s there. there; own = λ block there. (block, there, refl, refl); spent = λ is. is }
-
-looks_right : (x : Actor) (c : Doing) (look : Look) → Follows x c → LooksRight x look → LooksRight (doing x c) look
-looks_right x c look follows right = record {
-  known = right.known;
-  knows = right.knows;
-  single = right.single;
-  counts = λ some_counts. follows.words _ (right.counts some_counts);
-}
-
-module _ (shape : Dimensions) (old new : Anatomy) (added : ℕ → Body → Type 0) (grows : Grows old new added) where
-  module _ (id : ℕ) (plain_stays : (at : ℕ) (words : List ℕ) → HasPlain old.pieces id at words → HasPlain new.pieces id at words) (x : Actor) (c : Doing)
-      (follows : Follows x c) where
-    pub stands_grow : (place : Place) → StandsRight shape old id x place → StandsRight shape new id (doing x c) place
-    stands_grow Spent stands = follows.spent stands
-    stands_grow Idle stands = tt
-    stands_grow FlagsLoaded stands = tt
-    stands_grow (FreeLoaded free) stands = follows.free ∙ stands
-    stands_grow (Raised at size) stands = (stands.0, plain_stays at _ stands.1)
-    stands_grow (Sized at size) stands = (stands.0, plain_stays at _ stands.1)
-    stands_grow (Marked at size) stands = (stands.0, plain_stays at _ stands.1)
-    stands_grow (TailLoaded tail) stands = (follows.tail ∙ stands.0, stop_grows old new added grows tail stands.1)
-    stands_grow (Beaten tail behind) stands = neighbours_grow old new added grows tail behind stands
-    stands_grow (Linked at tail) stands = neighbours_grow old new added grows tail at stands
-    stands_grow (Looking look) stands = looks_right x c look follows stands
-    stands_grow (Losing look at) (right, there, apart, (block, mine, place, tag)) =
-        let (still, has, same, kind) = follows.own block mine in
-        (looks_right x c look follows right, there, apart, (still, has, same ∙ place, kind ∙ tag))
-    stands_grow (Moving look bucket units) (right, one, there, least, most, (r, stands, packed, off), apart) =
-        let (n, still) = record_stays old new added grows look.histogram r stands in
-        (looks_right x c look follows right, grows.version ∙ one, there, least, most, (record r { next = n }, still, packed, off), apart)
-    stands_grow (CountLoaded look bucket count) ((right, there, off), saw) = ((looks_right x c look follows right, there, off), saw)
-    stands_grow (SampleLoaded reference count) stands = stands
-    stands_grow (SumLoaded reference sum) stands = stands
-    stands_grow (CursorLoaded cursor at) stands = (stop_grows old new added grows at stands.0, stands.1)
-    stands_grow (BehindCursor cursor at next) stands = (neighbours_grow old new added grows at next stands.0, stands.1)
-
--- a counter is a word of its block
-pub counter_within : (body : Body) (i : ℕ) → IsCounterIn body i → i < length (words_of body)
-counter_within (histogram r) i counter = ⊎_elim (λ a. let here : i < length (words_of (histogram r)) = omega (arith, a) in here) (λ b. let here : i < length (words_of (histogram r)) = omega (arith, b) in here) counter
-counter_within (counts c) i counter =
-    let below = counter.1 in
-    let a = length-append (c.units ++ c.marks) c.rest in
-    let b = length-append c.units c.marks in
-    omega (arith, below, a, b)
-counter_within (queue next) i counter = absurd counter
-counter_within (plain words) i counter = absurd counter
-counter_within (held block) i counter = absurd counter
-counter_within (other size tag next payload) i counter = absurd counter
-counter_within (sample s) i counter = ⊎_elim (λ a. let here : i < length (words_of (sample s)) = omega (arith, a) in here) (λ b. let here : i < length (words_of (sample s)) = omega (arith, b) in here) counter
+use Rattle.segment_machine.specs.Seen.{HasRecord, IsNamed, IsFirstOf, WasCounter, Sees}
+use Rattle.segment_machine.specs.Kept.{HoldsOwn, CallsRight, HasKey, IsSettled, LooksBack, Fits}
+use Rattle.segment_machine.proofs.Bodies.{counter_within}
+use Rattle.segment_machine.proofs.Actors.{Doing, doing, doing_of, finals_doing}
+use Rattle.segment_machine.proofs.ListingGrowth.{Grows, first_of_longer, record_stays, record_came}
 
 -- ---- what holds of one actor
 
@@ -112,8 +48,7 @@ saw_itself x = record {
   loaded = λ reference sum is. is;
 }
 
-module _ (shape : Dimensions) (old new : Anatomy) (added : ℕ → Body → Type 0) (grows : Grows old new added) (actors actors' : List Actor)
-    (same : SameDeeds actors actors') (x : Actor) (c : Doing) (more : SawMore x c)
+module _ (shape : Dimensions) (old new : Anatomy) (added : ℕ → Body → Type 0) (grows : Grows old new added) (actors : List Actor) (x : Actor) (c : Doing) (more : SawMore x c)
     (keyed : (entry : Entry) → Contains (x.inherited ++ counted_of x) entry → 0 < entry.units → HasKey old.records entry.name entry.key)
     (known_record : (known : Known) → Contains x.names known → (r : Record) × HasRecord old.pieces known.reference r)
     (loaded_record : (reference : ℕ) (sum : ℤ) → x.place ≡ SumLoaded reference sum → (r : Record) × HasRecord old.pieces reference r)
@@ -154,18 +89,17 @@ module _ (shape : Dimensions) (old new : Anatomy) (added : ℕ → Body → Type
   saw_before known bucket total named (word, single, inr (off, (place, count, seen, saw, is))) =
       (word, single, inr (off, (place, count, more.counts known place named seen, saw, is)))
 
-  settled_before : (known : Known) (bucket : ℕ) → IsSettled new actors' (doing x c) known bucket → IsSettled old actors x known bucket
+  settled_before : (known : Known) (bucket : ℕ) → IsSettled new actors (doing x c) known bucket → IsSettled old actors x known bucket
   settled_before known bucket (inl two) = inl (sym grows.version ∙ two)
-  settled_before known bucket (inr (inl alone)) = inr (inl (alone_along actors actors' same x alone))
+  settled_before known bucket (inr (inl alone)) = inr (inl alone)
   settled_before known bucket (inr (inr apart)) = inr (inr (λ r there.
       let (n, still) = record_stays old new added grows known.reference r there in
       subst (λ (version : ℕ). packed_bucket (form_at version r) ≢ Some bucket) grows.version (apart (record r { next = n }) still)))
 
-  looks_grow : LooksBack old actors x → LooksBack new actors' (doing x c)
+  looks_grow : LooksBack old actors x → LooksBack new actors (doing x c)
   looks_grow looks = record {
     most = λ known bucket total named below saw.
-        subst (λ (entries : List Entry). total ≤ tally_units entries known.name (bucket_key (Some known) bucket)) (sym same.counted)
-        (looks.most known bucket total named below (saw_before known bucket total named saw));
+        looks.most known bucket total named below (saw_before known bucket total named saw);
     packed = λ known bucket word named below saw on.
         subst (λ (version : ℕ). tally_units (accepted_by x) known.name (bucket_key (Some known) bucket) ≤ units_packed (form_of version (buckets_of known.spec) word) bucket)
         (sym grows.version) (looks.packed known bucket word named below saw on);
@@ -189,7 +123,7 @@ module _ (shape : Dimensions) (old new : Anatomy) (added : ℕ → Body → Type
     noted = looks.noted;
     sum = λ reference sum r stood alone there. ⊎_elim
         (λ t. let (r0, n, before, is) = t in
-        looks.sum reference sum r0 (more.loaded reference sum stood) (alone_along actors actors' same x alone) before
+        looks.sum reference sum r0 (more.loaded reference sum stood) alone before
         ∙ ap (λ (z : Record). cast_signed w64 z.sum) (sym is))
         (λ new_one. let (r1, was) = loaded_record reference sum (more.loaded reference sum stood) in
         absurd (no_record reference (histogram r) r1 (omega arith) new_one was))
@@ -199,7 +133,7 @@ module _ (shape : Dimensions) (old new : Anatomy) (added : ℕ → Body → Type
   -- all that holds of it
   pub fits_grow : (cursors : List ℕ) (opener : Actor) (id : ℕ) → Sees new cursors (doing x c) → All (HoldsOwn shape new.pieces id) c.own
       → ((i j : ℕ) (y z : Own) → get_elem? c.own i ≡ some y → get_elem? c.own j ≡ some z → y.at ≡ z.at → i ≡ j)
-      → Fits shape old cursors actors opener id x → Fits shape new cursors actors' opener id (doing x c)
+      → Fits shape old cursors actors opener id x → Fits shape new cursors actors opener id (doing x c)
   fits_grow cursors opener id sees own apart fits = record {
     shaped = fits.shaped;
     versioned = fits.versioned ∙ sym grows.version;
@@ -208,13 +142,6 @@ module _ (shape : Dimensions) (old new : Anatomy) (added : ℕ → Body → Type
     apart = apart;
     calls = calls_grow fits.calls;
     looks = λ records. looks_grow (fits.looks records);
-    finals = finals_doing actors' opener id x c (finals_along actors actors' same opener id x fits.finals);
-    snapshots = within_along actors actors' same x fits.snapshots;
+    finals = finals_doing actors opener id x c fits.finals;
+    snapshots = fits.snapshots;
   }
-
--- a block of another actor stays
-pub own_stays : (shape : Dimensions) (old new : Anatomy) (id : ℕ) → ((own : Own) → HasOwn old.pieces id own → HasOwn new.pieces id own)
-    → (list : List Own) → All (HoldsOwn shape old.pieces id) list → All (HoldsOwn shape new.pieces id) list
-own_stays shape old new id stays list all = All-weaker (HoldsOwn shape old.pieces id) (HoldsOwn shape new.pieces id)
-    (λ own holds. record { stands = stays own holds.stands; placed = holds.placed; room = holds.room; tagged = holds.tagged; ends = holds.ends })
-    list all

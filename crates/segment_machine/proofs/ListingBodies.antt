@@ -1,15 +1,13 @@
 -- A block of one's own that may be published holds just the words of what it is published as: a lawful record or sample that counts
 -- nothing, and a counts block of zeros.
-use Rattle.std.proofs.Common.{◌≡◌, ◌≢◌, ◌⊎◌, ℕ, zero, suc, ◌+◌, ◌-◌, ◌*◌, ◌≤◌, ◌&&◌, ℤ, pos, Bool, true, false, List, [], ◌∷◌, ◌++◌, length, replicate, sum_by, All, inl, inr, ⊎_elim, refl, sym, ap, ◌∙◌, subst, arith, length-append, append_assoc}
+use Rattle.std.proofs.Common.{◌≡◌, ◌≢◌, ◌⊎◌, ℕ, suc, ◌+◌, ◌-◌, ◌*◌, ◌≤◌, ℤ, true, List, [], ◌∷◌, ◌++◌, length, replicate, All, inl, inr, ⊎_elim, refl, sym, ap, ◌∙◌, subst, arith, length-append, append_assoc}
 use Rattle.std.specs.Prelude.{slice_index, if◌then◌else◌, Some, None, nat_le}
 use Rattle.std.specs.Prelude as std
-use Rattle.std.specs.Ordering.{int_eq}
-use Rattle.std.specs.List.{range_with_len}
 use Rattle.std.specs.Int.{w64, cast_unsigned}
+use Rattle.std.proofs.lemmas.Bool.{and_parts}
 use Rattle.std.proofs.lemmas.Bool.{leb-true}
 use Rattle.std.proofs.lemmas.List.{length-replicate, replicate-append-replicate}
 use Rattle.std.proofs.lemmas.List.Elements.{All-replicate}
-use Rattle.std.proofs.lemmas.List.Sums.{sum_by-cons}
 use Rattle.segment_image.proofs.ReadWords.{length-bytes_of_words}
 use Rattle.bucket_ranges.specs.declared.spec.Spec.{Spec}
 use Rattle.bucket_ranges.specs.declared.spec.Spec.TheVariants.{Linear, Boolean, Custom, Sparse}
@@ -22,7 +20,7 @@ use Rattle.segment_machine.specs.declared.actor.Own.{Own}
 use Rattle.segment_machine.specs.Form.{is_off, form_of, off_word, units_in}
 use Rattle.segment_machine.specs.Made.{spec_fields, spec_ranges, AreNameWords}
 use Rattle.segment_machine.specs.Body.{Record, Counts, Sample, own_words, record_words, counts_words, sample_words, spec_field}
-use Rattle.segment_machine.specs.Ledger.{form_at, key_of_bucket, keyed}
+use Rattle.segment_machine.specs.Ledger.{form_at}
 use Rattle.segment_machine.specs.Kept.{IsLawfulRecord, IsCountsOf, IsLawfulSample, CountsNothing}
 
 -- ---- the single word of a new record
@@ -80,15 +78,11 @@ record_of own name spec counts single letters = record {
 
 one_letter : (name letters : List ℕ) → is_name name ≡ true → AreNameWords name letters → 1 ≤ length letters
 one_letter name letters named (k, few, are) =
-    let least : 1 ≤ length name = leb-true 1 (length name) (first_and (nat_le 1 (length name)) _ (first_and _ _ (first_and _ _ named))) in
+    let least : 1 ≤ length name = leb-true 1 (length name) (and_parts (nat_le 1 (length name)) _ (and_parts _ _ (and_parts _ _ named).0).0).0 in
     let bytes = length-bytes_of_words letters in
     let all = ap length are in
     let e = length-append name (replicate {A = ℕ} k 0) in
     omega (arith, least, bytes, all, e)
-  where
-    first_and : (a b : Bool) → a && b ≡ true → a ≡ true
-    first_and true b e = refl
-    first_and false b e = e
 
 module _ (own : Own) (name : List ℕ) (spec : Spec) (counts single : ℕ) (letters : List ℕ)
     (payload_is : own.payload ≡ spec_fields spec ++ counts ∷ single ∷ 0 ∷ 0 ∷ 0 ∷ 0 ∷ length name ∷ (letters ++ spec_ranges spec)) where
@@ -258,29 +252,3 @@ module _ (own : Own) (name : List ℕ) (histogram : ℕ) (value : ℤ) (k : ℕ)
   sample_lawful valued =
       let rest = length-replicate {A = ℕ} (own.size - 8) 0 in
       record { sized = omega (arith, rest, room); valued = valued; taken = omega arith }
-
--- ---- what these hold
-
-zeros_at : (n i : ℕ) → slice_index (replicate n 0) i ≡ 0
-zeros_at zero i = refl
-zeros_at (suc n) zero = refl
-zeros_at (suc n) (suc i) = zeros_at n i
-
-sum_zero : {X : Type 0} (f : X → ℕ) (list : List X) → ((x : X) → f x ≡ 0) → sum_by f list ≡ 0
-sum_zero f [] none = refl
-sum_zero f (x ∷ xs) none = let e = sum_by-cons f x xs in let h = none x in let t = sum_zero f xs none in omega (arith, e, h, t)
-
--- a number that is 0 is 0 of any name
-pub none_of : (b : Bool) (n : ℕ) → n ≡ 0 → (if b then n else 0) ≡ 0
-none_of true n none = none
-none_of false n none = refl
-
-pub no_amount : (b : Bool) (x : ℤ) → x ≡ pos 0 → (if b then x else pos 0) ≡ pos 0
-no_amount true x none = none
-no_amount false x none = refl
-
--- zeros have nothing of any key
-pub keyed_zeros : (spec : Spec) (key : ℤ) (n : ℕ) → keyed spec key (replicate n 0) ≡ 0
-keyed_zeros spec key n =
-    sum_zero (λ (i : ℕ). if int_eq (key_of_bucket spec i) key then slice_index (replicate {A = ℕ} n 0) i else 0) (range_with_len 0 (length (replicate {A = ℕ} n 0)))
-    (λ i. none_of (int_eq (key_of_bucket spec i) key) (slice_index (replicate {A = ℕ} n 0) i) (zeros_at n i))

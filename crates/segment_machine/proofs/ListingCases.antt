@@ -30,7 +30,7 @@ use Rattle.segment_machine.proofs.Lists.{all_at}
 use Rattle.segment_machine.proofs.Pieces.{piece_from, one_stands}
 use Rattle.segment_machine.proofs.ListingRecords.{AreZeros, AddedRight}
 use Rattle.segment_machine.proofs.ListingLists.{snoc_split, own_found}
-use Rattle.segment_machine.proofs.ListingBodies.{IsBlank, record_of, record_words_are, counts_are, is_blank, record_nothing, record_off, record_lawful, counts_of, counts_words_are, counts_zeros, counts_lawful, sample_of, sample_words_are, sample_lawful, keyed_zeros}
+use Rattle.segment_machine.proofs.ListingBodies.{IsBlank, record_of, record_words_are, counts_are, is_blank, record_nothing, record_off, record_lawful, counts_of, counts_words_are, counts_zeros, counts_lawful, sample_of, sample_words_are, sample_lawful}
 use Rattle.segment_machine.proofs.ListingPublishes.{next_owned, record_held, counts_held, sample_held, Publishes, Only, one_published, both_published}
 use Rattle.segment_machine.proofs.ListingLinked.{mine_fits, holds, stored, halfway, links_on}
 
@@ -206,11 +206,14 @@ module _ (shape : Dimensions) (opened : Anatomy) (state : State) (kept : Kept sh
       abbrev added : ℕ → Body → Type 0
       added at body = Only own.at (histogram r) at body ⊎ Only block.at (counts c) at body
 
+      zeros_now : AreZeros c
+      zeros_now = counts_zeros block own.at name spec second_tag bare room
+
       published : Publishes shape id half pieces added
       published = both_published shape id half (pieces_of (histogram r)) pieces (Only own.at (histogram r)) (Only block.at (counts c)) first_published
           (one_published shape id (record half { pieces = pieces_of (histogram r) }) block (counts c) owned_now
           (counts_words_are block own.at name spec second_tag bare room) refl
-          (counts_held anatomy.version block c (λ key. keyed_zeros spec key (buckets_of spec)) (λ key. keyed_zeros spec key (buckets_of spec))))
+          (counts_held anatomy.version block c zeros_now))
 
       shown : IsShown shape (set state.words (tail + 3) own.at) (layout_of (record anatomy { pieces = pieces }))
       shown = published.shown (set state.words (tail + 3) own.at) shown_half
@@ -220,9 +223,6 @@ module _ (shape : Dimensions) (opened : Anatomy) (state : State) (kept : Kept sh
 
       record_here : HasRecord pieces own.at r
       record_here = published.here own.at (histogram r) (inl (refl, refl))
-
-      zeros_now : AreZeros c
-      zeros_now = counts_zeros block own.at name spec second_tag bare room
 
       -- what it names is that block
       named_by : (r' : Record) → r' ≡ r → block.at ≡ r'.counts

@@ -6,7 +6,7 @@ use mathlib.Core.Option.{some}
 use mathlib.Core.Logic.{dite}
 use native.Mathlib.Decide.{ℕ_discrete}
 use lib.ListN.{get_elem?}
-use lib.Seq.{set-get_or}
+use lib.Seq.{set-get_or, get_or-append_seam}
 use Rattle.atomic_table.proofs.Lists.{at_longer}
 use Rattle.segment_image.specs.Shape.{Dimensions}
 use Rattle.segment_image.specs.Words.{word_at}
@@ -34,9 +34,9 @@ use Rattle.segment_machine.proofs.Lists.{at_from, below_length, index_at}
 use Rattle.segment_machine.proofs.Stops.{linked_beside_head}
 use Rattle.segment_machine.proofs.Actors.{Doing, doing, TurnsTo, is_plain, turns_plain, turns_unbound, turns_not}
 use Rattle.segment_machine.proofs.Goings.{happens}
-use Rattle.segment_machine.proofs.Acting.{stays_same}
-use Rattle.segment_machine.proofs.ListingGrowth.{grows_not, stop_at}
-use Rattle.segment_machine.proofs.ListingActors.{Follows, stands_grow, SawMore}
+use Rattle.segment_machine.proofs.ListingGrowth.{stop_at}
+use Rattle.segment_machine.proofs.ListingActors.{SawMore}
+use Rattle.segment_machine.proofs.Standing.{grounds_itself, Follows, stands_on}
 use Rattle.segment_machine.proofs.ListingWalks.{stop_within, tail_word, walking, reference_is, looks_on}
 
 -- ---- fronts of the list
@@ -48,16 +48,12 @@ front_stop front chain at (rest, is) has =
     let there : get_elem? chain i ≡ some at = subst (λ (l : List ℕ). get_elem? l i ≡ some at) (sym is) (at_longer front rest i at here) in
     (suc i, below_length chain i at there, index_at chain i at 0 there)
 
-at_seam : (front rest : List ℕ) (r : ℕ) → slice_index (front ++ r ∷ rest) (length front) ≡ r
-at_seam [] rest r = refl
-at_seam (x ∷ front) rest r = at_seam front rest r
-
 -- a front with the next record of the chain is one
 prefix_longer : (front chain : List ℕ) (found : ℕ) → IsPrefix front chain → length front < length chain
     → slice_index chain (length front) ≡ found → IsPrefix (front ++ found ∷ []) chain
 prefix_longer front chain found ([], is) lt next = let long = ap length is in let e = length-append front [] in absurd (omega (arith, long, e, lt))
 prefix_longer front chain found (r ∷ rest, is) lt next =
-    let same : r ≡ found = sym (at_seam front rest r) ∙ (ap (λ (l : List ℕ). slice_index l (length front)) (sym is) ∙ next) in
+    let same : r ≡ found = sym (get_or-append_seam front r rest 0) ∙ (ap (λ (l : List ℕ). slice_index l (length front)) (sym is) ∙ next) in
     (rest, is ∙ (ap (λ (n : ℕ). front ++ n ∷ rest) same ∙ sym (append_assoc front (found ∷ []) rest)))
 
 -- so is what an actor has seen of the chain, when it loaded a next
@@ -228,7 +224,7 @@ module _ (shape : Dimensions) (opened : Anatomy) (state : State) (kept : Kept sh
       (λ ends. (0, omega arith, sym ends))
       (λ goes. behind_stop order at _ (link_missed state.words order at kept.list.linked stop goes))
 
-  module _ (d : Doing) (follows : Follows a d) (from found : ℕ) (near : found ≢ 12 → AreNeighbours order from found) where
+  module _ (d : Doing) (follows : Follows a (doing a d)) (from found : ℕ) (near : found ≢ 12 → AreNeighbours order from found) where
     stands_behind : (place : Place) → StandsRight shape kept.anatomy id a place → StandsRight shape kept.anatomy id (doing a d) (behind place from found)
     stands_behind (CursorLoaded cursor at) (stop, saw) =
         let by : Bool → Bool → Type 0 =
@@ -240,9 +236,7 @@ module _ (shape : Dimensions) (opened : Anatomy) (state : State) (kept : Kept sh
         (subst (λ (n : ℕ). AreNeighbours order n found) here (near goes), saw)))
         (λ apart. subst (λ (b : Bool). by b (found == 12)) (sym (ne_eqb from at apart)) (stop, saw))
     stands_behind place stands =
-        stands_grow shape kept.anatomy kept.anatomy (λ at body. ⊥)
-        (grows_not kept.anatomy kept.anatomy.pieces kept.anatomy.spare kept.anatomy.corrupt kept.anatomy.full kept.anatomy.tail (stays_same kept.anatomy.pieces))
-        id (λ at words has. has) a d follows place stands
+        stands_on shape kept.anatomy kept.anatomy id a (doing a d) (grounds_itself kept.anatomy id) follows place stands
 
   pub next_loaded : (at : ℕ) → Ready a (load_next at) → Goes (load_next at)
   next_loaded at (unbound, follow) =
@@ -254,9 +248,9 @@ module _ (shape : Dimensions) (opened : Anatomy) (state : State) (kept : Kept sh
       let turns = turns_behind a at found a.place refl lives in
       let fits = kept.each id a mine lives in
       let d : Doing = walking shape opened state kept id a mine records place a.own a.seen_tail chain a.seen_words in
-      let follows : Follows a d = record {
-        free = refl;
-        tail = refl;
+      let follows : Follows a (doing a d) = record {
+        saw = (refl, refl, refl, refl, refl);
+        names = λ known has. has;
         words = λ s has. has;
         own = λ block has. (block, has, refl, refl);
         spent = λ spent. absurd (lives (ap (λ (b : Actor). b.place) spent));

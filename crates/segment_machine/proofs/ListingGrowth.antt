@@ -1,8 +1,9 @@
 -- How a segment grows while records are put on its list: published blocks stay but for their nexts, the list becomes longer at its
 -- end, and what was seen stays true.
-use Rattle.std.proofs.Common.{◌≡◌, ◌≢◌, ◌⊎◌, ℕ, zero, suc, ◌+◌, ◌<◌, ◌≤◌, ℤ, Bool, true, List, [], ◌∷◌, ◌++◌, map, length, All, inl, inr, ⊎_elim, refl, sym, ap, ◌∙◌, subst, arith, append_assoc, append-nil, length-append}
-use Rattle.std.specs.Prelude.{slice_index, Some}
-use Rattle.std.proofs.lemmas.List.{get_or_append_left}
+use Rattle.std.proofs.Common.{◌≡◌, ◌≢◌, ◌⊎◌, ℕ, zero, suc, ◌+◌, ◌<◌, ◌≤◌, ℤ, pos, Bool, true, List, [], ◌++◌, map, length, All, inl, inr, ⊎_elim, refl, sym, ap, ◌∙◌, subst, arith, append_assoc, append-nil, length-append}
+use Rattle.std.specs.Prelude.{slice_index, Some, None}
+use Rattle.std.specs.Prelude as std
+use Rattle.std.proofs.lemmas.List.{get_or_append_left, map-append}
 use Rattle.std.proofs.lemmas.List.Elements.{All-weaker}
 use mathlib.Core.Option.{none}
 use Rattle.bucket_ranges.specs.declared.spec.Spec.{Spec}
@@ -15,11 +16,15 @@ use Rattle.list_core.proofs.Prefixes.{prefix_of_prefix}
 use Rattle.segment_machine.specs.declared.actor.Actor.{Actor}
 use Rattle.segment_machine.specs.declared.actor.Known.{Known}
 use Rattle.segment_machine.specs.declared.actor.Sighting.{Sighting}
+use Rattle.segment_machine.specs.declared.actor.Made.{Made}
 use Rattle.segment_machine.specs.declared.actor.Made.TheVariants as made
+use Rattle.segment_machine.specs.declared.actor.Own.{Own}
 use Rattle.segment_machine.specs.Form.{is_off, Leads}
 use Rattle.segment_machine.specs.Body.{Record, Counts, Sample, Body, queue, plain, held, histogram, counts, sample, other, words_of, is_claimed, Piece, Listed, Anatomy, order_of, free_of}
-use Rattle.segment_machine.specs.Seen.{Stands, HasRecord, HasCounts, HasSample, IsNamed, IsFirst, IsFirstOf, IsFixedIn, IsCounterIn, WasFixed, WasCounter, WasInUse, WasSingle, IsNoLater, Knows, Sees}
-use Rattle.segment_machine.proofs.Anatomies.{reshaped, Stays}
+use Rattle.segment_machine.specs.Ledger.{all_held, all_amounts}
+use Rattle.segment_machine.specs.Seen.{Stands, HasPlain, HasRecord, HasCounts, HasSample, IsNamed, IsFirst, IsFirstOf, IsFixedIn, IsCounterIn, WasFixed, WasCounter, WasInUse, WasSingle, IsNoLater, Knows, Sees}
+use Rattle.segment_machine.specs.Kept.{StandsAs}
+use Rattle.segment_machine.proofs.Standing.{Grounds}
 
 -- ---- the next of a block
 
@@ -128,10 +133,6 @@ no_later_longer chain more seen present (i, j, le, within, is, then) =
     let long = longer_by chain more in
     (i, j, le, omega (arith, within, long), stop_at chain more i (omega (arith, le, within)) ∙ is, stop_at chain more j within ∙ then)
 
-pub order_longer : (records more : List Listed) → map (λ (l : Listed). l.reference) (records ++ more) ≡ map (λ (l : Listed). l.reference) records ++ map (λ (l : Listed). l.reference) more
-order_longer [] more = refl
-order_longer (l ∷ rest) more = ap (λ order. l.reference ∷ order) (order_longer rest more)
-
 -- the first record of a name, and of a value, stays the first
 pub first_longer : (records more : List Listed) (name : List ℕ) (spec : Spec) (at : ℕ) → IsFirst records name spec at → IsFirst (records ++ more) name spec at
 first_longer records more name spec at (front, behind, is, none_before) =
@@ -142,6 +143,24 @@ first_of_longer records more of at value (front, behind, is, none_before) =
     (front, behind ++ more, ap (λ (l : List Listed). l ++ more) is ∙ append_assoc front _ more, none_before)
 
 -- ---- how a segment grows
+
+-- the anatomy with other blocks, other flags and another tail, and the same records
+abbrev pub reshaped : Anatomy → List Piece → ℕ → Bool → Bool → ℕ → Anatomy
+reshaped anatomy pieces spare corrupt full tail =
+    record anatomy { pieces = pieces; spare = spare; corrupt = corrupt; full = full; tail = tail }
+
+-- a number that blocks in the making, one's own blocks and the queue block do not have
+abbrev pub IsSilent : {X : Type 0} → X → (Body → X) → Type 0
+IsSilent nothing holds =
+    ((words : List ℕ) → holds (plain words) ≡ nothing) × ((block : Own) → holds (held block) ≡ nothing)
+    × ((next : ℕ) → holds (queue next) ≡ nothing)
+
+-- What was published stays: a block without owner stands where it stood, and no other has come; and together they hold what they held.
+pub record Stays (old new : List Piece) : Type 0 where
+  pub there : (at : ℕ) (body : Body) → Stands old at none body → Stands new at none body
+  pub back : (at : ℕ) (body : Body) → Stands new at none body → Stands old at none body
+  pub held : (holds : Body → ℕ) → IsSilent 0 holds → all_held holds new ≡ all_held holds old
+  pub amounts : (holds : Body → ℤ) → IsSilent (pos 0) holds → all_amounts holds new ≡ all_amounts holds old
 
 -- Published blocks stay, but for their nexts; those that come beside them are `added`, and lie where no published one was. The list
 -- becomes longer at its end.
@@ -207,7 +226,7 @@ is_sample (other size tag next payload) n s is = absurd (cc is)
 
 module _ (old new : Anatomy) (added : ℕ → Body → Type 0) (grows : Grows old new added) where
   pub order_grows : order_of new ≡ order_of old ++ map (λ (l : Listed). l.reference) grows.more
-  order_grows = ap (map (λ (l : Listed). l.reference)) grows.records ∙ order_longer old.records grows.more
+  order_grows = ap (map (λ (l : Listed). l.reference)) grows.records ∙ map-append (λ (l : Listed). l.reference) old.records grows.more
 
   -- what is on the list stays where it is
   pub stop_grows : (at : ℕ) → IsStop (order_of old) at → IsStop (order_of new) at
@@ -308,4 +327,23 @@ module _ (old new : Anatomy) (added : ℕ → Body → Type 0) (grows : Grows ol
         (λ s. (s.at < length cursors) × IsNoLater (order_of new) s.word (slice_index cursors s.at))
         (λ s t. (t.0, no_later_grows s.word (slice_index cursors s.at) t.1)) a.seen_cursors sees.shared;
     names = All-weaker (Knows old) (Knows new) known_stays a.names sees.names;
+  }
+
+  -- a listed record stands as what it was given
+  pub stands_as_grows : (l : Listed) (given : std.Option Made) → StandsAs old.pieces l given → StandsAs new.pieces l given
+  stands_as_grows l (Some (made.Histogram name spec)) (r, stands, named, same) =
+      let (n, still) = grows.stays l.reference (histogram r) refl stands in (record r { next = n }, still, named, same)
+  stands_as_grows l (Some (made.Sample of value)) (s, stands, named, same) =
+      let (n, still) = grows.stays l.reference (sample s) refl stands in (record s { next = n }, still, named, same)
+  stands_as_grows l None (size, tag, next, payload, stands, first, third, long) =
+      let (n, still) = grows.stays l.reference (other size tag next payload) refl stands in (size, tag, n, payload, still, first, third, long)
+
+  -- what an actor stands on stays, where its words in the making do
+  pub grounds_grow : (id : ℕ) → ((at : ℕ) (words : List ℕ) → HasPlain old.pieces id at words → HasPlain new.pieces id at words) → Grounds old new id
+  grounds_grow id others = record {
+    version = grows.version;
+    stop = stop_grows;
+    near = neighbours_grow;
+    recorded = record_stays;
+    making = others;
   }

@@ -1,9 +1,10 @@
 -- A kept state in which one actor puts a record on the list or walks along it: all that is kept, from what changes.
-use Rattle.std.proofs.Common.{◌≡◌, ◌≢◌, ℕ, zero, suc, ◌+◌, ◌<◌, ◌≤◌, ◌&&◌, ℤ, Bool, true, false, List, [], ◌∷◌, ◌++◌, map, filter, flat_map, All, Contains, ⊎_elim, refl, sym, ap, ◌∙◌, subst, arith, eq-eqb}
+use Rattle.std.proofs.Common.{◌≡◌, ◌≢◌, ℕ, suc, ◌<◌, ℤ, Bool, true, List, [], ◌∷◌, ◌++◌, map, filter, All, Contains, ⊎_elim, refl, sym, ap, ◌∙◌, subst, arith}
 use Rattle.std.specs.Prelude.{slice_index, Some}
 use Rattle.std.specs.Prelude as std
+use Rattle.std.proofs.lemmas.Bool.{and_parts}
 use Rattle.std.proofs.lemmas.List.Elements.{All-contains, Contains-append_left, Contains-append_right, Contains-append_cases}
-use mathlib.Core.Option.{some, some-injective, some-ne-none}
+use mathlib.Core.Option.{some, some-injective}
 use mathlib.Core.Logic.{dite}
 use native.Mathlib.Decide.{ℕ_discrete}
 use lib.ListN.{get_elem?}
@@ -14,27 +15,22 @@ use Rattle.segment_machine.specs.declared.actor.Actor.{Actor}
 use Rattle.segment_machine.specs.declared.actor.Known.{Known}
 use Rattle.segment_machine.specs.declared.actor.Made.TheVariants as made
 use Rattle.segment_machine.specs.declared.actor.Own.{Own}
-use Rattle.segment_machine.specs.declared.actor.Taken.{Taken}
 use Rattle.segment_machine.specs.declared.place.Place.TheVariants.{Spent, SumLoaded}
-use Rattle.segment_machine.specs.Entry.{is_counted, has_ended, counted_among, tally_units, tally_sum, tally_noted}
-use Rattle.segment_machine.specs.Actor.{log_of, counted_of, all_counted, taken_units, taken_sum}
-use Rattle.segment_machine.specs.Body.{Record, Body, Piece, Listed, Anatomy}
-use Rattle.segment_machine.specs.Ledger.{units_held, marks_held, sum_held, sum_mark_held, noted_held, all_held, all_amounts, IsBalanced}
+use Rattle.segment_machine.specs.Entry.{is_counted, has_ended, counted_among}
+use Rattle.segment_machine.specs.Actor.{log_of, counted_of, all_counted}
+use Rattle.segment_machine.specs.Body.{Record, Body, Listed, Anatomy}
 use Rattle.segment_machine.specs.Seen.{HasRecord, Knows, Sees}
 use Rattle.segment_machine.specs.State.{State}
-use Rattle.segment_machine.specs.Kept.{StandsAs, HasKey, is_living, StandsRight, HoldsOwn, Fits, Kept}
-use Rattle.segment_machine.proofs.Actors.{Doing, doing, SameDeeds, living_at}
+use Rattle.segment_machine.specs.Kept.{StandsAs, HasKey, StandsRight, HoldsOwn, Fits, Kept}
+use Rattle.segment_machine.proofs.Lists.{row_in}
+use Rattle.segment_machine.proofs.Actors.{Doing, doing, lives_on}
 use Rattle.segment_machine.proofs.ListingGrowth.{Grows}
 use Rattle.segment_machine.proofs.ListingActors.{SawMore, fits_grow}
 
 -- ---- entries that were accepted are counted
 
 ended_counted : (c : Counting) → has_ended c ≡ true → is_counted c ≡ true
-ended_counted c ended = and_left (is_counted c) _ (and_left _ _ ended)
-  where
-    and_left : (a b : Bool) → a && b ≡ true → a ≡ true
-    and_left true b e = refl
-    and_left false b e = e
+ended_counted c ended = (and_parts (is_counted c) _ (and_parts _ _ ended).0).0
 
 counted_all : (list : List Counting) → All (λ c. has_ended c ≡ true) list → (more : List Counting)
     → counted_among (list ++ more) ≡ map (λ c. c.entry) list ++ counted_among more
@@ -43,15 +39,6 @@ counted_all (c ∷ rest) ended more =
     ap (λ (b : Bool). map (λ (d : Counting). d.entry) (std.cond b (c ∷ filter is_counted (rest ++ more)) (filter is_counted (rest ++ more))))
     (ended_counted c (ended 0 c (omega arith)))
     ∙ ap (λ (entries : List Entry). c.entry ∷ entries) (counted_all rest (λ k d lt. ended (suc k) d (omega (arith, lt))) more)
-
-contains_rows : {A B : Type 0} (f : A → List B) (l : List A) (i : ℕ) (x : A) (y : B) → get_elem? l i ≡ some x → Contains (f x) y → Contains (flat_map f l) y
-contains_rows f [] i x y there has = absurd (some-ne-none x (sym there))
-contains_rows f (z ∷ zs) zero x y there has =
-    Contains-append_left (f z) (flat_map f zs) y (subst (λ w. Contains (f w) y) (sym (some-injective z x there)) has)
-contains_rows f (z ∷ zs) (suc i) x y there has = Contains-append_right (f z) (flat_map f zs) y (contains_rows f zs i x y there has)
-
-living_is : (a : Actor) → a.opener ≡ 0 → a.place ≢ Spent → is_living a ≡ true
-living_is a records lives = living_at a a.place lives ∙ ap (λ (b : Bool). b && true) (eq-eqb a.opener 0 records)
 
 -- ---- what a kept state says of its actors
 
@@ -66,10 +53,10 @@ module _ (shape : Dimensions) (opened : Anatomy) (state : State) (kept : Kept sh
       absurd (omega (arith, lt)))
       (λ ne.
       let opener : Actor = kept.roles.opener in
-      let (more, log, last) = kept.roles.heirs id x there (living_is x (kept.roles.only id x there ne).0 lives) in
+      let (more, log, last) = kept.roles.heirs id x there (lives_on x (kept.roles.only id x there ne).0 lives) in
       let logged : Contains (log_of opener) entry = subst (λ (l : List Entry). Contains l entry) (sym log) (Contains-append_left x.inherited more entry has) in
       let ended = (kept.each 0 opener kept.roles.stands (λ spent. cc (sym kept.roles.idle ∙ spent))).calls.ended in
-      contains_rows counted_of state.actors 0 opener entry kept.roles.stands
+      row_in counted_of state.actors 0 opener entry kept.roles.stands
       (⊎_elim
       (λ left. Contains-append_left opener.first _ entry left)
       (λ right. Contains-append_right opener.first _ entry
@@ -82,7 +69,7 @@ module _ (shape : Dimensions) (opened : Anatomy) (state : State) (kept : Kept sh
   keyed id x there lives entry has units = kept.keys entry
       (⊎_elim
       (λ before. inherited_counted id x entry there lives before)
-      (λ own. contains_rows counted_of state.actors id x entry there own)
+      (λ own. row_in counted_of state.actors id x entry there own)
       (Contains-append_cases x.inherited (counted_of x) entry has))
       units
 
@@ -105,41 +92,12 @@ module _ (shape : Dimensions) (opened : Anatomy) (state : State) (kept : Kept sh
       (r, subst (λ (at : ℕ). HasRecord kept.anatomy.pieces at r) same stands)
 
   -- running calls, and what was seen since a delta or a snapshot began, where one actor goes on and the segment grows
-  module _ (new : Anatomy) (added : ℕ → Body → Type 0) (grows : Grows kept.anatomy new added) (actors' : List Actor)
-      (same : SameDeeds state.actors actors') where
+  module _ (new : Anatomy) (added : ℕ → Body → Type 0) (grows : Grows kept.anatomy new added) where
     pub fits_on : (id : ℕ) (x : Actor) (d : Doing) → get_elem? state.actors id ≡ some x → x.place ≢ Spent → SawMore x d
         → Sees new state.cursors (doing x d) → All (HoldsOwn shape new.pieces id) d.own
         → ((i j : ℕ) (y z : Own) → get_elem? d.own i ≡ some y → get_elem? d.own j ≡ some z → y.at ≡ z.at → i ≡ j)
-        → Fits shape new state.cursors actors' kept.roles.opener id (doing x d)
+        → Fits shape new state.cursors state.actors kept.roles.opener id (doing x d)
     fits_on id x d there lives more sees own apart =
         let fits = kept.each id x there lives in
-        fits_grow shape kept.anatomy new added grows state.actors actors' same x d more (keyed id x there lives) (known_record id x there lives)
+        fits_grow shape kept.anatomy new added grows state.actors x d more (keyed id x there lives) (known_record id x there lives)
         (λ reference sum is. loaded_record id x reference sum there is) fits.sees.counters state.cursors kept.roles.opener id sees own apart fits
-
--- ---- what is kept of what a segment holds
-
-pub record SameHoldings (version : ℕ) (old new : List Piece) : Type 0 where
-  pub units : (name : List ℕ) (key : ℤ) → all_held (units_held version name key) new ≡ all_held (units_held version name key) old
-  pub marks : (name : List ℕ) (key : ℤ) → all_held (marks_held version name key) new ≡ all_held (marks_held version name key) old
-  pub sums : (name : List ℕ) → all_amounts (sum_held name) new ≡ all_amounts (sum_held name) old
-  pub sum_marks : (name : List ℕ) → all_amounts (sum_mark_held name) new ≡ all_amounts (sum_mark_held name) old
-  pub noted : (name : List ℕ) → all_held (noted_held name) new ≡ all_held (noted_held name) old
-
-pub balanced_same : (version : ℕ) (opened old new : List Piece) (before after : List Actor) → SameHoldings version old new → SameDeeds before after
-    → IsBalanced version opened old before → IsBalanced version opened new after
-balanced_same version opened old new before after holdings same is = record {
-  units = λ name key.
-      let h = is.units name key in
-      let held = holdings.units name key in
-      let moving = same.moving name key in
-      let counted = ap (λ (entries : List Entry). tally_units entries name key) same.counted in
-      omega (arith, h, held, moving, counted);
-  marks = λ name key. holdings.marks name key ∙ (is.marks name key ∙ ap (λ (taken : List Taken). taken_units taken name key) (sym same.taken));
-  sums = λ name. holdings.sums name ∙ (is.sums name ∙ ap (λ (entries : List Entry). tally_sum entries name) (sym same.summed));
-  sum_marks = λ name. holdings.sum_marks name ∙ (is.sum_marks name ∙ ap (λ (taken : List Taken). taken_sum taken name) (sym same.taken));
-  noted = λ name. holdings.noted name ∙ (is.noted name ∙ ap (λ (entries : List Entry). all_held (noted_held name) opened + tally_noted entries name) (sym same.noted));
-  taken = λ name key.
-      subst (λ (p : ℕ × ℕ). p.0 ≤ p.1)
-      (λ i. (ap (λ (taken : List Taken). taken_units taken name key) (sym same.taken) i, ap (λ (entries : List Entry). tally_units entries name key) (sym same.counted) i))
-      (is.taken name key);
-}

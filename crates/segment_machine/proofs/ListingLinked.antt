@@ -1,9 +1,8 @@
 -- A record is put on the list: the block at the tail gets its next, the actor's own block and the counts block that it names are
 -- published, and all that holds is kept.
-use Rattle.std.proofs.Common.{◌≡◌, ◌≢◌, ℕ, suc, ◌+◌, ◌<◌, ◌≤◌, ℤ, Bool, true, false, List, [], ◌∷◌, ◌++◌, map, length, set, All, Contains, IsPermutation, inl, inr, ⊎_elim, refl, sym, ap, ◌∙◌, subst, arith, append_assoc}
-use Rattle.std.specs.Prelude.{slice_index, Some, None}
-use Rattle.std.specs.Prelude as std
-use Rattle.std.proofs.lemmas.List.{map-append}
+use Rattle.std.proofs.Common.{◌≡◌, ◌≢◌, ℕ, suc, ◌+◌, ◌≤◌, ℤ, Bool, true, false, List, [], ◌∷◌, ◌++◌, map, length, set, All, Contains, IsPermutation, inl, inr, ⊎_elim, refl, sym, ap, ◌∙◌, subst, arith, append_assoc}
+use Rattle.std.specs.Prelude.{Some}
+use Rattle.std.proofs.lemmas.List.{map-append, take-append-le}
 use Rattle.std.proofs.lemmas.List.Elements.{All-weaker, All-push, Contains-append_left}
 use Rattle.std.proofs.lemmas.List.Sorted.{IsPermutation-refl, IsPermutation-sym, IsPermutation-trans, IsPermutation-append, IsPermutation-map}
 use mathlib.Core.Option.{some, none, some-injective, some-ne-none}
@@ -28,7 +27,7 @@ use Rattle.segment_machine.specs.declared.actor.Own.{Own}
 use Rattle.segment_machine.specs.declared.actor.Published.{Published}
 use Rattle.segment_machine.specs.declared.actor.Taken.{Taken}
 use Rattle.segment_machine.specs.declared.place.Place.TheVariants.{Spent, TailLoaded, Linked}
-use Rattle.segment_machine.specs.Actor.{all_published}
+use Rattle.segment_machine.specs.Actor.{all_published, all_given}
 use Rattle.segment_machine.specs.Form.{is_off}
 use Rattle.segment_machine.specs.State.{State}
 use Rattle.segment_machine.specs.Next.{without, own_at, published_as, counts_named, left_behind}
@@ -38,14 +37,19 @@ use Rattle.segment_machine.specs.Kept.{StandsAs, IsListed, ListIsKept, StandsRig
 use Rattle.segment_machine.proofs.Lists.{rows, rows_more, column, at_from, below_length, index_at, all_at}
 use Rattle.segment_machine.proofs.Pieces.{piece_word, first_piece, some_first, one_index, one_piece, with_piece, piece_stored, free_with, queue_piece, queue_stored, claims_same}
 use Rattle.segment_machine.proofs.Stops.{stop_open}
-use Rattle.segment_machine.proofs.Actors.{Doing, doing, doing_of, TurnsTo, turns_plain, is_plain, SameDeeds, same_deeds, roles_along}
+use Rattle.segment_machine.proofs.Actors.{Doing, doing, doing_of, TurnsTo, turns_plain, is_plain, SameDeeds, same_deeds, same_role, same_sums, fits_same}
+use Rattle.segment_machine.proofs.Anatomies.{balanced_same}
+use Rattle.segment_machine.proofs.SeatsFrames.{balanced, sums_near}
+use Rattle.segment_machine.proofs.SeatsBooks.{cursors_set}
+use Rattle.segment_machine.proofs.SeatsRoles.{roles_set}
 use Rattle.segment_machine.proofs.Goings.{not_opener}
 use Rattle.segment_machine.proofs.Acting.{still_put, right_put}
-use Rattle.segment_machine.proofs.ListingGrowth.{with_next, beside_next, Grows, order_longer, stop_at, longer_by, stop_grows, no_later_grows, sees_grow}
-use Rattle.segment_machine.proofs.ListingActors.{follows_itself, stands_grow, saw_itself, own_stays}
+use Rattle.segment_machine.proofs.ListingGrowth.{grounds_grow, stands_as_grows, with_next, beside_next, Grows, stop_at, longer_by, stop_grows, no_later_grows, sees_grow}
+use Rattle.segment_machine.proofs.ListingActors.{saw_itself}
+use Rattle.segment_machine.proofs.Standing.{own_stays, follows_itself, stands_on}
 use Rattle.segment_machine.proofs.ListingRecords.{AddedRight, records_grow, key_grows, sums_grow}
-use Rattle.segment_machine.proofs.ListingKept.{balanced_same, loaded_record, fits_on}
-use Rattle.segment_machine.proofs.ListingLists.{snoc_split, take_longer, distinct_filter, all_without, own_found, published_is}
+use Rattle.segment_machine.proofs.ListingKept.{loaded_record, fits_on}
+use Rattle.segment_machine.proofs.ListingLists.{snoc_split, distinct_filter, all_without, own_found, published_is}
 use Rattle.segment_machine.proofs.ListingWalks.{stop_stands, stop_within}
 use Rattle.segment_machine.proofs.ListingPublishes.{SameHeld, next_held, unclaimed_held, holdings_set, holdings_both, next_stays, next_came, next_owned, next_was_owned, Publishes}
 
@@ -188,15 +192,6 @@ listed_claimed records at (counts c) is = tt
 listed_claimed records at (sample s) is = is refl
 listed_claimed records at (other size tag next payload) is = is refl
 
-stands_as_grows : (old new : Anatomy) (added : ℕ → Body → Type 0) → Grows old new added → (l : Listed) (given : std.Option Made)
-    → StandsAs old.pieces l given → StandsAs new.pieces l given
-stands_as_grows old new added grows l (Some (made.Histogram name spec)) (r, stands, named, same) =
-    let (n, still) = grows.stays l.reference (histogram r) refl stands in (record r { next = n }, still, named, same)
-stands_as_grows old new added grows l (Some (made.Sample of value)) (s, stands, named, same) =
-    let (n, still) = grows.stays l.reference (sample s) refl stands in (record s { next = n }, still, named, same)
-stands_as_grows old new added grows l None (size, tag, next, payload, stands, first, third, long) =
-    let (n, still) = grows.stays l.reference (other size tag next payload) refl stands in (size, tag, n, payload, still, first, third, long)
-
 -- ---- shared cursors
 
 -- a record of the chain stands where it stood, in a longer chain where none stands twice
@@ -210,41 +205,22 @@ at_before words chain more k m linked there has =
     let same : k ≡ i = omega (arith, one) in
     ap (get_elem? chain) same ∙ here
 
-abbrev OneCursor : List ℕ → Actor → Type 0
-OneCursor chain b =
-    (i j k l : ℕ) (x y : Given) → i < j → get_elem? b.given i ≡ some x → get_elem? b.given j ≡ some y → x.cursor ≡ y.cursor
-    → get_elem? chain k ≡ some x.reference → get_elem? chain l ≡ some y.reference → k < l
-
-module _ (words chain more cursors : List ℕ) (actors : List Actor) (id : ℕ) (a : Actor) (d : Doing) (mine : get_elem? actors id ≡ some a)
-    (records : a.opener ≡ 0) (same : SameDeeds actors (set actors id (doing a d))) (linked : IsLinked words (chain ++ more))
-    (kept : CursorsAreKept chain cursors actors) where
-  one_grows : (b : Actor) → All (λ g. Contains chain g.reference) b.given → OneCursor chain b → OneCursor (chain ++ more) b
-  one_grows b given ordered i j k l x y lt one two cursor here there =
+-- so shared cursors are kept
+cursors_grow : (words chain more cursors : List ℕ) (actors : List Actor) → IsLinked words (chain ++ more) → CursorsAreKept chain cursors actors
+    → CursorsAreKept (chain ++ more) cursors actors
+cursors_grow words chain more cursors actors linked kept = record {
+  stand = λ k below.
+      let (place, within, is, gave) = kept.stand k below in
+      let long = longer_by chain more in
+      (place, omega (arith, within, long), stop_at chain more place within ∙ is, subst (IsPermutation (all_given actors k)) (sym (take-append-le place chain more within)) gave);
+  ordered = λ who b there recorder i j k l x y lt one two cursor here next.
       let has : (m : ℕ) (g : Given) → get_elem? b.given m ≡ some g → Contains chain g.reference =
-      λ m g at. all_at (λ g. Contains chain g.reference) b.given m g given at in
-      ordered i j k l x y lt one two cursor (at_before words chain more k x.reference linked here (has i x one))
-      (at_before words chain more l y.reference linked there (has j y two))
-
-  pub cursors_grow : CursorsAreKept (chain ++ more) cursors (set actors id (doing a d))
-  cursors_grow = record {
-    stand = λ k below.
-        let (place, within, is, gave) = kept.stand k below in
-        let long = longer_by chain more in (
-          place,
-          omega (arith, within, long),
-          stop_at chain more place within ∙ is,
-          subst (λ (p : List ℕ × List ℕ). IsPermutation p.0 p.1) (λ i. (sym (same.given k) i, sym (take_longer chain more place within) i)) gave,
-        );
-    ordered = λ who b there. elim (at_set actors id who (doing a d) b there) [
-      | inl t ↦ λ recorder. subst (λ (b : Actor). OneCursor (chain ++ more) b) t.1 (one_grows a (kept.given id a mine) (kept.ordered id a mine records))
-      | inr t ↦ λ recorder. one_grows b (kept.given who b t.1) (kept.ordered who b t.1 recorder)
-    ];
-    given = λ who b there. elim (at_set actors id who (doing a d) b there) [
-      | inl t ↦ subst (λ (b : Actor). All (λ g. Contains (chain ++ more) g.reference) b.given) t.1
-          (All-weaker (λ g. Contains chain g.reference) (λ g. Contains (chain ++ more) g.reference) (λ g has. Contains-append_left chain more g.reference has) a.given (kept.given id a mine))
-      | inr t ↦ All-weaker (λ g. Contains chain g.reference) (λ g. Contains (chain ++ more) g.reference) (λ g has. Contains-append_left chain more g.reference has) b.given (kept.given who b t.1)
-    ];
-  }
+      λ m g at. all_at (λ g. Contains chain g.reference) b.given m g (kept.given who b there) at in
+      kept.ordered who b there recorder i j k l x y lt one two cursor (at_before words chain more k x.reference linked here (has i x one))
+      (at_before words chain more l y.reference linked next (has j y two));
+  given = λ who b there. All-weaker (λ g. Contains chain g.reference) (λ g. Contains (chain ++ more) g.reference)
+      (λ g has. Contains-append_left chain more g.reference has) b.given (kept.given who b there);
+}
 
 -- ---- the state with the record on the list
 
@@ -361,7 +337,7 @@ module _ (shape : Dimensions) (opened : Anatomy) (state : State) (kept : Kept sh
     same = same_deeds state.actors id a mine d turns (not_opener shape opened state kept id a mine records)
 
     order_is : order_of new ≡ order_of anatomy ++ own.at ∷ []
-    order_is = order_longer anatomy.records (l ∷ [])
+    order_is = map-append (λ (l : Listed). l.reference) anatomy.records (l ∷ [])
 
     free_is : free_of new ≡ free_of anatomy
     free_is = publishes.free ∙ free_with anatomy stored.index stored.piece stored.turned stored.there stored.long
@@ -432,10 +408,10 @@ module _ (shape : Dimensions) (opened : Anatomy) (state : State) (kept : Kept sh
     sees_now b sees = sees_grow anatomy new added grows state.cursors b (subst (Behind b.seen_free) (sym free_is) sees.free)
         (no_later_grows anatomy new added grows b.seen_tail anatomy.tail sees.tail) sees
 
-    fits_mine : Fits shape new state.cursors actors' kept.roles.opener id (doing a d)
+    fits_mine : Fits shape new state.cursors state.actors kept.roles.opener id (doing a d)
     fits_mine =
         let old = sees_now a mine_fits.sees in
-        fits_on shape opened state kept new added grows actors' same id a d mine turns.lived
+        fits_on shape opened state kept new added grows id a d mine turns.lived
         (record {
           chain = λ at has. has;
           words = λ at word seen. seen;
@@ -456,14 +432,14 @@ module _ (shape : Dimensions) (opened : Anatomy) (state : State) (kept : Kept sh
         own_now apart_now
 
     fits_else : (who : ℕ) (b : Actor) → who ≢ id → get_elem? state.actors who ≡ some b → b.place ≢ Spent
-        → Fits shape new state.cursors actors' kept.roles.opener who b
+        → Fits shape new state.cursors state.actors kept.roles.opener who b
     fits_else who b ne here lives =
         let fits = kept.each who b here lives in
-        fits_on shape opened state kept new added grows actors' same who b (doing_of b) here lives (saw_itself b) (sees_now b fits.sees)
+        fits_on shape opened state kept new added grows who b (doing_of b) here lives (saw_itself b) (sees_now b fits.sees)
         (own_stays shape anatomy new who (λ x stands. others_stay who x.at (held x) ne stands) b.own fits.own) fits.apart
 
     pub links_on : Kept shape opened (record { words = words'; cursors = state.cursors; actors = actors' })
-    links_on = let roles = roles_along state.actors actors' same kept.roles in record {
+    links_on = record {
       anatomy = new;
       shown = publishes.shown words' stored.shown;
       same = kept.same;
@@ -481,33 +457,35 @@ module _ (shape : Dimensions) (opened : Anatomy) (state : State) (kept : Kept sh
             sym (rows (λ (b : Actor). b.claimed) state.actors id a (doing a d) mine refl) j,
           )) kept.claims;
       records = records_grow shape.page anatomy new added grows adds.right kept.list.standing kept.list.alone kept.records;
-      balanced = balanced_same anatomy.version opened.pieces anatomy.pieces pieces state.actors actors'
+      balanced = balanced anatomy.version opened.pieces pieces state.actors actors' (same_sums state.actors actors' same)
+          (balanced_same anatomy.version opened.pieces anatomy.pieces pieces state.actors
           (holdings_both anatomy.version anatomy.pieces halfway.pieces pieces
           (holdings_set anatomy.version anatomy.pieces stored.index stored.piece stored.turned stored.there stored.held) publishes.holdings)
-          same kept.balanced;
+          kept.balanced);
       keys = λ entry has units. key_grows anatomy new added grows entry.name entry.key
           (kept.keys entry (subst (λ (entries : List Entry). Contains entries entry) same.counted has) units);
       taken_keys = λ t count has counted. key_grows anatomy new added grows t.name count.0
           (kept.taken_keys t count (subst (λ (taken : List Taken). Contains taken t) same.taken has) counted);
-      sums = sums_grow anatomy new added grows state.actors actors' same
+      sums = sums_near pieces state.actors actors' (same_sums state.actors actors' same) same.loaded
+          (sums_grow anatomy new added grows state.actors
           (λ who b reference sum here is. loaded_record shape opened state kept who b reference sum here is)
-          (λ at r new_one. let nothing = adds.right.nothing at r new_one in (nothing.2, nothing.3)) kept.sums;
+          (λ at r new_one. let nothing = adds.right.nothing at r new_one in (nothing.2, nothing.3)) kept.sums);
       pool = same.units ∙ kept.pool;
       corrupt = subst (IsSetBy anatomy.corrupt opened.corrupt) (sym (column (λ (b : Actor). b.spoiled) state.actors id a (doing a d) mine refl)) kept.corrupt;
       full = subst (IsSetBy anatomy.full opened.full) (sym (column (λ (b : Actor). b.filled) state.actors id a (doing a d) mine refl)) kept.full;
-      roles = roles.0;
+      roles = roles_set state.actors id a (doing a d) mine (same_role a d turns) (not_opener shape opened state kept id a mine records) kept.roles;
       cursors = subst (λ (chain : List ℕ). CursorsAreKept chain state.cursors actors') (sym order_is)
-          (cursors_grow words' (order_of anatomy) (own.at ∷ []) state.cursors state.actors id a d mine records same through.0 kept.cursors);
+          (cursors_set (order_of anatomy ++ own.at ∷ []) state.cursors state.actors id a (doing a d) mine records refl
+          (cursors_grow words' (order_of anatomy) (own.at ∷ []) state.cursors state.actors through.0 kept.cursors));
       standing = λ who b here. elim (at_set state.actors id who (doing a d) b here) [
         | inl t ↦ subst (λ (p : ℕ × Actor). StandsRight shape new p.0 p.1 p.1.place) (λ j. (sym t.0 j, t.1 j))
             (subst (λ (chain : List ℕ). AreNeighbours chain tail own.at) (sym order_is) through.1)
-        | inr t ↦ stands_grow shape anatomy new added grows who (λ at words. others_stay who at (plain words) t.0) b (doing_of b) (follows_itself b) b.place
-            (kept.standing who b t.1)
+        | inr t ↦ stands_on shape anatomy new who b b (grounds_grow anatomy new added grows who (λ at words. others_stay who at (plain words) t.0))
+            (follows_itself b) b.place (kept.standing who b t.1)
       ];
-      each = subst (λ opener. (who : ℕ) (b : Actor) → get_elem? actors' who ≡ some b → b.place ≢ Spent → Fits shape new state.cursors actors' opener who b)
-          (sym roles.1)
-          (λ who b here lives. elim (at_set state.actors id who (doing a d) b here) [
-            | inl t ↦ subst (λ (p : ℕ × Actor). Fits shape new state.cursors actors' kept.roles.opener p.0 p.1) (λ j. (sym t.0 j, t.1 j)) fits_mine
+      each = λ who b here lives. fits_same state.actors actors' same shape new state.cursors kept.roles.opener who b kept.roles.stands
+          (elim (at_set state.actors id who (doing a d) b here) [
+            | inl t ↦ subst (λ (p : ℕ × Actor). Fits shape new state.cursors state.actors kept.roles.opener p.0 p.1) (λ j. (sym t.0 j, t.1 j)) fits_mine
             | inr t ↦ fits_else who b t.0 t.1 lives
           ]);
     }

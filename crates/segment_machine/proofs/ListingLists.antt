@@ -1,5 +1,5 @@
 -- Lists beside a block that leaves them, and beside one element more at the end.
-use Rattle.std.proofs.Common.{◌≡◌, ◌≢◌, ◌⊎◌, ℕ, zero, suc, ◌≤◌, ◌==◌, not, cond, Bool, true, false, List, [], ◌∷◌, ◌++◌, length, take, filter, All, inl, inr, ⊎_elim, refl, sym, ap, ◌∙◌, arith, length-append, eq-eqb, ne_eqb}
+use Rattle.std.proofs.Common.{◌≡◌, ◌≢◌, ◌⊎◌, ℕ, zero, suc, ◌==◌, not, cond, Bool, true, false, List, [], ◌∷◌, ◌++◌, length, filter, All, inl, inr, ⊎_elim, refl, sym, ap, ◌∙◌, arith, length-append, eq-eqb, ne_eqb}
 use Rattle.std.specs.Prelude.{if◌then◌else◌, Some}
 use Rattle.std.specs.Prelude as std
 use Rattle.std.proofs.lemmas.List.Elements.{All-filter, filter_passes}
@@ -25,13 +25,6 @@ snoc_split (o ∷ old) (y ∷ front) behind l x e =
     (λ t. inl (t.0, λ i. same i ∷ t.1 i))
     (λ t. inr (t.0, λ i. same i ∷ t.1 i))
     (snoc_split old front behind l x rest)
-
-pub take_longer : (chain more : List ℕ) (n : ℕ) → n ≤ length chain → take n (chain ++ more) ≡ take n chain
-take_longer [] [] n le = refl
-take_longer [] (x ∷ more) zero le = refl
-take_longer [] (x ∷ more) (suc n) le = absurd (omega (arith, le))
-take_longer (c ∷ chain) more zero le = refl
-take_longer (c ∷ chain) more (suc n) le = ap (λ (l : List ℕ). c ∷ l) (take_longer chain more n (omega (arith, le)))
 
 -- ---- blocks that leave a list
 

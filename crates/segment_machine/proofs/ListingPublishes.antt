@@ -1,5 +1,5 @@
 -- Blocks among others: one gets its next, and blocks of one's own are published.
-use Rattle.std.proofs.Common.{◌≡◌, ◌≢◌, ◌⊎◌, ℕ, ◌+◌, ◌<◌, ◌≤◌, ℤ, true, false, List, length, set, inl, inr, ⊎_elim, refl, sym, ap, ◌∙◌, subst, arith}
+use Rattle.std.proofs.Common.{◌≡◌, ◌≢◌, ◌⊎◌, ℕ, ◌+◌, ◌<◌, ◌≤◌, ℤ, true, false, List, length, set, inl, inr, ⊎_elim, refl, sym, ap, ◌∙◌, subst, arith, All}
 use Rattle.std.specs.Prelude.{slice_index}
 use Rattle.std.specs.Str.{bytes_eq}
 use Rattle.std.specs.Ordering.{int_eq}
@@ -16,14 +16,15 @@ use Rattle.alloc_core.specs.Layout.{IsShown}
 use Rattle.segment_machine.specs.declared.actor.Own.{Own}
 use Rattle.segment_machine.specs.Form.{units_in}
 use Rattle.segment_machine.specs.Body.{Record, Counts, Sample, Body, queue, plain, held, histogram, counts, sample, other, own_words, words_of, is_claimed, Piece, extent_of, Anatomy, layout_of, free_of, claims_of}
-use Rattle.segment_machine.specs.Ledger.{units_held, marks_held, sum_held, sum_mark_held, noted_held, form_at, at_bucket, keyed}
+use Rattle.segment_machine.specs.Ledger.{units_held, marks_held, sum_held, sum_mark_held, noted_held, form_at, at_bucket}
 use Rattle.segment_machine.specs.Seen.{Stands}
 use Rattle.segment_machine.specs.Kept.{StandStill}
 use Rattle.segment_machine.proofs.Pieces.{piece_word, not_first, with_piece, piece_stored, free_with, stands_beside, stood_beside, claims_same, held_same, amounts_same}
 use Rattle.segment_machine.proofs.Acting.{still_put, AllClaimedRight, right_put}
 use Rattle.segment_machine.proofs.ListingGrowth.{with_next, same_next}
-use Rattle.segment_machine.proofs.ListingKept.{SameHoldings}
-use Rattle.segment_machine.proofs.ListingBodies.{IsBlank, none_of, no_amount}
+use Rattle.segment_machine.proofs.Anatomies.{SameHoldings}
+use Rattle.segment_machine.proofs.ListingBodies.{IsBlank}
+use Rattle.segment_machine.proofs.Singled.{if_nothing, keyed_none}
 
 -- ---- what blocks hold
 
@@ -63,18 +64,17 @@ unclaimed_held version (other size tag next payload) n is = absurd (cc is)
 pub record_held : (version : ℕ) (own : Own) (r : Record) → IsBlank (form_at version r) → r.sum ≡ 0 → r.sum_mark ≡ 0 → r.noted ≡ 0
     → SameHeld version (held own) (histogram r)
 record_held version own r blank sum mark noted = (
-  λ name key. none_of (bytes_eq r.name name) _ (ap (λ o. at_bucket r.spec key o (units_in (form_at version r))) blank.unpacked),
-  λ name key. none_of (bytes_eq r.name name) _ (ap (λ o. at_bucket r.spec key o r.mark) blank.unpacked),
-  λ name. no_amount (bytes_eq r.name name) _ (ap (cast_signed w64) sum),
-  λ name. no_amount (bytes_eq r.name name) _ (ap (cast_signed w64) mark),
-  λ name. none_of (bytes_eq r.name name) _ noted,
+  λ name key. if_nothing (bytes_eq r.name name) _ _ (ap (λ o. at_bucket r.spec key o (units_in (form_at version r))) blank.unpacked),
+  λ name key. if_nothing (bytes_eq r.name name) _ _ (ap (λ o. at_bucket r.spec key o r.mark) blank.unpacked),
+  λ name. if_nothing (bytes_eq r.name name) _ _ (ap (cast_signed w64) sum),
+  λ name. if_nothing (bytes_eq r.name name) _ _ (ap (cast_signed w64) mark),
+  λ name. if_nothing (bytes_eq r.name name) _ _ noted,
 )
 
-pub counts_held : (version : ℕ) (own : Own) (c : Counts) → ((key : ℤ) → keyed c.spec key c.units ≡ 0) → ((key : ℤ) → keyed c.spec key c.marks ≡ 0)
-    → SameHeld version (held own) (counts c)
-counts_held version own c units marks = (
-  λ name key. none_of (bytes_eq c.name name) _ (units key),
-  λ name key. none_of (bytes_eq c.name name) _ (marks key),
+pub counts_held : (version : ℕ) (own : Own) (c : Counts) → All (λ n. n ≡ 0) c.units × All (λ n. n ≡ 0) c.marks → SameHeld version (held own) (counts c)
+counts_held version own c (units, marks) = (
+  λ name key. if_nothing (bytes_eq c.name name) _ _ (keyed_none c.spec key c.units units),
+  λ name key. if_nothing (bytes_eq c.name name) _ _ (keyed_none c.spec key c.marks marks),
   λ name. refl,
   λ name. refl,
   λ name. refl,
@@ -82,8 +82,8 @@ counts_held version own c units marks = (
 
 pub sample_held : (version : ℕ) (own : Own) (s : Sample) → s.units ≡ 0 → s.mark ≡ 0 → SameHeld version (held own) (sample s)
 sample_held version own s units marks = (
-  λ name key. none_of (bytes_eq s.name name) _ (none_of (int_eq s.value key) _ units),
-  λ name key. none_of (bytes_eq s.name name) _ (none_of (int_eq s.value key) _ marks),
+  λ name key. if_nothing (bytes_eq s.name name) _ _ (if_nothing (int_eq s.value key) _ _ units),
+  λ name key. if_nothing (bytes_eq s.name name) _ _ (if_nothing (int_eq s.value key) _ _ marks),
   λ name. refl,
   λ name. refl,
   λ name. refl,

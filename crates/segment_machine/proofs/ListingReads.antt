@@ -28,16 +28,16 @@ use Rattle.segment_machine.specs.Next.{next, sight}
 use Rattle.segment_machine.specs.Made.{spec_ranges, AreNameWords}
 use Rattle.segment_machine.specs.Ready.{IsFixed}
 use Rattle.segment_machine.specs.Learned.{EndsWithin}
-use Rattle.segment_machine.specs.Body.{Record, Sample, Body, queue, plain, held, histogram, counts, sample, other, record_words, spec_field, words_of, is_claimed, Piece, Listed, Anatomy, layout_of, order_of}
+use Rattle.segment_machine.specs.Body.{Record, Sample, Body, histogram, sample, other, record_words, spec_field, words_of, is_claimed, Piece, Listed, Anatomy, layout_of, order_of}
 use Rattle.segment_machine.specs.Seen.{Stands, HasRecord, HasSample, IsFixedIn, WasFixed}
 use Rattle.segment_machine.specs.Kept.{StandsAs, Kept}
 use Rattle.segment_machine.proofs.Lists.{at_from, all_at, from_map}
+use Rattle.segment_machine.proofs.Bodies.{fixed_within}
 use Rattle.segment_machine.proofs.Pieces.{piece_word, one_index}
-use Rattle.segment_machine.proofs.Actors.{Doing, turns_not}
+use Rattle.segment_machine.proofs.Actors.{Doing, turns_not, doing}
 use Rattle.segment_machine.proofs.Goings.{happens}
-use Rattle.segment_machine.proofs.Acting.{stays_same}
-use Rattle.segment_machine.proofs.ListingGrowth.{grows_not}
-use Rattle.segment_machine.proofs.ListingActors.{Follows, stands_grow, SawMore}
+use Rattle.segment_machine.proofs.ListingActors.{SawMore}
+use Rattle.segment_machine.proofs.Standing.{grounds_itself, Follows, stands_on}
 use Rattle.segment_machine.proofs.ListingKept.{known_record}
 use Rattle.segment_machine.proofs.ListingWalks.{block_within, walking, looks_on}
 use Rattle.segment_machine.proofs.ListingEvents.{Goes, loaded}
@@ -69,26 +69,6 @@ ranges_long (Linear min max n) kind = absurd (omega (arith, kind))
 ranges_long Boolean kind = absurd (omega (arith, kind))
 ranges_long (Custom values) kind = omega arith
 ranges_long Sparse kind = absurd (omega (arith, kind))
-
-fixed_within : (body : Body) (i : ℕ) → IsFixedIn body i → i < length (words_of body)
-fixed_within (histogram r) i fixed = within fixed
-  where
-    within : IsFixedIn (histogram r) i → i < length (words_of (histogram r))
-    within (inl two) = omega (arith, two)
-    within (inr (inl field)) = let below = field.1 in omega (arith, below)
-    within (inr (inr (inl named))) = let is = named.0 in omega (arith, is)
-    within (inr (inr (inr behind))) = behind.1
-fixed_within (sample s) i fixed = within fixed
-  where
-    within : IsFixedIn (sample s) i → i < length (words_of (sample s))
-    within (inl two) = omega (arith, two)
-    within (inr (inl four)) = omega (arith, four)
-    within (inr (inr five)) = omega (arith, five)
-fixed_within (other size tag next payload) i fixed = omega (arith, fixed)
-fixed_within (queue next) i fixed = absurd fixed
-fixed_within (plain words) i fixed = absurd fixed
-fixed_within (held block) i fixed = absurd fixed
-fixed_within (counts c) i fixed = absurd fixed
 
 -- ---- words that were seen
 
@@ -173,9 +153,9 @@ module _ (shape : Dimensions) (opened : Anatomy) (state : State) (kept : Kept sh
         let size = length_shown shape state.words (layout_of anatomy) kept.shown in
         let (from, five, within) = block_within shape opened state kept at body stands claimed in
         let d : Doing = walking shape opened state kept id a mine records a.place a.own a.seen_tail a.seen_chain words in
-        let follows : Follows a d = record {
-          free = refl;
-          tail = refl;
+        let follows : Follows a (doing a d) = record {
+          saw = (refl, refl, refl, refl, refl);
+          names = λ known has. has;
           words = λ t has. Contains-append_left a.seen_words (sight (at + index) found) t has;
           own = λ block has. (block, has, refl, refl);
           spent = λ spent. absurd (lives (ap (λ (b : Actor). b.place) spent));
@@ -196,9 +176,7 @@ module _ (shape : Dimensions) (opened : Anatomy) (state : State) (kept : Kept sh
           loaded shape opened state kept id a mine records (at + index) (next a (load_published at index) found)
               (looks_on shape opened state kept id a mine records a.place a.seen_tail a.seen_chain words turns more anatomy.tail state.words
               kept.shown kept.list.linked kept.list.tail (λ seen before. before)
-              (stands_grow shape anatomy anatomy (λ at body. ⊥)
-              (grows_not anatomy anatomy.pieces anatomy.spare anatomy.corrupt anatomy.full anatomy.tail (stays_same anatomy.pieces))
-              id (λ at words has. has) a d follows a.place (kept.standing id a mine))
+              (stands_on shape anatomy anatomy id a (doing a d) (grounds_itself anatomy id) follows a.place (kept.standing id a mine))
               fits.sees.walked fits.sees.tail
               (All-push (WasFixed anatomy.pieces) a.seen_words s fits.sees.fixed (at, index, body, stands, refl, fixed, sym found_is))),
           subst (EndsWithin a at index) (sym found_is) ends,

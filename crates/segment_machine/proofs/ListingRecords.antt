@@ -15,7 +15,6 @@ use Rattle.segment_machine.specs.Body.{Record, Counts, Sample, Body, histogram, 
 use Rattle.segment_machine.specs.Ledger.{form_at}
 use Rattle.segment_machine.specs.Seen.{Stands, HasRecord, HasCounts, HasSample, IsNamed, IsFirst, IsFirstOf}
 use Rattle.segment_machine.specs.Kept.{StandsAs, IsListed, IsLawfulRecord, IsCountsOf, IsLawfulSample, CountsNothing, RecordsAreKept, HasKey, SumsAreNear, IsSumOf, summed_costs}
-use Rattle.segment_machine.proofs.Actors.{SameDeeds}
 use Rattle.segment_machine.proofs.ListingGrowth.{Grows, first_grows, first_of_longer, record_stays, record_came, counts_stay, counts_came, sample_came}
 
 -- ---- a record with another next
@@ -190,19 +189,12 @@ module _ (old new : Anatomy) (added : ℕ → Body → Type 0) (grows : Grows ol
     inr (sparse, who, subst (λ (records : List Listed). IsFirstOf records at key who) (sym grows.records) (first_of_longer old.records grows.more at who key sampled)),
   )
 
-  module _ (before after : List Actor) (same : SameDeeds before after)
-      (loaded_record : (id : ℕ) (a : Actor) (reference : ℕ) (sum : ℤ) → get_elem? before id ≡ some a → a.place ≡ SumLoaded reference sum
+  module _ (actors : List Actor)
+      (loaded_record : (id : ℕ) (a : Actor) (reference : ℕ) (sum : ℤ) → get_elem? actors id ≡ some a → a.place ≡ SumLoaded reference sum
       → (r : Record) × HasRecord old.pieces reference r)
       (nothing : (at : ℕ) (r : Record) → added at (histogram r) → (r.sum ≡ 0) × (r.sum_mark ≡ 0)) where
-    sum_before : (at : ℕ) (r : Record) (x : ℤ) → IsSumOf after at r x → IsSumOf before at r x
-    sum_before at r x (inl none_yet) = inl none_yet
-    sum_before at r x (inr (inl now)) = inr (inl now)
-    sum_before at r x (inr (inr (inl mark))) = inr (inr (inl mark))
-    sum_before at r x (inr (inr (inr (id, a, there, loaded)))) =
-        let (b, was, is) = same.loaded id a at x there loaded in inr (inr (inr (id, b, was, is)))
-
     -- of what was added every sum is 0
-    no_sum : (at : ℕ) (r : Record) (x : ℤ) → added at (histogram r) → IsSumOf before at r x → x ≡ pos 0
+    no_sum : (at : ℕ) (r : Record) (x : ℤ) → added at (histogram r) → IsSumOf actors at r x → x ≡ pos 0
     no_sum at r x new_one (inl none_yet) = none_yet
     no_sum at r x new_one (inr (inl now)) = now ∙ ap (cast_signed w64) (nothing at r new_one).0
     no_sum at r x new_one (inr (inr (inl mark))) = mark ∙ ap (cast_signed w64) (nothing at r new_one).1
@@ -210,15 +202,13 @@ module _ (old new : Anatomy) (added : ℕ → Body → Type 0) (grows : Grows ol
         let (r1, stands) = loaded_record id a at x there loaded in
         absurd (grows.apart at at 0 0 (histogram r) (histogram r1) new_one stands (omega arith) (omega arith) refl)
 
-    pub sums_grow : SumsAreNear old.pieces before → SumsAreNear new.pieces after
+    pub sums_grow : SumsAreNear old.pieces actors → SumsAreNear new.pieces actors
     sums_grow near at r x y there one two = ⊎_elim
         (λ t. let (r0, n, stood, is) = t in
-        let sum_of : (z : ℤ) → IsSumOf after at r z → IsSumOf before at r0 z =
-        λ z sum. subst (λ (w : Record). IsSumOf before at w z) is (sum_before at r z sum) in
-        subst (λ (z : ℕ × Record). unsigned_abs (x -ℤ y) ≤ 2147483648 * z.0) (λ i. ((sym (same.costs r0.name) ∙ ap (λ (w : Record). summed_costs w.name after) (sym is)) i, r))
-        (near at r0 x y stood (sum_of x one) (sum_of y two)))
+        let sum_of : (z : ℤ) → IsSumOf actors at r z → IsSumOf actors at r0 z = λ z sum. subst (λ (w : Record). IsSumOf actors at w z) is sum in
+        subst (λ (w : Record). unsigned_abs (x -ℤ y) ≤ 2147483648 * summed_costs w.name actors) (sym is) (near at r0 x y stood (sum_of x one) (sum_of y two)))
         (λ new_one.
-        subst (λ (p : ℤ × ℤ). unsigned_abs (p.0 -ℤ p.1) ≤ 2147483648 * summed_costs r.name after)
-        (λ i. (sym (no_sum at r x new_one (sum_before at r x one)) i, sym (no_sum at r y new_one (sum_before at r y two)) i))
+        subst (λ (p : ℤ × ℤ). unsigned_abs (p.0 -ℤ p.1) ≤ 2147483648 * summed_costs r.name actors)
+        (λ i. (sym (no_sum at r x new_one one) i, sym (no_sum at r y new_one two) i))
         (omega arith))
         (record_came old new added grows at r there)

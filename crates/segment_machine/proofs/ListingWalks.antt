@@ -30,11 +30,11 @@ use Rattle.segment_machine.specs.Seen.{Stands, WasFixed, IsNoLater, Sees}
 use Rattle.segment_machine.specs.Kept.{StandsAs, StandsRight, HoldsOwn, IsSetBy, StandStill, Kept}
 use Rattle.segment_machine.proofs.Lists.{rows, column, there_below, index_at, all_at}
 use Rattle.segment_machine.proofs.Pieces.{piece_from, piece_ends, free_within}
-use Rattle.segment_machine.proofs.Actors.{Doing, doing, doing_of, TurnsTo, same_deeds}
-use Rattle.segment_machine.proofs.Anatomies.{reshaped, Stays, sees_along}
-use Rattle.segment_machine.proofs.Goings.{not_opener, goes_on}
+use Rattle.segment_machine.proofs.Actors.{Doing, doing, doing_of, TurnsTo}
+use Rattle.segment_machine.proofs.Anatomies.{sees_along}
+use Rattle.segment_machine.proofs.Goings.{goes_on}
 use Rattle.segment_machine.proofs.Acting.{AllClaimedRight, stays_same, still_same}
-use Rattle.segment_machine.proofs.ListingGrowth.{with_next, grows_not}
+use Rattle.segment_machine.proofs.ListingGrowth.{reshaped, Stays, with_next, grows_not}
 use Rattle.segment_machine.proofs.ListingActors.{SawMore}
 use Rattle.segment_machine.proofs.ListingKept.{fits_on}
 
@@ -140,7 +140,6 @@ module _ (shape : Dimensions) (opened : Anatomy) (state : State) (kept : Kept sh
         let d : Doing = walking place own tail chain words in
         let new : Anatomy = reshaped anatomy pieces anatomy.spare anatomy.corrupt anatomy.full present in
         let fits = kept.each id a mine turns.lived in
-        let same = same_deeds state.actors id a mine d turns (not_opener shape opened state kept id a mine records) in
         let old_sees : Sees new state.cursors a =
         sees_along anatomy pieces anatomy.spare anatomy.corrupt anatomy.full present stays state.cursors a
         (subst (Behind a.seen_free) (sym free) fits.sees.free) (later a.seen_tail fits.sees.tail) fits.sees in
@@ -156,7 +155,7 @@ module _ (shape : Dimensions) (opened : Anatomy) (state : State) (kept : Kept sh
           names = old_sees.names;
         } in
         let on = fits_on shape opened state kept new (λ at body. ⊥)
-        (grows_not anatomy pieces anatomy.spare anatomy.corrupt anatomy.full present stays) (set state.actors id (doing a d)) same id a d mine turns.lived more sees holds apart in
+        (grows_not anatomy pieces anatomy.spare anatomy.corrupt anatomy.full present stays) id a d mine turns.lived more sees holds apart in
         goes_on shape opened state kept id a mine records d turns pieces anatomy.spare anatomy.corrupt anatomy.full present words'
         (record {
           shown = shown;

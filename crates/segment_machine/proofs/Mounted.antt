@@ -1,11 +1,11 @@
 -- The segment that was packed and then mounted is consistent.
 use Rattle.std.proofs.Common.{◌≡◌, ◌⊎◌, Bool, true, false, ℕ, zero, suc, ◌+◌, ◌-◌, ◌*◌, ◌%◌, ◌<◌, ◌≤◌, ℤ, pos, List, [], ◌∷◌, take, replicate, Option, inl, inr, ⊎_elim, refl, sym, ap, subst, ◌∙◌, true≢false, arith}
 use Rattle.std.specs.Prelude.{slice_index, slice_index_or, unwrap_or, unsigned_abs, ◌-ℤ◌, max}
-use mathlib.Core.Option.{some}
-use mathlib.Core.Option as option
+use mathlib.Core.Option.{some, some-injective}
 use lib.ListN.{get_elem?}
 use Rattle.std.specs.List.{Contains, All}
 use Rattle.std.proofs.lemmas.List.{get_or-append_right, get_or-replicate}
+use Rattle.std.proofs.lemmas.List.Elements.{All-nil, All-cons}
 use Rattle.std.proofs.lemmas.List.Sorted.{IsPermutation-refl}
 use Rattle.segment_image.specs.Words.{word_at}
 use Rattle.segment_image.specs.Head.{head_of}
@@ -26,6 +26,7 @@ use Rattle.segment_machine.specs.Entry.{tally_units, tally_sum, tally_noted, has
 use Rattle.segment_machine.specs.Actor.{Each, all_counted, all_summed, all_noted, transit_of, all_costs}
 use Rattle.segment_machine.specs.Consistent.{IsHistogram, redundant_at_opening, HasForm, HasPlace, HoldsMade, key_at, bucket_total, bucket_mark, units_taken, run_of, places_of, SawBefore, IsSum, IsLoaded, ListIsChain, RecordsHold, TotalsAreCounted, MarksAreTaken, SumsAreAmounts, TransitIsLocal, FlagsAreSet, UnitsAreKept}
 use Rattle.segment_machine.specs.Examples.{letter_a, mounted, mounter, opening, one, whole, MountedIsConsistent}
+use Rattle.segment_machine.proofs.Lists.{none_in, none_at, one_in, each_of_one}
 use Rattle.segment_machine.proofs.Alone.{the_one, of_the_one, below_three}
 
 -- who recorded 1, 1 and 0
@@ -40,40 +41,17 @@ chain = 16 ∷ []
 
 -- ---- lists of one and two
 
-pub only : {X : Type 0} (x : X) (holds : X → Type 0) → holds x → (y : X) → Contains (x ∷ []) y → holds y
-only x holds it y (zero, below, e) = subst holds e it
-only x holds it y (suc k, below, e) = absurd (omega (arith, below))
+only : {X : Type 0} (x : X) (holds : X → Type 0) → holds x → (y : X) → Contains (x ∷ []) y → holds y
+only x holds it y there = subst holds (one_in x y there) it
 
-pub none_in : {X : Type 0} (y : X) → Contains {X = X} [] y → ⊥
-none_in y (k, below, e) = omega (arith, below)
+all_of_two : {X : Type 0} (holds : X → Type 0) (x y : X) → holds x → holds y → All holds (x ∷ y ∷ [])
+all_of_two holds x y a b = All-cons holds x (y ∷ []) a (All-cons holds y [] b (All-nil holds))
 
-pub all_of_two : {X : Type 0} (holds : X → Type 0) (x y : X) → holds x → holds y → All holds (x ∷ y ∷ [])
-all_of_two holds x y a b zero d below = a
-all_of_two holds x y a b (suc zero) d below = b
-all_of_two holds x y a b (suc (suc k)) d below = absurd (omega (arith, below))
+all_of_three : {X : Type 0} (holds : X → Type 0) (x y z : X) → holds x → holds y → holds z → All holds (x ∷ y ∷ z ∷ [])
+all_of_three holds x y z a b c = All-cons holds x (y ∷ z ∷ []) a (all_of_two holds y z b c)
 
-pub all_of_three : {X : Type 0} (holds : X → Type 0) (x y z : X) → holds x → holds y → holds z → All holds (x ∷ y ∷ z ∷ [])
-all_of_three holds x y z a b c zero d below = a
-all_of_three holds x y z a b c (suc zero) d below = b
-all_of_three holds x y z a b c (suc (suc zero)) d below = c
-all_of_three holds x y z a b c (suc (suc (suc k))) d below = absurd (omega (arith, below))
-
-pub all_of_none : {X : Type 0} (holds : X → Type 0) → All holds []
-all_of_none holds k d below = absurd (omega (arith, below))
-
-some-eq : {X : Type 0} (x : X) (holds : X → Type 0) → holds x → (y : X) → some x ≡ some y → holds y
-some-eq x holds it y e = subst holds (ap (option_or x) e) it
-  where
-    option_or : {X : Type 0} → X → option.Option X → X
-    option_or x option.none = x
-    option_or x (some y) = y
-
-none-some : {X : Type 0} (x : X) → ◌≡◌ {A = option.Option X} option.none (some x) → ⊥
-none-some x e = cc e
-
-pub each_one : (a : Actor) (holds : Actor → Type 0) → holds a → Each (a ∷ []) holds
-each_one a holds it zero b there lives = some-eq a holds it b there
-each_one a holds it (suc id) b there lives = absurd (none-some b there)
+each_one : (a : Actor) (holds : Actor → Type 0) → holds a → Each (a ∷ []) holds
+each_one a holds it id b there lives = each_of_one a (λ k b. holds b) it id b there
 
 -- ---- the list
 
@@ -131,13 +109,13 @@ opened = record {
 apart : (i j : ℕ) (a b : Claim) → i < j → get_elem? who.claimed i ≡ some a → get_elem? who.claimed j ≡ some b → Apart (run_of a) (run_of b)
 apart zero zero a b below x y = absurd (omega (arith, below))
 apart zero (suc zero) a b below x y =
-    some-eq _ (λ (a : Claim). Apart (run_of a) (run_of b))
-    (some-eq _ (λ (b : Claim). Apart (16, 16) (run_of b)) (inl (omega arith)) b y) a x
-apart zero (suc (suc j)) a b below x y = absurd (none-some b y)
+    subst (λ (a : Claim). Apart (run_of a) (run_of b)) (some-injective _ a x)
+    (subst (λ (b : Claim). Apart (16, 16) (run_of b)) (some-injective _ b y) (inl (omega arith)))
+apart zero (suc (suc j)) a b below x y = absurd (none_at j b y)
 apart (suc zero) zero a b below x y = absurd (omega (arith, below))
 apart (suc zero) (suc zero) a b below x y = absurd (omega (arith, below))
-apart (suc zero) (suc (suc j)) a b below x y = absurd (none-some b y)
-apart (suc (suc i)) j a b below x y = absurd (none-some a x)
+apart (suc zero) (suc (suc j)) a b below x y = absurd (none_at j b y)
+apart (suc (suc i)) j a b below x y = absurd (none_at i a x)
 
 -- a place of a chain of one that is its record is place 1
 second : (i : ℕ) → i ≤ 1 → slice_index (stops chain) i ≡ 16 → i ≡ 1
@@ -271,7 +249,7 @@ marks = record {
       subst (λ (k : ℕ). field_at mounted k 10 ≤ max (bucket_total 1 mounted k i) 65535) (here at there) (omega arith);
   sum = λ name at is. of_the_one mounted letter_a (λ n k. sum_mark_of mounted k ≡ pos 0) refl refl name at is;
   seen = each_one who (λ (a : Actor). All (λ (s : Sighting). s.word ≤ word_at mounted s.at) a.seen_counts)
-      (all_of_none (λ (s : Sighting). s.word ≤ word_at mounted s.at));
+      (All-nil (λ (s : Sighting). s.word ≤ word_at mounted s.at));
   snapshots = λ id a there lives. nothing_answered id a there lives;
 }
 

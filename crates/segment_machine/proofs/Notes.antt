@@ -2,7 +2,7 @@
 use Rattle.std.proofs.Common.{◌≡◌, ◌⊎◌, ℕ, ◌+◌, ◌-◌, ◌≤◌, true, false, true≢false, List, [], ◌∷◌, ◌++◌, map, length, All, Contains, inl, inr, refl, sym, ap, ◌∙◌, subst, arith}
 use Rattle.std.specs.Prelude.{if◌then◌else◌, ◌==◌}
 use Rattle.std.specs.List.{filter}
-use Rattle.std.proofs.lemmas.List.Elements.{All-nil, All-contains_itself, All-weaker}
+use Rattle.std.proofs.lemmas.List.Elements.{All-nil}
 use mathlib.Core.Option.{some}
 use lib.ListN.{get_elem?}
 use Rattle.segment_machine.specs.declared.entry.Entry.{Entry}
@@ -13,7 +13,7 @@ use Rattle.segment_machine.specs.Actor.{cost_of, cost_total}
 use Rattle.segment_machine.specs.Note.{begins, looks, is_untouched, noted}
 use Rattle.segment_machine.specs.Kept.{AreInOrder, summed_cost, IsQuiet}
 use Rattle.segment_machine.specs.Follows.{NoteKeeps}
-use Rattle.segment_machine.proofs.Lists.{from_map}
+use Rattle.segment_machine.proofs.Lists.{from_map, all_of}
 use Rattle.segment_machine.proofs.SeatsLists.{contains_mapped}
 use Rattle.segment_machine.proofs.Countings.{untouched_counts, untouched_sums, untouched_notes}
 use Rattle.segment_machine.proofs.Noting.{Noting, noting, noting_of, SameCounts, SameTakes, notes_on}
@@ -50,14 +50,11 @@ fresh_untouched entries c has = let (e, there, is) = contains_mapped fresh entri
 fresh_ordered : (entries : List Entry) → AreInOrder (map fresh entries)
 fresh_ordered entries = record {
   one_by_one = λ i j x y below first second. let (e, is) = fresh_at entries j y second in inr (ap is_untouched (sym is));
-  counted_first = all_of (map fresh entries) (λ c. c.summed ≡ true → is_counted c ≡ true)
+  counted_first = all_of (λ c. c.summed ≡ true → is_counted c ≡ true) (map fresh entries)
       (λ c has summed. let (e, there, is) = contains_mapped fresh entries c has in absurd (true≢false (sym summed ∙ ap (λ (c : Counting). c.summed) (sym is))));
-  summed_next = all_of (map fresh entries) (λ c. c.noted ≡ true → is_summed c ≡ true)
+  summed_next = all_of (λ c. c.noted ≡ true → is_summed c ≡ true) (map fresh entries)
       (λ c has noted. let (e, there, is) = contains_mapped fresh entries c has in absurd (true≢false (sym noted ∙ ap (λ (c : Counting). c.noted) (sym is))));
 }
-  where
-    all_of : (list : List Counting) (P : Counting → Type 0) → ((c : Counting) → Contains list c → P c) → All P list
-    all_of list P each = All-weaker (Contains list) P each list (All-contains_itself list)
 
 fresh_entries : (entries : List Entry) → map (λ (c : Counting). c.entry) (map fresh entries) ≡ entries
 fresh_entries [] = refl

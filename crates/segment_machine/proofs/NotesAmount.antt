@@ -6,7 +6,7 @@ use Rattle.std.specs.Ordering.{int_eq}
 use Rattle.std.proofs.Math.IntN.{+ℤ_idl}
 use Rattle.std.proofs.lemmas.Bool.Decides.{Decides-int_eq}
 use Rattle.std.proofs.lemmas.List.{map-append}
-use Rattle.std.proofs.lemmas.List.Elements.{All-contains, All-contains_itself, All-weaker, filter-append, Contains-append_left, Contains-append_right, Contains-append_cases}
+use Rattle.std.proofs.lemmas.List.Elements.{All-contains, All-push, filter-append, Contains-append_left, Contains-append_right, Contains-push}
 use mathlib.Core.Option.{some}
 use lib.ListN.{get_elem?}
 use Rattle.atomic_table.proofs.Lists.{at_longer, at_last}
@@ -20,13 +20,12 @@ use Rattle.segment_machine.specs.Next.{change_last}
 use Rattle.segment_machine.specs.Note.{amounts, is_untouched}
 use Rattle.segment_machine.specs.Kept.{AreInOrder, StandsRight, summed_cost, IsQuiet, Kept}
 use Rattle.segment_machine.specs.Follows.{NoteKeeps}
-use Rattle.segment_machine.proofs.Lists.{below_length, at_snoc_index}
-use Rattle.segment_machine.proofs.SeatsLists.{contains_mapped}
+use Rattle.segment_machine.proofs.Lists.{not_empty, one_in, below_length, at_snoc_index}
+use Rattle.segment_machine.proofs.SeatsLists.{contains_mapped, all_left}
 use Rattle.segment_machine.proofs.Countings.{among, beside_same, nothing_among, units_total, sum_total, noted_total, no_amount, or_false}
 use Rattle.segment_machine.proofs.Noting.{Noting, noting, noting_of, SameCounts, notes_on}
 use Rattle.segment_machine.proofs.NotingFits.{noting_fits, looks_on, finals_on, calls_by}
 use Rattle.segment_machine.proofs.Notes.{takes_nothing}
-use Rattle.segment_machine.proofs.NotesTake.{one_in}
 
 -- the last of a list, changed
 last_changed : {X : Type 0} (f : X → X) (xs : List X) (x : X) → change_last f (xs ++ x ∷ []) ≡ xs ++ f x ∷ []
@@ -143,12 +142,7 @@ module _ (a : Actor) (amount : ℤ) (before : List Counting) (last : Counting) (
   old_ordered ordered = subst AreInOrder runs ordered
 
   each_still : (P : Counting → Type 0) → All P old → P told → All P behind
-  each_still P all new = All-weaker (Contains behind) P
-      (λ c has. ⊎_elim
-      (λ first. All-contains P old c all (Contains-append_left before (last ∷ []) c first))
-      (λ it. subst P (one_in told c it) new)
-      (Contains-append_cases before (told ∷ []) c has))
-      behind (All-contains_itself behind)
+  each_still P all new = All-push P before told (all_left P before (last ∷ []) all) new
 
   amounts_ordered : AreInOrder old → AreInOrder behind
   amounts_ordered ordered = record {
@@ -186,15 +180,9 @@ module _ (a : Actor) (amount : ℤ) (before : List Counting) (last : Counting) (
 
   told_within : (name : List ℕ) (cost : ℕ) → AreWithin name cost (entries ++ last.entry ∷ []) → unsigned_abs amount ≤ 2147483648 * cost
       → AreWithin name cost (entries ++ told.entry ∷ [])
-  told_within name cost within bound = record {
-    of_name = All-weaker (Contains (entries ++ told.entry ∷ [])) (λ entry. entry.name ≡ name)
-        (λ e has. ⊎_elim
-        (λ first. All-contains (λ (e : Entry). e.name ≡ name) (entries ++ last.entry ∷ []) e within.of_name (Contains-append_left entries (last.entry ∷ []) e first))
-        (λ it. ap (λ (e : Entry). e.name) (sym (one_in told.entry e it))
-        ∙ All-contains (λ (e : Entry). e.name ≡ name) (entries ++ last.entry ∷ []) last.entry within.of_name
-        (Contains-append_right entries (last.entry ∷ []) last.entry (0, omega arith, refl)))
-        (Contains-append_cases entries (told.entry ∷ []) e has))
-        (entries ++ told.entry ∷ []) (All-contains_itself (entries ++ told.entry ∷ []));
+  told_within name cost within bound = let named : Entry → Type 0 = λ e. e.name ≡ name in record {
+    of_name = All-push named entries told.entry (all_left named entries (last.entry ∷ []) within.of_name)
+        (All-contains named (entries ++ last.entry ∷ []) last.entry within.of_name (Contains-push entries last.entry));
     units =
         let now = noted_total name entries (told.entry ∷ []) in
         let was = noted_total name entries (last.entry ∷ []) in
@@ -220,20 +208,9 @@ module _ (a : Actor) (amount : ℤ) (before : List Counting) (last : Counting) (
   amounts_quiet name k quiet =
       let holds : Counting → Type 0 = λ c. (is_of name c.entry ≡ false) ⊎ (is_untouched c ≡ true) in (
         quiet.0,
-        All-weaker (Contains a.running) holds
-            (λ c has. ⊎_elim
-            (λ first. All-contains holds behind c quiet.1 (Contains-append_left before (told ∷ []) c first))
-            (λ it. subst holds (one_in last c it) (All-contains holds behind told quiet.1 (Contains-append_right before (told ∷ []) told (0, omega arith, refl))))
-            (Contains-append_cases before (last ∷ []) c (subst (λ (list : List Counting). Contains list c) runs has)))
-            a.running (All-contains_itself a.running),
+        subst (All holds) (sym runs)
+            (All-push holds before last (all_left holds before (told ∷ []) quiet.1) (All-contains holds behind told quiet.1 (Contains-push before told))),
       )
-
--- a list with one behind others is not empty
-not_empty : {X : Type 0} (xs : List X) (x : X) → xs ++ x ∷ [] ≢ []
-not_empty xs x none =
-    let long = ap length none in
-    let sum = length-append xs (x ∷ []) in
-    omega (arith, long, sum)
 
 pub amounts_kept : (amount : ℤ) → NoteKeeps (amounts amount)
 amounts_kept amount shape opened state id a kept mine records ((before, last, runs, unsummed, unnoted), nothing, bound) =
@@ -242,11 +219,11 @@ amounts_kept amount shape opened state id a kept mine records ((before, last, ru
     let f : Counting → Counting = λ c. let entry = c.entry in record c { entry = record entry { amount = amount } } in
     let changed : change_last f a.running ≡ n.running = ap (change_last f) runs ∙ last_changed f before last in
     let lived : a.place ≢ Spent = λ is_spent.
-    not_empty before last (sym runs ∙ ap (λ (a : Actor). a.running) (subst (StandsRight shape kept.anatomy id a) is_spent (kept.standing id a mine))) in
+    not_empty before [] last (sym runs ∙ ap (λ (a : Actor). a.running) (subst (StandsRight shape kept.anatomy id a) is_spent (kept.standing id a mine))) in
     subst (λ (running : List Counting). Kept shape opened (record state { actors = set state.actors id (record a { running = running }) })) (sym changed)
     (notes_on shape opened state kept id a mine records n lived counts (takes_nothing a n) (λ name key. refl) (λ known has. has)
     (λ fit.
-    let (name, cost, holds, within, known) = fit.calls.within (λ none. not_empty before last (sym runs ∙ none)) in
+    let (name, cost, holds, within, known) = fit.calls.within (λ none. not_empty before [] last (sym runs ∙ none)) in
     let held_is : cost_total a.held ≡ 0 + cost = ap cost_total holds in
     noting_fits shape kept.anatomy state.cursors _ kept.roles.opener id a n fit fit.sees.names
     (calls_by kept.anatomy a n fit.calls counts
@@ -262,7 +239,7 @@ amounts_kept amount shape opened state id a kept mine records ((before, last, ru
       known,
     ))
     fit.calls.held fit.calls.ended
-    (λ taking. absurd (not_empty before last (sym runs ∙ (fit.calls.taking taking).0))))
+    (λ taking. absurd (not_empty before [] last (sym runs ∙ (fit.calls.taking taking).0))))
     (looks_on kept.anatomy _ a n (fit.looks records))
     (finals_on _ kept.roles.opener id a n (omega arith)
     (λ name k low quiet. amounts_quiet a amount before last runs unsummed unnoted nothing name k quiet) fit.finals)

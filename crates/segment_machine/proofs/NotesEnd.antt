@@ -1,9 +1,10 @@
 -- A call that counts may note that it has ended, accepted or refused: what holds is kept.
-use Rattle.std.proofs.Common.{◌≡◌, ◌≢◌, ◌⊎◌, ℕ, zero, suc, ◌+◌, ◌-◌, ◌≤◌, Bool, true, false, cond, List, [], ◌∷◌, ◌++◌, map, length, drop, take, All, Contains, inl, inr, ⊎_elim, refl, sym, ap, ◌∙◌, subst, arith, append-nil, append_assoc, length-append, take-append-drop, set}
+use Rattle.std.proofs.Common.{◌≡◌, ◌≢◌, ◌⊎◌, ℕ, ◌+◌, ◌-◌, ◌≤◌, Bool, true, false, cond, List, [], ◌∷◌, ◌++◌, map, length, drop, take, All, Contains, inl, inr, ⊎_elim, refl, sym, ap, ◌∙◌, subst, arith, append-nil, append_assoc, length-append, take-append-drop, set}
 use Rattle.std.specs.Prelude.{if◌then◌else◌, ◌==◌}
 use Rattle.std.specs.List.{filter}
-use Rattle.std.proofs.lemmas.List.{map-append}
-use Rattle.std.proofs.lemmas.List.Elements.{All-nil, All-contains, All-contains_itself, All-weaker, All-append, Contains-append_right, Contains-append_cases}
+use Rattle.std.proofs.Math.Seq.{take-nil}
+use Rattle.std.proofs.lemmas.List.{map-append, drop-append-le}
+use Rattle.std.proofs.lemmas.List.Elements.{All-nil, All-contains, All-append, Contains-append_right, Contains-append_cases}
 use Rattle.std.proofs.lemmas.List.Sums.{sum_by-append, sum_by-cons}
 use Rattle.std.specs.Str.{bytes_eq}
 use mathlib.Core.Option.{some}
@@ -21,7 +22,9 @@ use Rattle.segment_machine.specs.State.{State}
 use Rattle.segment_machine.specs.Body.{Anatomy}
 use Rattle.segment_machine.specs.Kept.{AreInOrder, CallsRight, summed_cost, IsQuiet, Kept}
 use Rattle.segment_machine.specs.Follows.{NoteKeeps}
-use Rattle.segment_machine.proofs.SeatsLists.{none_at, all_left, contains_map}
+use Rattle.segment_machine.proofs.Lists.{none_at, all_of}
+use Rattle.segment_machine.proofs.Actors.{summed_most}
+use Rattle.segment_machine.proofs.SeatsLists.{all_left, contains_map}
 use Rattle.segment_machine.proofs.Countings.{noted_total, untouched_counts, untouched_sums, untouched_notes, untouched_summed}
 use Rattle.segment_machine.proofs.Noting.{Noting, noting, noting_of, SameCounts, notes_on}
 use Rattle.segment_machine.proofs.NotingFits.{noting_fits, looks_anew, finals_on, calls_by}
@@ -34,11 +37,6 @@ log_more a ended =
     ap (λ (list : List Entry). a.first ++ list) (map-append (λ (c : Counting). c.entry) a.log ended)
     ∙ sym (append_assoc a.first (map (λ (c : Counting). c.entry) a.log) (map (λ (c : Counting). c.entry) ended))
 
-drop_within : {X : Type 0} (k : ℕ) (xs ys : List X) → k ≤ length xs → drop k (xs ++ ys) ≡ drop k xs ++ ys
-drop_within zero xs ys low = refl
-drop_within (suc k) [] ys low = absurd (omega (arith, low))
-drop_within (suc k) (x ∷ xs) ys low = drop_within k xs ys (omega (arith, low))
-
 -- it was quiet where nothing was counted since, neither before nor by the call that ended
 quiet_before : (a : Actor) (ended : List Counting) (name : List ℕ) (k : ℕ) → ((c : Counting) → Contains a.running c → Contains ended c ⊎ (is_untouched c ≡ true))
     → k ≤ length (log_of a) → All (λ entry. is_of name entry ≡ false) (drop k (a.first ++ map (λ (c : Counting). c.entry) (a.log ++ ended))) → IsQuiet a name k
@@ -46,16 +44,14 @@ quiet_before a ended name k running low quiet =
     let rests : Entry → Type 0 = λ entry. is_of name entry ≡ false in
     let entries = map (λ (c : Counting). c.entry) ended in
     let all : All rests (drop k (log_of a) ++ entries) =
-    subst (All rests) (ap (drop k) (log_more a ended) ∙ drop_within k (log_of a) entries low) quiet in
+    subst (All rests) (ap (drop k) (log_more a ended) ∙ drop-append-le k (log_of a) entries low) quiet in
     let holds : Counting → Type 0 = λ c. (is_of name c.entry ≡ false) ⊎ (is_untouched c ≡ true) in (
       all_left rests (drop k (log_of a)) entries all,
-      All-weaker (Contains a.running) holds
-          (λ c has. ⊎_elim
+      all_of holds a.running (λ c has. ⊎_elim
           (λ done. inl (All-contains rests (drop k (log_of a) ++ entries) c.entry all
           (Contains-append_right (drop k (log_of a)) entries c.entry (contains_map (λ (c : Counting). c.entry) ended c done))))
           (λ nothing. inr nothing)
-          (running c has))
-          a.running (All-contains_itself a.running),
+          (running c has)),
     )
 
 -- nothing runs any more
@@ -68,10 +64,6 @@ none_ordered = record {
 
 unbound_lives : (a : Actor) → is_bound a.place ≡ false → a.place ≢ Spent
 unbound_lives a unbound spent = cc (unbound, ap is_bound spent)
-
-at_most : (b : Bool) (n : ℕ) → (if b then 0 else n) ≤ n
-at_most true n = omega arith
-at_most false n = omega arith
 
 -- A call that has ended so many of its entries, and spent so much, is gone: what holds is kept.
 module _ (a : Actor) (share : ℕ) (spent : List Cost) (ended : List Counting) where
@@ -112,8 +104,8 @@ ends_counts a = record {
   costs = λ name.
       let all : cost_of (a.costs ++ a.held) name ≡ cost_of a.costs name + cost_of a.held name =
       sum_by-append (λ (cost : Cost). if bytes_eq cost.name name then cost.units else 0) a.costs a.held in
-      let some_held = at_most (length (filter (λ (c : Counting). c.summed) a.running) == 0) (cost_of a.held name) in
-      omega (arith, all, some_held);
+      let most = summed_most name a in
+      omega (arith, all, most);
   units =
       let all = sum_by-append (λ (cost : Cost). cost.units) a.costs a.held in
       omega (arith, all);
@@ -124,10 +116,6 @@ ends_kept shape opened state id a kept mine records (unbound, done) =
     ends_with a a.share a.held a.running (ends_counts a) done (λ c has. inl has) shape opened state id kept mine records (unbound_lives a unbound)
 
 -- ---- it is refused
-
-take_none : {X : Type 0} (k : ℕ) → take {A = X} k [] ≡ []
-take_none zero = refl
-take_none (suc k) = refl
 
 module _ (a : Actor) (added : ℕ) where
   abbrev done : List Counting
@@ -155,7 +143,7 @@ module _ (a : Actor) (added : ℕ) where
     where
       by_running : (r : List Counting) → a.running ≡ r → cost_total (spent_by added a) ≤ cost_total a.held
       by_running [] runs =
-          let nothing : done ≡ [] = ap (take added) runs ∙ take_none added in
+          let nothing : done ≡ [] = ap (take added) runs ∙ take-nil added in
           let same = ap (λ (list : List Counting). cost_total (map (λ (cost : Cost). record cost { units = units_running list cost.name }) a.held)) nothing in
           let none = none_spent a.held in
           omega (arith, same, none)

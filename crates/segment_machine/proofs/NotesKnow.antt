@@ -1,5 +1,5 @@
 -- An actor may note that a `hist` was answered, where that is a histogram of the segment: what holds is kept.
-use Rattle.std.proofs.Common.{◌≡◌, ◌≢◌, ℕ, ◌==◌, ℤ, Bool, List, [], ◌∷◌, ◌++◌, map, length, set, Contains, refl, sym, ap, ◌∙◌, subst, eq-eqb, arith}
+use Rattle.std.proofs.Common.{⊎_elim, ◌≡◌, ◌≢◌, ℕ, ◌==◌, ℤ, Bool, List, [], ◌∷◌, ◌++◌, map, length, set, Contains, refl, sym, ap, ◌∙◌, subst, eq-eqb, arith}
 use Rattle.std.specs.Prelude.{if◌then◌else◌, Option, Some}
 use Rattle.std.proofs.lemmas.List.{map-append}
 use Rattle.std.proofs.lemmas.List.Elements.{All-push, Contains-append_left}
@@ -10,7 +10,7 @@ use native.Mathlib.Decide.{ℕ_discrete}
 use lib.ListN.{get_elem?}
 use Rattle.segment_image.specs.Shape.{Dimensions}
 use Rattle.segment_machine.specs.declared.place.Place.{Place}
-use Rattle.segment_machine.specs.declared.place.Place.TheVariants.{Spent, Idle, FlagsLoaded, FreeLoaded, Raised, Sized, Marked, TailLoaded, Beaten, Linked, Looking, Losing, Moving, CountLoaded, SampleLoaded, SumLoaded, CursorLoaded, BehindCursor}
+use Rattle.segment_machine.specs.declared.place.Place.TheVariants.{Spent}
 use Rattle.segment_machine.specs.declared.actor.Actor.{Actor}
 use Rattle.segment_machine.specs.declared.actor.Known.{Known}
 use Rattle.segment_machine.specs.Actor.{known_at}
@@ -20,6 +20,7 @@ use Rattle.segment_machine.specs.Body.{Anatomy}
 use Rattle.segment_machine.specs.Ledger.{moving_of, moving_at}
 use Rattle.segment_machine.specs.Seen.{Knows}
 use Rattle.segment_machine.specs.Kept.{StandsRight, Kept}
+use Rattle.segment_machine.proofs.Actors.{moves_or_not}
 use Rattle.segment_machine.proofs.Noting.{Noting, noting, noting_of, SameCounts, notes_on}
 use Rattle.segment_machine.proofs.NotingFits.{noting_fits, looks_anew, finals_on, calls_by}
 use Rattle.segment_machine.proofs.Notes.{takes_nothing}
@@ -46,25 +47,14 @@ module _ (a : Actor) (known : Known) where
   -- so its units on their way are those of the key that they were of
   moves_still : (shape : Dimensions) (anatomy : Anatomy) (id : ℕ) (name : List ℕ) (key : ℤ) (p : Place) → StandsRight shape anatomy id a p
       → moving_at (noting a knower) name key p ≡ moving_at a name key p
-  moves_still shape anatomy id name key (Moving look bucket units) right =
-      ap (λ (k : Option Known). moving_of name key k bucket units) (known_still a.names (known ∷ []) look.histogram right.0.known right.0.knows.0 right.0.knows.1)
-  moves_still shape anatomy id name key Spent right = refl
-  moves_still shape anatomy id name key Idle right = refl
-  moves_still shape anatomy id name key FlagsLoaded right = refl
-  moves_still shape anatomy id name key (FreeLoaded free) right = refl
-  moves_still shape anatomy id name key (Raised at size) right = refl
-  moves_still shape anatomy id name key (Sized at size) right = refl
-  moves_still shape anatomy id name key (Marked at size) right = refl
-  moves_still shape anatomy id name key (TailLoaded tail) right = refl
-  moves_still shape anatomy id name key (Beaten tail behind) right = refl
-  moves_still shape anatomy id name key (Linked at tail) right = refl
-  moves_still shape anatomy id name key (Looking look) right = refl
-  moves_still shape anatomy id name key (Losing look at) right = refl
-  moves_still shape anatomy id name key (CountLoaded look bucket count) right = refl
-  moves_still shape anatomy id name key (SampleLoaded reference count) right = refl
-  moves_still shape anatomy id name key (SumLoaded reference sum) right = refl
-  moves_still shape anatomy id name key (CursorLoaded cursor at) right = refl
-  moves_still shape anatomy id name key (BehindCursor cursor at behind) right = refl
+  moves_still shape anatomy id name key p right = ⊎_elim
+      (λ (look, bucket, units, is).
+      let looks = (subst (StandsRight shape anatomy id a) is right).0 in
+      ap (moving_at (noting a knower) name key) is
+      ∙ (ap (λ (k : Option Known). moving_of name key k bucket units) (known_still a.names (known ∷ []) look.histogram looks.known looks.knows.0 looks.knows.1)
+      ∙ sym (ap (moving_at a name key) is)))
+      (λ still. still.0 (noting a knower) name key ∙ sym (still.0 a name key))
+      (moves_or_not p)
 
   knows_counts : SameCounts a (noting a knower)
   knows_counts = record { counted = λ name key. refl; summed = λ name. refl; noted = λ name. refl; costs = λ name. omega arith; units = refl }

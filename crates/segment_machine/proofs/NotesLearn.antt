@@ -4,7 +4,7 @@ use Rattle.std.proofs.Common.{◌≡◌, ◌≢◌, ℕ, zero, suc, ◌+◌, ◌
 use Rattle.std.specs.Prelude.{slice_index, Option, Some, None}
 use Rattle.std.proofs.lemmas.Grind.{same_number_lists}
 use Rattle.std.proofs.lemmas.List.{get_or_append_left, get_or-append-add}
-use Rattle.std.proofs.lemmas.List.Elements.{All-contains, All-contains_itself, All-weaker, Contains-append_left, Contains-append_right}
+use Rattle.std.proofs.lemmas.List.Elements.{All-contains, Contains-append_left, Contains-append_right}
 use mathlib.Core.Logic.{dite}
 use mathlib.Core.Option.{some}
 use native.Mathlib.Decide.{ℕ_discrete}
@@ -22,6 +22,7 @@ use Rattle.segment_machine.specs.declared.actor.Made.TheVariants as made
 use Rattle.segment_machine.specs.Actor.{word_seen}
 use Rattle.segment_machine.specs.State.{State}
 use Rattle.segment_machine.specs.Seats.{spent}
+use Rattle.segment_machine.proofs.Lists.{all_of, split_map}
 use Rattle.segment_machine.proofs.SeatsLists.{contains_map}
 use Rattle.segment_machine.specs.Made.{spec_fields, spec_ranges, AreNameWords, SameSpec, SawName, SawOtherName, SawSpec}
 use Rattle.segment_machine.specs.Note.{knows, MayNote}
@@ -30,7 +31,7 @@ use Rattle.segment_machine.specs.Seen.{HasRecord, IsNamed, Knows}
 use Rattle.segment_machine.specs.Kept.{StandsAs, StandsRight, Kept}
 use Rattle.segment_machine.specs.Follows.{NoteKeeps}
 use Rattle.segment_machine.proofs.ListingReads.{letters_long, record_long, ranges_long, sighted}
-use Rattle.segment_machine.proofs.NotesNamed.{record_among, names_same, bytes_same, word_bytes}
+use Rattle.segment_machine.proofs.NotesNamed.{names_same, bytes_same, word_bytes}
 use Rattle.segment_machine.proofs.NotesKnow.{knows_one_more}
 
 -- ---- the words of a record
@@ -145,16 +146,14 @@ module _ (shape : Dimensions) (opened : Anatomy) (state : State) (kept : Kept sh
       let (rest, whole) = fits.sees.walked in
       let order : order_of kept.anatomy ≡ front ++ known.reference ∷ (behind ++ rest) =
       whole ∙ (ap (λ (chain : List ℕ). chain ++ rest) chain_is ∙ append_assoc front (known.reference ∷ behind) rest) in
-      let (before, l, after, records_are, fronts, place) = record_among kept.anatomy.records front known.reference (behind ++ rest) order in
+      let (before, after, l, records_are, fronts, place) = split_map (λ (l : Listed). l.reference) kept.anatomy.records front (behind ++ rest) known.reference order in
       by_given before l after l.made refl
       (stands before l after records_are l (Contains-append_right before (l ∷ after) l (0, omega arith, refl)))
       place saw letters are spec_saw records_are
-      (All-weaker (Contains before) (λ x. ¬ (IsNamed known.name x))
-      (λ x has (kind, named).
+      (all_of (λ x. ¬ (IsNamed known.name x)) before (λ x has (kind, named).
       let there : Contains front x.reference = subst (λ (list : List ℕ). Contains list x.reference) fronts (contains_map (λ (l : Listed). l.reference) before x has) in
       let (r, is, name_is, same) = subst (StandsAs kept.anatomy.pieces x) named (stands before l after records_are x (Contains-append_left before (l ∷ after) x has)) in
-      other_seen known.name x.reference r is name_is (All-contains (SawOtherName a known.name) front x.reference others there))
-      before (All-contains_itself before))
+      other_seen known.name x.reference r is name_is (All-contains (SawOtherName a known.name) front x.reference others there)))
     where
       stands : (before : List Listed) (l : Listed) (after : List Listed) → kept.anatomy.records ≡ before ++ l ∷ after
           → (x : Listed) → Contains (before ++ l ∷ after) x → StandsAs kept.anatomy.pieces x x.made

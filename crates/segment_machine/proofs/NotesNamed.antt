@@ -1,31 +1,12 @@
 -- Where an actor saw the name and the spec of the first record of a name, that is the histogram of the segment.
-use Rattle.std.proofs.Common.{◌≡◌, ℕ, zero, suc, ◌<◌, List, [], ◌∷◌, ◌++◌, map, length, drop, take, replicate, refl, sym, ap, ◌∙◌, arith, length-append}
+use Rattle.std.proofs.Common.{◌≡◌, ℕ, zero, suc, ◌<◌, List, [], ◌∷◌, ◌++◌, length, drop, take, replicate, sym, ap, ◌∙◌, arith, length-append}
 use Rattle.std.specs.Prelude.{slice_index}
 use Rattle.std.proofs.Math.Seq.{take-append_seam}
-use mathlib.Core.Option.{some-injective}
-use lib.ListN.{get_elem?}
 use Rattle.segment_image.specs.Words.{bytes_of_words}
 use Rattle.segment_image.proofs.ReadWords.{length-bytes_of_words}
 use Rattle.std.proofs.lemmas.List.{length-replicate}
 use Rattle.segment_machine.specs.Made.{AreNameWords}
-use Rattle.segment_machine.specs.Body.{Listed}
 use Rattle.segment_machine.proofs.ListingReads.{letters_long}
-
--- ---- a list of records by their references
-
--- where a reference is among the references, its record is among the records
-pub record_among : (records : List Listed) (front : List ℕ) (at : ℕ) (rest : List ℕ) → map (λ (l : Listed). l.reference) records ≡ front ++ at ∷ rest
-    → (before : List Listed) × (l : Listed) × (behind : List Listed) × (records ≡ before ++ l ∷ behind)
-    × (map (λ (l : Listed). l.reference) before ≡ front) × (l.reference ≡ at)
-record_among [] front at rest is =
-    let long = ap length is in
-    let sum = length-append front (at ∷ rest) in
-    absurd (omega (arith, long, sum))
-record_among (x ∷ xs) [] at rest is = ([], x, xs, refl, refl, some-injective x.reference at (ap (λ (list : List ℕ). get_elem? list 0) is))
-record_among (x ∷ xs) (f ∷ fs) at rest is =
-    let head : x.reference ≡ f = some-injective x.reference f (ap (λ (list : List ℕ). get_elem? list 0) is) in
-    let (before, l, behind, whole, front, place) = record_among xs fs at rest (ap (drop 1) is) in
-    (x ∷ before, l, behind, ap (λ (list : List Listed). x ∷ list) whole, (λ i. head i ∷ front i), place)
 
 -- ---- the words of a name
 

@@ -1,15 +1,15 @@
 -- A delta may begin: what holds is kept.
-use Rattle.std.proofs.Common.{◌≡◌, ◌≢◌, ℕ, zero, suc, ◌-◌, ◌<◌, ℤ, pos, Bool, true, false, true≢false, List, [], ◌∷◌, ◌++◌, length, take, Contains, inl, inr, ⊎_elim, refl, sym, ap, ◌∙◌, subst, arith}
+use Rattle.std.proofs.Common.{◌≡◌, ◌≢◌, ℕ, ◌-◌, ◌<◌, ℤ, pos, Bool, true, false, true≢false, List, [], ◌∷◌, ◌++◌, length, take, Contains, inl, inr, ⊎_elim, refl, sym, ap, ◌∙◌, subst, arith}
 use Rattle.std.specs.Prelude.{if◌then◌else◌, ◌+ℤ◌}
 use Rattle.std.specs.Str.{bytes_eq}
 use Rattle.std.proofs.Math.IntN.{+ℤ_idr}
 use Rattle.std.proofs.Math.Seq.{take-append_seam}
-use Rattle.std.proofs.lemmas.List.{length_push}
+use Rattle.std.proofs.lemmas.List.{length_push, same_from_push}
 use Rattle.std.proofs.lemmas.List.Elements.{Contains-append_cases}
 use Rattle.std.proofs.lemmas.List.Sums.{sum_by_push}
-use mathlib.Core.Option.{some, some-injective}
+use mathlib.Core.Option.{some}
 use lib.ListN.{get_elem?}
-use Rattle.atomic_table.proofs.Lists.{set_else, at_last}
+use Rattle.atomic_table.proofs.Lists.{set_else}
 use Rattle.segment_machine.specs.declared.actor.Actor.{Actor}
 use Rattle.segment_machine.specs.declared.actor.Moment.{Moment}
 use Rattle.segment_machine.specs.declared.actor.Taken.{Taken}
@@ -17,27 +17,13 @@ use Rattle.segment_machine.specs.Actor.{units_listed, taken_sum}
 use Rattle.segment_machine.specs.Note.{takes, moment_of, nothing_taken}
 use Rattle.segment_machine.specs.Kept.{is_living, ended_deltas, IsMoment, FinalsAreExact}
 use Rattle.segment_machine.specs.Follows.{NoteKeeps}
+use Rattle.segment_machine.proofs.Lists.{one_in}
+use Rattle.segment_machine.proofs.Singled.{if_nothing}
 use Rattle.segment_machine.proofs.SeatsSums.{amounts_total}
-use Rattle.segment_machine.proofs.SeatsRoles.{lives_on}
-use Rattle.segment_machine.proofs.Noting.{Noting, noting, noting_of, SameCounts, SameTakes, not_first, notes_on}
+use Rattle.segment_machine.proofs.Actors.{lives_on}
+use Rattle.segment_machine.proofs.Goings.{not_opener}
+use Rattle.segment_machine.proofs.Noting.{Noting, noting, noting_of, SameCounts, SameTakes, notes_on}
 use Rattle.segment_machine.proofs.NotingFits.{noting_fits, looks_anew, calls_by}
-
--- of two lists that are one, each with one more behind it, these two are one
-last_one : {X : Type 0} (xs ys : List X) (x y : X) → xs ++ x ∷ [] ≡ ys ++ y ∷ [] → x ≡ y
-last_one xs ys x y same =
-    let long = ap length same in
-    let first = length_push xs x in
-    let second = length_push ys y in
-    some-injective x y
-    (sym (at_last xs x (length ys) (omega (arith, long, first, second))) ∙ (ap (λ list. get_elem? list (length ys)) same ∙ at_last ys y (length ys) refl))
-
-pub one_in : {X : Type 0} (x y : X) → Contains (x ∷ []) y → x ≡ y
-one_in x y (zero, below, is) = is
-one_in x y (suc k, below, is) = absurd (omega (arith, below))
-
-same_either : {X : Type 0} (b : Bool) (x : X) → (if b then x else x) ≡ x
-same_either true x = refl
-same_either false x = refl
 
 module _ (a : Actor) (name : List ℕ) where
   abbrev begun : Taken
@@ -58,11 +44,11 @@ module _ (a : Actor) (name : List ℕ) where
   takes_same = record {
     taken = λ of key.
         let all = sum_by_push (λ (t : Taken). if bytes_eq t.name of then units_listed t.counts key else 0) a.taken begun in
-        let none = same_either {X = ℕ} (bytes_eq name of) 0 in
+        let none = if_nothing {X = ℕ} (bytes_eq name of) 0 0 refl in
         omega (arith, all, none);
     taken_sums = λ of.
         amounts_total (λ (t : Taken). if bytes_eq t.name of then t.sum else pos 0) a.taken (begun ∷ [])
-        ∙ (ap (λ (z : ℤ). taken_sum a.taken of +ℤ (pos 0 +ℤ z)) (same_either (bytes_eq name of) (pos 0)) ∙ +ℤ_idr (taken_sum a.taken of));
+        ∙ (ap (λ (z : ℤ). taken_sum a.taken of +ℤ (pos 0 +ℤ z)) (if_nothing (bytes_eq name of) (pos 0) (pos 0) refl) ∙ +ℤ_idr (taken_sum a.taken of));
     from = λ t has. ⊎_elim (λ old. inl old) (λ new. inr (ap (λ (t : Taken). t.counts) (sym (one_in begun t new)))) (Contains-append_cases a.taken (begun ∷ []) t has);
   }
 
@@ -95,14 +81,14 @@ module _ (a : Actor) (name : List ℕ) where
           (λ answered. moment_still m (exact.moments m (inr answered)))
           of;
       swapped = λ before last goes is swapped alone.
-          absurd (true≢false (sym swapped ∙ ap (λ (t : Taken). t.swapped) (sym (last_one a.taken before begun last is))));
+          absurd (true≢false (sym swapped ∙ ap (λ (t : Taken). t.swapped) (sym (same_from_push a.taken before begun last is).1)));
     }
 
 pub takes_kept : (name : List ℕ) → NoteKeeps (takes name)
 takes_kept name shape opened state id a kept mine records (lived, recorder, runs, rests, known) =
     let n : Noting = taker a name in
     let lives = lives_on a records lived in
-    let nothing = not_first shape opened state kept id a mine records in
+    let nothing = not_opener shape opened state kept id a mine records in
     notes_on shape opened state kept id a mine records n lived (takes_counts a name) (takes_same a name) (λ name key. refl) (λ known has. has)
     (λ fit. noting_fits shape kept.anatomy state.cursors _ kept.roles.opener id a n fit fit.sees.names
     (calls_by kept.anatomy a n fit.calls (takes_counts a name) fit.calls.ordered fit.calls.within fit.calls.held fit.calls.ended

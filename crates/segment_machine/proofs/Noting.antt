@@ -1,40 +1,38 @@
 -- A state is kept where an actor notes something in its own record, and the words stay.
-use Rattle.std.proofs.Common.{◌≡◌, ◌≢◌, ◌⊎◌, ℕ, ◌+◌, ◌<◌, ◌≤◌, ℤ, Bool, false, ◌||◌, fold, List, [], ◌++◌, map, take, set, All, Contains, inl, inr, refl, sym, ap, ◌∙◌, subst, subst₂, arith}
+use Rattle.std.proofs.Common.{◌≡◌, ◌≢◌, ◌⊎◌, ℕ, ◌+◌, ◌<◌, ◌≤◌, ℤ, Bool, false, ◌||◌, fold, List, [], ◌++◌, set, Contains, inl, inr, refl, sym, ap, ◌∙◌, subst, subst₂, arith}
 use Rattle.std.specs.Prelude.{if◌then◌else◌, IsPermutation}
 use Rattle.std.proofs.lemmas.List.Sums.{sum_by-append}
-use mathlib.Core.Option.{some, some-injective}
+use mathlib.Core.Option.{some}
 use lib.ListN.{get_elem?}
 use Rattle.atomic_table.proofs.Lists.{at_set, set_else}
 use Rattle.segment_image.specs.Shape.{Dimensions}
 use Rattle.segment_machine.specs.declared.entry.Entry.{Entry}
 use Rattle.segment_machine.specs.declared.entry.Counting.{Counting}
-use Rattle.segment_machine.specs.declared.place.Look.{Look}
-use Rattle.segment_machine.specs.declared.place.Place.{Place}
-use Rattle.segment_machine.specs.declared.place.Place.TheVariants.{Spent, Idle, FlagsLoaded, FreeLoaded, Raised, Sized, Marked, TailLoaded, Beaten, Linked, Looking, Losing, Moving, CountLoaded, SampleLoaded, SumLoaded, CursorLoaded, BehindCursor}
+use Rattle.segment_machine.specs.declared.place.Place.TheVariants.{Spent}
 use Rattle.segment_machine.specs.declared.actor.Actor.{Actor}
 use Rattle.segment_machine.specs.declared.actor.Answered.{Answered}
 use Rattle.segment_machine.specs.declared.actor.Claim.{Claim}
 use Rattle.segment_machine.specs.declared.actor.Cost.{Cost}
 use Rattle.segment_machine.specs.declared.actor.Known.{Known}
-use Rattle.segment_machine.specs.declared.actor.Published.{Published}
 use Rattle.segment_machine.specs.declared.actor.Taken.{Taken}
-use Rattle.segment_machine.specs.Entry.{tally_units, tally_sum, tally_noted, is_of}
+use Rattle.segment_machine.specs.Entry.{tally_units, tally_sum, tally_noted}
 use Rattle.std.specs.Str.{bytes_eq}
-use Rattle.std.specs.Ordering.{int_eq}
-use Rattle.std.specs.Prelude.{◌&&◌, pos, ◌+ℤ◌}
-use Rattle.segment_machine.specs.Actor.{counted_of, summed_of, noted_of, given_by, units_of, units_listed, taken_units, taken_sum, all_counted, all_taken}
+use Rattle.std.specs.Prelude.{pos, ◌+ℤ◌}
+use Rattle.segment_machine.specs.Actor.{counted_of, summed_of, noted_of, units_of, units_listed, taken_units, taken_sum, all_counted, all_taken}
 use Rattle.segment_machine.specs.State.{State}
-use Rattle.segment_machine.specs.Body.{Anatomy, listed, order_of, claims_of}
+use Rattle.segment_machine.specs.Body.{Anatomy, order_of, claims_of}
 use Rattle.segment_machine.specs.Ledger.{moving_at}
-use Rattle.segment_machine.specs.Kept.{summed_cost, is_living, RolesAreKept, LooksRight, StandsRight, Fits, ListIsKept, CursorsAreKept, HasKey, Kept}
-use Rattle.segment_machine.proofs.Lists.{rows, column, sum_same, sum_beside}
-use Rattle.segment_machine.proofs.Totals.{rows_total, row_in, row_from, HasUnits, tally_from, tally_at}
+use Rattle.segment_machine.specs.Kept.{summed_cost, StandsRight, Fits, HasKey, Kept}
+use Rattle.segment_machine.proofs.Lists.{none_in, rows_total, rows, row_in, row_from, column, sum_same, sum_beside}
+use Rattle.segment_machine.proofs.Countings.{units_total, sum_total, noted_total}
+use Rattle.segment_machine.proofs.Totals.{HasUnits, tally_from, tally_at}
+use Rattle.segment_machine.proofs.Goings.{not_opener}
 use Rattle.segment_machine.proofs.SeatsSums.{amounts_total}
-use Rattle.segment_machine.proofs.SeatsLists.{none_in}
-use Rattle.segment_machine.proofs.SeatsBooks.{GivenInOrder, LoadedBefore}
+use Rattle.segment_machine.proofs.SeatsBooks.{cursors_set, listed_set}
 use Rattle.segment_machine.proofs.SeatsDeeds.{SameSums}
-use Rattle.segment_machine.proofs.SeatsFrames.{IsLater, balanced, sums_near, fits}
-use Rattle.segment_machine.proofs.SeatsRoles.{AllStood, still_younger, still_apart, still_eldest, alone_before}
+use Rattle.segment_machine.proofs.Standing.{grounds_itself, stands_on}
+use Rattle.segment_machine.proofs.SeatsFrames.{loaded_set, balanced, sums_near}
+use Rattle.segment_machine.proofs.SeatsRoles.{SameRole, stood_set, roles_set, fits_beside}
 
 -- ---- what changes of an actor that notes something
 
@@ -103,45 +101,10 @@ counted_before a b same e there some_units =
     let counted = same.counted e.name e.key in
     tally_at (counted_of a) e.name e.key (omega (arith, now, counted))
 
--- it stands right where it knows no less
-module _ (anatomy : Anatomy) (a : Actor) (n : Noting) (knows : (known : Known) → Contains a.names known → Contains n.names known) where
-  noting_look : (look : Look) → LooksRight a look → LooksRight (noting a n) look
-  noting_look look right = record { known = right.known; knows = (knows right.known right.knows.0, right.knows.1, right.knows.2); single = right.single; counts = right.counts }
-
-  pub noting_stands : (shape : Dimensions) (id : ℕ) (place : Place) → place ≢ Spent → StandsRight shape anatomy id a place
-      → StandsRight shape anatomy id (noting a n) place
-  noting_stands shape id Spent live right = absurd (live refl)
-  noting_stands shape id Idle live right = right
-  noting_stands shape id FlagsLoaded live right = right
-  noting_stands shape id (FreeLoaded free) live right = right
-  noting_stands shape id (Raised at size) live right = right
-  noting_stands shape id (Sized at size) live right = right
-  noting_stands shape id (Marked at size) live right = right
-  noting_stands shape id (TailLoaded tail) live right = right
-  noting_stands shape id (Beaten tail behind) live right = right
-  noting_stands shape id (Linked at tail) live right = right
-  noting_stands shape id (Looking look) live right = noting_look look right
-  noting_stands shape id (Losing look at) live right = (noting_look look right.0, right.1, right.2, right.3)
-  noting_stands shape id (Moving look bucket units) live right =
-      (noting_look look right.0, right.1, right.2, right.3, right.4, right.5, right.6)
-  noting_stands shape id (CountLoaded look bucket count) live right = ((noting_look look right.0.0, right.0.1, right.0.2), right.1)
-  noting_stands shape id (SampleLoaded reference count) live right = right
-  noting_stands shape id (SumLoaded reference sum) live right = (right.0, knows right.0 right.1, right.2)
-  noting_stands shape id (CursorLoaded cursor at) live right = right
-  noting_stands shape id (BehindCursor cursor at behind) live right = right
-
 -- ---- all actors
 
 module _ (shape : Dimensions) (opened : Anatomy) (state : State) (kept : Kept shape opened state) (id : ℕ) (a : Actor)
     (mine : get_elem? state.actors id ≡ some a) (records : a.opener ≡ 0) where
-  -- a recorder is not the first actor
-  pub not_first : id ≢ 0
-  not_first zero_is =
-      let opener : kept.roles.opener ≡ a = some-injective _ _ (sym kept.roles.stands ∙ (ap (get_elem? state.actors) (sym zero_is) ∙ mine)) in
-      let one = ap (λ (b : Actor). b.opener) opener in
-      let opens = kept.roles.opens in
-      omega (arith, one, opens, records)
-
   module _ (n : Noting) (lived : a.place ≢ Spent) where
     abbrev pub later : Actor
     later = noting a n
@@ -154,14 +117,11 @@ module _ (shape : Dimensions) (opened : Anatomy) (state : State) (kept : Kept sh
       pub sums : SameSums state.actors noters
       sums = record {
         counted = λ name key. rows_total ◌+◌ (λ entries. tally_units entries name key)
-            (sum_by-append (λ (entry : Entry). if is_of name entry && int_eq entry.key key then entry.units else 0))
-            counted_of state.actors id a later mine (counts.counted name key);
+            (units_total name key) counted_of state.actors id a later mine (counts.counted name key);
         summed = λ name. rows_total ◌+ℤ◌ (λ entries. tally_sum entries name)
-            (amounts_total (λ (entry : Entry). if is_of name entry then entry.amount else pos 0))
-            summed_of state.actors id a later mine (counts.summed name);
+            (sum_total name) summed_of state.actors id a later mine (counts.summed name);
         noted = λ name. rows_total ◌+◌ (λ entries. tally_noted entries name)
-            (sum_by-append (λ (entry : Entry). if is_of name entry then entry.units else 0))
-            noted_of state.actors id a later mine (counts.noted name);
+            (noted_total name) noted_of state.actors id a later mine (counts.noted name);
         taken = λ name key. rows_total ◌+◌ (λ taken. taken_units taken name key)
             (sum_by-append (λ (t : Taken). if bytes_eq t.name name then units_listed t.counts key else 0))
             (λ (a : Actor). a.taken) state.actors id a later mine (takes.taken name key);
@@ -175,60 +135,18 @@ module _ (shape : Dimensions) (opened : Anatomy) (state : State) (kept : Kept sh
             omega (arith, all, more);
       }
 
-      -- others were there, and it stands where it stood
-      stood : AllStood state.actors noters
-      stood k c at lives = elim (at_set state.actors id k later c at) [
-        | inl t ↦ record {
-          was = a;
-          at = ap (get_elem? state.actors) t.0 ∙ mine;
-          lives = ap is_living t.1 ∙ lives;
-          made = ap (λ (c : Actor). c.made) t.1;
-          outstanding = ap (λ (c : Actor). c.outstanding) t.1;
-          inherited = ap (λ (c : Actor). c.inherited) t.1;
-        }
-        | inr t ↦ record { was = c; at = t.1; lives = lives; made = refl; outstanding = refl; inherited = refl }
-      ]
+      -- it has the role that it had
+      role : SameRole later a
+      role = record { living = refl; opener = refl; first = refl; made = refl; outstanding = refl; inherited = refl }
 
-      first : get_elem? noters 0 ≡ some kept.roles.opener
-      first = set_else state.actors id 0 later (λ same. not_first (sym same)) ∙ kept.roles.stands
-
-      roles : RolesAreKept noters
-      roles = record {
-        opener = kept.roles.opener;
-        stands = first;
-        opens = kept.roles.opens;
-        idle = kept.roles.idle;
-        rests = kept.roles.rests;
-        only = λ k c at away. elim (at_set state.actors id k later c at) [
-          | inl t ↦ subst (λ (c : Actor). (c.opener ≡ 0) × (c.first ≡ [])) t.1 (kept.roles.only id a mine not_first)
-          | inr t ↦ kept.roles.only k c t.1 away
-        ];
-        living = sum_same (λ c. if is_living c then 1 else 0) state.actors id a later mine refl ∙ kept.roles.living;
-        few = kept.roles.few;
-        younger = still_younger state.actors noters kept.roles stood kept.roles.opener.made (omega arith);
-        apart = still_apart state.actors noters kept.roles stood;
-        eldest = still_eldest state.actors noters kept.roles stood;
-        heirs = λ k c at lives.
-            let s = stood k c at lives in
-            let was = kept.roles.heirs k s.was s.at s.lives in (
-              was.0,
-              was.1 ∙ ap (λ (list : List Entry). list ++ was.0) s.inherited,
-              λ none last. was.2 (s.outstanding ∙ none) (ap (λ (n : ℕ). n + 1) s.made ∙ last),
-            );
-      }
-
-      since : IsLater state.actors noters kept.roles.opener kept.roles.opener
-      since = record {
-        more = omega arith;
-        last = λ n below e. e;
-        lives = λ k c at lives. let s = stood k c at lives in inl (s.was, s.at, s.lives, s.made);
-      }
+      not_first : id ≢ 0
+      not_first = not_opener shape opened state kept id a mine records
 
       -- who fitted beside the others fits still
       pub beside : (k : ℕ) (c : Actor) → Fits shape kept.anatomy state.cursors state.actors kept.roles.opener k c
           → Fits shape kept.anatomy state.cursors noters kept.roles.opener k c
-      beside k c fit = fits shape kept.anatomy state.cursors state.actors noters kept.roles.opener kept.roles.opener k c sums since
-          (λ either. alone_before state.actors noters kept.roles.opener kept.roles.opener c kept.roles.stands first refl) fit
+      beside k c = fits_beside shape kept.anatomy state.cursors state.actors noters kept.roles.opener kept.roles.opener k c kept.roles.stands
+          (set_else state.actors id 0 later (λ same. not_first (sym same)) ∙ kept.roles.stands) refl sums (stood_set state.actors id a later mine role)
 
       module _ (knows : (known : Known) → Contains a.names known → Contains n.names known)
           (refits : Fits shape kept.anatomy state.cursors noters kept.roles.opener id a → Fits shape kept.anatomy state.cursors noters kept.roles.opener id later) where
@@ -242,43 +160,17 @@ module _ (shape : Dimensions) (opened : Anatomy) (state : State) (kept : Kept sh
         standing : (k : ℕ) (c : Actor) → get_elem? noters k ≡ some c → StandsRight shape kept.anatomy k c c.place
         standing k c at = elim (at_set state.actors id k later c at) [
           | inl t ↦ subst₂ (λ k (c : Actor). StandsRight shape kept.anatomy k c c.place) (sym t.0) t.1
-              (noting_stands kept.anatomy a n knows shape id a.place lived (kept.standing id a mine))
+              (stands_on shape kept.anatomy kept.anatomy id a later (grounds_itself kept.anatomy id)
+              (record {
+                saw = (refl, refl, refl, refl, refl);
+                names = knows;
+                words = λ s has. has;
+                own = λ block has. (block, has, refl, refl);
+                spent = λ is. absurd (lived (ap (λ (b : Actor). b.place) is));
+              })
+              a.place (kept.standing id a mine))
           | inr t ↦ kept.standing k c t.1
         ]
-
-        list : ListIsKept state.words opened kept.anatomy noters
-        list = record {
-          linked = kept.list.linked;
-          once = (
-            kept.list.once.0,
-            kept.list.once.1,
-            subst (λ (made : List Published). IsPermutation kept.list.once.0 (map listed made))
-                (sym (rows (λ (a : Actor). a.published) state.actors id a later mine refl)) kept.list.once.2,
-          );
-          standing = kept.list.standing;
-          alone = kept.list.alone;
-          tail = kept.list.tail;
-        }
-
-        cursors : CursorsAreKept (order_of kept.anatomy) state.cursors noters
-        cursors = record {
-          stand = λ k below.
-              let (place, within, is, gave) = kept.cursors.stand k below in (
-                place,
-                within,
-                is,
-                subst (λ given. IsPermutation given (take place (order_of kept.anatomy)))
-                    (sym (rows (λ (a : Actor). given_by k a.given) state.actors id a later mine refl)) gave,
-              );
-          ordered = λ k c at. elim (at_set state.actors id k later c at) [
-            | inl t ↦ λ recorder. subst (λ (c : Actor). GivenInOrder (order_of kept.anatomy) c.given) t.1 (kept.cursors.ordered id a mine records)
-            | inr t ↦ kept.cursors.ordered k c t.1
-          ];
-          given = λ k c at. elim (at_set state.actors id k later c at) [
-            | inl t ↦ subst (λ (c : Actor). All (λ g. Contains (order_of kept.anatomy) g.reference) c.given) t.1 (kept.cursors.given id a mine)
-            | inr t ↦ kept.cursors.given k c t.1
-          ];
-        }
 
         keys : (entry : Entry) → Contains (all_counted noters) entry → 0 < entry.units → HasKey kept.anatomy.records entry.name entry.key
         keys entry there some_units = elim (row_from counted_of state.actors id later entry there) [
@@ -297,15 +189,8 @@ module _ (shape : Dimensions) (opened : Anatomy) (state : State) (kept : Kept sh
           ]
         ]
 
-        loaded : LoadedBefore state.actors noters
-        loaded at sum k c there stands = elim (at_set state.actors id k later c there) [
-          | inl t ↦ (id, a, mine, ap (λ (c : Actor). c.place) t.1 ∙ stands)
-          | inr t ↦ (k, c, t.1, stands)
-        ]
-
         -- the state with that note is kept
         pub notes_on : Kept shape opened (record state { actors = noters })
-        unfolding roles
         notes_on = record {
           anatomy = kept.anatomy;
           shown = kept.shown;
@@ -313,19 +198,19 @@ module _ (shape : Dimensions) (opened : Anatomy) (state : State) (kept : Kept sh
           versions = kept.versions;
           still = kept.still;
           blocks = kept.blocks;
-          list = list;
+          list = listed_set state.words opened kept.anatomy state.actors id a later mine refl kept.list;
           claims = subst (λ (claimed : List Claim). IsPermutation (claims_of kept.anatomy.pieces) (claims_of opened.pieces ++ claimed))
               (sym (rows (λ (a : Actor). a.claimed) state.actors id a later mine refl)) kept.claims;
           records = kept.records;
           balanced = balanced kept.anatomy.version opened.pieces kept.anatomy.pieces state.actors noters sums kept.balanced;
           keys = keys;
           taken_keys = taken_keys;
-          sums = sums_near kept.anatomy.pieces state.actors noters sums loaded kept.sums;
+          sums = sums_near kept.anatomy.pieces state.actors noters sums (loaded_set state.actors id a later mine (λ at sum is. is)) kept.sums;
           pool = sum_same units_of state.actors id a later mine counts.units ∙ kept.pool;
           corrupt = kept.corrupt ∙ ap (λ set. opened.corrupt || fold ◌||◌ false set) (sym (column (λ (a : Actor). a.spoiled) state.actors id a later mine refl));
           full = kept.full ∙ ap (λ set. opened.full || fold ◌||◌ false set) (sym (column (λ (a : Actor). a.filled) state.actors id a later mine refl));
-          roles = roles;
-          cursors = cursors;
+          roles = roles_set state.actors id a later mine role not_first kept.roles;
+          cursors = cursors_set (order_of kept.anatomy) state.cursors state.actors id a later mine records refl kept.cursors;
           standing = standing;
           each = each;
         }

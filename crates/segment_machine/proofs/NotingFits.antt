@@ -14,7 +14,7 @@ use Rattle.segment_machine.specs.Consistent.{IsWithinCounts}
 use Rattle.segment_machine.specs.Body.{Anatomy}
 use Rattle.segment_machine.specs.Seen.{Knows, IsFirst, IsFirstOf}
 use Rattle.segment_machine.specs.Kept.{AreInOrder, CallsRight, LooksBack, IsQuiet, IsMoment, FinalsAreExact, Fits}
-use Rattle.segment_machine.proofs.SeatsLists.{none_in}
+use Rattle.segment_machine.proofs.Lists.{none_in}
 use Rattle.std.proofs.lemmas.List.{drop_all}
 use Rattle.segment_machine.proofs.SeatsFrames.{ended_began}
 use Rattle.segment_machine.proofs.Noting.{Noting, noting, SameCounts, counted_before}

@@ -1,11 +1,11 @@
 -- A new segment with its opener is kept: it has the queue block alone, and its one actor has done nothing.
-use Rattle.std.proofs.Common.{◌≡◌, ◌≢◌, ◌⊎◌, true, ℕ, zero, suc, ◌+◌, ◌<◌, List, [], ◌∷◌, ◌++◌, length, replicate, inl, inr, refl, sym, ap, subst, arith, length-append}
+use Rattle.std.proofs.Common.{◌≡◌, ◌≢◌, ◌⊎◌, true, ℕ, zero, suc, ◌+◌, ◌<◌, List, [], ◌∷◌, replicate, inl, inr, refl, sym, subst, arith}
 use Rattle.std.specs.Prelude.{slice_index}
 use Rattle.std.specs.List.{Contains, All}
 use Rattle.std.proofs.lemmas.List.{get_or-replicate, length-replicate}
 use Rattle.std.proofs.lemmas.List.Elements.{All-nil}
 use Rattle.std.proofs.lemmas.List.Sorted.{IsPermutation-refl}
-use mathlib.Core.Option.{Option, some, none, some-injective, some-ne-none}
+use mathlib.Core.Option.{Option, some, none}
 use lib.ListN.{get_elem?}
 use Rattle.segment_image.specs.Shape.{Dimensions}
 use Rattle.segment_image.specs.Words.{word_at}
@@ -21,26 +21,11 @@ use Rattle.segment_machine.specs.Body.{Body, queue, histogram, counts, sample, R
 use Rattle.segment_machine.specs.Seen.{Stands, HasRecord, HasCounts, HasSample, Sees}
 use Rattle.segment_machine.specs.Kept.{ListIsKept, IsListed, RecordsAreKept, RolesAreKept, CursorsAreKept, CallsRight, IsMomentOf, FinalsAreExact, Fits, Kept, ClaimedRight, StandsRight, is_living}
 use Rattle.segment_machine.specs.Keeps.{OpeningIsKept}
-use Rattle.segment_machine.proofs.Mounted.{none_in}
+use Rattle.segment_machine.proofs.Lists.{none_in, none_at, not_empty, each_of_one}
 
--- ---- lists of none and of one
+-- ---- a list of one
 
-none_at : {X : Type 0} (k : ℕ) (x : X) → get_elem? {A = X} [] k ≡ some x → ⊥
-none_at k x e = some-ne-none x (sym e)
-
--- nothing stands in the middle of a list of none
-none_between : {X : Type 0} (front behind : List X) (x : X) → [] ≡ front ++ x ∷ behind → ⊥
-none_between front behind x e =
-    let n = ap length e in
-    let m = length-append front (x ∷ behind) in
-    omega (arith, n, m)
-
--- what holds of the one of a list, and its place, holds of each
-one_at : {X : Type 0} (one : X) (holds : ℕ → X → Type 0) → holds 0 one → (k : ℕ) (x : X) → get_elem? (one ∷ []) k ≡ some x → holds k x
-one_at one holds it zero x e = subst (holds 0) (some-injective one x e) it
-one_at one holds it (suc k) x e = absurd (none_at k x e)
-
--- there are no two of it
+-- there are no two of its one
 no_two : {X : Type 0} (one : X) (i j : ℕ) (x y : X) → get_elem? (one ∷ []) i ≡ some x → get_elem? (one ∷ []) j ≡ some y → i ≢ j → ⊥
 no_two one zero zero x y a b apart = apart refl
 no_two one zero (suc j) x y a b apart = none_at j y b
@@ -56,7 +41,7 @@ only = the_queue ∷ []
 
 -- a block that stands there is the queue block
 stands_queue : (at : ℕ) (owner : Option ℕ) (body : Body) → Stands only at owner body → queue 12 ≡ body
-stands_queue at owner body (k, there) = one_at the_queue (λ k piece. queue 12 ≡ piece.body) refl k _ there
+stands_queue at owner body (k, there) = each_of_one the_queue (λ k piece. queue 12 ≡ piece.body) refl k _ there
 
 no_record : (at : ℕ) (r : Record) → HasRecord only at r → ⊥
 no_record at r there = cc (stands_queue at none (histogram r) there)
@@ -98,7 +83,7 @@ module _ (shape : Dimensions) (version id cursors : ℕ) (lawful : IsShape shape
     named = λ at c there. absurd (no_counts at c there);
     packed = λ at r there. absurd (no_record at r there);
     valued = λ at s there. absurd (no_sample at s there);
-    sampled = λ front behind at of value e. absurd (none_between front behind _ e);
+    sampled = λ front behind at of value e. absurd (not_empty front behind _ (sym e));
     later = λ at other r first there. absurd (no_record at r there);
     later_samples = λ at other s there. absurd (no_sample at s there);
   }
@@ -110,13 +95,13 @@ module _ (shape : Dimensions) (version id cursors : ℕ) (lawful : IsShape shape
     opens = refl;
     idle = refl;
     rests = (refl, refl, refl, refl);
-    only = one_at opener (λ k a. k ≢ 0 → _) (λ apart. absurd (apart refl));
+    only = each_of_one opener (λ k a. k ≢ 0 → _) (λ apart. absurd (apart refl));
     living = refl;
     few = omega arith;
-    younger = one_at opener (λ k a. is_living a ≡ true → a.made < 0) (λ lives. cc lives);
+    younger = each_of_one opener (λ k a. is_living a ≡ true → a.made < 0) (λ lives. cc lives);
     apart = λ i j a b x y lives others ne. absurd (no_two opener i j a b x y ne);
     eldest = λ i j a b x y lives others ne. absurd (no_two opener i j a b x y ne);
-    heirs = one_at opener (λ k a. is_living a ≡ true → _) (λ lives. cc lives);
+    heirs = each_of_one opener (λ k a. is_living a ≡ true → _) (λ lives. cc lives);
   }
 
   cursors_kept : CursorsAreKept [] (replicate cursors 12) actors
@@ -124,8 +109,8 @@ module _ (shape : Dimensions) (version id cursors : ℕ) (lawful : IsShape shape
     stand = λ k below.
         let within : k < cursors = omega (arith, below, length-replicate {A = ℕ} cursors 12) in
         (0, omega arith, sym (get_or-replicate cursors k 12 0 within), IsPermutation-refl []);
-    ordered = one_at opener (λ k a. a.opener ≡ 0 → _) (λ records. absurd (omega (arith, records)));
-    given = one_at opener (λ k a. All (λ g. Contains [] g.reference) a.given) (All-nil _);
+    ordered = each_of_one opener (λ k a. a.opener ≡ 0 → _) (λ records. absurd (omega (arith, records)));
+    given = each_of_one opener (λ k a. All (λ g. Contains [] g.reference) a.given) (All-nil _);
   }
 
   sees : Sees opened (replicate cursors 12) opener
@@ -188,7 +173,7 @@ module _ (shape : Dimensions) (version id cursors : ℕ) (lawful : IsShape shape
     same = (refl, refl);
     versions = versions;
     still = λ k p there. (p, there, refl);
-    blocks = one_at the_queue (λ k piece. ClaimedRight piece) (λ e. cc e);
+    blocks = each_of_one the_queue (λ k piece. ClaimedRight piece) (λ e. cc e);
     list = list;
     claims = IsPermutation-refl [];
     records = records;
@@ -208,8 +193,8 @@ module _ (shape : Dimensions) (version id cursors : ℕ) (lawful : IsShape shape
     full = refl;
     roles = roles;
     cursors = cursors_kept;
-    standing = one_at opener (λ k a. StandsRight shape opened k a a.place) tt;
-    each = one_at opener (λ k a. a.place ≢ Spent → Fits shape opened (replicate cursors 12) actors opener k a) (λ lives. fits);
+    standing = each_of_one opener (λ k a. StandsRight shape opened k a a.place) tt;
+    each = each_of_one opener (λ k a. a.place ≢ Spent → Fits shape opened (replicate cursors 12) actors opener k a) (λ lives. fits);
   }
 
 pub opening_is_kept : OpeningIsKept

@@ -1,11 +1,12 @@
 -- What holds of any two elements of a list, whatever their order.
-use Rattle.std.proofs.Common.{◌≡◌, ◌≢◌, ◌⊎◌, ℕ, zero, suc, ◌<◌, List, [], ◌∷◌, length, set, get_or, IsPermutation, inl, inr, refl, ap, subst, ◌∙◌, arith}
+use Rattle.std.proofs.Common.{◌≡◌, ◌≢◌, ◌⊎◌, ℕ, ◌<◌, List, [], ◌∷◌, length, set, get_or, IsPermutation, inl, inr, refl, ap, subst, ◌∙◌, arith}
 use Rattle.std.specs.List.{swap}
+use Rattle.std.proofs.lemmas.List.{get_or_default}
 use Rattle.std.proofs.lemmas.List.Edits.{swap_is}
 use Rattle.std.proofs.lemmas.List.Sorted.{IsPermutation-keeps}
 use mathlib.Core.Option.{some}
 use lib.ListN.{get_elem?}
-use Rattle.atomic_table.proofs.Lists.{at_set}
+use Rattle.atomic_table.proofs.Lists.{at_set, at_index}
 
 -- it holds of the elements at any two places
 abbrev pub AnyTwo : {X : Type 0} → (X → X → Type 0) → List X → Type 0
@@ -30,9 +31,7 @@ apart_before i j a b s t (inr (inr x)) (inr (inr y)) ne same = ne (omega (arith,
 
 -- the element at a place of a list
 pub element_at : {X : Type 0} (l : List X) (k : ℕ) (d : X) → k < length l → get_elem? l k ≡ some (get_or l k d)
-element_at [] k d lt = absurd (omega (arith, lt))
-element_at (x ∷ xs) zero d lt = refl
-element_at (x ∷ xs) (suc k) d lt = element_at xs k d (omega (arith, lt))
+element_at l k d lt = at_index l k (get_or l k d) lt (get_or_default l k d (get_or l k d) lt)
 
 module _ {X : Type 0} (l : List X) (i j : ℕ) (d : X) (p : i < length l) (q : j < length l) where
   -- an element of the list after the exchange stood in it before

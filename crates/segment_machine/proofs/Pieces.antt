@@ -3,6 +3,7 @@ use Rattle.std.proofs.Common.{◌≡◌, ◌≢◌, ◌⊎◌, ℕ, zero, suc, �
 use Rattle.std.specs.Prelude.{slice_index}
 use Rattle.std.proofs.lemmas.Bool.{cases_order}
 use Rattle.std.proofs.Math.IntN.{+ℤ_idr}
+use Rattle.std.proofs.lemmas.List.{map_push}
 use Rattle.std.proofs.lemmas.List.Sums.{sum_by_push, fold-append}
 use Rattle.std.proofs.lemmas.List.Sorted.{IsPermutation-append_comm, IsPermutation-cons}
 use mathlib.Core.Option.{Option, some, none, some-injective, some-ne-none}
@@ -182,14 +183,10 @@ abbrev pub grown_by : Anatomy → ℕ → ℕ → Anatomy
 grown_by anatomy id size =
     record anatomy { pieces = anatomy.pieces ++ raw_piece (free_of anatomy) id size ∷ []; spare = anatomy.spare - size }
 
-map_snoc : {A B : Type 0} (f : A → B) (l : List A) (x : A) → map f l ++ f x ∷ [] ≡ map f (l ++ x ∷ [])
-map_snoc f [] x = refl
-map_snoc f (y ∷ ys) x = ap (λ rest. f y ∷ rest) (map_snoc f ys x)
-
 pub layout_grown : (anatomy : Anatomy) (id size : ℕ) → grown (layout_of anatomy) id size ≡ layout_of (grown_by anatomy id size)
 layout_grown anatomy id size =
     ap (λ (blocks : List Block). record (layout_of anatomy) { blocks = blocks; spare = anatomy.spare - size })
-    (map_snoc block_of anatomy.pieces (raw_piece (free_of anatomy) id size))
+    (sym (map_push block_of anatomy.pieces (raw_piece (free_of anatomy) id size)))
 
 pub free_more : (anatomy : Anatomy) (id size : ℕ) → free_of (grown_by anatomy id size) ≡ free_of anatomy + size
 free_more anatomy id size = sym (ap layout.free_of (layout_grown anatomy id size)) ∙ free_grown (layout_of anatomy) id size
@@ -283,6 +280,6 @@ amounts_same holds pieces k p q there same = ap (fold ◌+ℤ◌ (pos 0)) (colum
 
 pub amounts_grown : (holds : Body → ℤ) (pieces : List Piece) (q : Piece) → holds q.body ≡ pos 0 → all_amounts holds (pieces ++ q ∷ []) ≡ all_amounts holds pieces
 amounts_grown holds pieces q nothing =
-    ap (fold ◌+ℤ◌ (pos 0)) (sym (map_snoc (λ (piece : Piece). holds piece.body) pieces q))
+    ap (fold ◌+ℤ◌ (pos 0)) (map_push (λ (piece : Piece). holds piece.body) pieces q)
     ∙ (fold-append ◌+ℤ◌ (pos 0) (map (λ (piece : Piece). holds piece.body) pieces) (holds q.body ∷ [])
     ∙ (ap (λ n. all_amounts holds pieces +ℤ n) nothing ∙ +ℤ_idr (all_amounts holds pieces)))

@@ -1,25 +1,27 @@
 -- What an invariant says of all actors together, and of the blocks: the books of a segment.
-use Rattle.std.proofs.Common.{◌≡◌, ◌≢◌, ◌⊎◌, ℕ, ◌<◌, ◌≤◌, Bool, ◌||◌, ℤ, List, ◌++◌, map, take, length, sym, ap, ◌∙◌}
+use Rattle.std.proofs.Common.{◌≡◌, ◌≢◌, ◌⊎◌, ℕ, ◌<◌, ◌≤◌, Bool, ◌||◌, ℤ, List, ◌++◌, map, take, length, set, inl, inr, sym, ap, ◌∙◌, subst}
 use Rattle.std.specs.Prelude.{sum_by, slice_index, IsPermutation}
 use mathlib.Core.Option.{some}
 use lib.ListN.{get_elem?}
 use Rattle.std.specs.List.{flat_map, Contains, All}
-use Rattle.std.proofs.lemmas.List.Sorted.{IsPermutation-trans, IsPermutation-sym, IsPermutation-append_right, IsPermutation-map, Contains-permutation}
+use Rattle.std.proofs.lemmas.List.Sorted.{IsPermutation-refl, IsPermutation-trans, IsPermutation-sym, IsPermutation-append_right, IsPermutation-map, Contains-permutation}
+use Rattle.atomic_table.proofs.Lists.{at_set}
 use Rattle.segment_image.specs.Shape.{Dimensions}
 use Rattle.alloc_core.specs.Layout.{IsShown}
 use Rattle.list_core.specs.Chain.{stops}
 use Rattle.segment_machine.specs.declared.entry.Entry.{Entry}
-use Rattle.segment_machine.specs.declared.place.Place.TheVariants.{Spent, SumLoaded}
+use Rattle.segment_machine.specs.declared.place.Place.TheVariants.{Spent}
 use Rattle.segment_machine.specs.declared.actor.Actor.{Actor}
 use Rattle.segment_machine.specs.declared.actor.Given.{Given}
 use Rattle.segment_machine.specs.declared.actor.Taken.{Taken}
-use Rattle.segment_machine.specs.Actor.{all_counted, all_taken, all_given, units_of}
+use Rattle.segment_machine.specs.Actor.{given_by, all_counted, all_taken, all_given, all_published, units_of}
 use Rattle.segment_machine.specs.State.{State}
 use Rattle.segment_machine.specs.Body.{Piece, Anatomy, layout_of, order_of, claims_of, listed}
 use Rattle.segment_machine.specs.Ledger.{IsBalanced}
-use Rattle.segment_machine.specs.Kept.{ClaimedRight, HasKey, ListIsKept, RecordsAreKept, SumsAreNear, IsSetBy, StandStill, RolesAreKept, StandsRight, Fits, Kept}
+use Rattle.segment_machine.specs.Kept.{ClaimedRight, HasKey, ListIsKept, RecordsAreKept, SumsAreNear, IsSetBy, StandStill, RolesAreKept, CursorsAreKept, StandsRight, Fits, Kept}
+use Rattle.segment_machine.proofs.Lists.{rows}
 use Rattle.segment_machine.proofs.SeatsDeeds.{Deeds, sums_of}
-use Rattle.segment_machine.proofs.SeatsFrames.{balanced, sums_near, taken_keys}
+use Rattle.segment_machine.proofs.SeatsFrames.{LoadedBefore, balanced, sums_near, taken_keys}
 
 -- shared cursors stand on the list, and have given the records up to there
 abbrev pub CursorsStand : List ℕ → List ℕ → List Actor → Type 0
@@ -103,26 +105,51 @@ kept_by shape opened anatomy words cursors actors books roles ordered given stan
   each = each;
 }
 
--- ---- where others did the same together
-
-listed_by : (words : List ℕ) (opened anatomy : Anatomy) (old new : List Actor) → Deeds old new → ListIsKept words opened anatomy old
-    → ListIsKept words opened anatomy new
+-- the list is kept where others published the same
+listed_by : (words : List ℕ) (opened anatomy : Anatomy) (old new : List Actor) → IsPermutation (all_published new) (all_published old)
+    → ListIsKept words opened anatomy old → ListIsKept words opened anatomy new
 listed_by words opened anatomy old new same list = record {
   linked = list.linked;
   once = (
     list.once.0,
     list.once.1,
-    IsPermutation-trans _ _ _ list.once.2 (IsPermutation-map listed _ _ (IsPermutation-sym _ _ same.published)),
+    IsPermutation-trans _ _ _ list.once.2 (IsPermutation-map listed _ _ (IsPermutation-sym _ _ same)),
   );
   standing = list.standing;
   alone = list.alone;
   tail = list.tail;
 }
 
--- each sum that is loaded now was loaded before
-abbrev pub LoadedBefore : List Actor → List Actor → Type 0
-LoadedBefore old new = (at : ℕ) (sum : ℤ) (id : ℕ) (a : Actor) → get_elem? new id ≡ some a → a.place ≡ SumLoaded at sum
-    → (k : ℕ) × (b : Actor) × (get_elem? old k ≡ some b) × (b.place ≡ SumLoaded at sum)
+-- ---- where one actor becomes another
+
+-- shared cursors are kept where they gave it the same
+pub cursors_set : (chain cursors : List ℕ) (actors : List Actor) (id : ℕ) (a b : Actor) → get_elem? actors id ≡ some a → a.opener ≡ 0 → b.given ≡ a.given
+    → CursorsAreKept chain cursors actors → CursorsAreKept chain cursors (set actors id b)
+cursors_set chain cursors actors id a b mine records same kept = record {
+  stand = λ k below.
+      let (place, within, is, gave) = kept.stand k below in (
+        place,
+        within,
+        is,
+        subst (λ given. IsPermutation given (take place chain)) (sym (rows (λ (a : Actor). given_by k a.given) actors id a b mine (ap (given_by k) same))) gave,
+      );
+  ordered = λ other c there. elim (at_set actors id other b c there) [
+    | inl t ↦ λ recorder. subst (GivenInOrder chain) (sym same ∙ ap (λ (c : Actor). c.given) t.1) (kept.ordered id a mine records)
+    | inr t ↦ kept.ordered other c t.1
+  ];
+  given = λ other c there. elim (at_set actors id other b c there) [
+    | inl t ↦ subst (All (λ g. Contains chain g.reference)) (sym same ∙ ap (λ (c : Actor). c.given) t.1) (kept.given id a mine)
+    | inr t ↦ kept.given other c t.1
+  ];
+}
+
+-- the list is kept where it published the same
+pub listed_set : (words : List ℕ) (opened anatomy : Anatomy) (actors : List Actor) (id : ℕ) (a b : Actor) → get_elem? actors id ≡ some a
+    → b.published ≡ a.published → ListIsKept words opened anatomy actors → ListIsKept words opened anatomy (set actors id b)
+listed_set words opened anatomy actors id a b mine same = listed_by words opened anatomy actors (set actors id b)
+    (subst (λ made. IsPermutation made (all_published actors)) (sym (rows (λ (a : Actor). a.published) actors id a b mine same)) (IsPermutation-refl _))
+
+-- ---- where others did the same together
 
 pub books_by : (shape : Dimensions) (opened anatomy : Anatomy) (words cursors : List ℕ) (old new : List Actor)
     → Deeds old new → LoadedBefore old new
@@ -133,7 +160,7 @@ books_by shape opened anatomy words cursors old new same loaded books = record {
   versions = books.versions;
   still = books.still;
   blocks = books.blocks;
-  list = listed_by words opened anatomy old new same books.list;
+  list = listed_by words opened anatomy old new same.published books.list;
   claims = IsPermutation-trans _ _ _ books.claims
       (IsPermutation-append_right (claims_of opened.pieces) _ _ (IsPermutation-sym _ _ same.claimed));
   records = books.records;

@@ -16,7 +16,7 @@ use Rattle.segment_machine.specs.Entry.{is_of, tally_units, tally_sum, tally_not
 use Rattle.segment_machine.specs.Actor.{counted_of, summed_of, noted_of, given_by, units_listed, taken_units, taken_sum, units_of, all_counted, all_summed, all_noted, all_taken, all_published, all_given}
 use Rattle.segment_machine.specs.Ledger.{all_moving, moving_at}
 use Rattle.segment_machine.specs.Kept.{summed_cost, summed_costs}
-use Rattle.segment_machine.proofs.SeatsLists.{split_at}
+use Rattle.segment_machine.proofs.Lists.{split_at}
 use Rattle.segment_machine.proofs.SeatsSums.{IsTotal, exchanged, added, numbers, amounts, flags, lists, amounts_total, flags_total}
 
 -- what was taken, whenever that was

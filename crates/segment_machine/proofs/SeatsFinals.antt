@@ -4,6 +4,7 @@ use Rattle.std.specs.Prelude.{if◌then◌else◌}
 use mathlib.Core.Option.{some, some-injective}
 use lib.ListN.{get_elem?}
 use Rattle.std.specs.List.{Contains, All}
+use Rattle.std.proofs.Math.Seq.{drop-append-add}
 use Rattle.std.proofs.lemmas.List.{map-append}
 use Rattle.std.proofs.lemmas.List.Elements.{All-nil, All-append, All-weaker, Contains-append_cases}
 use Rattle.segment_image.specs.Shape.{Dimensions}
@@ -25,7 +26,7 @@ use Rattle.segment_machine.specs.Seen.{Stands}
 use Rattle.segment_machine.specs.Kept.{is_living, ended_deltas, IsQuiet, IsMoment, IsMomentOf, FinalsAreExact, HoldsOwn}
 use Rattle.segment_machine.proofs.Lists.{all_at}
 use Rattle.segment_machine.proofs.Pieces.{one_stands}
-use Rattle.segment_machine.proofs.SeatsLists.{contains_mapped, all_left, drop_left, drop_right, at_either}
+use Rattle.segment_machine.proofs.SeatsLists.{contains_mapped, all_left, drop_left, at_either}
 use Rattle.segment_machine.proofs.SeatsFrames.{ended_among}
 use Rattle.segment_machine.proofs.SeatsPassed.{handed, stands_given, stands_left}
 use Rattle.segment_machine.proofs.SeatsJoined.{Joins}
@@ -66,7 +67,7 @@ module _ (actors : List Actor) (opener : Actor) (other : ℕ) (a b : Actor) (may
 
   quiet_second : (name : List ℕ) (n : ℕ) → IsQuiet both name (before + n) → IsQuiet b name n
   quiet_second name n quiet = (
-    subst (All (λ (entry : Entry). is_of name entry ≡ false)) (ap (drop (before + n)) log_joined ∙ drop_right n (log_of a) (log_of b)) quiet.0,
+    subst (All (λ (entry : Entry). is_of name entry ≡ false)) (ap (drop (before + n)) log_joined ∙ drop-append-add (log_of a) (log_of b) n) quiet.0,
     subst (All (λ (c : Counting). (is_of name c.entry ≡ false) ⊎ (is_untouched c ≡ true))) (sym may.rests)
         (All-nil (λ (c : Counting). (is_of name c.entry ≡ false) ⊎ (is_untouched c ≡ true))),
   )

@@ -1,11 +1,12 @@
 -- What holds of actors together, and of one beside the others, holds on where others did the same together.
-use Rattle.std.proofs.Common.{◌≡◌, ◌⊎◌, ℕ, ◌+◌, ◌<◌, ◌≤◌, Some, ℤ, Bool, true, false, List, ◌-◌, length, take, inl, inr, ⊎_elim, sym, refl, ap, ◌∙◌, subst, arith}
+use Rattle.std.proofs.Common.{set, ◌≡◌, ◌⊎◌, ℕ, ◌+◌, ◌<◌, ◌≤◌, Some, ℤ, Bool, true, false, List, ◌-◌, length, take, inl, inr, ⊎_elim, sym, refl, ap, ◌∙◌, subst, arith}
 use Rattle.std.specs.List.{Contains}
 use Rattle.std.specs.Prelude.{if◌then◌else◌}
 use mathlib.Core.Option.{some}
 use lib.ListN.{get_elem?}
 use Rattle.std.proofs.lemmas.List.Elements.{All-weaker}
 use Rattle.std.proofs.lemmas.List.Sorted.{Contains-permutation}
+use Rattle.atomic_table.proofs.Lists.{at_set}
 use Rattle.segment_image.specs.Shape.{Dimensions}
 use Rattle.segment_machine.specs.declared.place.Place.TheVariants.{SumLoaded}
 use Rattle.segment_machine.specs.declared.actor.Actor.{Actor}
@@ -45,11 +46,21 @@ balanced version opened pieces old new same books = record {
       omega (arith, was, counted, took);
 }
 
--- sums of a record stay near where no sum is loaded that was not loaded before
-pub sums_near : (pieces : List Piece) (old new : List Actor) → SameSums old new
-    → ((at : ℕ) (sum : ℤ) (id : ℕ) (a : Actor) → get_elem? new id ≡ some a → a.place ≡ SumLoaded at sum
-    → (k : ℕ) × (b : Actor) × (get_elem? old k ≡ some b) × (b.place ≡ SumLoaded at sum))
-    → SumsAreNear pieces old → SumsAreNear pieces new
+-- each sum that is loaded now was loaded before
+abbrev pub LoadedBefore : List Actor → List Actor → Type 0
+LoadedBefore old new = (at : ℕ) (sum : ℤ) (id : ℕ) (a : Actor) → get_elem? new id ≡ some a → a.place ≡ SumLoaded at sum
+    → (k : ℕ) × (b : Actor) × (get_elem? old k ≡ some b) × (b.place ≡ SumLoaded at sum)
+
+-- so it is where one actor becomes another that has loaded none but the one that it had
+pub loaded_set : (actors : List Actor) (id : ℕ) (a b : Actor) → get_elem? actors id ≡ some a
+    → ((at : ℕ) (sum : ℤ) → b.place ≡ SumLoaded at sum → a.place ≡ SumLoaded at sum) → LoadedBefore actors (set actors id b)
+loaded_set actors id a b mine same at sum k c there stands = elim (at_set actors id k b c there) [
+  | inl t ↦ (id, a, mine, same at sum (ap (λ (c : Actor). c.place) t.1 ∙ stands))
+  | inr t ↦ (k, c, t.1, stands)
+]
+
+-- sums of a record stay near then
+pub sums_near : (pieces : List Piece) (old new : List Actor) → SameSums old new → LoadedBefore old new → SumsAreNear pieces old → SumsAreNear pieces new
 sums_near pieces old new same loaded near at r x y there first last =
     let bound = near at r x y there (before at r x first) (before at r y last) in
     let costs = same.costs r.name in

@@ -1,5 +1,5 @@
 -- A recorder that is joined keeps what holds.
-use Rattle.std.proofs.Common.{◌≡◌, ◌≢◌, ℕ, ◌+◌, Bool, true, true≢false, List, [], ◌++◌, map, set, length, inl, refl, sym, ap, ◌∙◌, subst, subst₂, append_assoc, arith}
+use Rattle.std.proofs.Common.{◌≡◌, ◌≢◌, ℕ, ◌+◌, Bool, true, true≢false, List, [], ◌++◌, map, set, length, refl, sym, ap, ◌∙◌, subst, subst₂, append_assoc, arith}
 use Rattle.std.specs.Prelude.{if◌then◌else◌}
 use mathlib.Core.Option.{some}
 use lib.ListN.{get_elem?}
@@ -21,13 +21,15 @@ use Rattle.segment_machine.specs.Seats.{MayJoin, joined, spent, shifted, shifted
 use Rattle.segment_machine.specs.Keeps.{JoinsKeep}
 use Rattle.segment_machine.specs.Body.{plain, Anatomy, order_of}
 use Rattle.segment_machine.specs.Kept.{is_living, RolesAreKept, StandsRight, Fits, Kept}
-use Rattle.segment_machine.proofs.Anatomies.{standing_along}
-use Rattle.segment_machine.proofs.Lists.{sum_beside, below_length}
-use Rattle.segment_machine.proofs.SeatsLists.{each_of_two, none_at}
+use Rattle.segment_machine.proofs.Actors.{lives_on}
+use Rattle.segment_machine.proofs.Anatomies.{grounds_along}
+use Rattle.segment_machine.proofs.Standing.{follows_itself, stands_on}
+use Rattle.segment_machine.proofs.Lists.{none_at, sum_beside, below_length}
+use Rattle.segment_machine.proofs.SeatsLists.{each_of_two}
 use Rattle.segment_machine.proofs.SeatsDeeds.{Deeds, deeds_set, sums_of}
-use Rattle.segment_machine.proofs.SeatsFrames.{IsLater, fits}
-use Rattle.segment_machine.proofs.SeatsBooks.{GivenInOrder, LoadedBefore, books_of, books_by, kept_by}
-use Rattle.segment_machine.proofs.SeatsRoles.{opens_nothing, lives_on, Stood, AllStood, still_younger, still_apart, still_eldest, alone_before, opens_first}
+use Rattle.segment_machine.proofs.SeatsFrames.{LoadedBefore}
+use Rattle.segment_machine.proofs.SeatsBooks.{GivenInOrder, books_of, books_by, kept_by}
+use Rattle.segment_machine.proofs.SeatsRoles.{opens_nothing, Stood, AllStood, still_younger, still_apart, still_eldest, opens_first, fits_beside}
 use Rattle.segment_machine.proofs.SeatsPassed.{handed, stays_passed, stands_left, books_passed, sees_passed, calls_passed, fits_passed}
 use Rattle.segment_machine.proofs.SeatsJoined.{Joins, joined_deeds, joined_sees, joined_calls}
 use Rattle.segment_machine.proofs.SeatsFinals.{joined_finals, joined_own, joined_apart}
@@ -144,18 +146,10 @@ module _ (shape : Dimensions) (opened : Anatomy) (old : State) (kept : Kept shap
         ));
   }
 
-  since : IsLater old.actors merged opener later
-  since = record {
-    more = omega arith;
-    last = λ n below e. e;
-    lives = λ k c at alive. let s = stood k c at alive in inl (s.was, s.at, s.lives, s.made);
-  }
-
   -- ---- each actor
 
   beside : (k : ℕ) (c : Actor) → Fits shape kept.anatomy old.cursors old.actors opener k c → Fits shape kept.anatomy old.cursors merged later k c
-  beside k c fit = fits shape kept.anatomy old.cursors old.actors merged opener later k c (sums_of old.actors merged deeds) since
-      (λ either. alone_before old.actors merged opener later c kept.roles.stands first refl) fit
+  beside k c = fits_beside shape kept.anatomy old.cursors old.actors merged opener later k c kept.roles.stands first refl (sums_of old.actors merged deeds) stood
 
   mine : Fits shape kept.anatomy old.cursors merged later 0 opener
   mine = beside 0 opener (kept.each 0 opener kept.roles.stands opener_lives)
@@ -202,8 +196,9 @@ module _ (shape : Dimensions) (opened : Anatomy) (old : State) (kept : Kept shap
       (subst (StandsRight shape anatomy 0 later) (sym kept.roles.idle) tt)
       refl
       (λ k c past front here.
-      standing_along kept.anatomy anatomy.pieces anatomy.spare anatomy.corrupt anatomy.full anatomy.tail (stays_passed other 0 kept.anatomy.pieces)
-      shape k (λ at words. stands_left other 0 kept.anatomy.pieces k past at (plain words)) c c.place (kept.standing k c here))
+      stands_on shape kept.anatomy anatomy k c c
+      (grounds_along kept.anatomy anatomy.pieces anatomy.spare anatomy.corrupt anatomy.full anatomy.tail (stays_passed other 0 kept.anatomy.pieces)
+      k (λ at words. stands_left other 0 kept.anatomy.pieces k past at (plain words))) (follows_itself c) c.place (kept.standing k c here))
 
   loaded : LoadedBefore old.actors merged
   loaded at sum = each_of_two

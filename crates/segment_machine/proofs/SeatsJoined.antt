@@ -1,5 +1,6 @@
 -- What an opener has that has joined a recorder: what both had.
-use Rattle.std.proofs.Common.{◌≡◌, ℕ, ◌+◌, ◌<◌, ◌≤◌, max, ℤ, pos, ◌+ℤ◌, Bool, true, false, true≢false, ◌||◌, List, [], ◌∷◌, ◌++◌, map, length, inl, inr, ⊎_elim, refl, sym, ap, ap₂, ◌∙◌, subst, append_assoc, append-nil, eqb-true, ltb-true, ltb-false, arith}
+use Rattle.std.proofs.Common.{◌≡◌, ℕ, ◌+◌, ◌<◌, ◌≤◌, max, ℤ, pos, ◌+ℤ◌, Bool, true, false, true≢false, ◌||◌, List, [], ◌∷◌, ◌++◌, map, length, ⊎_elim, refl, sym, ap, ap₂, ◌∙◌, subst, append_assoc, append-nil, eqb-true, ltb-true, ltb-false, arith}
+use Rattle.std.proofs.Math.Bool.{or-false}
 use Rattle.std.specs.Prelude.{fold, if◌then◌else◌, ◌==◌, nat_lt, slice_index, unwrap_or, Option, Some, IsPermutation}
 use Rattle.std.specs.Str.{bytes_eq}
 use Rattle.std.specs.List.{filter, Contains}
@@ -12,8 +13,7 @@ use Rattle.alloc_core.specs.Laws.{Behind}
 use Rattle.list_core.specs.Walk.{IsPrefix}
 use Rattle.segment_machine.specs.declared.entry.Entry.{Entry}
 use Rattle.segment_machine.specs.declared.entry.Counting.{Counting}
-use Rattle.segment_machine.specs.declared.place.Place.{Place}
-use Rattle.segment_machine.specs.declared.place.Place.TheVariants.{Spent, Idle, FlagsLoaded, FreeLoaded, Raised, Sized, Marked, TailLoaded, Beaten, Linked, Looking, Losing, Moving, CountLoaded, SampleLoaded, SumLoaded, CursorLoaded, BehindCursor}
+use Rattle.segment_machine.specs.declared.place.Place.TheVariants.{Idle}
 use Rattle.segment_machine.specs.declared.actor.Actor.{Actor}
 use Rattle.segment_machine.specs.declared.actor.Cost.{Cost}
 use Rattle.segment_machine.specs.declared.actor.Given.{Given}
@@ -29,11 +29,12 @@ use lib.ListN.{get_elem?}
 use Rattle.segment_image.specs.Shape.{Dimensions}
 use Rattle.alloc_core.specs.Layout.{IsShown}
 use Rattle.segment_machine.specs.declared.actor.Sighting.{Sighting}
-use Rattle.segment_machine.specs.Body.{Body, queue, plain, held, histogram, counts, sample, other, words_of, Piece, Anatomy, layout_of, order_of, free_of}
-use Rattle.segment_machine.specs.Seen.{WasSingle, WasCounter, WasInUse, WasFixed, IsFixedIn, IsNoLater, IsFirstOf, Knows, Sees}
+use Rattle.segment_machine.specs.Body.{Body, words_of, Piece, Anatomy, layout_of, order_of, free_of}
+use Rattle.segment_machine.specs.Seen.{WasSingle, WasCounter, WasInUse, WasFixed, IsNoLater, IsFirstOf, Knows, Sees}
+use Rattle.segment_machine.proofs.Actors.{rests_at}
+use Rattle.segment_machine.proofs.Bodies.{fixed_within}
 use Rattle.segment_machine.proofs.Pieces.{one_index}
 use Rattle.segment_machine.proofs.SeatsLists.{map_after, front_of_front}
-use Rattle.segment_machine.proofs.SeatsSums.{or_false}
 use Rattle.segment_machine.proofs.SeatsDeeds.{Deeds, timeless}
 
 -- ---- entries
@@ -75,27 +76,6 @@ taken_joined {Y} n g same xs ys =
     map-append g xs (shifted_taken n ys)
     ∙ ap (λ (list : List Y). map g xs ++ list) (map_after (λ (t : Taken). record t { moment = shifted n t.moment }) g same ys)
 
--- who is not bound moves no units
-moves_nothing : (a : Actor) (name : List ℕ) (key : ℤ) (place : Place) → is_bound place ≡ false → moving_at a name key place ≡ 0
-moves_nothing a name key Spent free = refl
-moves_nothing a name key Idle free = refl
-moves_nothing a name key FlagsLoaded free = refl
-moves_nothing a name key (FreeLoaded at) free = refl
-moves_nothing a name key (Raised at size) free = refl
-moves_nothing a name key (Sized at size) free = refl
-moves_nothing a name key (Marked at size) free = refl
-moves_nothing a name key (TailLoaded tail) free = refl
-moves_nothing a name key (Beaten tail behind) free = refl
-moves_nothing a name key (Linked at tail) free = refl
-moves_nothing a name key (Looking look) free = refl
-moves_nothing a name key (Losing look at) free = refl
-moves_nothing a name key (Moving look bucket units) free = absurd (true≢false free)
-moves_nothing a name key (CountLoaded look bucket count) free = refl
-moves_nothing a name key (SampleLoaded reference count) free = refl
-moves_nothing a name key (SumLoaded reference sum) free = refl
-moves_nothing a name key (CursorLoaded cursor at) free = refl
-moves_nothing a name key (BehindCursor cursor at behind) free = refl
-
 -- who runs nothing has in a sum what it has spent
 rests_cost : (name : List ℕ) (a : Actor) → a.running ≡ [] → summed_cost name a ≡ cost_of a.costs name
 rests_cost name a rests =
@@ -123,7 +103,7 @@ module _ (a b : Actor) (may : Joins a b) where
   joined_moving name key =
       let now = ap (moving_at (joined a b) name key) may.idle in
       let was = ap (moving_at a name key) may.idle in
-      let nothing = moves_nothing b name key b.place may.free in
+      let nothing = rests_at b name key b.place (λ look bucket units moving. cc (may.free, ap is_bound moving)) in
       omega (arith, now, was, nothing)
 
   pub joined_deeds : Deeds (a ∷ b ∷ []) (joined a b ∷ spent ∷ [])
@@ -153,8 +133,8 @@ module _ (a b : Actor) (may : Joins a b) where
         let all = sum_by-append (λ (cost : Cost). cost.units) a.costs b.costs in
         let nothing : cost_total b.held ≡ 0 = ap cost_total may.holds in
         omega (arith, all, nothing));
-    spoiled = or_false (a.spoiled || b.spoiled);
-    filled = or_false (a.filled || b.filled);
+    spoiled = or-false (a.spoiled || b.spoiled);
+    filled = or-false (a.filled || b.filled);
   }
 
 -- ---- what both have seen
@@ -245,22 +225,7 @@ seen_behind (s ∷ xs) ys at word same e = here (s.at == at) refl
     here true found behind = ap Some (same s (Contains-append_left (s ∷ []) xs s (0, omega arith, refl)) (eqb-true s.at at found))
     here false apart behind = behind
 
--- a word that is fixed in a block is one of its words
-fixed_within : (body : Body) (i : ℕ) → IsFixedIn body i → i < length (words_of body)
-fixed_within (histogram r) i (inl e) = omega (arith, e)
-fixed_within (histogram r) i (inr (inl between)) = let high = between.1 in omega (arith, high)
-fixed_within (histogram r) i (inr (inr (inl mounted))) = let e = mounted.0 in omega (arith, e)
-fixed_within (histogram r) i (inr (inr (inr behind))) = behind.1
-fixed_within (sample s) i (inl e) = omega (arith, e)
-fixed_within (sample s) i (inr (inl e)) = omega (arith, e)
-fixed_within (sample s) i (inr (inr e)) = omega (arith, e)
-fixed_within (other size tag next payload) i e = omega (arith, e)
-fixed_within (queue next) i e = absurd e
-fixed_within (plain words) i e = absurd e
-fixed_within (held block) i e = absurd e
-fixed_within (counts block) i e = absurd e
-
--- so at one place one word was seen
+-- at one place one word was seen
 one_word : (shape : Dimensions) (words : List ℕ) (anatomy : Anatomy) → IsShown shape words (layout_of anatomy) → (s t : Sighting)
     → WasFixed anatomy.pieces s → WasFixed anatomy.pieces t → s.at ≡ t.at → s.word ≡ t.word
 one_word shape words anatomy shown s t first second same =

@@ -1,5 +1,5 @@
 -- Units that are lent keep what holds.
-use Rattle.std.proofs.Common.{◌≡◌, ◌≢◌, ℕ, ◌+◌, ◌-◌, ◌≤◌, true, List, [], ◌∷◌, ◌++◌, set, inl, refl, sym, ap, ◌∙◌, subst, subst₂, arith}
+use Rattle.std.proofs.Common.{◌≡◌, ◌≢◌, ℕ, ◌+◌, ◌-◌, ◌≤◌, true, List, [], ◌∷◌, set, refl, sym, ap, ◌∙◌, subst, subst₂, arith}
 use Rattle.std.specs.Prelude.{if◌then◌else◌}
 use mathlib.Core.Option.{some}
 use lib.ListN.{get_elem?}
@@ -7,7 +7,6 @@ use Rattle.std.specs.List.{flat_map, Contains, All}
 use Rattle.std.proofs.lemmas.List.Sorted.{IsPermutation-refl}
 use Rattle.atomic_table.proofs.Lists.{set_else, set_here}
 use Rattle.segment_image.specs.Shape.{Dimensions}
-use Rattle.segment_machine.specs.declared.entry.Entry.{Entry}
 use Rattle.segment_machine.specs.declared.place.Place.TheVariants.{Spent, SumLoaded}
 use Rattle.segment_machine.specs.declared.actor.Actor.{Actor}
 use Rattle.segment_machine.specs.Actor.{all_counted, all_noted, all_published, all_given}
@@ -19,10 +18,11 @@ use Rattle.segment_machine.specs.Kept.{is_living, RolesAreKept, StandsRight, Fit
 use Rattle.segment_machine.proofs.Lists.{sum_beside, below_length}
 use Rattle.segment_machine.proofs.SeatsLists.{each_of_two}
 use Rattle.segment_machine.proofs.SeatsDeeds.{Deeds, took, deeds_set, sums_of}
-use Rattle.segment_machine.proofs.SeatsFrames.{IsLater, fits}
-use Rattle.segment_machine.proofs.SeatsBooks.{GivenInOrder, LoadedBefore, books_of, books_by, kept_by}
-use Rattle.segment_machine.proofs.SeatsRoles.{opens_nothing, Stood, AllStood, still_younger, still_apart, still_eldest, alone_before, opens_first}
-use Rattle.segment_machine.proofs.SeatsTurned.{turned_stands, shared_fits}
+use Rattle.segment_machine.proofs.SeatsFrames.{LoadedBefore}
+use Rattle.segment_machine.proofs.SeatsBooks.{GivenInOrder, books_of, books_by, kept_by}
+use Rattle.segment_machine.proofs.SeatsRoles.{opens_nothing, Stood, AllStood, still_younger, still_apart, still_eldest, opens_first, still_heirs, fits_beside}
+use Rattle.segment_machine.proofs.SeatsTurned.{shared_fits}
+use Rattle.segment_machine.proofs.Standing.{grounds_itself, stands_on}
 
 -- ---- what both did together
 
@@ -93,13 +93,7 @@ module _ (shape : Dimensions) (opened : Anatomy) (old : State) (kept : Kept shap
     younger = still_younger old.actors lent kept.roles stood later.made (omega arith);
     apart = still_apart old.actors lent kept.roles stood;
     eldest = still_eldest old.actors lent kept.roles stood;
-    heirs = λ id c at lives.
-        let s = stood id c at lives in
-        let was = kept.roles.heirs id s.was s.at s.lives in (
-          was.0,
-          was.1 ∙ ap (λ (list : List Entry). list ++ was.0) s.inherited,
-          λ none last. was.2 (s.outstanding ∙ none) (ap (λ (n : ℕ). n + 1) s.made ∙ last),
-        );
+    heirs = still_heirs old.actors lent kept.roles stood later refl refl;
   }
 
   ordered : (k : ℕ) (c : Actor) → get_elem? lent k ≡ some c → c.opener ≡ 0 → GivenInOrder (order_of kept.anatomy) c.given
@@ -117,19 +111,19 @@ module _ (shape : Dimensions) (opened : Anatomy) (old : State) (kept : Kept shap
   standing : (k : ℕ) (c : Actor) → get_elem? lent k ≡ some c → StandsRight shape kept.anatomy k c c.place
   standing = each_of_two (λ k c. StandsRight shape kept.anatomy k c c.place) old.actors 0 other later (borrower b units)
       (subst (StandsRight shape kept.anatomy 0 later) (sym kept.roles.idle) tt)
-      (turned_stands kept.anatomy b (b.share + units) b.made b.outstanding shape other b.place may.2 (kept.standing other b there))
+      (stands_on shape kept.anatomy kept.anatomy other b (borrower b units) (grounds_itself kept.anatomy other)
+      (record {
+        saw = (refl, refl, refl, refl, refl);
+        names = λ known has. has;
+        words = λ s has. has;
+        own = λ block has. (block, has, refl, refl);
+        spent = λ is. absurd (may.2 (ap (λ (c : Actor). c.place) is));
+      })
+      b.place (kept.standing other b there))
       (λ k c past front at. kept.standing k c at)
 
-  since : IsLater old.actors lent opener later
-  since = record {
-    more = omega arith;
-    last = λ n below e. e;
-    lives = λ k c at lives. let s = stood k c at lives in inl (s.was, s.at, s.lives, s.made);
-  }
-
   beside : (k : ℕ) (c : Actor) → Fits shape kept.anatomy old.cursors old.actors opener k c → Fits shape kept.anatomy old.cursors lent later k c
-  beside k c fit = fits shape kept.anatomy old.cursors old.actors lent opener later k c (sums_of old.actors lent deeds) since
-      (λ either. alone_before old.actors lent opener later c kept.roles.stands first refl) fit
+  beside k c = fits_beside shape kept.anatomy old.cursors old.actors lent opener later k c kept.roles.stands first refl (sums_of old.actors lent deeds) stood
 
   each : (k : ℕ) (c : Actor) → get_elem? lent k ≡ some c → c.place ≢ Spent → Fits shape kept.anatomy old.cursors lent later k c
   each = each_of_two (λ k c. c.place ≢ Spent → Fits shape kept.anatomy old.cursors lent later k c) old.actors 0 other later (borrower b units)

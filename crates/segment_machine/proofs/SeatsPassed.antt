@@ -15,10 +15,10 @@ use Rattle.segment_machine.specs.Body.{Body, words_of, Piece, extent_of, block_o
 use Rattle.segment_machine.specs.Seen.{Stands, Sees}
 use Rattle.segment_machine.specs.Kept.{StandStill, ClaimedRight, CallsRight, Fits}
 use Rattle.segment_machine.proofs.Lists.{from_map}
-use Rattle.segment_machine.proofs.Anatomies.{reshaped, Stays, balanced_along, list_along, records_along, sums_along, sees_along, calls_along, looks_along, own_along}
-use Rattle.segment_machine.proofs.Actors.{SameDeeds}
+use Rattle.segment_machine.proofs.Anatomies.{balanced_along, list_along, records_along, sums_along, sees_along, calls_along, fits_along}
 use Rattle.segment_machine.proofs.SeatsLists.{map_after}
 use Rattle.segment_machine.proofs.SeatsBooks.{Books}
+use Rattle.segment_machine.proofs.ListingGrowth.{reshaped, Stays}
 
 -- whose a block is that was another's
 abbrev pub passed : (from to : ℕ) → Option ℕ → Option ℕ
@@ -145,23 +145,6 @@ module _ (from to : ℕ) where
 
 -- ---- books, and those to whom nothing passed
 
--- actors are what they are
-pub same_actors : (actors : List Actor) → SameDeeds actors actors
-same_actors actors = record {
-  counted = refl;
-  summed = refl;
-  noted = refl;
-  taken = refl;
-  given = λ cursor. refl;
-  units = refl;
-  costs = λ name. refl;
-  moving = λ name key. refl;
-  living = refl;
-  loaded = λ id b at sum there stands. (b, there, stands);
-  roles = λ id b there. (b, there, record { living = refl; opener = refl; first = refl; made = refl; outstanding = refl; inherited = refl });
-  opener = refl;
-}
-
 module _ (from to : ℕ) (anatomy : Anatomy) where
   abbrev pieces : List Piece
   pieces = map (pass from to) anatomy.pieces
@@ -175,17 +158,17 @@ module _ (from to : ℕ) (anatomy : Anatomy) where
     still = still_passed from to opened.pieces anatomy.pieces books.still;
     blocks = blocks_passed from to anatomy.pieces books.blocks;
     list = list_along anatomy pieces anatomy.spare anatomy.corrupt anatomy.full anatomy.tail (stays_passed from to anatomy.pieces)
-        words words opened actors actors books.list.linked refl books.list.tail books.list;
+        words words opened actors books.list.linked books.list.tail books.list;
     claims = subst (λ (claims : List Claim). IsPermutation claims (claims_of opened.pieces ++ flat_map (λ a. a.claimed) actors))
         (sym (claims_passed from to anatomy.pieces)) books.claims;
     records = records_along anatomy pieces anatomy.spare anatomy.corrupt anatomy.full anatomy.tail (stays_passed from to anatomy.pieces)
         shape.page books.records;
     balanced = balanced_along anatomy pieces anatomy.spare anatomy.corrupt anatomy.full anatomy.tail (stays_passed from to anatomy.pieces)
-        opened.pieces actors actors (same_actors actors) books.balanced;
+        opened.pieces actors books.balanced;
     keys = books.keys;
     taken_keys = books.taken_keys;
     sums = sums_along anatomy pieces anatomy.spare anatomy.corrupt anatomy.full anatomy.tail (stays_passed from to anatomy.pieces)
-        actors actors (same_actors actors) books.sums;
+        actors books.sums;
     pool = books.pool;
     corrupt = books.corrupt;
     full = books.full;
@@ -203,16 +186,6 @@ module _ (from to : ℕ) (anatomy : Anatomy) where
 
   pub fits_passed : (shape : Dimensions) (cursors : List ℕ) (actors : List Actor) (opener : Actor) (id : ℕ) (a : Actor) → id ≢ from
       → Fits shape anatomy cursors actors opener id a → Fits shape (handed from to anatomy) cursors actors opener id a
-  fits_passed shape cursors actors opener id a apart fit = record {
-    shaped = fit.shaped;
-    versioned = fit.versioned;
-    sees = sees_passed cursors a fit.sees;
-    own = own_along anatomy pieces anatomy.spare anatomy.corrupt anatomy.full anatomy.tail (stays_passed from to anatomy.pieces)
-        shape id (stands_left from to anatomy.pieces id apart) a.own fit.own;
-    apart = fit.apart;
-    calls = calls_passed a fit.calls;
-    looks = λ records. looks_along anatomy pieces anatomy.spare anatomy.corrupt anatomy.full anatomy.tail (stays_passed from to anatomy.pieces)
-        actors actors a (same_actors actors) (fit.looks records);
-    finals = fit.finals;
-    snapshots = fit.snapshots;
-  }
+  fits_passed shape cursors actors opener id a apart fit =
+      fits_along anatomy pieces anatomy.spare anatomy.corrupt anatomy.full anatomy.tail (stays_passed from to anatomy.pieces) shape cursors actors opener id a
+      (stands_left from to anatomy.pieces id apart) (subst (Behind a.seen_free) (sym (free_passed from to anatomy)) fit.sees.free) fit.sees.tail fit

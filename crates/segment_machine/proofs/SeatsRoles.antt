@@ -1,12 +1,19 @@
 -- Openers and recorders, where the recorders that live now lived before.
-use Rattle.std.proofs.Common.{◌≡◌, ◌≢◌, ℕ, ◌<◌, ◌≤◌, true, false, List, refl, sym, ap, ◌∙◌, subst, true≢false, arith}
+use Rattle.std.proofs.Common.{◌≡◌, ◌≢◌, ℕ, ◌+◌, ◌<◌, ◌≤◌, true, false, List, [], ◌++◌, set, inl, inr, refl, sym, ap, ◌∙◌, subst, true≢false, arith}
+use Rattle.std.specs.Prelude.{if◌then◌else◌}
 use native.Mathlib.Decide.{ℕ_discrete}
 use mathlib.Core.Option.{some}
 use lib.ListN.{get_elem?}
-use Rattle.segment_machine.specs.declared.place.Place.{Place}
-use Rattle.segment_machine.specs.declared.place.Place.TheVariants.{Spent, Idle, FlagsLoaded, FreeLoaded, Raised, Sized, Marked, TailLoaded, Beaten, Linked, Looking, Losing, Moving, CountLoaded, SampleLoaded, SumLoaded, CursorLoaded, BehindCursor}
+use Rattle.atomic_table.proofs.Lists.{at_set, set_else}
+use Rattle.segment_image.specs.Shape.{Dimensions}
+use Rattle.segment_machine.specs.declared.entry.Entry.{Entry}
 use Rattle.segment_machine.specs.declared.actor.Actor.{Actor}
-use Rattle.segment_machine.specs.Kept.{is_living, RolesAreKept, IsAlone}
+use Rattle.segment_machine.specs.Actor.{log_of}
+use Rattle.segment_machine.specs.Body.{Anatomy}
+use Rattle.segment_machine.specs.Kept.{is_living, RolesAreKept, IsAlone, Fits}
+use Rattle.segment_machine.proofs.Lists.{sum_same}
+use Rattle.segment_machine.proofs.SeatsDeeds.{SameSums}
+use Rattle.segment_machine.proofs.SeatsFrames.{fits}
 use Rattle.segment_machine.proofs.SeatsLists.{one_at}
 
 -- an opener is no recorder that lives
@@ -15,30 +22,6 @@ opens_nothing a opens lives = absurd (true≢false (sym lives ∙ no_recorder a.
   where
     no_recorder : (n : ℕ) → n ≡ 1 → is_living (record a { opener = n }) ≡ false
     no_recorder n e = subst (λ (k : ℕ). is_living (record a { opener = k }) ≡ false) (sym e) refl
-
--- a recorder that is not spent lives
-pub lives_on : (a : Actor) → a.opener ≡ 0 → a.place ≢ Spent → is_living a ≡ true
-lives_on a records live = subst (λ (n : ℕ). is_living (record a { opener = n }) ≡ true) (sym records) (at_place a.place live)
-  where
-    at_place : (place : Place) → place ≢ Spent → is_living (record a { opener = 0; place = place }) ≡ true
-    at_place Spent ne = absurd (ne refl)
-    at_place Idle ne = refl
-    at_place FlagsLoaded ne = refl
-    at_place (FreeLoaded free) ne = refl
-    at_place (Raised at size) ne = refl
-    at_place (Sized at size) ne = refl
-    at_place (Marked at size) ne = refl
-    at_place (TailLoaded tail) ne = refl
-    at_place (Beaten tail behind) ne = refl
-    at_place (Linked at tail) ne = refl
-    at_place (Looking look) ne = refl
-    at_place (Losing look at) ne = refl
-    at_place (Moving look bucket units) ne = refl
-    at_place (CountLoaded look bucket count) ne = refl
-    at_place (SampleLoaded reference count) ne = refl
-    at_place (SumLoaded reference sum) ne = refl
-    at_place (CursorLoaded cursor at) ne = refl
-    at_place (BehindCursor cursor at behind) ne = refl
 
 -- a recorder that lives has lived, made when it is said to be, with what it is said to have inherited
 pub record Stood (old : List Actor) (k : ℕ) (c : Actor) : Type 0 where
@@ -77,12 +60,84 @@ module _ (old new : List Actor) (roles : RolesAreKept old) (stood : AllStood old
       let f = t.made in
       omega (arith, below, e, f)
 
+  -- of another opener with the same log, who made as many, they are heirs too
+  pub still_heirs : (later : Actor) → log_of later ≡ log_of roles.opener → later.made ≡ roles.opener.made → (id : ℕ) (a : Actor) → get_elem? new id ≡ some a
+      → is_living a ≡ true
+      → (more : List Entry) × (log_of later ≡ a.inherited ++ more) × (a.outstanding ≡ 0 → a.made + 1 ≡ later.made → more ≡ [])
+  still_heirs later log made id a at lives =
+      let s = stood id a at lives in
+      let was = roles.heirs id s.was s.at s.lives in (
+        was.0,
+        log ∙ (was.1 ∙ ap (λ (list : List Entry). list ++ was.0) s.inherited),
+        λ none last. was.2 (s.outstanding ∙ none) (ap (λ (n : ℕ). n + 1) s.made ∙ (last ∙ made)),
+      )
+
 -- what is said of the opener where only one is alone is said of it as it was
 pub alone_before : (old new : List Actor) (opener later a : Actor) → get_elem? old 0 ≡ some opener → get_elem? new 0 ≡ some later
     → later.made ≡ opener.made → IsAlone new a → IsAlone old a
 alone_before old new opener later a first last e alone =
     let same = one_at new 0 alone.0 later alone.1 last in
     (opener, first, alone.2, alone.3 ∙ ap (λ (c : Actor). c.made) same ∙ e)
+
+-- who fitted beside the others fits still
+pub fits_beside : (shape : Dimensions) (anatomy : Anatomy) (cursors : List ℕ) (old new : List Actor) (opener later : Actor) (id : ℕ) (a : Actor)
+    → get_elem? old 0 ≡ some opener → get_elem? new 0 ≡ some later → later.made ≡ opener.made → SameSums old new → AllStood old new
+    → Fits shape anatomy cursors old opener id a → Fits shape anatomy cursors new later id a
+fits_beside shape anatomy cursors old new opener later id a first last made sums stood = fits shape anatomy cursors old new opener later id a sums
+    (record {
+      more = omega (arith, made);
+      last = λ n below e. e ∙ made;
+      lives = λ k c at lives. let s = stood k c at lives in inl (s.was, s.at, s.lives, s.made);
+    })
+    (λ either. alone_before old new opener later a first last made)
+
+-- ---- one recorder becomes another
+
+-- two actors have the same role
+pub record SameRole (b c : Actor) : Type 0 where
+  pub living : is_living b ≡ is_living c
+  pub opener : b.opener ≡ c.opener
+  pub first : b.first ≡ c.first
+  pub made : b.made ≡ c.made
+  pub outstanding : b.outstanding ≡ c.outstanding
+  pub inherited : b.inherited ≡ c.inherited
+
+module _ (actors : List Actor) (id : ℕ) (a b : Actor) (mine : get_elem? actors id ≡ some a) (same : SameRole b a) where
+  pub stood_set : AllStood actors (set actors id b)
+  stood_set k c at lives = elim (at_set actors id k b c at) [
+    | inl t ↦ record {
+      was = a;
+      at = ap (get_elem? actors) t.0 ∙ mine;
+      lives = sym same.living ∙ (ap is_living t.1 ∙ lives);
+      made = sym same.made ∙ ap (λ (c : Actor). c.made) t.1;
+      outstanding = sym same.outstanding ∙ ap (λ (c : Actor). c.outstanding) t.1;
+      inherited = sym same.inherited ∙ ap (λ (c : Actor). c.inherited) t.1;
+    }
+    | inr t ↦ record { was = c; at = t.1; lives = lives; made = refl; outstanding = refl; inherited = refl }
+  ]
+
+  abbrev pub roles_set : id ≢ 0 → RolesAreKept actors → RolesAreKept (set actors id b)
+  roles_set records roles = record {
+    opener = roles.opener;
+    stands = set_else actors id 0 b (λ first. records (sym first)) ∙ roles.stands;
+    opens = roles.opens;
+    idle = roles.idle;
+    rests = roles.rests;
+    only = λ k c at away. elim (at_set actors id k b c at) [
+      | inl t ↦
+          let was = roles.only id a mine records in
+          subst (λ (c : Actor). (c.opener ≡ 0) × (c.first ≡ [])) t.1 (same.opener ∙ was.0, same.first ∙ was.1)
+      | inr t ↦ roles.only k c t.1 away
+    ];
+    living = sum_same (λ c. if is_living c then 1 else 0) actors id a b mine (ap (λ lives. if lives then 1 else 0) same.living) ∙ roles.living;
+    few = roles.few;
+    younger = still_younger actors (set actors id b) roles stood_set roles.opener.made (omega arith);
+    apart = still_apart actors (set actors id b) roles stood_set;
+    eldest = still_eldest actors (set actors id b) roles stood_set;
+    heirs = still_heirs actors (set actors id b) roles stood_set roles.opener refl refl;
+  }
+
+-- ---- who opens
 
 -- whoever opens is the first
 pub opens_first : (actors : List Actor) (roles : RolesAreKept actors) (id : ℕ) (a : Actor) → get_elem? actors id ≡ some a → a.opener ≡ 1

@@ -1,9 +1,11 @@
 -- A recorder that is made keeps what holds.
-use Rattle.std.proofs.Common.{◌≡◌, ◌≢◌, ◌⊎◌, ℕ, ◌+◌, ◌-◌, ◌<◌, ◌≤◌, Bool, true, false, ◌&&◌, true≢false, List, [], ◌∷◌, ◌++◌, map, set, length, inl, inr, ⊎_elim, refl, sym, ap, ◌∙◌, subst, subst₂, append-nil, arith}
+use Rattle.std.proofs.Common.{◌≡◌, ◌≢◌, ◌⊎◌, ℕ, ◌+◌, ◌-◌, ◌<◌, ◌≤◌, Bool, true, ◌&&◌, true≢false, List, [], ◌∷◌, ◌++◌, map, set, length, inl, inr, ⊎_elim, refl, sym, ap, ◌∙◌, subst, subst₂, append-nil, arith}
 use Rattle.std.specs.Prelude.{if◌then◌else◌}
 use mathlib.Core.Option.{some}
 use lib.ListN.{get_elem?}
 use Rattle.std.specs.List.{flat_map, Contains, All}
+use Rattle.std.proofs.Math.Bool.{or-false}
+use Rattle.std.proofs.lemmas.Bool.{and_parts}
 use Rattle.std.proofs.lemmas.List.{drop_all}
 use Rattle.std.proofs.lemmas.List.Elements.{All-nil, All-contains, Contains-append_left, Contains-append_right, Contains-append_cases}
 use Rattle.std.proofs.lemmas.List.Sums.{sum_by-append}
@@ -25,13 +27,13 @@ use Rattle.segment_machine.specs.Keeps.{SplitsKeep}
 use Rattle.segment_machine.specs.Body.{Anatomy, order_of}
 use Rattle.segment_machine.specs.Seen.{Sees, Knows}
 use Rattle.segment_machine.specs.Kept.{is_living, HoldsOwn, CallsRight, IsAlone, LooksBack, FinalsAreExact, RolesAreKept, StandsRight, Fits, Kept}
-use Rattle.segment_machine.proofs.Lists.{sum_beside, below_length}
-use Rattle.segment_machine.proofs.SeatsLists.{each_of_more, none_in, contains_map, contains_mapped, contains_filter, one_at, sum_at_least, none_at}
-use Rattle.segment_machine.proofs.SeatsSums.{or_false}
+use Rattle.segment_machine.proofs.Lists.{none_in, none_at, contains_filter, sum_at_least, sum_beside, below_length}
+use Rattle.segment_machine.proofs.Actors.{lives_on}
+use Rattle.segment_machine.proofs.SeatsLists.{each_of_more, contains_map, contains_mapped, one_at}
 use Rattle.segment_machine.proofs.SeatsDeeds.{Deeds, took, deeds_more, sums_of}
-use Rattle.segment_machine.proofs.SeatsFrames.{IsLater, fits}
-use Rattle.segment_machine.proofs.SeatsBooks.{GivenInOrder, LoadedBefore, books_of, books_by, kept_by}
-use Rattle.segment_machine.proofs.SeatsRoles.{opens_nothing, lives_on, opens_first}
+use Rattle.segment_machine.proofs.SeatsFrames.{LoadedBefore, IsLater, fits}
+use Rattle.segment_machine.proofs.SeatsBooks.{GivenInOrder, books_of, books_by, kept_by}
+use Rattle.segment_machine.proofs.SeatsRoles.{opens_nothing, opens_first}
 use Rattle.segment_machine.proofs.SeatsTurned.{opener_fits}
 
 -- ---- what both did together
@@ -49,15 +51,11 @@ split_deeds a units enough = record {
   moving = λ name key. omega arith;
   costs = λ name. omega arith;
   units = omega (arith, enough);
-  spoiled = or_false a.spoiled;
-  filled = or_false a.filled;
+  spoiled = or-false a.spoiled;
+  filled = or-false a.filled;
 }
 
 -- ---- the newcomer
-
-and_first : (x y : Bool) → (x && y) ≡ true → x ≡ true
-and_first true y e = refl
-and_first false y e = absurd (true≢false (sym e))
 
 -- what stands in an opener's log has been counted
 logged_counted : (a : Actor) (entry : Entry) → All (λ c. has_ended c ≡ true) a.log → Contains (log_of a) entry
@@ -71,7 +69,7 @@ logged_counted a entry ended there = Contains-append_right a.inherited (counted_
     counted there =
         let c = contains_mapped (λ (c : Counting). c.entry) a.log entry there in
         let done = All-contains (λ (c : Counting). has_ended c ≡ true) a.log c.0 ended c.1 in
-        let passes = and_first (is_counted c.0) (is_summed c.0) (and_first (is_counted c.0 && is_summed c.0) (is_noted c.0) done) in
+        let passes = (and_parts (is_counted c.0) (is_summed c.0) (and_parts (is_counted c.0 && is_summed c.0) (is_noted c.0) done).0).0 in
         subst (Contains (counted_among (a.log ++ a.running))) c.2
         (contains_map (λ (c : Counting). c.entry) _ c.0
         (contains_filter is_counted (a.log ++ a.running) c.0 (Contains-append_left a.log a.running c.0 c.1) passes))

@@ -2,6 +2,7 @@
 -- what two others had may stand in their place, and one more with an element that together have what that one had.
 use Rattle.std.proofs.Common.{◌≡◌, ℕ, ◌+◌, Bool, true, false, ◌||◌, ℤ, pos, ◌+ℤ◌, List, [], ◌∷◌, ◌++◌, map, sym, refl, ap, ◌∙◌, subst, append_assoc, append-nil, arith}
 use Rattle.std.specs.Prelude.{fold, IsPermutation}
+use Rattle.std.proofs.Math.Bool.{or_assoc, or_comm}
 use Rattle.std.proofs.Math.IntN.{+ℤ_assoc, +ℤ_comm, +ℤ_idl, +ℤ_idr}
 use Rattle.std.proofs.lemmas.List.{map-append}
 use Rattle.std.proofs.lemmas.List.Sums.{fold-append}
@@ -83,28 +84,14 @@ amounts = record {
   order = +ℤ_comm;
 }
 
-or_brackets : (x y z : Bool) → ((x || y) || z) ≡ (x || (y || z))
-or_brackets true y z = refl
-or_brackets false y z = refl
-
-or_order : (x y : Bool) → (x || y) ≡ (y || x)
-or_order true true = refl
-or_order true false = refl
-or_order false true = refl
-or_order false false = refl
-
-pub or_false : (x : Bool) → (x || false) ≡ x
-or_false true = refl
-or_false false = refl
-
 pub flags : IsAddition {M = Bool} ◌≡◌ ◌||◌
 flags = record {
   itself = λ x. refl;
   back = λ x y e. sym e;
   along = λ x y z e f. e ∙ f;
   both = λ x x' y y' e f. ap (λ (z : Bool). z || y) e ∙ ap (λ (z : Bool). x' || z) f;
-  brackets = or_brackets;
-  order = or_order;
+  brackets = or_assoc;
+  order = or_comm;
 }
 
 pub lists : {X : Type 0} → IsAddition {M = List X} IsPermutation ◌++◌
@@ -125,7 +112,7 @@ flags_total f xs ys = ap (fold ◌||◌ false) (map-append f xs ys) ∙ fold-app
     onward : (b : Bool) (zs : List Bool) → fold ◌||◌ b zs ≡ (b || fold ◌||◌ false zs)
     onward true [] = refl
     onward false [] = refl
-    onward b (z ∷ zs) = onward (b || z) zs ∙ or_brackets b z (fold ◌||◌ false zs) ∙ ap (λ (x : Bool). b || x) (sym (onward z zs))
+    onward b (z ∷ zs) = onward (b || z) zs ∙ or_assoc b z (fold ◌||◌ false zs) ∙ ap (λ (x : Bool). b || x) (sym (onward z zs))
 
 pub amounts_total : {X : Type 0} (g : X → ℤ) → IsTotal ◌+ℤ◌ (λ xs. fold ◌+ℤ◌ (pos 0) (map g xs))
 amounts_total g xs ys = ap (fold ◌+ℤ◌ (pos 0)) (map-append g xs ys) ∙ fold-append ◌+ℤ◌ (pos 0) (map g xs) (map g ys) ∙ onward (fold ◌+ℤ◌ (pos 0) (map g xs)) (map g ys)

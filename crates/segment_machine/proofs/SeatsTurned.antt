@@ -1,13 +1,10 @@
 -- An actor whose share, or whose recorders, are other ones has seen and done what it had.
-use Rattle.std.proofs.Common.{◌≡◌, ◌≢◌, ℕ, List, false, true≢false, refl, sym, ◌∙◌, arith}
+use Rattle.std.proofs.Common.{◌≡◌, ℕ, List, false, true≢false, sym, ◌∙◌, arith}
 use Rattle.segment_image.specs.Shape.{Dimensions}
-use Rattle.segment_machine.specs.declared.place.Look.{Look}
-use Rattle.segment_machine.specs.declared.place.Place.{Place}
-use Rattle.segment_machine.specs.declared.place.Place.TheVariants.{Spent, Idle, FlagsLoaded, FreeLoaded, Raised, Sized, Marked, TailLoaded, Beaten, Linked, Looking, Losing, Moving, CountLoaded, SampleLoaded, SumLoaded, CursorLoaded, BehindCursor}
 use Rattle.segment_machine.specs.declared.actor.Actor.{Actor}
 use Rattle.segment_machine.specs.Body.{Anatomy}
 use Rattle.segment_machine.specs.Seen.{Sees}
-use Rattle.segment_machine.specs.Kept.{LooksRight, StandsRight, CallsRight, LooksBack, FinalsAreExact, Fits}
+use Rattle.segment_machine.specs.Kept.{CallsRight, LooksBack, FinalsAreExact, Fits}
 
 -- with another share and other recorders
 abbrev pub turned : Actor → (share made outstanding : ℕ) → Actor
@@ -36,31 +33,6 @@ module _ (anatomy : Anatomy) (a : Actor) (share made outstanding : ℕ) where
     met = calls.met;
     taking = calls.taking;
   }
-
-  turned_look : (look : Look) → LooksRight a look → LooksRight (turned a share made outstanding) look
-  turned_look look right = record { known = right.known; knows = right.knows; single = right.single; counts = right.counts }
-
-  pub turned_stands : (shape : Dimensions) (id : ℕ) (place : Place) → place ≢ Spent → StandsRight shape anatomy id a place
-      → StandsRight shape anatomy id (turned a share made outstanding) place
-  turned_stands shape id Spent live right = absurd (live refl)
-  turned_stands shape id Idle live right = right
-  turned_stands shape id FlagsLoaded live right = right
-  turned_stands shape id (FreeLoaded free) live right = right
-  turned_stands shape id (Raised at size) live right = right
-  turned_stands shape id (Sized at size) live right = right
-  turned_stands shape id (Marked at size) live right = right
-  turned_stands shape id (TailLoaded tail) live right = right
-  turned_stands shape id (Beaten tail behind) live right = right
-  turned_stands shape id (Linked at tail) live right = right
-  turned_stands shape id (Looking look) live right = turned_look look right
-  turned_stands shape id (Losing look at) live right = (turned_look look right.0, right.1, right.2, right.3)
-  turned_stands shape id (Moving look bucket units) live right =
-      (turned_look look right.0, right.1, right.2, right.3, right.4, right.5, right.6)
-  turned_stands shape id (CountLoaded look bucket count) live right = ((turned_look look right.0.0, right.0.1, right.0.2), right.1)
-  turned_stands shape id (SampleLoaded reference count) live right = right
-  turned_stands shape id (SumLoaded reference sum) live right = right
-  turned_stands shape id (CursorLoaded cursor at) live right = right
-  turned_stands shape id (BehindCursor cursor at next) live right = right
 
 -- with another share alone, an actor fits as before
 module _ (shape : Dimensions) (anatomy : Anatomy) (cursors : List ℕ) (actors : List Actor) (opener : Actor) (id : ℕ) (a : Actor) (share : ℕ) where

@@ -1,10 +1,16 @@
--- Sums over lists of which one element counts, or two.
-use Rattle.std.proofs.Common.{◌≡◌, ◌≢◌, ℕ, zero, suc, ◌+◌, ◌<◌, ℤ, pos, ◌+ℤ◌, List, [], ◌∷◌, map, fold, sum_by, inl, inr, refl, sym, ap, ◌∙◌, arith}
+-- Sums over lists of which none counts, or one, or two.
+use Rattle.std.proofs.Common.{◌≡◌, ◌≢◌, ℕ, zero, suc, ◌+◌, ◌<◌, Bool, true, false, ℤ, pos, ◌+ℤ◌, List, [], ◌∷◌, map, length, fold, sum_by, All, inl, inr, refl, sym, ap, ◌∙◌, arith}
 use Rattle.std.proofs.Math.IntN.{+ℤ_idr}
+use Rattle.std.specs.Prelude.{if◌then◌else◌, slice_index}
+use Rattle.std.specs.List.{range_with_len}
+use Rattle.std.specs.Ordering.{int_eq}
 use Rattle.std.proofs.lemmas.Bool.{cases_order}
+use Rattle.std.proofs.lemmas.List.Elements.{All-head, All-tail}
 use Rattle.std.proofs.lemmas.List.Sums.{sum_by-cons}
 use mathlib.Core.Option.{some, some-injective, some-ne-none}
 use lib.ListN.{get_elem?}
+use Rattle.bucket_ranges.specs.declared.spec.Spec.{Spec}
+use Rattle.segment_machine.specs.Ledger.{key_of_bucket, keyed}
 
 -- the elements of a list at these places have this
 abbrev pub Elsewhere : {X : Type 0} → List X → (ℕ → Type 0) → (X → Type 0) → Type 0
@@ -76,6 +82,24 @@ module _ {X : Type 0} (f : X → ℕ) where
           let (k, y, there, counts) = behind (omega (arith, above, whole, e)) in
           (suc k, y, there, counts)
       by_first (suc n) e behind = (0, x, refl, omega (arith, e))
+
+-- ---- numbers for buckets
+
+-- where a test takes what is nothing, that is nothing
+pub if_nothing : {X : Type 0} (b : Bool) (x nothing : X) → x ≡ nothing → (if b then x else nothing) ≡ nothing
+if_nothing true x nothing e = e
+if_nothing false x nothing e = refl
+
+pub zero_index : (l : List ℕ) (i : ℕ) → All (λ n. n ≡ 0) l → slice_index l i ≡ 0
+zero_index [] i zeros = refl
+zero_index (x ∷ xs) zero zeros = All-head (λ n. n ≡ 0) x xs zeros
+zero_index (x ∷ xs) (suc i) zeros = zero_index xs i (All-tail (λ n. n ≡ 0) x xs zeros)
+
+-- numbers for buckets that are all 0 are nothing for a key
+pub keyed_none : (kind : Spec) (key : ℤ) (numbers : List ℕ) → All (λ n. n ≡ 0) numbers → keyed kind key numbers ≡ 0
+keyed_none kind key numbers zeros =
+    sum_none (λ i. if int_eq (key_of_bucket kind i) key then slice_index numbers i else 0) (range_with_len 0 (length numbers))
+    (λ j y there _. if_nothing (int_eq (key_of_bucket kind y) key) (slice_index numbers y) 0 (zero_index numbers y zeros))
 
 -- ---- amounts
 

@@ -1,55 +1,16 @@
--- Lists that stand for the elements of a list, one behind the other, where one element changes: what they come to, and what is in
--- them. And what a tally tells of the entries that are in it.
-use Rattle.std.proofs.Common.{◌≡◌, ◌⊎◌, ℕ, zero, suc, ◌<◌, Bool, true, false, ◌&&◌, ℤ, List, [], ◌∷◌, set, inl, inr, ⊎_elim, refl, sym, ap, ◌∙◌, subst, arith}
+-- What a tally tells of the entries that are in it.
+use Rattle.std.proofs.Common.{◌≡◌, ℕ, zero, suc, ◌<◌, Bool, true, false, ◌&&◌, ℤ, List, [], ◌∷◌, refl, ◌∙◌, arith}
 use Rattle.std.specs.Prelude.{if◌then◌else◌}
-use Rattle.std.specs.List.{flat_map, Contains}
+use Rattle.std.specs.List.{Contains}
 use Rattle.std.specs.Str.{bytes_eq}
 use Rattle.std.specs.Ordering.{int_eq}
 use Rattle.std.proofs.lemmas.Bool.Decides.{Decides-int_eq}
 use Rattle.std.proofs.lemmas.Slice.Eq.{bytes_eq-Decides}
-use Rattle.std.proofs.lemmas.List.Elements.{Contains-append_left, Contains-append_right, Contains-append_cases}
+use Rattle.std.proofs.lemmas.List.Elements.{Contains-append_right}
 use Rattle.std.proofs.lemmas.List.Sums.{sum_by-cons}
-use mathlib.Core.Option.{some, some-injective, some-ne-none}
-use lib.ListN.{get_elem?}
 use Rattle.segment_machine.specs.declared.entry.Entry.{Entry}
 use Rattle.segment_machine.specs.Entry.{is_of, tally_units}
-use Rattle.segment_machine.proofs.Lists.{at_from}
-use Rattle.segment_machine.proofs.SeatsLists.{sum_at_least}
-use Rattle.segment_machine.proofs.SeatsSums.{IsTotal}
-
--- ---- lists that stand for elements
-
--- they come to the same where those of the changed element do
-pub rows_total : {A B M : Type 0} (add : M → M → M) (total : List B → M) → IsTotal add total → (f : A → List B) (l : List A) (i : ℕ) (x y : A)
-    → get_elem? l i ≡ some x → total (f y) ≡ total (f x) → total (flat_map f (set l i y)) ≡ total (flat_map f l)
-rows_total add total sums f [] i x y e same = refl
-rows_total add total sums f (z ∷ zs) zero x y e same =
-    sums (f y) (flat_map f zs)
-    ∙ (ap (λ m. add m (total (flat_map f zs))) (same ∙ ap (λ x. total (f x)) (sym (some-injective z x e))) ∙ sym (sums (f z) (flat_map f zs)))
-rows_total add total sums f (z ∷ zs) (suc i) x y e same =
-    sums (f z) (flat_map f (set zs i y)) ∙ (ap (add (total (f z))) (rows_total add total sums f zs i x y e same) ∙ sym (sums (f z) (flat_map f zs)))
-
--- what is in the list of an element is in all of them
-pub row_in : {A B : Type 0} (f : A → List B) (l : List A) (i : ℕ) (x : A) (b : B) → get_elem? l i ≡ some x → Contains (f x) b → Contains (flat_map f l) b
-row_in f [] i x b e has = absurd (some-ne-none x (sym e))
-row_in f (z ∷ zs) zero x b e has =
-    Contains-append_left (f z) (flat_map f zs) b (subst (λ x. Contains (f x) b) (sym (some-injective z x e)) has)
-row_in f (z ∷ zs) (suc i) x b e has = Contains-append_right (f z) (flat_map f zs) b (row_in f zs i x b e has)
-
--- what is in all of them then was there, or is in that of the changed element
-pub row_from : {A B : Type 0} (f : A → List B) (l : List A) (i : ℕ) (y : A) (b : B) → Contains (flat_map f (set l i y)) b
-    → Contains (flat_map f l) b ⊎ Contains (f y) b
-row_from f [] i y b has = inl has
-row_from f (z ∷ zs) zero y b has = ⊎_elim
-    (λ mine. inr mine)
-    (λ rest. inl (Contains-append_right (f z) (flat_map f zs) b rest))
-    (Contains-append_cases (f y) (flat_map f zs) b has)
-row_from f (z ∷ zs) (suc i) y b has = ⊎_elim
-    (λ first. inl (Contains-append_left (f z) (flat_map f zs) b first))
-    (λ rest. ⊎_elim (λ old. inl (Contains-append_right (f z) (flat_map f zs) b old)) (λ mine. inr mine) (row_from f zs i y b rest))
-    (Contains-append_cases (f z) (flat_map f (set zs i y)) b has)
-
--- ---- tallies
+use Rattle.segment_machine.proofs.Lists.{at_from, sum_at_least}
 
 -- the units of an entry in a tally of a name and a key
 abbrev part : List ℕ → ℤ → Entry → ℕ

@@ -13,6 +13,8 @@ use std::alloc::{AllocError, Global};
 
 const QUEUE_BLOCK: u32 = 12;
 
+const HEADER_WORDS: usize = 16;
+
 /// The lawful blocks of an image in the order of memory, behind the queue block, which has place 0; and where each leads.
 #[derive(Drop)]
 pub(crate) struct Links {
@@ -52,7 +54,7 @@ fn places_of(alloc: Global, words: &[u64], head: &SegmentHead) -> Result<Places,
     let mut places = vec![in alloc; 0_u32; free]?;
     let mut references = Vec::new(alloc);
     references.push(QUEUE_BLOCK)?;
-    for reference in 0..free {
+    for reference in HEADER_WORDS..free {
         if block(words, head, reference as u64).is_ok() {
             places[reference] = references.len() as u32;
             references.push(reference as u32)?;

@@ -1,8 +1,8 @@
 //! The list of a segment's records.
 
-ghost use Rattle.std.specs.Prelude.{◌≡◌, ◌<◌, ℕ, Ok, length, map, slice_index, IfOk, MatchOption};
+ghost use Rattle.std.specs.Prelude.{◌≡◌, ◌<◌, Ok, All, length, map, slice_index, IfOk, MatchOption};
 ghost use Rattle.segment_image.specs.Head.{header_of};
-ghost use Rattle.bucket_ranges.specs.Reading.{IsListed, stop_of};
+ghost use Rattle.bucket_ranges.specs.Reading.{IsListed, before, stop_of};
 ghost use Rattle.image_reader.specs.Links.{GoesBack};
 
 use crate::links::Links;
@@ -79,7 +79,7 @@ fn references_at(
     references: &[u32],
     places: &[u32],
 ) -> Result<Vec<u64>, AllocError>
-    requires { (i : ℕ) → i < length places.now → slice_index places.now i < length references.now }
+    requires { All (λ place. place < length references.now) places.now }
     ensures { IfOk result (λ found. found.items ≡ map (slice_index references.now) places.now) }
 {
     let mut found = Vec::with_capacity(alloc, places.len())?;
@@ -95,16 +95,22 @@ fn stop(words: &[u64], head: &SegmentHead, references: &[u64]) -> Option<ImageFa
     requires listed { IsListed words.now head.now references.now }
     ensures { result ≡ stop_of words.now head.now references.now }
 {
-    let last = match references.last() {
-        Some(last) => *last,
-        None => QUEUE,
-    };
-    let next = words[last as usize + 3];
+    let next = words[last_or_queue(references) as usize + 3];
     if next == QUEUE {
         return None;
     }
     match block(words, head, next) {
         Ok(_) => Some(ImageFault::Loop),
         Err(fault) => Some(fault),
+    }
+}
+
+// The last of these references, that of the queue block where there is none.
+fn last_or_queue(references: &[u64]) -> u64
+    ensures { result ≡ before references.now (length references.now) }
+{
+    match references.last() {
+        Some(last) => *last,
+        None => QUEUE,
     }
 }

@@ -76,6 +76,15 @@ class Segment:
         self.words[at + 3] = QUEUE
         self.tail = at
 
+    def publish_all(self, references, is_scattered):
+        """Publishes blocks as they come, or in no order; answers them in the order of the list."""
+        listed = list(references)
+        if is_scattered:
+            random.Random(7).shuffle(listed)
+        for at in listed:
+            self.publish(at)
+        return listed
+
     def bytes(self):
         self.store(7, self.free, self.tail)
         words = self.words[:]
@@ -105,10 +114,10 @@ def in_order(by_name):
     return lambda: (by_name[name].encode() for name in sorted(by_name))
 
 
-def boolean_histograms(size, names):
+def boolean_histograms(size, names, is_scattered=False):
     """As many boolean histograms as fit, each with a packed bucket."""
     segment = Segment(size)
-    by_name = {}
+    by_name, references = {}, []
     for i, name in enumerate(names):
         name_words = words_of(name)
         at = segment.block(15 + len(name_words), HISTOGRAM)
@@ -117,9 +126,10 @@ def boolean_histograms(size, names):
         bucket, units = i % 3, 1 + i % 60_000
         single = bucket * 2**32 + units
         segment.store(at + 4, BOOLEAN, 1, 2, 3, 0, single, 0, bucket * units, 0, units, len(name), *name_words)
-        segment.publish(at)
+        references.append(at)
         low, high = bucket, [1, 2, GREATEST][bucket]
         by_name[name] = f"{name},boolean,{low},{high},{units}\n{name},total,{units},{bucket * units}\n"
+    segment.publish_all(references, is_scattered)
     return Image(segment.bytes(), in_order(by_name), 3 * len(by_name), 3 * len(by_name), f"{len(by_name)} histograms")
 
 
@@ -128,32 +138,42 @@ def boolean(size):
     return boolean_histograms(size, names_of(size // 16))
 
 
+def alike_names(count):
+    """Distinct names that differ in the last eight of their 128 bytes alone."""
+    return [f"{'n' * 120}{number:08}" for number in random.Random(9).sample(range(10**8), count)]
+
+
 def alike(size):
     """Boolean histograms of 31 words, whose names differ in the last eight of their 128 bytes alone."""
-    numbers = random.Random(9).sample(range(10**8), size // 31)
-    return boolean_histograms(size, [f"{'n' * 120}{number:08}" for number in numbers])
+    return boolean_histograms(size, alike_names(size // 31))
 
 
-def sparse(size):
+def sparse_samples(size, is_scattered):
     """One sparse histogram and as many samples as fit, whose values stand in no order."""
     segment = Segment(size)
     chance = random.Random(2)
     record = segment.block(16, HISTOGRAM)
     segment.publish(record)
-    lines, units, total = [], 0, 0
+    references, lines, units, total = [], [], 0, 0
     for value in chance.sample(range(-(2**31), 2**31), size // 8):
         at = segment.block(8, SAMPLE)
         if at is None:
             break
         count = chance.randrange(1, 32_768)
         segment.store(at + 4, record, value % 2**64, count, 0)
-        segment.publish(at)
+        references.append(at)
         lines.append((value, f"S,sparse,{value},{value + 1},{count}\n"))
         units += count
         total += value * count
+    segment.publish_all(references, is_scattered)
     segment.store(record + 4, SPARSE, 0, 0, 0, 0, 0, 0, total % 2**64, 0, units, 1, ord("S"))
     text = "".join(line for _, line in sorted(lines)) + f"S,total,{units},{total}\n"
     return Image(segment.bytes(), lambda: [text.encode()], 0, 0, f"{len(lines)} samples")
+
+
+def sparse(size):
+    """One sparse histogram and as many samples as fit, whose values stand in no order."""
+    return sparse_samples(size, is_scattered=False)
 
 
 def linear_histograms(size, spec, name_length, most_count):
@@ -304,16 +324,14 @@ def overlapping_blocks(size, tag, is_scattered=False):
     for page in range(0, size, segment.page):
         first = max(page, FIRST)
         references += range(first, page + segment.page - 4, 4)
-    if is_scattered:
-        random.Random(7).shuffle(references)
     for at in references:
         segment.store(at, 5, BLOCK_COOKIE, tag)
-        segment.publish(at)
+    listed = segment.publish_all(references, is_scattered)
     for at in range(segment.page, size + 1, segment.page):
         if segment.words[at - 4] == 0:
             segment.words[at - 4] = 5
     segment.free = size
-    return segment.bytes(), references
+    return segment.bytes(), listed
 
 
 def chain(size):
@@ -328,11 +346,31 @@ def scattered(size):
     return Image(data, lambda: [], 0, 0, f"{len(references)} blocks")
 
 
-def faults(size):
+def faulty_records(size, is_scattered):
     """A list as long as fits, of histogram records that overlap and are all too small."""
-    data, references = overlapping_blocks(size, HISTOGRAM)
+    data, references = overlapping_blocks(size, HISTOGRAM, is_scattered)
     report = lambda: ["".join(f"!bad,{at},BadKind\n" for at in references).encode()]
     return Image(data, report, 0, 0, f"{len(references)} bad records")
+
+
+def faults(size):
+    """A list as long as fits, of histogram records that overlap and are all too small."""
+    return faulty_records(size, is_scattered=False)
+
+
+def scattered_faults(size):
+    """The same list in no order."""
+    return faulty_records(size, is_scattered=True)
+
+
+def scattered_samples(size):
+    """The samples of `sparse`, on a list that goes through them in no order."""
+    return sparse_samples(size, is_scattered=True)
+
+
+def scattered_alike(size):
+    """The histograms of `alike`, on a list that goes through them in no order."""
+    return boolean_histograms(size, alike_names(size // 31), is_scattered=True)
 
 
 def samples(size):
@@ -383,8 +421,9 @@ FORGED = {
     "chain": (chain, [MIB, 2 * MIB, 4 * MIB, 8 * MIB]),
     "scattered": (scattered, [MIB, 2 * MIB, 4 * MIB, 8 * MIB]),
     "faults": (faults, [MIB, 2 * MIB, 4 * MIB, 8 * MIB]),
+    "scattered_faults": (scattered_faults, [MIB, 2 * MIB, 4 * MIB, 8 * MIB]),
+    "scattered_samples": (scattered_samples, [MIB, 2 * MIB, 4 * MIB, 8 * MIB]),
+    "scattered_alike": (scattered_alike, [MIB, 2 * MIB, 4 * MIB, 8 * MIB]),
     "samples": (samples, [MIB, 2 * MIB, 4 * MIB, 8 * MIB]),
 }
 FAMILIES = {**LAWFUL, **FORGED}
-# Those whose steps wait for memory, so that the time grows as the caches of the machine let it.
-WAITING = ["alike", "scattered"]

@@ -2,18 +2,13 @@
 // against.
 //
 //     plain_report report [FILE]
-//     plain_report walk [FILE]
 //
-// `report` reads the whole image, checks all that the format says and writes the same report, the same faults and the
-// same statuses. It is written for readers, with the containers of the standard library and one write at the end.
-//
-// `walk` reads the image and goes along its list, and does nothing else: it writes how many blocks there are, and in how
-// many nanoseconds it met them. No reader of a list can do with less, so this is how a machine's waits for memory grow.
+// It reads the whole image, checks all that the format says and writes the same report, the same faults and the same
+// statuses. It is written for readers, with the containers of the standard library and one write at the end.
 
 #include <algorithm>
 #include <array>
 #include <charconv>
-#include <chrono>
 #include <cstdint>
 #include <cstdio>
 #include <cstring>
@@ -32,7 +27,6 @@ using Word = std::uint64_t;
 using Words = std::vector<Word>;
 
 constexpr std::size_t kMostBytes = 8'388'608;
-constexpr std::size_t kPiece = 65'536;
 constexpr Word kMostWords = 1'048'576;
 constexpr Word kSegmentCookie = 0x408305DC;
 constexpr Word kBlockCookie = 0xC8799269;
@@ -79,13 +73,10 @@ struct Reading {
 };
 
 std::string bytes_of(std::FILE* file) {
-    std::string bytes;
-    std::array<char, kPiece> piece;
-    for (std::size_t taken = kPiece; taken == kPiece && bytes.size() <= kMostBytes;) {
-        taken = std::fread(piece.data(), 1, kPiece, file);
-        bytes.append(piece.data(), taken);
-    }
+    std::string bytes(kMostBytes + 1, '\0');
+    const std::size_t taken = std::fread(bytes.data(), 1, bytes.size(), file);
     if (std::ferror(file)) throw Failure{"Read", 4};
+    bytes.resize(taken);
     return bytes;
 }
 
@@ -371,41 +362,26 @@ std::string report_of(const Words& words) {
     return text.take();
 }
 
-// The nexts are followed from the queue block, and each reference that is met is marked, until one comes again.
-std::string walk_of(const Words& words) {
-    const auto start = std::chrono::steady_clock::now();
-    std::vector<bool> is_met(words.size());
-    Word blocks = 0;
-    for (Word at = words[kQueue + 3]; at != kQueue; at = words[at + 3]) {
-        if (at > words.size() - kSmallestBlock || is_met[at]) break;
-        is_met[at] = true;
-        ++blocks;
-    }
-    const std::chrono::nanoseconds spent = std::chrono::steady_clock::now() - start;
-    return std::to_string(blocks) + " blocks\n" + std::to_string(spent.count()) + "\n";
-}
-
-void run(const char* path, std::string (*text_of)(const Words&)) {
+void run(const char* path) {
     std::FILE* file = path == nullptr ? stdin : std::fopen(path, "rb");
     if (file == nullptr) throw Failure{"Read", 4};
     const Words words = words_of(bytes_of(file));
     if (path != nullptr) std::fclose(file);
     if (const Fault fault = header_fault(words)) throw Failure{std::string("Image ") + fault, 3};
-    const std::string text = text_of(words);
-    const bool is_written = std::fwrite(text.data(), 1, text.size(), stdout) == text.size();
+    const std::string report = report_of(words);
+    const bool is_written = std::fwrite(report.data(), 1, report.size(), stdout) == report.size();
     if (std::fflush(stdout) != 0 || !is_written) throw Failure{"Write", 4};
 }
 
 }  // namespace
 
 int main(int count, char** arguments) {
-    const bool is_walk = count > 1 && std::strcmp(arguments[1], "walk") == 0;
-    if (count < 2 || count > 3 || (!is_walk && std::strcmp(arguments[1], "report") != 0)) {
-        std::fprintf(stderr, "plain_report report|walk [FILE]\n");
+    if (count < 2 || count > 3 || std::strcmp(arguments[1], "report") != 0) {
+        std::fprintf(stderr, "plain_report report [FILE]\n");
         return 2;
     }
     try {
-        run(count == 3 ? arguments[2] : nullptr, is_walk ? walk_of : report_of);
+        run(count == 3 ? arguments[2] : nullptr);
     } catch (const Failure& failure) {
         std::fprintf(stderr, "persist_report: %s\n", failure.text.c_str());
         return failure.status;

@@ -10,10 +10,8 @@ counts. Printed are for each image its words, what it holds, its load (its words
 the most memory of a run and the memory allowed, in MiB, the best time in milliseconds, and the ratios of load and
 time to those of the image before.
 
-The time may grow by 2.3 where the load doubles, and in proportion where it grows otherwise; of the families `alike` and
-`scattered` the growth is told and not judged, since it is that of the machine's caches, and against_plain.py judges their
-times. Allowed are 64 bytes a word, 32 bytes a bucket of a record that is not bad, three times the bytes of the report, and
-16 MiB for the program.
+The time may grow by 2.3 where the load doubles, and in proportion where it grows otherwise. Allowed are 64 bytes a word,
+32 bytes a bucket of a record that is not bad, three times the bytes of the report, and 16 MiB for the program.
 
 At last one forged image of 8 MiB with more than five GiB of report is read with no more than GIB of memory: the
 answer has to be the report or NoMemory. It is left out where families are chosen.
@@ -59,8 +57,8 @@ def row_of(program, name, size, folder, gibibytes):
     return Row(path, size, image.holds, image.load(), given.peak / 1024, allowed)
 
 
-def print_rows(rows, best, is_judged):
-    """Prints the rows of a family with their times; whether no memory, and no time that is judged, is more than may be."""
+def print_rows(rows, best):
+    """Prints the rows of a family with their times; whether no memory and no time is more than it may be."""
     print("    words  holds                       load        MiB    allowed         ms    load x   time x")
     is_right = True
     for i, (row, seconds) in enumerate(zip(rows, best)):
@@ -69,7 +67,7 @@ def print_rows(rows, best, is_judged):
         if i > 0:
             by_load, by_time = row.load / rows[i - 1].load, seconds / best[i - 1]
             text += f"  {by_load:8.2f} {by_time:8.2f}"
-            wrong += "" if by_time <= MOST * by_load or not is_judged else "  too much time"
+            wrong += "" if by_time <= MOST * by_load else "  too much time"
         is_right = is_right and not wrong
         print(text + wrong, flush=True)
     return is_right
@@ -83,7 +81,7 @@ def measure(name, folder, chosen):
     if None in rows:
         return False
     best = runs.best_by_turns([(chosen.program, row.path) for row in rows], chosen.turns, chosen.seconds)
-    return print_rows(rows, best, name not in images.WAITING)
+    return print_rows(rows, best)
 
 
 def try_without_memory(program, folder, gibibytes):

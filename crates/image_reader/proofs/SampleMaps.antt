@@ -1,6 +1,6 @@
 -- Samples in an ordered map: of each histogram and value the first.
 use Rattle.std.proofs.Common.{◌≡◌, Bool, true, false, cond, not, ◌&&◌, ◌==◌, if◌then◌else◌, ℕ, ◌<◌, ◌≤◌, ℤ, pos, negsuc, List, [], ◌∷◌, Option, Some, None, inl, inr, refl, ap, sym, ◌∙◌, arith}
-use Rattle.std.specs.Prelude.{All, is_some, int_lt}
+use Rattle.std.specs.Prelude.{All, is_some, int_lt, unwrap_or}
 use Rattle.std.proofs.lemmas.List.Elements.{recursion_from_All, All-weaker}
 use Rattle.std.specs.List.{filter, AllByRecursion}
 use Rattle.std.specs.List.Sorted.{IsStrictlySortedBy}
@@ -28,11 +28,6 @@ by_entry a b = by_key a.0 b.0
 -- it is a total order
 pub by_key-total : IsTotalOrder by_key
 by_key-total = then_total (on_total (λ (k : ℕ × ℤ). k.0) nat_cmp_total) (on_total (λ (k : ℕ × ℤ). k.1) int_cmp_total)
-
--- what is not there is nothing
-pub is_some-none : {X : Type 0} (o : Option X) → is_some o ≡ false → o ≡ None
-is_some-none None e = refl
-is_some-none (Some x) e = absurd (cc)
 
 -- ---- an insert of a key that is not there, and of one that is
 
@@ -86,6 +81,30 @@ insert_key-present {K} {X} cmp total (e ∷ es) k v sorted there =
     present-step (cmp k e.0) k v e es (insert_key (λ (a b : K × X). cmp a.0 b.0) es (k, v)) (lookup (is_at (cmp k)) es)
     (λ less. above-none cmp total k e.0 es less sorted.0)
     (insert_key-present cmp total es k v sorted.1) there
+
+restored-step : {K X : Type 0} (cmp : K → K → Ordering) (o : Ordering) (k : K) (v w : X) (e : K × X) (rest : List (K × X)) (found : Option X)
+    → cmp k e.0 ≡ o → (o ≡ Less → found ≡ None) → (found ≡ Some w → insert_entry cmp (insert_entry cmp rest k v) k w ≡ rest)
+    → cond (is_eq o) (Some e.1) found ≡ Some w
+    → insert_entry cmp (match_ordering o ((k, v) ∷ e ∷ rest) ((e.0, v) ∷ rest) (e ∷ insert_entry cmp rest k v)) k w ≡ e ∷ rest
+restored-step cmp Less k v w e rest found is none same there = absurd (let n = none refl in cc)
+restored-step {K} {X} cmp Equal k v w e rest found is none same there =
+    ap (λ o. match_ordering o ((k, w) ∷ (e.0, v) ∷ rest) ((e.0, w) ∷ rest) ((e.0, v) ∷ insert_entry cmp rest k w)) is
+    ∙ ap (λ (x : X). (e.0, x) ∷ rest) (sym (ap (λ (o : Option X). unwrap_or o e.1) there))
+restored-step cmp Greater k v w e rest found is none same there =
+    ap (λ o. match_ordering o ((k, w) ∷ e ∷ insert_entry cmp rest k v) ((e.0, w) ∷ insert_entry cmp rest k v)
+    (e ∷ insert_entry cmp (insert_entry cmp rest k v) k w)) is
+    ∙ ap (λ xs. e ∷ xs) (same there)
+
+-- another value at a key that is there, and then its own again, change nothing
+pub insert_entry-restored : {K X : Type 0} (cmp : K → K → Ordering) → IsTotalOrder cmp → (es : List (K × X)) (k : K) (v w : X)
+    → IsStrictlySortedBy cmp (keys_of es) → lookup (is_at (cmp k)) es ≡ Some w
+    → insert_entry cmp (insert_entry cmp es k v) k w ≡ es
+unfolding IsStrictlySortedBy
+insert_entry-restored cmp total [] k v w sorted there = absurd (cc)
+insert_entry-restored cmp total (e ∷ es) k v w sorted there =
+    restored-step cmp (cmp k e.0) k v w e es (lookup (is_at (cmp k)) es) refl
+    (λ less. above-none cmp total k e.0 es less sorted.0)
+    (insert_entry-restored cmp total es k v w sorted.1) there
 
 -- ---- what is held of one histogram
 

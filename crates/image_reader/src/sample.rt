@@ -86,8 +86,8 @@ impl Samples {
         ensures are { OnOk result (AreSamples self.new) }
     {
         let key = (sample.histogram, sample.value);
-        if !self.map.contains_key(&key) {
-            self.map.insert(key, (sample.count, sample.mark))?;
+        if let Some(first) = self.map.insert(key, (sample.count, sample.mark))? {
+            self.map.insert(key, first)?;
         }
         Ok(())
     }

@@ -1,5 +1,5 @@
 -- The blocks of an image by their places.
-use Rattle.std.proofs.Common.{◌≡◌, Bool, true, false, ◌||◌, ◌==◌, if◌then◌else◌, ℕ, zero, suc, ◌+◌, ◌-◌, ◌*◌, ◌/◌, ◌<◌, ◌≤◌, List, [], ◌∷◌, ◌++◌, length, get_or, set, map, replicate, Ok, subst, inl, inr, refl, arith, ap, sym, ◌∙◌, get_or-set_other, get_or-set_same}
+use Rattle.std.proofs.Common.{◌≡◌, true, false, ◌||◌, ◌==◌, if◌then◌else◌, ℕ, suc, ◌+◌, ◌-◌, ◌*◌, ◌/◌, ◌<◌, ◌≤◌, List, [], ◌∷◌, ◌++◌, length, get_or, set, map, replicate, Ok, subst, inl, inr, refl, arith, ap, sym, ◌∙◌, get_or-set_other, get_or-set_same}
 use Rattle.std.specs.Prelude.{slice_index}
 use Rattle.std.specs.List.{All, list_any}
 use Rattle.std.proofs.lemmas.Bool.{cases_eq, cases_lt, eq-eqb, ne_eqb, false_from_ne_true}
@@ -93,11 +93,11 @@ pub ArePlacesBelow-none : (words : List ℕ) (head : SegmentHead) (n : ℕ)
     → ArePlacesBelow words head 0 (12 ∷ []) [] (replicate n 0)
 ArePlacesBelow-none words head n = record {
   blocks_are = record {
-      some = omega arith;
-      queue = refl;
-      lawful = λ place behind within. absurd (omega arith);
-      ascending = λ i j d lt within. absurd (omega arith);
-    };
+    some = omega arith;
+    queue = refl;
+    lawful = λ place behind within. absurd (omega arith);
+    ascending = λ i j d lt within. absurd (omega arith);
+  };
   below = λ place behind within. absurd (omega arith);
   few = omega arith;
   places_are = λ reference lt. absurd (omega arith);
@@ -235,12 +235,12 @@ ArePlaces-from_groups words head groups held header are all small long =
       blocks_are = are.are.blocks_are;
       places_are = places;
       index_is = record {
-          long = omega arith;
-          fits = λ reference.
-              let within : place_of held.starts.items held.steps.items reference < length references = (places reference).within in
-              omega arith;
-          within = AreBlocks-nexts words head references header are.are.blocks_are;
-        };
+        long = omega arith;
+        fits = λ reference.
+            let within : place_of held.starts.items held.steps.items reference < length references = (places reference).within in
+            omega arith;
+        within = AreBlocks-nexts words head references header are.are.blocks_are;
+      };
     }
 
 -- two places with one reference are one

@@ -74,11 +74,7 @@ fn along_links(alloc: Global, words: &[u64], head: &SegmentHead) -> Result<Vec<u
 }
 
 // The references of the blocks at these places.
-fn references_at(
-    alloc: Global,
-    references: &[u32],
-    places: &[u32],
-) -> Result<Vec<u64>, AllocError>
+fn references_at(alloc: Global, references: &[u32], places: &[u32]) -> Result<Vec<u64>, AllocError>
     requires { All (λ place. place < length references.now) places.now }
     ensures { IfOk result (λ found. found.items ≡ map (slice_index references.now) places.now) }
 {

@@ -1,5 +1,5 @@
 -- Each step of the walk along the places.
-use Rattle.std.proofs.Common.{◌≡◌, true, false, ◌==◌, ℕ, ◌<◌, List, [], ◌∷◌, ◌++◌, length, get_or, replicate, map, refl, arith, ap, sym, ◌∙◌, subst, length-set}
+use Rattle.std.proofs.Common.{◌≡◌, true, false, ◌==◌, ℕ, ◌<◌, List, [], ◌∷◌, ◌++◌, length, replicate, map, arith, sym, ◌∙◌, subst, length-set}
 use Rattle.std.specs.Prelude.{Result, IfOk, slice_index}
 use Rattle.std.specs.List.{list_any}
 use Rattle.std.proofs.lemmas.Grind.{get_or_default_zero}

@@ -1,8 +1,7 @@
 -- Each step of a walk that ascends, from the lemmas on walks and on headers.
-use Rattle.std.proofs.Common.{◌≡◌, false, ℕ, ◌+◌, ◌<◌, ◌≤◌, [], ◌∷◌, ◌++◌, length, get_or, arith, refl, ap, sym, ◌∙◌}
+use Rattle.std.proofs.Common.{◌≡◌, ℕ, ◌<◌, ◌≤◌, [], ◌∷◌, ◌++◌, length, get_or, arith, refl, ap, sym, ◌∙◌}
 use Rattle.std.specs.Prelude.{All}
 use Rattle.std.proofs.lemmas.List.Elements.{All-nil, All-push}
-use Rattle.segment_image.specs.Blocks.{field_at}
 use Rattle.segment_image.specs.declared.blocks.BlockHead.{BlockHead}
 use Rattle.bucket_ranges.specs.Reading.{before, is_block, next_of}
 use Rattle.bucket_ranges.proofs.Walks.{IsWalk-none, IsWalk-push, IsListed-from_no_block}

@@ -30,26 +30,26 @@ loop-reference-preserved c =
           let place : w.len-then-is_ok.result ≡ length references = w.len-then-is_ok.ensures ∙ c.loop-reference.self.references.ok.0 in
           let more : length (references ++ at ∷ []) ≡ length references + 1 = length_push references at in
           rw (w.self-is, w.in_ok-push-2.ensures.items, place) (record {
-              are = ArePlacesBelow-push c.args.words.now c.args.head.now at references starts steps start
-                  c.loop-reference.invariant.are is_start started within lawful;
-              count = c.loop-reference.invariant.count;
-              group_start = c.loop-reference.invariant.group_start;
-              started = omega arith;
-              recent = omega arith;
-              long = length-set steps at (length references - start) ∙ c.loop-reference.invariant.long;
-            })
+            are = ArePlacesBelow-push c.args.words.now c.args.head.now at references starts steps start
+                c.loop-reference.invariant.are is_start started within lawful;
+            count = c.loop-reference.invariant.count;
+            group_start = c.loop-reference.invariant.group_start;
+            started = omega arith;
+            recent = omega arith;
+            long = length-set steps at (length references - start) ∙ c.loop-reference.invariant.long;
+          })
       | else-is_ok w ↦
           let none : is_block c.args.words.now c.args.head.now at ≡ false =
           sym (is_ok_of_block c.args.words.now c.args.head.now at)
           ∙ (ap is_ok (sym c.block.ensures) ∙ (sym c.is_ok.ensures.value ∙ w.if-is_ok.false)) in
           rw w.self-is (record {
-              are = ArePlacesBelow-pass c.args.words.now c.args.head.now at references starts steps c.loop-reference.invariant.are none;
-              count = c.loop-reference.invariant.count;
-              group_start = c.loop-reference.invariant.group_start;
-              started = c.loop-reference.invariant.started;
-              recent = omega (arith, c.loop-reference.invariant.recent);
-              long = c.loop-reference.invariant.long;
-            })
+            are = ArePlacesBelow-pass c.args.words.now c.args.head.now at references starts steps c.loop-reference.invariant.are none;
+            count = c.loop-reference.invariant.count;
+            group_start = c.loop-reference.invariant.group_start;
+            started = c.loop-reference.invariant.started;
+            recent = omega (arith, c.loop-reference.invariant.recent);
+            long = c.loop-reference.invariant.long;
+          })
     ]
 
 pub returns-clause-held : goal.returns-clause-held

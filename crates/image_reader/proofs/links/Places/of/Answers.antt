@@ -17,9 +17,9 @@ loop-group-init c =
     c.in_ok-vec-2.ensures.items_if_clones_equal (λ y e. e) in
     record {
       are = record {
-          are = rw (queue, starts, steps) (ArePlacesBelow-none c.args.words.now c.args.head.now (c.div_ceil-groups.result * 128));
-          count = ap length starts;
-        };
+        are = rw (queue, starts, steps) (ArePlacesBelow-none c.args.words.now c.args.head.now (c.div_ceil-groups.result * 128));
+        count = ap length starts;
+      };
       long = ap length steps ∙ length-replicate (c.div_ceil-groups.result * 128) 0;
     }
 

@@ -1,8 +1,8 @@
 -- What a lawful header and a lawful block say of the words.
-use Rattle.std.proofs.Common.{◌≡◌, Bool, true, false, not, ◌&&◌, ◌==◌, if◌then◌else◌, ℕ, ◌+◌, ◌≤◌, List, [], ◌∷◌, length, Option, Some, None, Ok, Err, refl, arith, ap, sym, ◌∙◌}
-use Rattle.std.specs.Prelude.{nat_lt}
+use Rattle.std.proofs.Common.{◌≡◌, Bool, true, false, not, ◌&&◌, ◌==◌, if◌then◌else◌, ℕ, ◌+◌, ◌%◌, ◌≤◌, List, [], ◌∷◌, length, Option, Some, None, Ok, Err, refl, arith, ap, sym, ◌∙◌}
+use Rattle.std.specs.Prelude.{nat_lt, nat_le, is_ok}
 use Rattle.std.specs.List.{AllByRecursion, list_any}
-use Rattle.std.proofs.lemmas.Bool.{not-false, or_parts, and_from, ltb-false, eqb-true, eq-eqb, ne_eqb}
+use Rattle.std.proofs.lemmas.Bool.{not-false, or_parts, and_parts, and_from, leb-true, ltb-false, eqb-true, eq-eqb, ne_eqb}
 use Rattle.segment_image.specs.Checks.{checked, first_fault}
 use Rattle.segment_image.specs.Words.{word_at}
 use Rattle.segment_image.specs.Shape.{is_size}
@@ -26,6 +26,7 @@ checked_ok ((false, fault) ∷ rest) x y e = let more = checked_ok rest x y e in
 pub record IsHeaded (words : List ℕ) (head : SegmentHead) : Type 0 where
   pub long : 16 ≤ length words
   pub free_within : head.free ≤ length words
+  pub few : length words ≤ 1048576
 
 pub IsHeaded-from_header : (words : List ℕ) (head : SegmentHead) → header_of words ≡ Ok head → IsHeaded words head
 IsHeaded-from_header words head e =
@@ -38,7 +39,14 @@ IsHeaded-from_header words head e =
     let free : word_at words 7 ≤ word_at words 2 = ltb-false (word_at words 2) (word_at words 7)
     (or_parts (nat_lt (word_at words 7) 16) (nat_lt (word_at words 2) (word_at words 7)) p.1.1.1.1.1.1.1.0).1 in
     let same : (head_of words).free ≡ head.free = ap (λ (h : SegmentHead). h.free) passed.1 in
-    record { long = long; free_within = omega (arith, size, free, same) }
+    let sized : is_size (word_at words 2) (word_at words 3) ≡ true = not-false (is_size (word_at words 2) (word_at words 3))
+    (or_parts (not (word_at words 2 == length words)) (not (is_size (word_at words 2) (word_at words 3))) p.1.1.1.1.0).1 in
+    let paged : (nat_le (word_at words 3) (word_at words 2) && nat_le (word_at words 2) 1048576) ≡ true =
+    (and_parts (nat_le (word_at words 3) (word_at words 2) && nat_le (word_at words 2) 1048576)
+    (word_at words 2 % word_at words 3 == 0) sized).0 in
+    let most : word_at words 2 ≤ 1048576 = leb-true (word_at words 2) 1048576
+    (and_parts (nat_le (word_at words 3) (word_at words 2)) (nat_le (word_at words 2) 1048576) paged).1 in
+    record { long = long; free_within = omega (arith, size, free, same); few = omega (arith, size, most) }
 
 -- what the head of a lawful block is
 pub record IsBlockHead (words : List ℕ) (head : SegmentHead) (reference : ℕ) (found : BlockHead) : Type 0 where
@@ -147,3 +155,15 @@ pub is_block-from_fault : (words : List ℕ) (head : SegmentHead) (reference : �
     → block_of words head reference ≡ Err fault → is_block words head reference ≡ false
 is_block-from_fault words head reference fault e =
     no_block (is_placed head reference) (is_claimed words head reference) (block_head_of words reference) fault e
+
+is_ok_of_checked : (placed claimed : Bool) (found : BlockHead)
+    → is_ok (checked ((not placed, BadRef) ∷ (not claimed, BadBlock) ∷ []) found) ≡ (placed && claimed)
+is_ok_of_checked false claimed found = refl
+is_ok_of_checked true false found = refl
+is_ok_of_checked true true found = refl
+
+-- whether a block has no fault
+pub is_ok_of_block : (words : List ℕ) (head : SegmentHead) (reference : ℕ)
+    → is_ok (block_of words head reference) ≡ is_block words head reference
+is_ok_of_block words head reference =
+    is_ok_of_checked (is_placed head reference) (is_claimed words head reference) (block_head_of words reference)

@@ -41,11 +41,11 @@ marks-push met references reference within marks r =
           kept ∙ (marks r ∙ sym (more ∙ (ap (λ b. list_any (λ other. other == r) references || b) mine ∙ or-false _)))
     ]
 
--- before the walk nothing is marked
-pub unmarked_at : (n r : ℕ) → get_or (replicate n false) r false ≡ false
-unmarked_at zero r = refl
-unmarked_at (suc n) zero = refl
-unmarked_at (suc n) (suc r) = unmarked_at n r
+-- among copies of the default is nothing else
+pub copies_at : {X : Type 0} (x : X) (n i : ℕ) → get_or (replicate n x) i x ≡ x
+copies_at x zero i = refl
+copies_at x (suc n) zero = refl
+copies_at x (suc n) (suc i) = copies_at x n i
 
 -- what the mark of a word that was read is
 pub read_mark : (met : List Bool) (reference : ℕ) (mark : Bool) → reference < length met → mark ≡ get_or met reference mark

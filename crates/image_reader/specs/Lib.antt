@@ -7,6 +7,7 @@ pub use Rattle.bucket_ranges.specs.Ranges
 pub use Rattle.bucket_ranges.specs.Single
 pub use Rattle.bucket_ranges.specs.Reading
 pub mod Views
+pub mod Links
 pub mod Records
 pub mod Buckets
 pub mod Samples

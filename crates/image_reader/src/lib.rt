@@ -11,6 +11,7 @@
 mod buckets;
 mod gathering;
 mod histogram;
+mod links;
 mod name;
 mod names;
 mod reader;

@@ -1,9 +1,11 @@
 //! The list of a segment's records.
 
-ghost use Rattle.std.specs.Prelude.{◌≡◌, Ok, IfOk};
+ghost use Rattle.std.specs.Prelude.{◌≡◌, ◌<◌, Ok, All, length, map, slice_index, IfOk, MatchOption};
 ghost use Rattle.segment_image.specs.Head.{header_of};
-ghost use Rattle.bucket_ranges.specs.Reading.{IsListed, stop_of};
+ghost use Rattle.bucket_ranges.specs.Reading.{IsListed, before, stop_of};
+ghost use Rattle.image_reader.specs.Links.{GoesBack};
 
+use crate::links::Links;
 use segment_image::{ImageFault, QUEUE, SegmentHead, block};
 use std::alloc::{AllocError, Global};
 
@@ -20,31 +22,91 @@ pub(crate) fn walk(alloc: Global, words: &[u64], head: &SegmentHead) -> Result<L
     ensures listed { IfOk result (λ list. IsListed words.now head.now list.references.items) }
     ensures stopped { IfOk result (λ list. list.stopped ≡ stop_of words.now head.now list.references.items) }
 {
-    let mut met = vec![in alloc; false; words.len()]?;
-    let mut references = Vec::new(alloc);
-    let mut next = words[15];
-    while next != QUEUE {
-        let found = match block(words, head, next) {
-            Ok(found) => found,
-            Err(fault) => {
-                return Ok(Listed {
-                    references,
-                    stopped: Some(fault),
-                });
-            }
-        };
-        if met[next as usize] {
-            return Ok(Listed {
-                references,
-                stopped: Some(ImageFault::Loop),
-            });
-        }
-        met[next as usize] = true;
-        references.push(next)?;
-        next = found.next;
-    }
+    let references = match ascending(alloc, words, head)? {
+        Some(references) => references,
+        None => along_links(alloc, words, head)?,
+    };
+    let stopped = stop(words, head, &references);
     Ok(Listed {
         references,
-        stopped: None,
+        stopped,
     })
+}
+
+// The records of the list, or nothing where one of them stands in memory before the one that leads to it.
+fn ascending(
+    alloc: Global,
+    words: &[u64],
+    head: &SegmentHead,
+) -> Result<Option<Vec<u64>>, AllocError>
+    requires { header_of words.now ≡ Ok head.now }
+    ensures { IfOk result (λ found. MatchOption found (GoesBack words.now head.now) (λ references. IsListed words.now head.now references.items)) }
+{
+    let mut references = Vec::new(alloc);
+    let mut last = QUEUE;
+    let mut next = words[15];
+    while let Ok(found) = block(words, head, next) {
+        if next <= last {
+            return Ok(None);
+        }
+        references.push(next)?;
+        last = next;
+        next = found.next;
+    }
+    Ok(Some(references))
+}
+
+// The records of the list, in whatever order they stand in memory.
+fn along_links(alloc: Global, words: &[u64], head: &SegmentHead) -> Result<Vec<u64>, AllocError>
+    requires { header_of words.now ≡ Ok head.now }
+    ensures { IfOk result (λ references. IsListed words.now head.now references.items) }
+{
+    let links = Links::of(alloc, words, head)?;
+    let mut met = vec![in alloc; false; links.leads.len()]?;
+    let mut places = Vec::new(alloc);
+    let mut place = links.leads[0];
+    while place != 0 && !met[place as usize] {
+        met[place as usize] = true;
+        places.push(place)?;
+        place = links.leads[place as usize];
+    }
+    references_at(alloc, &links.references, &places)
+}
+
+// The references of the blocks at these places.
+fn references_at(alloc: Global, references: &[u32], places: &[u32]) -> Result<Vec<u64>, AllocError>
+    requires { All (λ place. place < length references.now) places.now }
+    ensures { IfOk result (λ found. found.items ≡ map (slice_index references.now) places.now) }
+{
+    let mut found = Vec::with_capacity(alloc, places.len())?;
+    for place in places {
+        found.push(u64::from(references[*place as usize]))?;
+    }
+    Ok(found)
+}
+
+// Why the list of these records goes no further before its end.
+fn stop(words: &[u64], head: &SegmentHead, references: &[u64]) -> Option<ImageFault>
+    requires header { header_of words.now ≡ Ok head.now }
+    requires listed { IsListed words.now head.now references.now }
+    ensures { result ≡ stop_of words.now head.now references.now }
+{
+    let next = words[last_or_queue(references) as usize + 3];
+    if next == QUEUE {
+        return None;
+    }
+    match block(words, head, next) {
+        Ok(_) => Some(ImageFault::Loop),
+        Err(fault) => Some(fault),
+    }
+}
+
+// The last of these references, that of the queue block where there is none.
+fn last_or_queue(references: &[u64]) -> u64
+    ensures { result ≡ before references.now (length references.now) }
+{
+    match references.last() {
+        Some(last) => *last,
+        None => QUEUE,
+    }
 }

@@ -9,7 +9,8 @@ use Rattle.std.specs.HashMap.{HashMap, UpdatesBy, get_by}
 use Rattle.std.specs.Map.{IsKeyTest, AreApart, KeepsOthers, lookup}
 use Rattle.std.specs.Str.{bytes_eq}
 use Rattle.std.proofs.lemmas.Bool.{cases_Bool, eqb-true, eq-eqb}
-use Rattle.persist_report_core.specs.Names.{digest_of, known_or}
+use Rattle.image_reader.specs.Digest.{digest_of}
+use Rattle.persist_report_core.specs.Names.{known_or}
 use Rattle.persist_report_core.specs.declared.script.names.Known.{Known}
 
 -- a key of one name is none of another

@@ -2,14 +2,10 @@
 use Rattle.std.specs.Prelude.{nat_eq, if◌then◌else◌, ℕ, ◌≤◌, List, length, Option, Some, None, IfSome}
 use Rattle.std.specs.List.{slice_range}
 use Rattle.std.specs.HashMap.{get, get_by}
-use Rattle.std.specs.Hash.FoldHasher as folding
 use Rattle.std.specs.Str.{bytes_eq}
+use Rattle.image_reader.specs.Digest.{digest_of}
 use Rattle.persist_report_core.specs.declared.script.names.Names.{Names}
 use Rattle.persist_report_core.specs.declared.script.names.Known.{Known}
-
--- the number that a name's bytes make
-abbrev pub digest_of : List ℕ → ℕ
-digest_of name = folding.finish (folding.write folding.initial name)
 
 -- the place of a name that has taken its number, and otherwise its place among the others
 abbrev pub known_or : List ℕ → Option Known → List ℕ → Option ℕ → Option ℕ

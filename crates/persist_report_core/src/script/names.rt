@@ -3,11 +3,11 @@
 ghost use Rattle.std.specs.Prelude.{◌≡◌, ℕ, List, None, Some, OnOk, if◌then◌else◌};
 ghost use Rattle.std.specs.Option.{option_or};
 ghost use Rattle.std.specs.Str.{bytes_eq};
-ghost use Rattle.persist_report_core.specs.Names.{digest_of, found, IsPacked};
+ghost use Rattle.persist_report_core.specs.Names.{found, IsPacked};
 
+use image_reader::name_digest;
 use std::alloc::{AllocError, Global};
 use std::collections::HashMap;
-use std::hash::{FoldHasher, Hasher};
 
 /// Names, each with its place. Nearly all are found by a number that their bytes make; those whose number another
 /// name has taken are found by their bytes alone.
@@ -31,15 +31,6 @@ struct Known {
 // The names that are found by their numbers have at most so many bytes together.
 const MAX_BYTES: usize = 0xFFFF_FFFF;
 
-// The number that a name's bytes make.
-fn digest(name: &[u8]) -> u64
-    ensures { result ≡ digest_of name.now }
-{
-    let mut hasher = FoldHasher::default();
-    hasher.write(name);
-    hasher.finish()
-}
-
 impl Names {
     /// No names.
     pub(crate) fn new(alloc: Global) -> Names
@@ -58,7 +49,7 @@ impl Names {
         requires { IsPacked self.now }
         ensures { result ≡ found self.now name.now }
     {
-        if let Some(known) = self.first.get(&digest(name)) {
+        if let Some(known) = self.first.get(&name_digest(name)) {
             if &self.bytes[known.start as usize..known.end as usize] == name {
                 return Some(known.place);
             }
@@ -73,7 +64,7 @@ impl Names {
         ensures found { OnOk result ((other : List ℕ) → found self.new other ≡ (if bytes_eq name.now other then Some place else found self.old other)) }
         ensures packed { OnOk result (IsPacked self.new) }
     {
-        let digest = digest(name);
+        let digest = name_digest(name);
         if self.first.contains_key(&digest) || self.bytes.len() + name.len() > MAX_BYTES {
             self.others.insert(Vec::from_slice(alloc, name)?, place)?;
             return Ok(());

@@ -3,7 +3,7 @@ use Rattle.std.specs.Prelude.{is_some}
 use Rattle.std.specs.HashMap.{get, get_by}
 use Rattle.std.specs.Str.{bytes_eq}
 use Rattle.persist_report_core.specs.declared.script.names.Known.{Known}
-use Rattle.persist_report_core.specs.Names.{digest_of}
+use Rattle.image_reader.specs.Digest.{digest_of}
 use Rattle.persist_report_core.proofs.NameLemmas.{get_by-updated, found-put, found-packed}
 use Rattle.persist_report_core.proofs.script.names.Names.insert_new.Goals as goal
 
@@ -30,9 +30,9 @@ returns-in-Ok-clause-found c =
     let new = λ (number : ℕ). get nat_eq c.insert-2.new.self number in
     let known : Known = record { start = c.len-start.result; end = c.len-end.result; place = c.args.place } in
     let put : (number : ℕ) → new number ≡ (if digest_of name == number then Some known else old number) =
-    subst (λ digest. (number : ℕ) → new number ≡ (if digest == number then Some known else old number)) c.digest-digest.ensures c.in-Ok.ensures.updates.0 in
+    subst (λ digest. (number : ℕ) → new number ≡ (if digest == number then Some known else old number)) c.name_digest-digest.ensures c.in-Ok.ensures.updates.0 in
     let free : old (digest_of name) ≡ None =
-    subst (λ digest. old digest ≡ None) c.digest-digest.ensures (none_there (old c.digest-digest.result) (sym c.contains_key.ensures ∙ c.if-contains_key.false)) in
+    subst (λ digest. old digest ≡ None) c.name_digest-digest.ensures (none_there (old c.name_digest-digest.result) (sym c.contains_key.ensures ∙ c.if-contains_key.false)) in
     let items : c.extend_from_slice.new.self.items ≡ bytes ++ name = c.in_ok-extend_from_slice.ensures.items in
     rw items (found-packed bytes old new others name known c.requires.packed put free
     (c.len-start.ensures ∙ c.args.self.now.bytes.ok.0) (c.len-end.ensures ∙ (c.extend_from_slice.new.self.ok.0 ∙ ap length items)))

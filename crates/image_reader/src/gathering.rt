@@ -55,21 +55,22 @@ impl Gathering {
         })
     }
 
-    /// Gathers what the record at a reference says, which stands behind those so far.
+    /// Gathers what the record at a reference says, whose type is `tag` and which stands behind those so far.
     pub(crate) fn add(
         &mut self,
         alloc: Global,
         words: &[u64],
         head: &SegmentHead,
         reference: u64,
+        tag: u64,
     ) -> Result<(), AllocError>
         requires header { header_of words.now ≡ Ok head.now }
         requires block { is_block words.now head.now reference ≡ true }
+        requires tag { tag ≡ field_at words.now reference 2 }
         requires ready { IsReady words.now self.old }
         ensures gathered { OnOk result ((earlier : List ℕ) → IsGathered words.now head.now earlier self.old → IsGathered words.now head.now (earlier ++ reference ∷ []) self.new) }
         ensures ready { OnOk result (IsReady words.now self.new) }
     {
-        let tag = words[reference as usize + 2];
         if tag == HISTOGRAM_TAG {
             self.add_histogram(alloc, words, head, reference)
         } else if tag == SAMPLE_TAG {

@@ -1,6 +1,7 @@
 //! The reading of a segment.
 
-ghost use Rattle.std.specs.Prelude.{◌≡◌, ◌<◌, [], ◌++◌, ℕ, List, None, Ok, Err, true, length, map, slice_index, IfOk, MatchResult};
+ghost use Rattle.std.specs.Prelude.{◌≡◌, ◌<◌, ◌≤◌, ◌+◌, [], ◌++◌, ℕ, List, None, Ok, Err, true, length, map, slice_index, IfOk, OnOk, MatchResult};
+ghost use Rattle.segment_image.specs.Blocks.{field_at};
 ghost use Rattle.segment_image.specs.Head.{header_of};
 ghost use Rattle.bucket_ranges.specs.Reading.{IsReading, is_block, record_fault, histogram_of};
 ghost use Rattle.image_reader.specs.Views.{histogram_view, reading_view};
@@ -14,6 +15,9 @@ use crate::sample::Samples;
 use crate::walk::{Listed, walk};
 use segment_image::{ImageFault, SegmentHead, header};
 use std::alloc::{AllocError, Global};
+
+// So many blocks are looked at together.
+const BATCH: usize = 64;
 
 /// What the words of a segment read as.
 ///
@@ -50,6 +54,40 @@ fn read_list(alloc: Global, words: &[u64], head: &SegmentHead) -> Result<Reading
     })
 }
 
+// The types of the blocks at these references.
+fn tags_of(alloc: Global, words: &[u64], references: &[u64]) -> Result<Vec<u64>, AllocError>
+    requires { (i : ℕ) → i < length references.now → slice_index references.now i + 5 ≤ length words.now }
+    ensures { IfOk result (λ tags. tags.items ≡ map (λ reference. field_at words.now reference 2) references.now) }
+{
+    let mut tags = Vec::with_capacity(alloc, references.len())?;
+    for reference in references {
+        tags.push(words[*reference as usize + 2])?;
+    }
+    Ok(tags)
+}
+
+// Gathers what the records at a few references say. The blocks may lie apart in memory, and what is short goes over all
+// of them first: so the processor waits for many of them at once, and not for one after the other.
+fn gather_batch(
+    alloc: Global,
+    words: &[u64],
+    head: &SegmentHead,
+    batch: &[u64],
+    gathering: &mut Gathering,
+) -> Result<(), AllocError>
+    requires header { header_of words.now ≡ Ok head.now }
+    requires lawful { (i : ℕ) → i < length batch.now → is_block words.now head.now (slice_index batch.now i) ≡ true }
+    requires ready { IsReady words.now gathering.old }
+    ensures gathered { OnOk result ((earlier : List ℕ) → IsGathered words.now head.now earlier gathering.old → IsGathered words.now head.now (earlier ++ batch.now) gathering.new) }
+    ensures ready { OnOk result (IsReady words.now gathering.new) }
+{
+    let tags = tags_of(alloc, words, batch)?;
+    for (i, reference) in batch.iter().enumerate() {
+        gathering.add(alloc, words, head, *reference, tags[i])?;
+    }
+    Ok(())
+}
+
 // What the records at these references say.
 fn gather(
     alloc: Global,
@@ -63,8 +101,8 @@ fn gather(
     ensures ready { IfOk result (IsReady words.now) }
 {
     let mut gathering = Gathering::new(alloc, words, head)?;
-    for reference in references {
-        gathering.add(alloc, words, head, *reference)?;
+    for batch in references.chunks(BATCH) {
+        gather_batch(alloc, words, head, batch, &mut gathering)?;
     }
     Ok(gathering)
 }

@@ -1,16 +1,13 @@
--- Each record is gathered behind those so far.
-use Rattle.std.proofs.Common.{ℕ, List, take, sym, subst}
-use Rattle.std.proofs.lemmas.List.{take_more}
-use Rattle.image_reader.specs.Gathering.{IsGathered}
+-- Each batch is gathered behind those so far.
+use Rattle.std.proofs.Common.{◌++◌, ℕ, List, ap, sym, ◌∙◌, append_assoc}
 use Rattle.image_reader.proofs.reader.gather.Goals as goal
 
-pub loop-reference-preserved : goal.loop-reference-preserved
-loop-reference-preserved c =
-    let references : List ℕ = c.args.references.now in
-    let at : ℕ = c.loop-reference.reference-index in
-    record {
-      gathered = subst (λ listed. IsGathered c.args.words.now c.args.head.now listed c.add.new.self)
-          (sym (take_more references at 0 c.loop-reference-test.true))
-          (c.in_ok-add.ensures.gathered (take at references) c.loop-reference.invariant.gathered);
-      ready = c.in_ok-add.ensures.ready;
-    }
+pub loop-batch-preserved : goal.loop-batch-preserved
+loop-batch-preserved c =
+    let (done, listed, gathered, ready) = c.loop-batch.invariant in
+    let batch : List ℕ = c.in-Some.batch.now in (
+      done ++ batch,
+      listed ∙ (ap (λ rest. done ++ rest) c.in-Some.ensures.steps.1.0 ∙ sym (append_assoc done batch c.next.new.self.rest.now)),
+      c.in_ok-gather_batch.ensures.gathered done gathered,
+      c.in_ok-gather_batch.ensures.ready,
+    )

@@ -1,10 +1,8 @@
-use Rattle.std.proofs.Common.{take}
+use Rattle.std.proofs.Common.{◌≡◌, ℕ, List, ◌++◌}
 use Rattle.image_reader.specs.Gathering.{IsGathered, IsReady}
 use Rattle.image_reader.proofs.reader.gather.Given as goal
 
--- the records so far are gathered
-abbrev pub invariant-loop-reference : goal.invariant-loop-reference
-invariant-loop-reference l = record {
-  gathered : IsGathered l.words l.head (take l.reference-index l.references) l.gathering;
-  ready : IsReady l.words l.gathering;
-}
+-- the records before the rest are gathered
+abbrev pub invariant-loop-batch : goal.invariant-loop-batch
+invariant-loop-batch l = (done : List ℕ) × (l.references ≡ done ++ l.batch-iterator.rest.now)
+    × IsGathered l.words l.head done l.gathering × IsReady l.words l.gathering

@@ -1,6 +1,7 @@
 //! A script while it is read, record by record.
 
-ghost use Rattle.std.specs.Prelude.{◌≡◌, ◌<◌, [], ◌∷◌, drop, length};
+ghost use Rattle.std.specs.Prelude.{◌≡◌, ◌<◌, [], ◌∷◌, codes, drop, length};
+ghost use Rattle.std.specs.Str.{bytes_eq};
 ghost use Rattle.csv.specs.Records.{fields_of};
 ghost use Rattle.persist_report_core.specs.Request.{request_in, add_in, delta_in, hist_in};
 ghost use Rattle.persist_report_core.specs.Script.{script_view};
@@ -29,6 +30,16 @@ fn bad_line(number: u32) -> ScriptFault
     ensures { result ≡ ScriptFault.BadLine number }
 {
     ScriptFault::BadLine(u64::from(number))
+}
+
+// Whether a word is `add`, which nearly all records begin with.
+fn is_add(word: &[u8]) -> bool
+    ensures { result ≡ bytes_eq word.now (codes "add") }
+{
+    match word {
+        [b'a', b'd', b'd'] => true,
+        _ => false,
+    }
 }
 
 /// The script that the first record opens.
@@ -159,7 +170,7 @@ impl Draft {
         let Some(word) = fields.get(0) else {
             return Err(bad_line(number));
         };
-        if word == b"add".as_slice() {
+        if is_add(word) {
             self.put_add(number, fields)
         } else if word == b"delta".as_slice() {
             self.put_delta(number, fields)

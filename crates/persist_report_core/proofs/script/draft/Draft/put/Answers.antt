@@ -11,31 +11,31 @@ returns-in_default c =
     let nothing = request_in-empty (fields_of c.args.fields.now) (sym c.in_default.ensures.value) in
     rw c.bad_line.ensures (ap (later_fault c.args.self.now.pool c.args.number (script_view c.args.self.now.script)) nothing)
 
-pub returns-then-eq : goal.returns-then-eq
-returns-then-eq c =
-    let is : bytes_eq c.in-Some.word.now (codes "add") ≡ true = ap (bytes_eq c.in-Some.word.now) (sym c.as_slice.ensures) ∙ (sym c.eq.ensures ∙ c.if-eq.true) in
+pub returns-then-is_add : goal.returns-then-is_add
+returns-then-is_add c =
+    let is : bytes_eq c.in-Some.word.now (codes "add") ≡ true = sym c.is_add.ensures ∙ c.if-is_add.true in
     subst (λ request. Puts c.args.self.now c.put_add.new.self c.args.number request c.put_add.result)
     (sym (request_in-add (fields_of c.args.fields.now) c.in-Some.word.now (sym c.in-Some.ensures.value) is)) c.put_add.ensures
 
-pub returns-then-eq-2 : goal.returns-then-eq-2
-returns-then-eq-2 c =
-    let other : bytes_eq c.in-Some.word.now (codes "add") ≡ false = ap (bytes_eq c.in-Some.word.now) (sym c.as_slice.ensures) ∙ (sym c.eq.ensures ∙ c.if-eq.false) in
-    let is : bytes_eq c.in-Some.word.now (codes "delta") ≡ true = ap (bytes_eq c.in-Some.word.now) (sym c.as_slice-else-eq.ensures) ∙ (sym c.eq-else-eq.ensures ∙ c.if-eq-2.true) in
+pub returns-then-eq : goal.returns-then-eq
+returns-then-eq c =
+    let other : bytes_eq c.in-Some.word.now (codes "add") ≡ false = sym c.is_add.ensures ∙ c.if-is_add.false in
+    let is : bytes_eq c.in-Some.word.now (codes "delta") ≡ true = ap (bytes_eq c.in-Some.word.now) (sym c.as_slice.ensures) ∙ (sym c.eq.ensures ∙ c.if-eq.true) in
     subst (λ request. Puts c.args.self.now c.put_delta.new.self c.args.number request c.put_delta.result)
     (sym (request_in-delta (fields_of c.args.fields.now) c.in-Some.word.now (sym c.in-Some.ensures.value) other is)) c.put_delta.ensures
 
-pub returns-then-eq-3 : goal.returns-then-eq-3
-returns-then-eq-3 c =
-    let other : bytes_eq c.in-Some.word.now (codes "add") ≡ false = ap (bytes_eq c.in-Some.word.now) (sym c.as_slice.ensures) ∙ (sym c.eq.ensures ∙ c.if-eq.false) in
-    let nor : bytes_eq c.in-Some.word.now (codes "delta") ≡ false = ap (bytes_eq c.in-Some.word.now) (sym c.as_slice-else-eq.ensures) ∙ (sym c.eq-else-eq.ensures ∙ c.if-eq-2.false) in
-    let is : bytes_eq c.in-Some.word.now (codes "hist") ≡ true = ap (bytes_eq c.in-Some.word.now) (sym c.as_slice-else-eq-2.ensures) ∙ (sym c.eq-else-eq-2.ensures ∙ c.if-eq-3.true) in
+pub returns-then-eq-2 : goal.returns-then-eq-2
+returns-then-eq-2 c =
+    let other : bytes_eq c.in-Some.word.now (codes "add") ≡ false = sym c.is_add.ensures ∙ c.if-is_add.false in
+    let nor : bytes_eq c.in-Some.word.now (codes "delta") ≡ false = ap (bytes_eq c.in-Some.word.now) (sym c.as_slice.ensures) ∙ (sym c.eq.ensures ∙ c.if-eq.false) in
+    let is : bytes_eq c.in-Some.word.now (codes "hist") ≡ true = ap (bytes_eq c.in-Some.word.now) (sym c.as_slice-else-eq.ensures) ∙ (sym c.eq-else-eq.ensures ∙ c.if-eq-2.true) in
     subst (λ request. Puts c.args.self.now c.put_hist.new.self c.args.number request c.put_hist.result)
     (sym (request_in-hist (fields_of c.args.fields.now) c.in-Some.word.now (sym c.in-Some.ensures.value) other nor is)) c.put_hist.ensures
 
-pub returns-else-eq-3 : goal.returns-else-eq-3
-returns-else-eq-3 c =
-    let other : bytes_eq c.in-Some.word.now (codes "add") ≡ false = ap (bytes_eq c.in-Some.word.now) (sym c.as_slice.ensures) ∙ (sym c.eq.ensures ∙ c.if-eq.false) in
-    let nor : bytes_eq c.in-Some.word.now (codes "delta") ≡ false = ap (bytes_eq c.in-Some.word.now) (sym c.as_slice-else-eq.ensures) ∙ (sym c.eq-else-eq.ensures ∙ c.if-eq-2.false) in
-    let neither : bytes_eq c.in-Some.word.now (codes "hist") ≡ false = ap (bytes_eq c.in-Some.word.now) (sym c.as_slice-else-eq-2.ensures) ∙ (sym c.eq-else-eq-2.ensures ∙ c.if-eq-3.false) in
-    rw c.bad_line-else-eq-3.ensures (later-other c.args.self.now.pool c.args.number (script_view c.args.self.now.script) (fields_of c.args.fields.now)
+pub returns-else-eq-2 : goal.returns-else-eq-2
+returns-else-eq-2 c =
+    let other : bytes_eq c.in-Some.word.now (codes "add") ≡ false = sym c.is_add.ensures ∙ c.if-is_add.false in
+    let nor : bytes_eq c.in-Some.word.now (codes "delta") ≡ false = ap (bytes_eq c.in-Some.word.now) (sym c.as_slice.ensures) ∙ (sym c.eq.ensures ∙ c.if-eq.false) in
+    let neither : bytes_eq c.in-Some.word.now (codes "hist") ≡ false = ap (bytes_eq c.in-Some.word.now) (sym c.as_slice-else-eq.ensures) ∙ (sym c.eq-else-eq.ensures ∙ c.if-eq-2.false) in
+    rw c.bad_line-else-eq-2.ensures (later-other c.args.self.now.pool c.args.number (script_view c.args.self.now.script) (fields_of c.args.fields.now)
     c.in-Some.word.now (sym c.in-Some.ensures.value) other nor neither)

@@ -1,7 +1,7 @@
 pub mod Headers
-pub mod Marks
 pub mod Lists
 pub mod Places
+pub mod Leads
 pub mod Records
 pub mod ReadRecords
 pub mod Sound

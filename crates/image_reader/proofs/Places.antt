@@ -3,7 +3,8 @@ use Rattle.std.proofs.Common.{◌≡◌, true, false, ◌||◌, ◌==◌, if◌t
 use Rattle.std.specs.Prelude.{slice_index}
 use Rattle.std.specs.List.{All, list_any}
 use Rattle.std.proofs.lemmas.Bool.{cases_eq, cases_lt, eq-eqb, ne_eqb, false_from_ne_true}
-use Rattle.std.proofs.lemmas.List.{get_or_append_left, get_or_push, length_push, map-append}
+use Rattle.std.proofs.lemmas.List.{get_or_append_left, get_or_past, get_or_push, length_push, map-append}
+use Rattle.std.proofs.Math.Nat.{min-eq_left, min-eq_right}
 use Rattle.std.proofs.lemmas.Grind.{get_or_default_zero}
 use Rattle.std.proofs.lemmas.List.Quantifiers.{all_pairs_push}
 use Rattle.segment_image.specs.declared.head.SegmentHead.{SegmentHead}
@@ -11,10 +12,9 @@ use Rattle.segment_image.specs.Head.{header_of}
 use Rattle.segment_image.specs.Blocks.{field_at}
 use Rattle.bucket_ranges.specs.Reading.{before, is_block, next_of, IsWalk, IsListed}
 use Rattle.bucket_ranges.proofs.Walks.{is_block-within, IsWalk-push, IsListed-from_loop}
-use Rattle.image_reader.specs.Links.{AreBlocks, IsPlace, place_of, ArePlacesBelow, AreGroups, ArePlaces}
+use Rattle.image_reader.specs.Links.{AreBlocks, IsPlace, place_of, near_next, ArePlacesBelow, AreGroups, IsIndex, ArePlaces}
 use Rattle.image_reader.specs.declared.links.Places.{Places}
-use Rattle.image_reader.proofs.Headers.{IsHeaded-from_header, block_in_words}
-use Rattle.image_reader.proofs.Marks.{before-last, copies_at}
+use Rattle.image_reader.proofs.Lists.{before-last, copies_at}
 
 -- one more block goes behind those below it in memory
 pub AreBlocks-push : (words : List ℕ) (head : SegmentHead) (references : List ℕ) (reference : ℕ)
@@ -204,22 +204,18 @@ IsPlace-from_below words head bound references starts steps held all reference =
       omega arith))
 ]
 
--- the nexts of the blocks lie in the words
-pub AreBlocks-nexts : (words : List ℕ) (head : SegmentHead) (references : List ℕ) → header_of words ≡ Ok head
-    → AreBlocks words head references → All (λ reference. reference + 3 < length words) references
-AreBlocks-nexts words head references header blocks place d within =
-    let read : get_or references place d ≡ get_or references place 0 = get_or_default_zero references place d within in
-    elim (cases_lt 0 place) [
-      | inl behind ↦
-          let lies = block_in_words words head (get_or references place 0) header (blocks.lawful place behind within) in
-          let least : 5 ≤ field_at words (get_or references place 0) 0 = lies.0 in
-          let extent : get_or references place 0 + field_at words (get_or references place 0) 0 ≤ length words = lies.1 in
-          omega arith
-      | inr le ↦
-          let first : place ≡ 0 = omega arith in
-          let queue : get_or references place 0 ≡ 12 = ap (slice_index references) first ∙ blocks.queue in
-          let long : 16 ≤ length words = (IsHeaded-from_header words head header).long in
-          omega arith
+-- a next as far as 32 bits hold it has the place of the next
+pub place_of-near : (words starts steps : List ℕ) (reference : ℕ) → IsIndex starts steps
+    → place_of starts steps (near_next words reference) ≡ place_of starts steps (next_of words reference)
+place_of-near words starts steps reference index =
+    let next : ℕ = next_of words reference in
+    let few : length steps < 4294967295 = index.few in
+    elim (cases_lt 4294967295 next) [
+      | inl far ↦
+          no_place_of starts steps (near_next words reference)
+          (ap (λ n. get_or steps n 0) (min-eq_right (omega (arith, far))) ∙ get_or_past steps 4294967295 0 (omega arith))
+          ∙ sym (no_place_of starts steps next (get_or_past steps next 0 (omega arith)))
+      | inr near ↦ ap (place_of starts steps) (min-eq_left near)
     ]
 
 -- all groups are those of the image
@@ -234,13 +230,15 @@ ArePlaces-from_groups words head groups held header are all small long =
     record {
       blocks_are = are.are.blocks_are;
       places_are = places;
+      nexts_are = are.nexts_are;
       index_is = record {
         long = omega arith;
         fits = λ reference.
             let within : place_of held.starts.items held.steps.items reference < length references = (places reference).within in
             omega arith;
-        within = AreBlocks-nexts words head references header are.are.blocks_are;
+        few = omega arith;
       };
+      few = omega arith;
     }
 
 -- two places with one reference are one

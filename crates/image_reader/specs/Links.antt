@@ -1,5 +1,5 @@
 -- The lawful blocks of an image, numbered in the order of memory.
-use Rattle.std.specs.Prelude.{◌≡◌, ◌==◌, true, false, if◌then◌else◌, ℕ, ◌+◌, ◌*◌, ◌/◌, ◌^◌, ◌<◌, ◌≤◌, List, All, length, get_or, slice_index}
+use Rattle.std.specs.Prelude.{◌≡◌, ◌==◌, true, false, if◌then◌else◌, ℕ, ◌+◌, ◌*◌, ◌/◌, ◌^◌, ◌<◌, ◌≤◌, List, length, get_or, map, min, slice_index}
 use Rattle.std.specs.List.{AllPairs}
 use Rattle.segment_image.specs.declared.head.SegmentHead.{SegmentHead}
 use Rattle.bucket_ranges.specs.Reading.{before, next_of, is_block, IsWalk}
@@ -33,26 +33,34 @@ pub record ArePlacesBelow (words : List ℕ) (head : SegmentHead) (bound : ℕ) 
   pub places_are : (reference : ℕ) → reference < bound → IsPlace words head references reference (place_of starts steps reference)
   pub rest : (reference : ℕ) → bound ≤ reference → get_or steps reference 0 ≡ 0
 
--- those of so many groups
+-- a next, as far as 32 bits hold it
+abbrev pub near_next : List ℕ → ℕ → ℕ
+near_next words reference = min (next_of words reference) 4294967295
+
+-- those of so many groups, each with its next
 pub record AreGroups (words : List ℕ) (head : SegmentHead) (groups : ℕ) (held : Places) : Type 0 where
   pub are : ArePlacesBelow words head (128 * groups) held.references.items held.starts.items held.steps.items
   pub count : length held.starts.items ≡ groups
+  pub nexts_are : held.nexts.items ≡ map (near_next words) held.references.items
 
--- each word with steps has a group, no place is too large, and the nexts of the blocks lie in the words
-pub record IsIndex (words : List ℕ) (held : Places) : Type 0 where
-  pub long : length held.steps.items ≤ 128 * length held.starts.items
-  pub fits : (reference : ℕ) → place_of held.starts.items held.steps.items reference < 2 ^ 32
-  pub within : All (λ reference. reference + 3 < length words) held.references.items
+-- each word with steps has a group, no word has so many that its place is too large, and the words are few
+pub record IsIndex (starts steps : List ℕ) : Type 0 where
+  pub long : length steps ≤ 128 * length starts
+  pub fits : (reference : ℕ) → place_of starts steps reference < 2 ^ 32
+  pub few : length steps < 4294967295
 
--- the blocks of an image, and the place of each word
+-- the blocks of an image, each with its next, and the place of each word
 pub record ArePlaces (words : List ℕ) (head : SegmentHead) (held : Places) : Type 0 where
   pub blocks_are : AreBlocks words head held.references.items
   pub places_are : (reference : ℕ) → IsPlace words head held.references.items reference (place_of held.starts.items held.steps.items reference)
-  pub index_is : IsIndex words held
+  pub nexts_are : held.nexts.items ≡ map (near_next words) held.references.items
+  pub index_is : IsIndex held.starts.items held.steps.items
+  pub few : length held.references.items < 4294967295
 
 -- the blocks of an image, and the place of each one's next
 pub record AreLinks (words : List ℕ) (head : SegmentHead) (links : Links) : Type 0 where
   pub blocks_are : AreBlocks words head links.references.items
+  pub few : length links.references.items < 4294967295
   pub long : length links.leads.items ≡ length links.references.items
   pub leads_are : (place : ℕ) → place < length links.references.items
       → IsPlace words head links.references.items (next_of words (slice_index links.references.items place)) (slice_index links.leads.items place)

@@ -1,11 +1,12 @@
 //! The lawful blocks of an image, numbered in the order of memory.
 //!
 //! A walk along references goes through all the words, and waits for memory at each step where these come in no order.
-//! The numbers of the blocks, their places, are few, and a walk along these stays in a small part of memory.
+//! The numbers of the blocks, their places, are few, and a walk along these stays in a small part of memory. One pass
+//! over the words finds the blocks and their nexts; these are turned into places where they stand, so that the walk, which
+//! follows, finds what it needs near at hand.
 
-ghost use Rattle.std.specs.Prelude.{◌≡◌, ◌<◌, ◌≤◌, ◌+◌, ◌*◌, ◌^◌, Ok, length, map, IfOk, OnOk};
+ghost use Rattle.std.specs.Prelude.{◌≡◌, ◌<◌, ◌≤◌, ◌+◌, ◌*◌, ◌^◌, Ok, length, map, min, IfOk, OnOk};
 ghost use Rattle.segment_image.specs.Head.{header_of};
-ghost use Rattle.bucket_ranges.specs.Reading.{next_of};
 ghost use Rattle.image_reader.specs.Links.{AreGroups, ArePlaces, IsIndex, AreLinks, place_of};
 
 use segment_image::{SegmentHead, block};
@@ -30,21 +31,23 @@ impl Links {
         requires { header_of words.now ≡ Ok head.now }
         ensures { IfOk result (AreLinks words.now head.now) }
     {
-        let places = Places::of(alloc, words, head)?;
-        let leads = places.leads(alloc, words)?;
+        let mut places = Places::of(alloc, words, head)?;
+        turn_into_places(&places.starts, &places.steps, &mut places.nexts);
         Ok(Links {
             references: places.references,
-            leads,
+            leads: places.nexts,
         })
     }
 }
 
-// The same blocks, and the places of the words at which they begin: that of a word is so many steps behind the start of
-// its group of 128 words.
+// The same blocks with their nexts, and the places of the words at which they begin: that of a word is so many steps
+// behind the start of its group of 128 words.
 #[derive(Drop)]
 struct Places {
     // The reference of the block at each place.
     references: Vec<u32>,
+    // The next of the block at each place, as far as 32 bits hold it.
+    nexts: Vec<u32>,
     // Of each group the last place before it.
     starts: Vec<u32>,
     // Of each word how far behind that start the place of its block is, 0 where none begins.
@@ -60,6 +63,7 @@ impl Places {
         let groups = (head.free as usize).div_ceil(GROUP);
         let mut places = Places {
             references: vec![in alloc; QUEUE_BLOCK; 1]?,
+            nexts: vec![in alloc; near(words[15]); 1]?,
             starts: Vec::with_capacity(alloc, groups)?,
             steps: vec![in alloc; 0_u8; groups * GROUP]?,
         };
@@ -87,39 +91,44 @@ impl Places {
         let start = self.references.len() as u32 - 1;
         self.starts.push(start)?;
         for reference in first..first + GROUP {
-            if block(words, head, reference as u64).is_ok() {
+            if let Ok(found) = block(words, head, reference as u64) {
                 self.steps[reference] = (self.references.len() as u32 - start) as u8;
                 self.references.push(reference as u32)?;
+                self.nexts.push(near(found.next))?;
             }
         }
         Ok(())
     }
+}
 
-    // Where each of the blocks leads.
-    fn leads(&self, alloc: Global, words: &[u64]) -> Result<Vec<u32>, AllocError>
-        requires { IsIndex words.now self.now }
-        ensures { IfOk result (λ leads. leads.items ≡ map (λ reference. place_of self.now.starts.items self.now.steps.items (next_of words.now reference)) self.now.references.items) }
-    {
-        let mut leads = Vec::with_capacity(alloc, self.references.len())?;
-        for reference in &self.references {
-            leads.push(self.at(words[*reference as usize + 3]))?;
-        }
-        Ok(leads)
+// A next, or the greatest number of 32 bits where it is more: no block begins so far behind.
+fn near(next: u64) -> u32
+    ensures { result ≡ min next 4294967295 }
+{
+    next.min(u64::from(u32::MAX)) as u32
+}
+
+// Turns each of these nexts into the place of the block that begins there, 0 where none does.
+fn turn_into_places(starts: &[u32], steps: &[u8], nexts: &mut [u32])
+    requires { IsIndex starts.now steps.now }
+    ensures { nexts.new ≡ map (place_of starts.now steps.now) nexts.old }
+{
+    for next in nexts.iter_mut() {
+        *next = place_at(starts, steps, *next);
     }
+}
 
-    // The place of the block that begins at a reference, 0 where none does.
-    fn at(&self, reference: u64) -> u32
-        requires long { length self.now.steps.items ≤ 128 * length self.now.starts.items }
-        requires fits { place_of self.now.starts.items self.now.steps.items reference < 2 ^ 32 }
-        ensures { result ≡ place_of self.now.starts.items self.now.steps.items reference }
-    {
-        let at = reference as usize;
-        if at >= self.steps.len() {
-            return 0;
-        }
-        match self.steps[at] {
-            0 => 0,
-            steps => self.starts[at / GROUP] + u32::from(steps),
-        }
+// The place of the block that begins at a reference, 0 where none does.
+fn place_at(starts: &[u32], steps: &[u8], reference: u32) -> u32
+    requires { IsIndex starts.now steps.now }
+    ensures { result ≡ place_of starts.now steps.now reference }
+{
+    let at = reference as usize;
+    if at >= steps.len() {
+        return 0;
+    }
+    match steps[at] {
+        0 => 0,
+        step => starts[at / GROUP] + u32::from(step),
     }
 }

@@ -9,6 +9,9 @@ use crate::links::Links;
 use segment_image::{ImageFault, QUEUE, SegmentHead, block};
 use std::alloc::{AllocError, Global};
 
+// Where a block leads once the walk has met it; no block has this place.
+const MET: u32 = u32::MAX;
+
 /// The records of a list in its order, and why it goes no further before its end.
 #[derive(Drop)]
 pub(crate) struct Listed {
@@ -62,13 +65,14 @@ fn along_links(alloc: Global, words: &[u64], head: &SegmentHead) -> Result<Vec<u
     ensures { IfOk result (λ references. IsListed words.now head.now references.items) }
 {
     let links = Links::of(alloc, words, head)?;
-    let mut met = vec![in alloc; false; links.leads.len()]?;
+    let mut leads = links.leads;
     let mut places = Vec::new(alloc);
-    let mut place = links.leads[0];
-    while place != 0 && !met[place as usize] {
-        met[place as usize] = true;
+    let mut place = leads[0];
+    while place != 0 && leads[place as usize] != MET {
         places.push(place)?;
-        place = links.leads[place as usize];
+        let next = leads[place as usize];
+        leads[place as usize] = MET;
+        place = next;
     }
     references_at(alloc, &links.references, &places)
 }

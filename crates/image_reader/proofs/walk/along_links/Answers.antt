@@ -1,9 +1,9 @@
 -- Each step of the walk along the places.
-use Rattle.std.proofs.Common.{◌≡◌, true, false, ◌==◌, ℕ, ◌<◌, List, [], ◌∷◌, ◌++◌, length, replicate, map, arith, sym, ◌∙◌, subst, length-set}
+use Rattle.std.proofs.Common.{◌≡◌, ◌≢◌, false, ◌==◌, ℕ, ◌<◌, List, [], ◌∷◌, ◌++◌, length, get_or, map, arith, sym, ◌∙◌, subst}
 use Rattle.std.specs.Prelude.{Result, IfOk, slice_index}
 use Rattle.std.specs.List.{list_any}
+use Rattle.std.proofs.lemmas.Bool.{false≢true}
 use Rattle.std.proofs.lemmas.Grind.{get_or_default_zero}
-use Rattle.std.proofs.lemmas.List.{length-replicate}
 use Rattle.std.proofs.lemmas.List.Elements.{All-nil, All-push}
 use Rattle.std.proofs.lemmas.Result.{IfOk-weaker}
 use Rattle.std.specs.declared.vec.Vec.{Vec}
@@ -13,10 +13,10 @@ use Rattle.segment_image.specs.declared.head.SegmentHead.{SegmentHead}
 use Rattle.bucket_ranges.specs.Reading.{next_of, IsListed}
 use Rattle.bucket_ranges.proofs.Walks.{IsWalk-none, IsListed-from_no_block}
 use Rattle.image_reader.specs.Links.{AreLinks, IsPlace}
-use Rattle.image_reader.proofs.Marks.{unmet-set, marks-push, copies_at, read_mark}
+use Rattle.image_reader.proofs.Leads.{unmet-set, AreLeft-new, AreLeft-met, AreLeft-push}
 use Rattle.image_reader.proofs.Places.{before-places, IsWalk-place, IsListed-from_place}
 use Rattle.image_reader.proofs.walk.along_links.Goals as goal
-use Rattle.image_reader.proofs.walk.along_links.Goals.{then-loop-place-test+else-not-index, else-loop-place-test}
+use Rattle.image_reader.proofs.walk.along_links.Goals.{then-loop-place-test+else-index, else-loop-place-test}
 
 pub loop-place-init : goal.loop-place-init
 loop-place-init c =
@@ -24,7 +24,6 @@ loop-place-init c =
     let some : 0 < length c.in_ok-links.links.references.items = links.blocks_are.some in
     let long : length c.in_ok-links.links.leads.items ≡ length c.in_ok-links.links.references.items = links.long in
     let none : c.new-places.result.items ≡ [] = c.new-places.ensures.items in
-    let unmarked : c.in_ok-met.met.items ≡ replicate c.len.result false = c.in_ok-met.ensures.items_if_clones_equal (λ y e. e) in
     let first : c.index-place.result.now ≡ slice_index c.in_ok-links.links.leads.items 0 =
     c.index-place.ensures ∙ get_or_default_zero c.in_ok-links.links.leads.items 0 c.index-place.result.now (omega arith) in
     record {
@@ -34,42 +33,52 @@ loop-place-init c =
           (slice_index c.in_ok-links.links.leads.items 0))
           links.blocks_are.queue (links.leads_are 0 some));
       within = rw none (All-nil (λ place. place < length c.in_ok-links.links.references.items));
-      marks = λ place. rw (unmarked, none) (copies_at false c.len.result place);
-      long = rw unmarked (length-replicate c.len.result false ∙ (c.len.ensures ∙ (c.in_ok-links.links.leads.ok.0 ∙ links.long)));
+      leads_are = rw none (record {
+        few = links.few;
+        long = long;
+        met = λ place lies is_met. absurd (false≢true is_met);
+        new = λ place lies _. links.leads_are place lies;
+      });
     }
+
+-- a lead that was read
+read_lead : (leads : List ℕ) (place lead : ℕ) → place < length leads → lead ≡ get_or leads place lead → lead ≡ get_or leads place 0
+read_lead leads place lead within e = e ∙ get_or_default_zero leads place lead within
 
 pub loop-place-preserved : goal.loop-place-preserved
 loop-place-preserved c =
-    let links : AreLinks c.args.words.now c.args.head.now c.in_ok-links.links = c.in_ok-links.ensures in
+    let words : List ℕ = c.args.words.now in
+    let links : AreLinks words c.args.head.now c.in_ok-links.links = c.in_ok-links.ensures in
+    let references : List ℕ = c.in_ok-links.links.references.items in
+    let leads : List ℕ = c.loop-place.leads.items in
+    let places : List ℕ = c.loop-place.places.items in
     let place : ℕ = c.loop-place.place in
+    let left = c.loop-place.invariant.leads_are in
     let behind : 0 < place = omega (arith, c.loop-place-test.true) in
-    let inside : place < length c.in_ok-links.links.references.items = c.loop-place.invariant.place_is.within in
-    let within : place < length c.loop-place.met.items = omega (arith, inside, c.loop-place.invariant.long) in
-    let led : place < length c.in_ok-links.links.leads.items = omega (arith, inside, links.long) in
-    let marked = read_mark c.loop-place.met.items place c.index.result.now within c.index.ensures in
-    let new : list_any (λ other. other == place) c.loop-place.places.items ≡ false =
-    sym (c.loop-place.invariant.marks place) ∙ (sym marked ∙ c.if-not-index.true) in
-    let pushed : c.push.new.self.items ≡ c.loop-place.places.items ++ place ∷ [] = c.in_ok-push.ensures.items in
-    let lead : c.index-place-in-loop-place.result.now ≡ slice_index c.in_ok-links.links.leads.items place =
-    c.index-place-in-loop-place.ensures
-    ∙ get_or_default_zero c.in_ok-links.links.leads.items place c.index-place-in-loop-place.result.now led in
+    let inside : place < length references = c.loop-place.invariant.place_is.within in
+    let led : place < length leads = omega (arith, inside, left.long) in
+    let somewhere : get_or leads place 0 ≢ 4294967295 =
+    λ e. c.if-index.true (read_lead leads place c.index.result.now led c.index.ensures ∙ e) in
+    let new : list_any (λ other. other == place) places ≡ false =
+    AreLeft-new words c.args.head.now references leads places place left inside somewhere in
+    let pushed : c.push.new.self.items ≡ places ++ place ∷ [] = c.in_ok-push.ensures.items in
+    let lead : c.index-next.result.now ≡ get_or leads place 0 =
+    read_lead leads place c.index-next.result.now led c.index-next.ensures in
     record {
-      walk = rw pushed (IsWalk-place c.args.words.now c.args.head.now c.in_ok-links.links.references.items c.loop-place.places.items
+      walk = rw pushed (IsWalk-place words c.args.head.now references places
           place links.blocks_are c.loop-place.invariant.within c.loop-place.invariant.walk c.loop-place.invariant.place_is behind new);
-      place_is = rw (pushed, lead, before-places c.in_ok-links.links.references.items c.loop-place.places.items place)
-          (links.leads_are place inside);
-      within = rw pushed (All-push (λ other. other < length c.in_ok-links.links.references.items) c.loop-place.places.items place
-          c.loop-place.invariant.within inside);
-      marks = λ other. rw pushed (marks-push c.loop-place.met.items c.loop-place.places.items place within c.loop-place.invariant.marks other);
-      long = length-set c.loop-place.met.items place true ∙ c.loop-place.invariant.long;
+      place_is = rw (pushed, lead, before-places references places place) (left.new place inside new);
+      within = rw pushed (All-push (λ other. other < length references) places place c.loop-place.invariant.within inside);
+      leads_are = rw pushed (AreLeft-push words c.args.head.now references leads places place left inside);
     }
 
 pub loop-place-smaller : goal.loop-place-smaller
 loop-place-smaller c =
-    let inside : c.loop-place.place < length c.in_ok-links.links.references.items = c.loop-place.invariant.place_is.within in
-    let within : c.loop-place.place < length c.loop-place.met.items = omega (arith, inside, c.loop-place.invariant.long) in
-    let marked = read_mark c.loop-place.met.items c.loop-place.place c.index.result.now within c.index.ensures in
-    unmet-set c.loop-place.met.items c.loop-place.place within (sym marked ∙ c.if-not-index.true)
+    let leads : List ℕ = c.loop-place.leads.items in
+    let place : ℕ = c.loop-place.place in
+    let inside : place < length c.in_ok-links.links.references.items = c.loop-place.invariant.place_is.within in
+    let led : place < length leads = omega (arith, inside, c.loop-place.invariant.leads_are.long) in
+    unmet-set leads place led (λ e. c.if-index.true (read_lead leads place c.index.result.now led c.index.ensures ∙ e))
 
 pub references_at-requires : goal.references_at-requires
 references_at-requires c = rw (c.deref.ensures.value, c.deref-2.ensures.value) c.loop-place.invariant.within
@@ -89,14 +98,15 @@ returns c =
     let links : AreLinks c.args.words.now c.args.head.now c.in_ok-links.links = c.in_ok-links.ensures in
     let blocks : List ℕ = c.in_ok-links.links.references.items in
     let listed : IsListed c.args.words.now c.args.head.now (map (slice_index blocks) c.loop-place.places.items) = elim c.loop-place-test.branch [
-      | then-loop-place-test+else-not-index w ↦
-          let within : c.loop-place.place < length c.loop-place.met.items =
-          omega (arith, c.loop-place.invariant.place_is.within, c.loop-place.invariant.long) in
-          let marked = read_mark c.loop-place.met.items c.loop-place.place w.index.result.now within w.index.ensures in
+      | then-loop-place-test+else-index w ↦
+          let left = c.loop-place.invariant.leads_are in
+          let inside : c.loop-place.place < length blocks = c.loop-place.invariant.place_is.within in
+          let led : c.loop-place.place < length c.loop-place.leads.items = omega (arith, inside, left.long) in
           IsListed-from_place c.args.words.now c.args.head.now blocks c.loop-place.places.items c.loop-place.place links.blocks_are
           c.loop-place.invariant.within c.loop-place.invariant.walk c.loop-place.invariant.place_is
           (omega (arith, w.loop-place-test.true))
-          (sym (c.loop-place.invariant.marks c.loop-place.place) ∙ (sym marked ∙ w.if-not-index.false))
+          (AreLeft-met c.args.words.now c.args.head.now blocks c.loop-place.leads.items c.loop-place.places.items c.loop-place.place left
+          inside (sym (read_lead c.loop-place.leads.items c.loop-place.place w.index.result.now led w.index.ensures) ∙ w.if-index.false))
       | else-loop-place-test w ↦
           IsListed-from_no_block c.args.words.now c.args.head.now (map (slice_index blocks) c.loop-place.places.items)
           c.loop-place.invariant.walk (c.loop-place.invariant.place_is.none w.loop-place-test.false)

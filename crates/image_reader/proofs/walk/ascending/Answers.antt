@@ -6,8 +6,7 @@ use Rattle.segment_image.specs.declared.blocks.BlockHead.{BlockHead}
 use Rattle.bucket_ranges.specs.Reading.{before, is_block, next_of}
 use Rattle.bucket_ranges.proofs.Walks.{IsWalk-none, IsWalk-push, IsListed-from_no_block}
 use Rattle.image_reader.proofs.Headers.{IsBlockHead-from_block, block_extent, is_block-from_fault}
-use Rattle.image_reader.proofs.Lists.{list_any-above}
-use Rattle.image_reader.proofs.Marks.{before-last}
+use Rattle.image_reader.proofs.Lists.{list_any-above, before-last}
 use Rattle.image_reader.proofs.walk.ascending.Goals as goal
 
 pub loop-found-init : goal.loop-found-init

@@ -1,8 +1,8 @@
-use Rattle.std.proofs.Common.{◌≡◌, ◌+◌, ◌<◌, ◌≤◌, length, get_or}
-use Rattle.image_reader.specs.Links.{ArePlacesBelow}
+use Rattle.std.proofs.Common.{◌≡◌, ◌+◌, ◌<◌, ◌≤◌, length, get_or, map}
+use Rattle.image_reader.specs.Links.{ArePlacesBelow, near_next}
 use Rattle.image_reader.proofs.links.Places.add_group.Given as goal
 
--- the blocks so far, and their places; those of the group are no more than its words so far
+-- the blocks so far with their nexts, and their places; those of the group are no more than its words so far
 abbrev pub invariant-loop-reference : goal.invariant-loop-reference
 invariant-loop-reference l = record {
   are : ArePlacesBelow l.words l.head l.reference l.self.references.items l.self.starts.items l.self.steps.items;
@@ -11,4 +11,5 @@ invariant-loop-reference l = record {
   started : l.start < length l.self.references.items;
   recent : length l.self.references.items + l.first ≤ l.start + 1 + l.reference;
   long : length l.self.steps.items ≡ length l.initial.self.steps.items;
+  nexts_are : l.self.nexts.items ≡ map (near_next l.words) l.self.references.items;
 }

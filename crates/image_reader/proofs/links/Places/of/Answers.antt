@@ -1,5 +1,5 @@
 -- The groups are so many that they have all words below the free pointer.
-use Rattle.std.proofs.Common.{◌≡◌, ℕ, ◌+◌, ◌*◌, ◌<◌, ◌≤◌, List, [], ◌∷◌, length, replicate, Ok, arith, ap, ◌∙◌}
+use Rattle.std.proofs.Common.{◌≡◌, ℕ, ◌+◌, ◌*◌, ◌<◌, ◌≤◌, List, [], ◌∷◌, length, replicate, Ok, refl, arith, ap, ◌∙◌}
 use Rattle.std.specs.Int.{div_ceil}
 use Rattle.std.proofs.lemmas.List.{length-replicate}
 use Rattle.std.proofs.lemmas.Grind.{div_ceil_times}
@@ -12,13 +12,15 @@ use Rattle.image_reader.proofs.links.Places.of.Goals as goal
 pub loop-group-init : goal.loop-group-init
 loop-group-init c =
     let queue : c.in_ok-vec.field-0.items ≡ 12 ∷ [] = c.in_ok-vec.ensures.items_if_clones_equal (λ y e. e) in
+    let nexts : c.in_ok-vec-2.field-0.items ≡ c.near.result ∷ [] = c.in_ok-vec-2.ensures.items_if_clones_equal (λ y e. e) in
     let starts : c.in_ok-with_capacity.field-0.items ≡ [] = c.in_ok-with_capacity.ensures.items in
-    let steps : c.in_ok-vec-2.field-0.items ≡ replicate (c.div_ceil-groups.result * 128) 0 =
-    c.in_ok-vec-2.ensures.items_if_clones_equal (λ y e. e) in
+    let steps : c.in_ok-vec-3.field-0.items ≡ replicate (c.div_ceil-groups.result * 128) 0 =
+    c.in_ok-vec-3.ensures.items_if_clones_equal (λ y e. e) in
     record {
       are = record {
         are = rw (queue, starts, steps) (ArePlacesBelow-none c.args.words.now c.args.head.now (c.div_ceil-groups.result * 128));
         count = ap length starts;
+        nexts_are = rw (nexts, queue, c.near.ensures) refl;
       };
       long = ap length steps ∙ length-replicate (c.div_ceil-groups.result * 128) 0;
     }

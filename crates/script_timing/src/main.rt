@@ -1,8 +1,8 @@
 //! Measures how long a script takes to be read, beside the same bytes read as CSV records alone.
 //!
 //! `script_timing BYTES STEP TURNS` makes a script of about so many bytes, of `add` records over 1,000 names, in which
-//! each record names the histogram STEP places behind the one before. It prints what the script has, and after TURNS
-//! turns of both ways the best time of each, in microseconds. With no turns it prints no times.
+//! each record names the histogram STEP places behind the one before. It prints what the script has, and for each of TURNS
+//! turns of both ways the time of each, in microseconds.
 #![tactic(auto)]
 
 mod sample;
@@ -36,8 +36,6 @@ fn main(rt: HostRuntime) -> Result<()> {
     let Parameters { bytes, step, turns } = read_parameters(&rt)?;
     let script = sample::script(rt.alloc(), bytes, step)?;
     timing::show_contents(&rt, &script)?;
-    if turns > 0 {
-        timing::show_times(&rt, &script, turns)?;
-    }
+    timing::show_times(&rt, &script, turns)?;
     Ok(())
 }

@@ -6,7 +6,7 @@ use persist_report_core::{Script, read_script};
 use segment_image::Watched;
 use std::alloc::Global;
 use std::rt::Clock;
-use std::time::{Duration, Instant};
+use std::time::Instant;
 
 // The units of a segment.
 const UNITS: u64 = 4_294_967_295;
@@ -47,24 +47,20 @@ pub(crate) fn show_contents(rt: &(impl Print + AllocGlobal), bytes: &[u8]) -> Re
     Ok(())
 }
 
-// Prints the best times of the CSV reader alone and of the script, which are read by turns.
+// Prints for each turn the times of the CSV reader alone and of the script, in microseconds.
 pub(crate) fn show_times(
     rt: &(impl Clock + Print + AllocGlobal),
     bytes: &[u8],
     turns: u32,
 ) -> Result<()> {
-    let mut alone = Duration::MAX;
-    let mut whole = Duration::MAX;
     for _ in 0..turns {
         let start = Instant::now(rt)?;
         let _records = count_records(rt.alloc(), bytes)?;
-        alone = alone.min(start.elapsed(rt)?);
+        let alone = start.elapsed(rt)?.as_micros();
         let start = Instant::now(rt)?;
         let _script = read(rt.alloc(), bytes)?;
-        whole = whole.min(start.elapsed(rt)?);
+        let whole = start.elapsed(rt)?.as_micros();
+        println!(rt; "{alone} csv, {whole} script")?;
     }
-    let alone = alone.as_micros();
-    let whole = whole.as_micros();
-    println!(rt; "{alone} csv, {whole} script")?;
     Ok(())
 }

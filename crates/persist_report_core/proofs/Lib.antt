@@ -4,6 +4,7 @@ pub mod Buckets
 pub mod Elements
 pub mod LineLemmas
 pub mod Orders
+pub mod Beginnings
 pub mod Readables
 pub mod Numbers
 pub mod FieldLemmas

@@ -39,11 +39,43 @@ fn image_with(alloc: Global, changes: &[(usize, u64)]) -> Result<Vec<u8>, AllocE
             *place = *word;
         }
     }
+    bytes_of(alloc, &words)
+}
+
+fn bytes_of(alloc: Global, words: &[u64]) -> Result<Vec<u8>, AllocError> {
     let mut bytes = Vec::new(alloc);
-    for word in &words {
+    for word in words {
         bytes.extend_from_slice(&word.to_le_bytes())?;
     }
     Ok(bytes)
+}
+
+// A fresh boolean histogram behind these words, on the list behind the block at `last`. The answer is where it stands.
+fn push_record(words: &mut Vec<u64>, last: usize, name: &[u8]) -> Result<usize, AllocError> {
+    let at = words.len();
+    if let Some(next) = words.get_mut(last.saturating_add(3)) {
+        *next = at as u64;
+    }
+    let size = name.len().div_ceil(8).saturating_add(15) as u64;
+    words.extend_from_slice(&[size, COOKIE, 1, 12, 2, 1, 2, 3])?;
+    words.extend_from_slice(&[0, 0, 0, 0, 0, 0, name.len() as u64])?;
+    for part in name.chunks(8) {
+        let bytes = part.iter().rev();
+        words.push(bytes.fold(0, |word, byte| (word << 8) | u64::from(*byte)))?;
+    }
+    Ok(at)
+}
+
+// An image of 1,024 bytes, all one page, with fresh boolean histograms of these names.
+fn image_of_names(alloc: Global, names: &[&[u8]]) -> Result<Vec<u8>, AllocError> {
+    let mut words = Vec::from_slice(alloc, &[0x4083_05DC, 1, 128, 128, 7, 1, 0, 128])?;
+    words.extend_from_slice(&[16, 0, 0, 0, 4, 1, 0, 12])?;
+    let mut last = 12;
+    for name in names {
+        last = push_record(&mut words, last, name)?;
+    }
+    words.resize(128, 0)?;
+    bytes_of(alloc, &words)
 }
 
 // Two samples 1 and one sample 0, of which the first two were packed in the single word before.
@@ -233,6 +265,35 @@ fn texts(rt: HostRuntime) -> Result<(), Fail> {
         let text = report_of(alloc, &image)?;
         assert_eq!(rt; text.as_slice(), expected, "with the words {changes:?}");
     }
+    Ok(())
+}
+
+#[test]
+fn names_that_begin_alike(rt: HostRuntime) -> Result<(), Fail> {
+    let alloc = rt.alloc();
+    let names: [&[u8]; 6] = [
+        b"Page.Load.Parse.Z",
+        b"Page.Load.Parse.A",
+        b"Page.Load1",
+        b"Page.Load.Parse.AB",
+        b"Page.Load",
+        b"Page.Load.Parse.AA",
+    ];
+    let ascending: [&[u8]; 6] = [
+        b"Page.Load",
+        b"Page.Load.Parse.A",
+        b"Page.Load.Parse.AA",
+        b"Page.Load.Parse.AB",
+        b"Page.Load.Parse.Z",
+        b"Page.Load1",
+    ];
+    let mut expected = Vec::new(alloc);
+    for name in ascending {
+        expected.extend_from_slice(name)?;
+        expected.extend_from_slice(b",total,0,0\n")?;
+    }
+    let image = image_of_names(alloc, &names)?;
+    assert_eq!(rt; report_of(alloc, &image)?, expected);
     Ok(())
 }
 

@@ -52,7 +52,7 @@ pub(crate) fn read_name(alloc: Global, words: &[u64], at: usize) -> Result<Vec<u
 fn bytes_of(alloc: Global, words: &[u64]) -> Result<Vec<u8>, AllocError>
     ensures { IfOk result (λ bytes. bytes.items ≡ bytes_of_words words.now) }
 {
-    let mut bytes = Vec::new(alloc);
+    let mut bytes = Vec::with_capacity(alloc, 8 * words.len())?;
     for word in words {
         let mut eight = [0u8; 8];
         LittleEndian::write_u64(&mut eight, *word);

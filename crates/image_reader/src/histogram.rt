@@ -18,21 +18,24 @@ use std::alloc::{AllocError, Global};
 
 const SPARSE: u64 = 4;
 
-/// The histogram of the record in a block at `at`, which has no fault; `samples` are those of the list.
+/// The histogram of the record in a block at `at`, which has no fault, and whose name has `name_length` bytes; `samples`
+/// are those of the list.
 pub(crate) fn histogram(
     alloc: Global,
     words: &[u64],
     head: &SegmentHead,
     at: usize,
+    name_length: u64,
     samples: &Samples,
 ) -> Result<HistReading, AllocError>
     requires header { header_of words.now ≡ Ok head.now }
     requires lawful { record_fault words.now head.now at ≡ None }
     requires within { at + field_at words.now at 0 ≤ length words.now }
+    requires length { name_length ≡ field_at words.now at 14 }
     requires samples { AreSamples samples.now }
     ensures { IfOk result (λ hist. (listed : List ℕ) → HoldsSamples words.now listed samples.now → histogram_view hist ≡ histogram_of words.now listed at) }
 {
-    let name = read_name(alloc, words, at)?;
+    let name = read_name(alloc, words, at, name_length)?;
     let spec = spec_at(alloc, words, at)?;
     let (counts, marks) = if words[at + 4] == SPARSE {
         samples.of(alloc, at as u64)?

@@ -29,19 +29,25 @@ pub(crate) fn name_at(alloc: Global, words: &[u64], at: usize) -> Result<Vec<u8>
     if 15 + len.div_ceil(8) > words[at] {
         return Err(Refusal::Fault(RecordFault::BadName));
     }
-    let name = read_name(alloc, words, at)?;
+    let name = read_name(alloc, words, at, len)?;
     if !is_lawful_name(&name) {
         return Err(Refusal::Fault(RecordFault::BadName));
     }
     Ok(name)
 }
 
-/// The bytes of the name of a record, whose words lie in the image.
-pub(crate) fn read_name(alloc: Global, words: &[u64], at: usize) -> Result<Vec<u8>, AllocError>
-    requires { at + (15 + name_words (field_at words.now at 14)) ≤ length words.now }
+/// The bytes of the name of a record, so many as `len` says, whose words lie in the image.
+pub(crate) fn read_name(
+    alloc: Global,
+    words: &[u64],
+    at: usize,
+    len: u64,
+) -> Result<Vec<u8>, AllocError>
+    requires length { len ≡ field_at words.now at 14 }
+    requires within { at + (15 + name_words (field_at words.now at 14)) ≤ length words.now }
     ensures { IfOk result (λ name. name.items ≡ name_of words.now at) }
 {
-    let len = words[at + 14] as usize;
+    let len = len as usize;
     let first = at + 15;
     let mut name = bytes_of(alloc, &words[first..first + len.div_ceil(8)])?;
     name.truncate(len);
@@ -52,7 +58,7 @@ pub(crate) fn read_name(alloc: Global, words: &[u64], at: usize) -> Result<Vec<u
 fn bytes_of(alloc: Global, words: &[u64]) -> Result<Vec<u8>, AllocError>
     ensures { IfOk result (λ bytes. bytes.items ≡ bytes_of_words words.now) }
 {
-    let mut bytes = Vec::new(alloc);
+    let mut bytes = Vec::with_capacity(alloc, 8 * words.len())?;
     for word in words {
         let mut eight = [0u8; 8];
         LittleEndian::write_u64(&mut eight, *word);

@@ -19,6 +19,12 @@ use std::alloc::{AllocError, Global};
 // So many blocks are looked at together.
 const BATCH: usize = 64;
 
+// The field of a block that has its type.
+const TAG: usize = 2;
+
+// The field of a histogram's record that has the length of its name.
+const NAME_LENGTH: usize = 14;
+
 /// What the words of a segment read as.
 ///
 /// The header's first fault is answered, `TooShort` to `BadQueue`, and `NoMemory` where there is none for the
@@ -54,16 +60,21 @@ fn read_list(alloc: Global, words: &[u64], head: &SegmentHead) -> Result<Reading
     })
 }
 
-// The types of the blocks at these references.
-fn tags_of(alloc: Global, words: &[u64], references: &[u64]) -> Result<Vec<u64>, AllocError>
-    requires { (i : ℕ) → i < length references.now → slice_index references.now i + 5 ≤ length words.now }
-    ensures { IfOk result (λ tags. tags.items ≡ map (λ reference. field_at words.now reference 2) references.now) }
+// A field of each of the blocks at these references.
+fn fields_at(
+    alloc: Global,
+    words: &[u64],
+    references: &[u64],
+    field: usize,
+) -> Result<Vec<u64>, AllocError>
+    requires { (i : ℕ) → i < length references.now → slice_index references.now i + field < length words.now }
+    ensures { IfOk result (λ fields. fields.items ≡ map (λ reference. field_at words.now reference field) references.now) }
 {
-    let mut tags = Vec::with_capacity(alloc, references.len())?;
+    let mut fields = Vec::with_capacity(alloc, references.len())?;
     for reference in references {
-        tags.push(words[*reference as usize + 2])?;
+        fields.push(words[*reference as usize + field])?;
     }
-    Ok(tags)
+    Ok(fields)
 }
 
 // Gathers what the records at a few references say. The blocks may lie apart in memory, and what is short goes over all
@@ -81,7 +92,7 @@ fn gather_batch(
     ensures gathered { OnOk result ((earlier : List ℕ) → IsGathered words.now head.now earlier gathering.old → IsGathered words.now head.now (earlier ++ batch.now) gathering.new) }
     ensures ready { OnOk result (IsReady words.now gathering.new) }
 {
-    let tags = tags_of(alloc, words, batch)?;
+    let tags = fields_at(alloc, words, batch, TAG)?;
     for (i, reference) in batch.iter().enumerate() {
         gathering.add(alloc, words, head, *reference, tags[i])?;
     }
@@ -107,6 +118,31 @@ fn gather(
     Ok(gathering)
 }
 
+// Makes the histograms at a few references, whose records have no fault, behind those so far. The lengths of the names
+// are taken of all of them first: so the processor waits for many of these records at once, and not for one after the
+// other.
+fn histogram_batch(
+    alloc: Global,
+    words: &[u64],
+    head: &SegmentHead,
+    batch: &[u64],
+    samples: &Samples,
+    hists: &mut Vec<HistReading>,
+) -> Result<(), AllocError>
+    requires header { header_of words.now ≡ Ok head.now }
+    requires lawful { (i : ℕ) → i < length batch.now → record_fault words.now head.now (slice_index batch.now i) ≡ None }
+    requires blocks { (i : ℕ) → i < length batch.now → is_block words.now head.now (slice_index batch.now i) ≡ true }
+    requires samples { AreSamples samples.now }
+    ensures { OnOk result ((listed : List ℕ) → HoldsSamples words.now listed samples.now → map histogram_view hists.new.items ≡ map histogram_view hists.old.items ++ map (histogram_of words.now listed) batch.now) }
+{
+    let lengths = fields_at(alloc, words, batch, NAME_LENGTH)?;
+    for (i, reference) in batch.iter().enumerate() {
+        let at = *reference as usize;
+        hists.push(histogram(alloc, words, head, at, lengths[i], samples)?)?;
+    }
+    Ok(())
+}
+
 // The histograms at these references, whose records have no fault.
 fn histograms(
     alloc: Global,
@@ -122,8 +158,8 @@ fn histograms(
     ensures { IfOk result (λ hists. (listed : List ℕ) → HoldsSamples words.now listed samples.now → map histogram_view hists.items ≡ map (histogram_of words.now listed) read.now) }
 {
     let mut hists = Vec::with_capacity(alloc, read.len())?;
-    for reference in read {
-        hists.push(histogram(alloc, words, head, *reference as usize, samples)?)?;
+    for batch in read.chunks(BATCH) {
+        histogram_batch(alloc, words, head, batch, samples, &mut hists)?;
     }
     Ok(hists)
 }

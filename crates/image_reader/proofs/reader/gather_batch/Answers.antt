@@ -6,8 +6,8 @@ use Rattle.image_reader.specs.Gathering.{IsGathered}
 use Rattle.image_reader.proofs.Headers.{block_in_words}
 use Rattle.image_reader.proofs.reader.gather_batch.Goals as goal
 
-pub tags_of-requires : goal.tags_of-requires
-tags_of-requires c = λ i within.
+pub fields_at-requires : goal.fields_at-requires
+fields_at-requires c = λ i within.
     omega (arith, block_in_words c.args.words.now c.args.head.now (slice_index c.args.batch.now i) c.requires.header (c.requires.lawful i within))
 
 pub loop-i-preserved : goal.loop-i-preserved

@@ -1,14 +1,15 @@
 -- What names begin with alike decides nothing about their order.
-use Rattle.std.proofs.Common.{◌≡◌, ◌∙◌, ℕ, ◌+◌, ◌<◌, ◌==◌, List, [], ◌∷◌, ◌++◌, length, take, Bool, inl, inr, refl, ap, sym, subst, append_assoc, eq-eqb, ne_eqb, arith, lit<}
+use Rattle.std.proofs.Common.{◌≡◌, ◌∙◌, ℕ, ◌+◌, ◌<◌, ◌==◌, List, [], ◌∷◌, ◌++◌, length, take, drop, nat_eq, Bool, true, inl, inr, refl, ap, sym, subst, append_assoc, eq-eqb, ne_eqb, arith, lit<}
 use Rattle.std.specs.declared.cmp.Ordering.TheVariants.{Equal}
 use Rattle.std.specs.Ordering.{nat_cmp, ordering_then}
 use Rattle.std.specs.Cmp.{nat_cmp_is}
 use Rattle.std.specs.Cmp.Lexicographic.{slice_cmp}
-use Rattle.std.specs.List.{zip, prefix_len}
+use Rattle.std.specs.List.{zip, prefix_len, starts_with}
 use Rattle.std.proofs.Math.Numerals.{one-add}
 use Rattle.std.proofs.lemmas.Bool.{cases_eq}
-use Rattle.std.proofs.lemmas.List.{append-nil, get_or-append-add}
+use Rattle.std.proofs.lemmas.List.{append-nil, get_or-append-add, take-append-drop}
 use Rattle.std.proofs.lemmas.List.Elements.{All-nil, All-cons, All-head, All-tail, All-push, All-weaker}
+use Rattle.std.proofs.lemmas.Slice.Eq.{bytes_eq-Decides}
 use Rattle.image_reader.proofs.Prefixes.{AreBytes, by_prefix-is}
 use Rattle.persist_report_core.proofs.Elements.{All-parts}
 use Rattle.persist_report_core.specs.declared.order.Named.{Named}
@@ -57,6 +58,18 @@ IsSharedBeginning-alike xs ys = record {
       alike-most common xs ys (All-head (BeginsWith common) xs (ys ∷ []) both)
       (All-head (BeginsWith common) ys [] (All-tail (BeginsWith common) xs (ys ∷ []) both));
 }
+
+-- a name that the other begins with
+pub IsSharedBeginning-whole : (xs ys : List ℕ) → starts_with nat_eq ys xs ≡ true → IsSharedBeginning (xs ∷ ys ∷ []) xs
+IsSharedBeginning-whole xs ys begins =
+    let front : xs ≡ take (length xs) ys = (bytes_eq-Decides xs (take (length xs) ys)).0 begins in
+    let whole : ys ≡ xs ++ drop (length xs) ys =
+    sym (take-append-drop (length xs) ys) ∙ ap (λ one. one ++ drop (length xs) ys) (sym front) in
+    record {
+      shared = All-cons (BeginsWith xs) xs (ys ∷ []) ([], sym (append-nil xs))
+          (All-cons (BeginsWith xs) ys [] (drop (length xs) ys, whole) (All-nil (BeginsWith xs)));
+      most = λ filled common both. All-head (BeginsWith common) xs (ys ∷ []) both;
+    }
 
 -- no names
 pub IsSharedBeginning-none : IsSharedBeginning [] []

@@ -37,6 +37,9 @@ pub(crate) fn units(hist: &HistReading) -> u64
 fn shared_by<'a>(name: &'a [u8], other: &[u8]) -> &'a [u8]
     ensures { IsSharedBeginning (name.now ∷ other.now ∷ []) result.now }
 {
+    if other.starts_with(name) {
+        return name;
+    }
     let alike = name
         .iter()
         .zip(other)

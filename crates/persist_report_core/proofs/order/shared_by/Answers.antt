@@ -6,7 +6,7 @@ use Rattle.std.proofs.lemmas.Iterator.Consumers.{count_from_yields_List, YieldsL
 use Rattle.std.proofs.lemmas.Iterator.Search.{YieldsList-from_take_while}
 use Rattle.std.proofs.lemmas.List.Folds.{length-prefix_len}
 use Rattle.persist_report_core.specs.Beginning.{IsSharedBeginning}
-use Rattle.persist_report_core.proofs.Beginnings.{same_byte, IsSharedBeginning-alike}
+use Rattle.persist_report_core.proofs.Beginnings.{same_byte, IsSharedBeginning-alike, IsSharedBeginning-whole}
 use Rattle.persist_report_core.proofs.order.shared_by.Goals as goal
 
 pub returns : goal.returns
@@ -19,3 +19,6 @@ returns c =
     ∙ length-prefix_len same_byte (zip c.args.name.now c.args.other.now) in
     subst (λ n. IsSharedBeginning (c.args.name.now ∷ c.args.other.now ∷ []) (take n c.args.name.now)) (sym count)
     (IsSharedBeginning-alike c.args.name.now c.args.other.now)
+
+pub returns-then-starts_with : goal.returns-then-starts_with
+returns-then-starts_with c = IsSharedBeginning-whole c.args.name.now c.args.other.now (sym c.starts_with.ensures.value ∙ c.if-starts_with.true)

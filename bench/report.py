@@ -98,9 +98,9 @@ def try_without_memory(program, folder, gibibytes):
 
 
 def main():
-    parser = runs.parser_of(__doc__, 250)
+    parser = runs.parser_of(__doc__, 1000)
     parser.add_argument("--only", action="append", choices=list(images.FAMILIES), metavar="FAMILY")
-    parser.add_argument("--seconds", type=float, default=40)
+    parser.add_argument("--seconds", type=float, default=75)
     parser.add_argument("--memory", type=float, default=6)
     chosen = parser.parse_args()
     with tempfile.TemporaryDirectory() as folder:

@@ -1,5 +1,7 @@
 -- Keys in an ordered set, looked for by their names.
-use Rattle.std.proofs.Common.{◌≡◌, ◌≢◌, Bool, true, false, ◌||◌, ◌&&◌, ℕ, ◌≤◌, List, [], ◌∷◌, refl, ap, sym, subst, ◌∙◌, length, Vec, Global}
+use Rattle.std.proofs.Common.{◌≡◌, ◌≢◌, Bool, true, false, ◌||◌, ◌&&◌, ℕ, ◌≤◌, ◌<◌, Option, Some, None, cond, inl, inr, List, [], ◌∷◌, ◌++◌, get_or, refl, ap, sym, subst, ◌∙◌, length, Vec, Global, arith}
+use Rattle.std.proofs.lemmas.List.{length-append}
+use Rattle.std.specs.Prelude.{IfSome, is_some, nat_le, if◌then◌else◌}
 use Rattle.std.specs.List.{list_any, list_all, AllByRecursion}
 use Rattle.std.specs.Str.{bytes_eq}
 use Rattle.std.specs.declared.cmp.Ordering.{Ordering}
@@ -12,20 +14,26 @@ use Rattle.std.specs.BTreeSet.{insert_key}
 use Rattle.std.proofs.lemmas.Cmp.{ranked}
 use Rattle.std.specs.Bool.{Decides}
 use Rattle.std.proofs.lemmas.Bool.Decides.{same_from_decides}
-use Rattle.std.proofs.lemmas.Bool.{false_from_ne_true}
+use Rattle.std.proofs.lemmas.Bool.{false_from_ne_true, cases_Bool, both_ways}
+use Rattle.std.proofs.lemmas.List.{get_or_append_left}
+use Rattle.std.proofs.Math.Seq.{get_or-append_seam}
 use Rattle.std.proofs.lemmas.Map.Text.{is_eq-slice_cmp}
 use Rattle.std.proofs.lemmas.Slice.Eq.{bytes_eq-Decides}
-use Rattle.std.proofs.Math.Bool.{or_comm, or_assoc}
+use Rattle.std.proofs.Math.Bool.{or_comm, or_assoc, or-false}
 use Rattle.image_reader.specs.Digest.{digest_of}
 use Rattle.image_reader.specs.Prefix.{prefix_of}
 use Rattle.bucket_ranges.specs.Reading.{is_name_byte}
-use Rattle.image_reader.specs.Names.{short_name, long_name, IsShort, IsLong}
+use Rattle.image_reader.specs.Names.{short_name, is_kept_at, kept_with, IsShort}
 use Rattle.image_reader.proofs.Prefixes.{prefix_bytes-number}
 use Rattle.std.proofs.lemmas.List.{take_all}
 
 -- an order of keys that ties only keys of the same bytes
 abbrev pub TiesSame : {K : Type 0} → (K → List ℕ) → (K → K → Ordering) → Type 0
 TiesSame {K} items cmp = (a b : K) → Equal ≡ cmp a b → items a ≡ items b
+
+-- the bytes that are kept of a name
+abbrev pub items_of : Vec ℕ Global → List ℕ
+items_of name = name.items
 
 or_again : (a b : Bool) → (a || b) ≡ ((a || b) || a)
 or_again true b = refl
@@ -61,13 +69,8 @@ list_any-insert_key items cmp ties (x ∷ xs) key name =
     (choice (list_any (λ y. bytes_eq name (items y))) (cmp key x) (key ∷ x ∷ xs) (x ∷ xs) (x ∷ insert_key cmp xs key))
 
 -- names that the order ties are the same
-slice_ties : (a b : List ℕ) → Equal ≡ slice_cmp nat_cmp a b → a ≡ b
-slice_ties a b e = (bytes_eq-Decides a b).0 (sym (is_eq-slice_cmp a b) ∙ ap is_eq (sym e))
-
-then_ties : (o : Ordering) (a b : List ℕ) → Equal ≡ ordering_then o (slice_cmp nat_cmp a b) → a ≡ b
-then_ties Less a b e = absurd (cc e)
-then_ties Equal a b e = slice_ties a b e
-then_ties Greater a b e = absurd (cc e)
+pub slice_ties : TiesSame items_of (λ a b. slice_cmp nat_cmp a.items b.items)
+slice_ties a b e = (bytes_eq-Decides a.items b.items).0 (sym (is_eq-slice_cmp a.items b.items) ∙ ap is_eq (sym e))
 
 -- keys of one name are tied
 abbrev pub SameTied : {K : Type 0} → (K → List ℕ) → (K → Type 0) → (K → K → Ordering) → Type 0
@@ -103,20 +106,6 @@ pub prefix-same : SameTied short_name IsShort nat_cmp
 prefix-same a b p q e =
     ap is_eq (sym (nat_cmp_is a b Equal (p.prefix ∙ (ap prefix_of e ∙ sym q.prefix))))
 
--- the order of keys: their digests, then their names
-abbrev pub by_key : ℕ × Vec ℕ Global → ℕ × Vec ℕ Global → Ordering
-by_key a b = ordering_then (nat_cmp a.0 b.0) (slice_cmp nat_cmp a.1.items b.1.items)
-
-pub by_key-ties : TiesSame long_name by_key
-by_key-ties a b e = then_ties (nat_cmp a.0 b.0) a.1.items b.1.items e
-
-pub by_key-same : SameTied long_name IsLong by_key
-by_key-same a b p q e =
-    let digests : a.0 ≡ b.0 = p.digest ∙ (ap digest_of e ∙ sym q.digest) in
-    sym (tied_then (nat_cmp a.0 b.0) (slice_cmp nat_cmp a.1.items b.1.items))
-    ∙ (ap (λ o. is_eq o && is_eq (slice_cmp nat_cmp a.1.items b.1.items)) (sym (nat_cmp_is a.0 b.0 Equal digests))
-    ∙ (is_eq-slice_cmp a.1.items b.1.items ∙ (bytes_eq-Decides a.1.items b.1.items).1 e))
-
 -- a name of up to eight bytes is that of its prefix
 pub short_name-of : (name : List ℕ) → list_all is_name_byte name ≡ true → length name ≤ 8 → short_name (prefix_of name) ≡ name
 short_name-of name lawful few = prefix_bytes-number 8 name lawful ∙ take_all 8 name few
@@ -125,3 +114,86 @@ pub IsShort-of : (name : List ℕ) → list_all is_name_byte name ≡ true → l
 IsShort-of name lawful few =
     let same : short_name (prefix_of name) ≡ name = short_name-of name lawful few in
     record { prefix = ap prefix_of (sym same); few = subst (λ n. length n ≤ 8) (sym same) few }
+
+-- any names are tied where they are the same
+pub slice_same : SameTied items_of (λ _. Unit {0}) (λ a b. slice_cmp nat_cmp a.items b.items)
+slice_same a b p q e = is_eq-slice_cmp a.items b.items ∙ (bytes_eq-Decides a.items b.items).1 e
+
+-- ---- names behind their digests
+
+-- one more name behind those that are kept changes no place of theirs
+kept-more : (kept more : List (List ℕ)) (name : List ℕ) (place : Option ℕ) → IfSome place (λ at. at < length kept)
+    → is_kept_at (kept ++ more) name place ≡ is_kept_at kept name place
+kept-more kept more name None within = refl
+kept-more kept more name (Some place) within = ap (bytes_eq name) (get_or_append_left kept more [] place within)
+
+pub kept_with-same : (kept : List (List ℕ)) (new name : List ℕ) (added : Bool) (place : Option ℕ) → IfSome place (λ at. at < length kept)
+    → is_kept_at (kept_with kept new added) name place ≡ is_kept_at kept name place
+kept_with-same kept new name true place within = kept-more kept (new ∷ []) name place within
+kept_with-same kept new name false place within = refl
+
+-- a test that a name passes says so of its bytes
+pub or-known : (p : List ℕ → Bool) (name other : List ℕ) → p name ≡ true → p other ≡ (p other || bytes_eq other name)
+or-known p name other known = elim (cases_Bool (bytes_eq other name)) [
+  | inl same ↦
+      let is : p other ≡ true = ap p ((bytes_eq-Decides other name).0 same) ∙ known in
+      is ∙ sym (ap (λ b. b || bytes_eq other name) is)
+  | inr apart ↦ sym (ap (λ b. p other || b) apart ∙ or-false (p other))
+]
+
+-- a digest that led nowhere leads to the name that goes behind the others
+pub holds-added : (kept : List (List ℕ)) (name other : List ℕ) (old new : Option ℕ) (rest : Bool)
+    → IfSome old (λ at. at < length kept)
+    → new ≡ cond (is_eq (nat_cmp (digest_of name) (digest_of other))) (Some (length kept)) old
+    → (digest_of name ≡ digest_of other → old ≡ None)
+    → (is_kept_at (kept ++ name ∷ []) other new || rest) ≡ ((is_kept_at kept other old || rest) || bytes_eq other name)
+holds-added kept name other old new rest within is none = elim (cases_Bool (is_eq (nat_cmp (digest_of name) (digest_of other)))) [
+  | inl same ↦
+      let found : new ≡ Some (length kept) = is ∙ ap (λ b. cond b (Some (length kept)) old) same in
+      let before : old ≡ None = none (ranked (digest_of name) (digest_of other) Equal (sym ((Equal-is (nat_cmp (digest_of name) (digest_of other))).0 same))) in
+      ap (λ o. is_kept_at (kept ++ name ∷ []) other o || rest) found
+      ∙ (ap (λ n. bytes_eq other n || rest) (get_or-append_seam kept name [] [])
+      ∙ (or_comm (bytes_eq other name) rest
+      ∙ sym (ap (λ o. (is_kept_at kept other o || rest) || bytes_eq other name) before)))
+  | inr apart ↦
+      let found : new ≡ old = is ∙ ap (λ b. cond b (Some (length kept)) old) apart in
+      let another : bytes_eq other name ≡ false =
+      false_from_ne_true (bytes_eq other name) (λ e.
+      both_ways _ apart (ap is_eq (sym (nat_cmp_is (digest_of name) (digest_of other) Equal
+      (ap digest_of (sym ((bytes_eq-Decides other name).0 e))))))) in
+      ap (λ o. is_kept_at (kept ++ name ∷ []) other o || rest) found
+      ∙ (ap (λ b. b || rest) (kept-more kept (name ∷ []) other old within)
+      ∙ sym (ap (λ b. (is_kept_at kept other old || rest) || b) another ∙ or-false (is_kept_at kept other old || rest)))
+]
+
+-- one more place is below a length that is greater, and no digest leads nowhere again
+pub within-added : (here : Bool) (old new : Option ℕ) (last more : ℕ) → last < more → new ≡ cond here (Some last) old
+    → IfSome old (λ at. at < last) → IfSome new (λ at. at < more)
+within-added true old new last more lt is within = subst (λ o. IfSome o (λ at. at < more)) (sym is) lt
+within-added false None new last more lt is within = subst (λ o. IfSome o (λ at. at < more)) (sym is) tt
+within-added false (Some place) new last more lt is within =
+    subst (λ o. IfSome o (λ at. at < more)) (sym is) (omega (arith, lt, within))
+
+pub some-added : (here : Bool) (old new : Option ℕ) (last : ℕ) → new ≡ cond here (Some last) old → is_some old ≡ true → is_some new ≡ true
+some-added true old new last is some = ap is_some is
+some-added false old new last is some = ap is_some is ∙ some
+
+-- places of the names that are kept are places with one more, if it is new
+pub within-kept : (kept : List (List ℕ)) (name : List ℕ) (new : Bool) (place : Option ℕ) → IfSome place (λ at. at < length kept)
+    → IfSome place (λ at. at < length (kept_with kept name new))
+within-kept kept name new None within = tt
+within-kept kept name false (Some place) within = within
+within-kept kept name true (Some place) within = omega (arith, length-append kept (name ∷ []), within)
+
+-- names of which only one has more than eight bytes are not the same
+pub apart_by_length : (a b : List ℕ) (x y : Bool) → nat_le (length a) 8 ≡ x → nat_le (length b) 8 ≡ y → x ≢ y → bytes_eq a b ≡ false
+apart_by_length a b x y is_x is_y apart =
+    false_from_ne_true (bytes_eq a b) (λ e.
+    apart (sym is_x ∙ (ap (λ n. nat_le (length n) 8) ((bytes_eq-Decides a b).0 e) ∙ is_y)))
+
+-- one more name, by how long the name is that is asked for
+pub one_more : (few short short_more long long_more new : Bool) → (few ≡ true → short_more ≡ (short || new))
+    → (few ≡ false → long_more ≡ (long || new))
+    → (if few then short_more else long_more) ≡ ((if few then short else long) || new)
+one_more true short short_more long long_more new of_short of_long = of_short refl
+one_more false short short_more long long_more new of_short of_long = of_long refl

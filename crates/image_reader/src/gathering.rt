@@ -7,8 +7,9 @@ ghost use Rattle.std.specs.List.{list_all};
 ghost use Rattle.bucket_ranges.specs.Reading.{is_block, is_name_byte, name_of, record_fault};
 ghost use Rattle.image_reader.specs.Gathering.{IsGathered, IsReady};
 
+use crate::histogram::histogram;
 use crate::names::Names;
-use crate::reading::BadRecord;
+use crate::reading::{BadRecord, HistReading};
 use crate::record::{Refusal, check_record};
 use crate::sample::{Samples, sample_at};
 use bucket_ranges::reading::RecordFault;
@@ -24,13 +25,13 @@ const SPARSE: u64 = 4;
 /// What the records of a list say, as far as they were gathered.
 #[derive(Drop)]
 pub(crate) struct Gathering {
-    /// The references of the histograms that are read: of each name the first without a fault.
-    pub(crate) read: Vec<u64>,
+    /// The histograms that are read: of each name the first without a fault. A sparse one has no counts yet.
+    pub(crate) hists: Vec<HistReading>,
     /// The samples of those that are sparse.
     pub(crate) samples: Samples,
     /// The records that have a fault.
     pub(crate) bad: Vec<BadRecord>,
-    /// The names of the histograms that are read.
+    /// The names of these histograms.
     names: Names,
     /// Of each word, whether a sparse histogram is read there.
     sparse: Vec<bool>,
@@ -47,7 +48,7 @@ impl Gathering {
         ensures ready { IfOk result (IsReady words.now) }
     {
         Ok(Gathering {
-            read: Vec::new(alloc),
+            hists: Vec::new(alloc),
             samples: Samples::new(alloc),
             bad: Vec::new(alloc),
             names: Names::new(alloc),
@@ -97,7 +98,7 @@ impl Gathering {
         ensures ready { OnOk result (IsReady words.now self.new) }
     {
         match check_record(alloc, words, head, reference as usize) {
-            Ok(name) => self.keep(alloc, words, head, reference, &name),
+            Ok(name) => self.keep(alloc, words, head, reference, name),
             Err(Refusal::Fault(fault)) => {
                 self.bad.push(BadRecord { reference, fault })?;
                 Ok(())
@@ -106,29 +107,30 @@ impl Gathering {
         }
     }
 
-    // Keeps the reference of a histogram's record without a fault, unless one of its name is kept.
+    // Keeps the histogram of a record without a fault, unless one of its name is kept.
     fn keep(
         &mut self,
         alloc: Global,
         words: &[u64],
         head: &SegmentHead,
         reference: u64,
-        name: &[u8],
+        name: Vec<u8>,
     ) -> Result<(), AllocError>
+        requires header { header_of words.now ≡ Ok head.now }
         requires tag { field_at words.now reference 2 ≡ 1 }
-        requires within { reference + 5 ≤ length words.now }
+        requires within { reference + field_at words.now reference 0 ≤ length words.now }
         requires lawful { record_fault words.now head.now reference ≡ None }
-        requires name { name.now ≡ name_of words.now reference }
-        requires bytes { list_all is_name_byte name.now ≡ true }
+        requires name { name.items ≡ name_of words.now reference }
+        requires bytes { list_all is_name_byte name.items ≡ true }
         requires ready { IsReady words.now self.old }
         ensures gathered { OnOk result ((earlier : List ℕ) → IsGathered words.now head.now earlier self.old → IsGathered words.now head.now (earlier ++ reference ∷ []) self.new) }
         ensures ready { OnOk result (IsReady words.now self.new) }
     {
-        if !self.names.insert(alloc, name)? {
+        if !self.names.insert(alloc, &name, &self.hists)? {
             return Ok(());
         }
-        self.read.push(reference)?;
         let at = reference as usize;
+        self.hists.push(histogram(alloc, words, head, at, name)?)?;
         if words[at + 4] == SPARSE {
             self.sparse[at] = true;
         }

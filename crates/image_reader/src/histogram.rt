@@ -1,14 +1,13 @@
 //! What a record of a histogram without a fault reads as.
 
-ghost use Rattle.std.specs.Prelude.{◌≡◌, ◌≤◌, ◌+◌, ℕ, List, None, Ok, ◌≢◌, length, IfOk};
+ghost use Rattle.std.specs.Prelude.{◌≡◌, ◌≤◌, ◌+◌, [], ℕ, List, None, Ok, ◌≢◌, length, map, IfOk, OnOk};
 ghost use Rattle.segment_image.specs.Head.{header_of};
 ghost use Rattle.segment_image.specs.Blocks.{field_at};
-ghost use Rattle.bucket_ranges.specs.Reading.{record_fault, histogram_of, bucket_counts, bucket_marks, spec_of};
+ghost use Rattle.bucket_ranges.specs.Reading.{record_fault, histogram_of, name_of, bucket_counts, bucket_marks, spec_of};
 ghost use Rattle.image_reader.specs.Views.{histogram_view};
 ghost use Rattle.image_reader.specs.Samples.{AreSamples, HoldsSamples};
 
 use crate::buckets::{Buckets, counts_of, marks_of};
-use crate::name::read_name;
 use crate::reading::HistReading;
 use crate::sample::Samples;
 use crate::spec::spec_at;
@@ -18,27 +17,24 @@ use std::alloc::{AllocError, Global};
 
 const SPARSE: u64 = 4;
 
-/// The histogram of the record in a block at `at`, which has no fault, and whose name has `name_length` bytes; `samples`
-/// are those of the list.
+/// The histogram of the record in a block at `at`, which has no fault, and whose name is `name`. A sparse one has no
+/// counts yet.
 pub(crate) fn histogram(
     alloc: Global,
     words: &[u64],
     head: &SegmentHead,
     at: usize,
-    name_length: u64,
-    samples: &Samples,
+    name: Vec<u8>,
 ) -> Result<HistReading, AllocError>
     requires header { header_of words.now ≡ Ok head.now }
     requires lawful { record_fault words.now head.now at ≡ None }
     requires within { at + field_at words.now at 0 ≤ length words.now }
-    requires length { name_length ≡ field_at words.now at 14 }
-    requires samples { AreSamples samples.now }
-    ensures { IfOk result (λ hist. (listed : List ℕ) → HoldsSamples words.now listed samples.now → histogram_view hist ≡ histogram_of words.now listed at) }
+    requires name { name.items ≡ name_of words.now at }
+    ensures { IfOk result (λ hist. histogram_view hist ≡ histogram_of words.now [] at) }
 {
-    let name = read_name(alloc, words, at, name_length)?;
     let spec = spec_at(alloc, words, at)?;
     let (counts, marks) = if words[at + 4] == SPARSE {
-        samples.of(alloc, at as u64)?
+        (Vec::new(alloc), Vec::new(alloc))
     } else {
         bucket_lists(alloc, words, head, at, &spec)?
     };
@@ -75,4 +71,24 @@ fn bucket_lists(
     };
     let counts = counts_of(alloc, words, &buckets, &ranges)?;
     Ok((counts, marks_of(alloc, words, &buckets)?))
+}
+
+/// Gives each sparse one of these histograms, which have no counts yet, those of its samples.
+pub(crate) fn give_samples(
+    alloc: Global,
+    hists: &mut [HistReading],
+    samples: &Samples,
+) -> Result<(), AllocError>
+    requires { AreSamples samples.now }
+    ensures { OnOk result ((words listed read : List ℕ) → HoldsSamples words listed samples.now
+        → map histogram_view hists.old ≡ map (histogram_of words []) read → map histogram_view hists.new ≡ map (histogram_of words listed) read) }
+{
+    for hist in hists.iter_mut() {
+        if let Spec::Sparse = hist.spec {
+            let (counts, marks) = samples.of(alloc, hist.reference)?;
+            hist.counts = counts;
+            hist.marks = marks;
+        }
+    }
+    Ok(())
 }

@@ -1,14 +1,15 @@
 //! The names that a reader has met.
 
-ghost use Rattle.std.specs.Prelude.{◌≡◌, ◌||◌, ℕ, List, true, false, not, IfOk, OnOk};
+ghost use Rattle.std.specs.Prelude.{◌≡◌, ◌||◌, ◌<◌, [], ℕ, List, true, false, not, length, IfOk};
 ghost use Rattle.std.specs.List.{list_all};
 ghost use Rattle.std.specs.Str.{bytes_eq};
 ghost use Rattle.bucket_ranges.specs.Reading.{is_name_byte};
 ghost use Rattle.image_reader.specs.Prefix.{prefix_of};
 ghost use Rattle.image_reader.specs.Digest.{digest_of};
 
+use crate::reading::HistReading;
 use std::alloc::{AllocError, Global};
-use std::collections::BTreeSet;
+use std::collections::{BTreeMap, BTreeSet};
 use std::hash::{FoldHasher, Hasher};
 
 /// The first eight bytes of a name as a number, the first byte the highest; bytes that are not there count as 0.
@@ -33,45 +34,79 @@ pub fn name_digest(name: &[u8]) -> u64
     hasher.finish()
 }
 
-/// Names in ordered sets. No byte of a name is 0, so the prefix of a name of up to eight bytes tells the name: such a
-/// name is one number, and so the set of them stays small enough for a core's cache. Longer names are compared by their
-/// digests, and their bytes are looked at only where these are the same.
+/// The names of histograms. No byte of a name is 0, so the prefix of a name of up to eight bytes tells the name: such a
+/// name is one number, and so the set of them stays small enough for a core's cache. A longer name is found by its digest,
+/// which leads to the histogram that has it, so no bytes are kept here but of those names whose digest another one has.
 #[derive(Drop)]
 pub(crate) struct Names {
     // The names of up to eight bytes, as their prefixes.
     short: BTreeSet<u64>,
-    // The longer ones, each beside its digest.
-    long: BTreeSet<(u64, Vec<u8>)>,
+    // By the digest of a longer name, the place of the first histogram whose name has it.
+    first: BTreeMap<u64, usize>,
+    // The longer names whose digest the name of an earlier histogram has.
+    others: BTreeSet<Vec<u8>>,
 }
 
 impl Names {
-    ghost use Rattle.image_reader.specs.Names.{holds, AreKeys};
+    ghost use Rattle.image_reader.specs.Names.{holds, holds_long, kept_with, names_of, AreKeys, ArePlaces};
 
     /// No names.
     pub(crate) fn new(alloc: Global) -> Names
-        ensures holds { (name : List ℕ) → holds result name ≡ false }
-        ensures keys { AreKeys result }
+        ensures holds { (name : List ℕ) → holds result [] name ≡ false }
+        ensures keys { AreKeys result [] }
     {
         Names {
             short: BTreeSet::new(alloc),
-            long: BTreeSet::new(alloc),
+            first: BTreeMap::new(alloc),
+            others: BTreeSet::new(alloc),
         }
     }
 
-    /// Adds a name, and says whether it is new.
-    pub(crate) fn insert(&mut self, alloc: Global, name: &[u8]) -> Result<bool, AllocError>
-        requires keys { AreKeys self.old }
+    /// Adds the name of a histogram that stands behind these, and says whether it is new. Where it is not, no
+    /// histogram is to be put behind them.
+    pub(crate) fn insert(
+        &mut self,
+        alloc: Global,
+        name: &[u8],
+        hists: &[HistReading],
+    ) -> Result<bool, AllocError>
+        requires keys { AreKeys self.old (names_of hists.now) }
         requires lawful { list_all is_name_byte name.now ≡ true }
-        ensures new { IfOk result (λ new. new ≡ not (holds self.old name.now)) }
-        ensures holds { OnOk result ((other : List ℕ) → holds self.new other ≡ (holds self.old other || bytes_eq other name.now)) }
-        ensures keys { OnOk result (AreKeys self.new) }
+        ensures new { IfOk result (λ new. new ≡ not (holds self.old (names_of hists.now) name.now)) }
+        ensures holds { IfOk result (λ new. (other : List ℕ) → holds self.new (kept_with (names_of hists.now) name.now new) other
+            ≡ (holds self.old (names_of hists.now) other || bytes_eq other name.now)) }
+        ensures keys { IfOk result (λ new. AreKeys self.new (kept_with (names_of hists.now) name.now new)) }
     {
         if name.len() <= 8 {
             let prefix = name_prefix(name);
             return Ok(self.short.insert(prefix)?);
         }
+        self.insert_long(alloc, name, hists)
+    }
+
+    // Adds a name of more than eight bytes.
+    fn insert_long(
+        &mut self,
+        alloc: Global,
+        name: &[u8],
+        hists: &[HistReading],
+    ) -> Result<bool, AllocError>
+        requires long { ArePlaces self.old (names_of hists.now) }
+        ensures new { IfOk result (λ new. new ≡ not (holds_long self.old (names_of hists.now) name.now)) }
+        ensures holds { IfOk result (λ new. (other : List ℕ) → holds_long self.new (kept_with (names_of hists.now) name.now new) other
+            ≡ (holds_long self.old (names_of hists.now) other || bytes_eq other name.now)) }
+        ensures long { IfOk result (λ new. ArePlaces self.new (kept_with (names_of hists.now) name.now new)) }
+        ensures short { self.new.short ≡ self.old.short }
+    {
         let digest = name_digest(name);
+        let Some(place) = self.first.insert(digest, hists.len())? else {
+            return Ok(true);
+        };
+        self.first.insert(digest, place)?;
+        if name == hists[place].name.as_slice() {
+            return Ok(false);
+        }
         let whole = Vec::from_slice(alloc, name)?;
-        Ok(self.long.insert((digest, whole))?)
+        Ok(self.others.insert(whole)?)
     }
 }

@@ -9,9 +9,8 @@ ghost use Rattle.image_reader.specs.Samples.{AreSamples, HoldsSamples};
 ghost use Rattle.image_reader.specs.Gathering.{IsGathered, IsReady};
 
 use crate::gathering::Gathering;
-use crate::histogram::histogram;
-use crate::reading::{HistReading, Reading};
-use crate::sample::Samples;
+use crate::histogram::give_samples;
+use crate::reading::Reading;
 use crate::walk::{Listed, walk};
 use segment_image::{ImageFault, SegmentHead, header};
 use std::alloc::{AllocError, Global};
@@ -21,9 +20,6 @@ const BATCH: usize = 64;
 
 // The field of a block that has its type.
 const TAG: usize = 2;
-
-// The field of a histogram's record that has the length of its name.
-const NAME_LENGTH: usize = 14;
 
 /// What the words of a segment read as.
 ///
@@ -48,13 +44,13 @@ fn read_list(alloc: Global, words: &[u64], head: &SegmentHead) -> Result<Reading
         references,
         stopped,
     } = walk(alloc, words, head)?;
-    let gathered = gather(alloc, words, head, &references)?;
-    let hists = histograms(alloc, words, head, &gathered.read, &gathered.samples)?;
+    let mut gathered = gather(alloc, words, head, &references)?;
+    give_samples(alloc, &mut gathered.hists, &gathered.samples)?;
     Ok(Reading {
         id: head.id,
         full: head.full,
         corrupt: head.corrupt,
-        hists,
+        hists: gathered.hists,
         bad: gathered.bad,
         stopped,
     })
@@ -116,50 +112,4 @@ fn gather(
         gather_batch(alloc, words, head, batch, &mut gathering)?;
     }
     Ok(gathering)
-}
-
-// Makes the histograms at a few references, whose records have no fault, behind those so far. The lengths of the names
-// are taken of all of them first: so the processor waits for many of these records at once, and not for one after the
-// other.
-fn histogram_batch(
-    alloc: Global,
-    words: &[u64],
-    head: &SegmentHead,
-    batch: &[u64],
-    samples: &Samples,
-    hists: &mut Vec<HistReading>,
-) -> Result<(), AllocError>
-    requires header { header_of words.now ≡ Ok head.now }
-    requires lawful { (i : ℕ) → i < length batch.now → record_fault words.now head.now (slice_index batch.now i) ≡ None }
-    requires blocks { (i : ℕ) → i < length batch.now → is_block words.now head.now (slice_index batch.now i) ≡ true }
-    requires samples { AreSamples samples.now }
-    ensures { OnOk result ((listed : List ℕ) → HoldsSamples words.now listed samples.now → map histogram_view hists.new.items ≡ map histogram_view hists.old.items ++ map (histogram_of words.now listed) batch.now) }
-{
-    let lengths = fields_at(alloc, words, batch, NAME_LENGTH)?;
-    for (i, reference) in batch.iter().enumerate() {
-        let at = *reference as usize;
-        hists.push(histogram(alloc, words, head, at, lengths[i], samples)?)?;
-    }
-    Ok(())
-}
-
-// The histograms at these references, whose records have no fault.
-fn histograms(
-    alloc: Global,
-    words: &[u64],
-    head: &SegmentHead,
-    read: &[u64],
-    samples: &Samples,
-) -> Result<Vec<HistReading>, AllocError>
-    requires header { header_of words.now ≡ Ok head.now }
-    requires lawful { (i : ℕ) → i < length read.now → record_fault words.now head.now (slice_index read.now i) ≡ None }
-    requires blocks { (i : ℕ) → i < length read.now → is_block words.now head.now (slice_index read.now i) ≡ true }
-    requires samples { AreSamples samples.now }
-    ensures { IfOk result (λ hists. (listed : List ℕ) → HoldsSamples words.now listed samples.now → map histogram_view hists.items ≡ map (histogram_of words.now listed) read.now) }
-{
-    let mut hists = Vec::with_capacity(alloc, read.len())?;
-    for batch in read.chunks(BATCH) {
-        histogram_batch(alloc, words, head, batch, samples, &mut hists)?;
-    }
-    Ok(hists)
 }

@@ -1,11 +1,11 @@
 //! What a record of a histogram without a fault reads as.
 
-ghost use Rattle.std.specs.Prelude.{◌≡◌, ◌≤◌, ◌+◌, [], ℕ, List, None, Ok, ◌≢◌, length, map, IfOk, OnOk};
+ghost use Rattle.std.specs.Prelude.{◌≡◌, ◌≤◌, ◌+◌, [], None, Ok, ◌≢◌, length, map, IfOk, OnOk};
 ghost use Rattle.segment_image.specs.Head.{header_of};
 ghost use Rattle.segment_image.specs.Blocks.{field_at};
 ghost use Rattle.bucket_ranges.specs.Reading.{record_fault, histogram_of, name_of, bucket_counts, bucket_marks, spec_of};
 ghost use Rattle.image_reader.specs.Views.{histogram_view};
-ghost use Rattle.image_reader.specs.Samples.{AreSamples, HoldsSamples};
+ghost use Rattle.image_reader.specs.Samples.{AreSamples, with_samples};
 
 use crate::buckets::{Buckets, counts_of, marks_of};
 use crate::reading::HistReading;
@@ -73,6 +73,19 @@ fn bucket_lists(
     Ok((counts, marks_of(alloc, words, &buckets)?))
 }
 
+// Gives a sparse histogram, which has no counts yet, those of its samples.
+fn give(alloc: Global, hist: &mut HistReading, samples: &Samples) -> Result<(), AllocError>
+    requires { AreSamples samples.now }
+    ensures { OnOk result (histogram_view hist.new ≡ with_samples samples.now (histogram_view hist.old)) }
+{
+    if let Spec::Sparse = hist.spec {
+        let (counts, marks) = samples.of(alloc, hist.reference)?;
+        hist.counts = counts;
+        hist.marks = marks;
+    }
+    Ok(())
+}
+
 /// Gives each sparse one of these histograms, which have no counts yet, those of its samples.
 pub(crate) fn give_samples(
     alloc: Global,
@@ -80,15 +93,10 @@ pub(crate) fn give_samples(
     samples: &Samples,
 ) -> Result<(), AllocError>
     requires { AreSamples samples.now }
-    ensures { OnOk result ((words listed read : List ℕ) → HoldsSamples words listed samples.now
-        → map histogram_view hists.old ≡ map (histogram_of words []) read → map histogram_view hists.new ≡ map (histogram_of words listed) read) }
+    ensures { OnOk result (map histogram_view hists.new ≡ map (with_samples samples.now) (map histogram_view hists.old)) }
 {
     for hist in hists.iter_mut() {
-        if let Spec::Sparse = hist.spec {
-            let (counts, marks) = samples.of(alloc, hist.reference)?;
-            hist.counts = counts;
-            hist.marks = marks;
-        }
+        give(alloc, hist, samples)?;
     }
     Ok(())
 }

@@ -2,29 +2,28 @@
 use Rattle.std.proofs.Common.{◌≡◌, Bool, true, false, ◌||◌, ◌&&◌, ◌==◌, if◌then◌else◌, ℕ, List, [], ◌∷◌, ◌++◌, get_or, Some, None, refl, ap, sym, ◌∙◌}
 use Rattle.std.specs.Prelude.{map}
 use Rattle.std.specs.List.{list_any, filter_map}
-use Rattle.image_reader.specs.Views.{bad_view}
+use Rattle.image_reader.specs.Views.{bad_view, histogram_view}
 use Rattle.std.specs.Str.{bytes_eq}
 use Rattle.std.specs.BTreeSet.{insert_key}
-use Rattle.std.proofs.lemmas.List.{append-nil}
+use Rattle.std.proofs.lemmas.List.{append-nil, map-append}
 use Rattle.std.proofs.lemmas.Bool.{eq-eqb}
 use Rattle.segment_image.specs.Blocks.{field_at}
 use Rattle.segment_image.specs.declared.head.SegmentHead.{SegmentHead}
 use Rattle.bucket_ranges.specs.declared.reading.RecordFault.{RecordFault}
 use Rattle.bucket_ranges.specs.declared.reading.RecordFault.TheVariants.{BadSample}
-use Rattle.bucket_ranges.specs.Reading.{record_fault, lawful_records, read_records, same_name, is_sparse, is_bad_sample, lawful_samples, first_samples, name_of, bad_record, with_earlier}
+use Rattle.bucket_ranges.specs.Reading.{record_fault, lawful_records, read_records, same_name, is_sparse, is_bad_sample, lawful_samples, first_samples, name_of, bad_record, with_earlier, histogram_of}
 use Rattle.image_reader.specs.declared.gathering.Gathering.{Gathering}
 use Rattle.image_reader.specs.declared.sample.Samples.{Samples}
-use Rattle.image_reader.specs.Names.{holds}
 use Rattle.image_reader.specs.Samples.{by_entry_value, sample_entry, held, is_bad_sample_by}
-use Rattle.image_reader.specs.Gathering.{IsGathered}
+use Rattle.image_reader.specs.Gathering.{IsGathered, knows}
 use Rattle.image_reader.proofs.Gathered.{unlawful-push, other-push, read-same, read-push, names-push, sparse-push, bad-none, bad-some, fault_behind-histogram, fault_behind-sample, fault_behind-other, samples-same, is_sample-other, is_sample-from, first_samples-push}
 
 -- nothing gathered
-pub IsGathered-none : (words : List ℕ) (head : SegmentHead) (g : Gathering) → g.read.items ≡ [] → g.bad.items ≡ []
-    → ((name : List ℕ) → holds g.names name ≡ false) → ((r : ℕ) → get_or g.sparse.items r false ≡ false)
+pub IsGathered-none : (words : List ℕ) (head : SegmentHead) (g : Gathering) → g.hists.items ≡ [] → g.bad.items ≡ []
+    → ((name : List ℕ) → knows g name ≡ false) → ((r : ℕ) → get_or g.sparse.items r false ≡ false)
     → ((h : ℕ) → held g.samples h ≡ []) → IsGathered words head [] g
-IsGathered-none words head g read bad names sparse samples = record {
-  read_are = read;
+IsGathered-none words head g hists bad names sparse samples = record {
+  hists_are = ap (map histogram_view) hists;
   bad_are = rw bad refl;
   names_are = names;
   sparse_are = sparse;
@@ -40,16 +39,16 @@ three-one words r e = ap (λ t. t == 1) e
 
 -- whether a name is known is whether a lawful record before has it
 known-is : (words : List ℕ) (head : SegmentHead) (earlier : List ℕ) (g : Gathering) (r : ℕ) (name : List ℕ) (known : Bool)
-    → IsGathered words head earlier g → name ≡ name_of words r → holds g.names name ≡ known
+    → IsGathered words head earlier g → name ≡ name_of words r → knows g name ≡ known
     → list_any (λ x. same_name words x r) (lawful_records words head earlier) ≡ known
 known-is words head earlier g r name known so_far named is =
-    sym (so_far.names_are (name_of words r)) ∙ (ap (holds g.names) (sym named) ∙ is)
+    sym (so_far.names_are (name_of words r)) ∙ (ap (knows g) (sym named) ∙ is)
 
 -- the names with one more
 names-more : (words : List ℕ) (head : SegmentHead) (earlier : List ℕ) (g new : Gathering) (r : ℕ) (name : List ℕ)
     → IsGathered words head earlier g → field_at words r 2 ≡ 1 → record_fault words head r ≡ None → name ≡ name_of words r
-    → ((other : List ℕ) → holds new.names other ≡ (holds g.names other || bytes_eq other name))
-    → (other : List ℕ) → holds new.names other
+    → ((other : List ℕ) → knows new other ≡ (knows g other || bytes_eq other name))
+    → (other : List ℕ) → knows new other
     ≡ list_any (λ reference. bytes_eq other (name_of words reference)) (lawful_records words head (earlier ++ r ∷ []))
 names-more words head earlier g new r name so_far typed none named names other =
     names other
@@ -69,19 +68,19 @@ samples-stay words head earlier r samples other so_far h =
 -- a lawful record whose name is known
 pub IsGathered-known : (words : List ℕ) (head : SegmentHead) (earlier : List ℕ) (g new : Gathering) (r : ℕ) (name : List ℕ)
     → IsGathered words head earlier g → field_at words r 2 ≡ 1 → record_fault words head r ≡ None → name ≡ name_of words r
-    → ((other : List ℕ) → holds new.names other ≡ (holds g.names other || bytes_eq other name))
-    → holds g.names name ≡ true
-    → new.read.items ≡ g.read.items → new.bad.items ≡ g.bad.items → new.sparse.items ≡ g.sparse.items
+    → ((other : List ℕ) → knows new other ≡ (knows g other || bytes_eq other name))
+    → knows g name ≡ true
+    → new.hists.items ≡ g.hists.items → new.bad.items ≡ g.bad.items → new.sparse.items ≡ g.sparse.items
     → ((h : ℕ) → held new.samples h ≡ held g.samples h)
     → IsGathered words head (earlier ++ r ∷ []) new
-IsGathered-known words head earlier g new r name so_far typed none named names known read bad sparse samples =
+IsGathered-known words head earlier g new r name so_far typed none named names known hists bad sparse samples =
     let one : (field_at words r 2 == 1) ≡ true = eq-eqb _ 1 typed in
     let same : read_records words head (earlier ++ r ∷ []) ≡ read_records words head earlier =
     read-push words head earlier r one none
     ∙ (ap (λ b. read_records words head earlier ++ (if b then [] else r ∷ [])) (known-is words head earlier g r name true so_far named known)
     ∙ append-nil (read_records words head earlier)) in
     record {
-      read_are = read ∙ (so_far.read_are ∙ sym same);
+      hists_are = ap (map histogram_view) hists ∙ (so_far.hists_are ∙ ap (map (histogram_of words [])) (sym same));
       bad_are = ap (map bad_view) bad
           ∙ bad-none words head earlier r g.bad.items so_far.bad_are (fault_behind-histogram words head earlier r one ∙ none);
       names_are = names-more words head earlier g new r name so_far typed none named names;
@@ -93,19 +92,21 @@ IsGathered-known words head earlier g new r name so_far typed none named names k
 -- one whose name is new
 pub IsGathered-new : (words : List ℕ) (head : SegmentHead) (earlier : List ℕ) (g new : Gathering) (r : ℕ) (name : List ℕ)
     → IsGathered words head earlier g → field_at words r 2 ≡ 1 → record_fault words head r ≡ None → name ≡ name_of words r
-    → ((other : List ℕ) → holds new.names other ≡ (holds g.names other || bytes_eq other name))
-    → holds g.names name ≡ false
-    → new.read.items ≡ g.read.items ++ r ∷ [] → new.bad.items ≡ g.bad.items
+    → ((other : List ℕ) → knows new other ≡ (knows g other || bytes_eq other name))
+    → knows g name ≡ false
+    → map histogram_view new.hists.items ≡ map histogram_view g.hists.items ++ histogram_of words [] r ∷ [] → new.bad.items ≡ g.bad.items
     → ((h : ℕ) → get_or new.sparse.items h false ≡ (get_or g.sparse.items h false || ((r == h) && is_sparse words r)))
     → ((h : ℕ) → held new.samples h ≡ held g.samples h)
     → IsGathered words head (earlier ++ r ∷ []) new
-IsGathered-new words head earlier g new r name so_far typed none named names unknown read bad sparse samples =
+IsGathered-new words head earlier g new r name so_far typed none named names unknown hists bad sparse samples =
     let one : (field_at words r 2 == 1) ≡ true = eq-eqb _ 1 typed in
     let more : read_records words head (earlier ++ r ∷ []) ≡ read_records words head earlier ++ r ∷ [] =
     read-push words head earlier r one none
     ∙ ap (λ b. read_records words head earlier ++ (if b then [] else r ∷ [])) (known-is words head earlier g r name false so_far named unknown) in
     record {
-      read_are = read ∙ (ap (λ xs. xs ++ r ∷ []) so_far.read_are ∙ sym more);
+      hists_are = hists
+          ∙ (ap (λ hists. hists ++ histogram_of words [] r ∷ []) so_far.hists_are
+          ∙ (sym (map-append (histogram_of words []) (read_records words head earlier) (r ∷ [])) ∙ ap (map (histogram_of words [])) (sym more)));
       bad_are = ap (map bad_view) bad
           ∙ bad-none words head earlier r g.bad.items so_far.bad_are (fault_behind-histogram words head earlier r one ∙ none);
       names_are = names-more words head earlier g new r name so_far typed none named names;
@@ -120,13 +121,13 @@ stays : (words : List ℕ) (head : SegmentHead) (earlier : List ℕ) (g new : Ga
     → lawful_records words head (earlier ++ r ∷ []) ≡ lawful_records words head earlier
     → map bad_view new.bad.items ≡ filter_map (bad_record words head) (with_earlier (earlier ++ r ∷ []))
     → lawful_samples words head (earlier ++ r ∷ []) ≡ lawful_samples words head earlier
-    → new.read.items ≡ g.read.items → ((name : List ℕ) → holds new.names name ≡ holds g.names name)
+    → new.hists.items ≡ g.hists.items → ((name : List ℕ) → knows new name ≡ knows g name)
     → new.sparse.items ≡ g.sparse.items → ((h : ℕ) → held new.samples h ≡ held g.samples h)
     → IsGathered words head (earlier ++ r ∷ []) new
-stays words head earlier g new r so_far lawful bad none read names sparse samples =
+stays words head earlier g new r so_far lawful bad none hists names sparse samples =
     let same = read-same words head earlier (earlier ++ r ∷ []) lawful in
     record {
-      read_are = read ∙ (so_far.read_are ∙ sym same);
+      hists_are = ap (map histogram_view) hists ∙ (so_far.hists_are ∙ ap (map (histogram_of words [])) (sym same));
       bad_are = bad;
       names_are = λ name. names name ∙ (so_far.names_are name ∙ ap (list_any (λ x. bytes_eq name (name_of words x))) (sym lawful));
       sparse_are = λ h. ap (λ xs. get_or xs h false) sparse
@@ -139,26 +140,26 @@ stays words head earlier g new r so_far lawful bad none read names sparse sample
 pub IsGathered-bad : (words : List ℕ) (head : SegmentHead) (earlier : List ℕ) (g new : Gathering) (r : ℕ) (fault : RecordFault)
     → IsGathered words head earlier g → field_at words r 2 ≡ 1 → record_fault words head r ≡ Some fault
     → new.bad.items ≡ g.bad.items ++ record { reference = r; fault = fault } ∷ []
-    → new.read.items ≡ g.read.items → ((name : List ℕ) → holds new.names name ≡ holds g.names name)
+    → new.hists.items ≡ g.hists.items → ((name : List ℕ) → knows new name ≡ knows g name)
     → new.sparse.items ≡ g.sparse.items → ((h : ℕ) → held new.samples h ≡ held g.samples h)
     → IsGathered words head (earlier ++ r ∷ []) new
-IsGathered-bad words head earlier g new r fault so_far typed found bad read names sparse samples =
+IsGathered-bad words head earlier g new r fault so_far typed found bad hists names sparse samples =
     let one : (field_at words r 2 == 1) ≡ true = eq-eqb _ 1 typed in
     stays words head earlier g new r so_far (unlawful-push words head earlier r fault one found)
     (ap (map bad_view) bad
     ∙ bad-some words head earlier r g.bad.items fault so_far.bad_are (fault_behind-histogram words head earlier r one ∙ found))
     (samples-same words head earlier r (is_sample-other words head earlier r (one-three words r typed)))
-    read names sparse samples
+    hists names sparse samples
 
 -- a sample's record with a fault
 pub IsGathered-bad_sample : (words : List ℕ) (head : SegmentHead) (earlier : List ℕ) (g new : Gathering) (r : ℕ)
     → IsGathered words head earlier g → field_at words r 2 ≡ 3
     → is_bad_sample_by words r (get_or g.sparse.items (field_at words r 4) false) ≡ true
     → new.bad.items ≡ g.bad.items ++ record { reference = r; fault = BadSample } ∷ []
-    → new.read.items ≡ g.read.items → ((name : List ℕ) → holds new.names name ≡ holds g.names name)
+    → new.hists.items ≡ g.hists.items → ((name : List ℕ) → knows new name ≡ knows g name)
     → new.sparse.items ≡ g.sparse.items → ((h : ℕ) → held new.samples h ≡ held g.samples h)
     → IsGathered words head (earlier ++ r ∷ []) new
-IsGathered-bad_sample words head earlier g new r so_far typed is bad read names sparse samples =
+IsGathered-bad_sample words head earlier g new r so_far typed is bad hists names sparse samples =
     let three : (field_at words r 2 == 3) ≡ true = eq-eqb _ 3 typed in
     let worse : is_bad_sample words head earlier r ≡ true =
     ap (is_bad_sample_by words r) (sym (so_far.sparse_are (field_at words r 4))) ∙ is in
@@ -167,7 +168,7 @@ IsGathered-bad_sample words head earlier g new r so_far typed is bad read names 
     ∙ bad-some words head earlier r g.bad.items BadSample so_far.bad_are
     (fault_behind-sample words head earlier r true (three-one words r typed) three worse))
     (samples-same words head earlier r (is_sample-from words head earlier r true three worse))
-    read names sparse samples
+    hists names sparse samples
 
 -- a record of another type
 pub IsGathered-other : (words : List ℕ) (head : SegmentHead) (earlier : List ℕ) (g : Gathering) (r : ℕ)
@@ -185,17 +186,17 @@ pub IsGathered-sample : (words : List ℕ) (head : SegmentHead) (earlier : List 
     → is_bad_sample_by words r (get_or g.sparse.items (field_at words r 4) false) ≡ false
     → ((h : ℕ) → held new.samples h
     ≡ (if field_at words r 4 == h then insert_key by_entry_value (held g.samples h) (sample_entry words r) else held g.samples h))
-    → new.bad.items ≡ g.bad.items → new.read.items ≡ g.read.items
-    → ((name : List ℕ) → holds new.names name ≡ holds g.names name) → new.sparse.items ≡ g.sparse.items
+    → new.bad.items ≡ g.bad.items → new.hists.items ≡ g.hists.items
+    → ((name : List ℕ) → knows new name ≡ knows g name) → new.sparse.items ≡ g.sparse.items
     → IsGathered words head (earlier ++ r ∷ []) new
-IsGathered-sample words head earlier g new r so_far typed is samples bad read names sparse =
+IsGathered-sample words head earlier g new r so_far typed is samples bad hists names sparse =
     let three : (field_at words r 2 == 3) ≡ true = eq-eqb _ 3 typed in
     let fine : is_bad_sample words head earlier r ≡ false =
     ap (is_bad_sample_by words r) (sym (so_far.sparse_are (field_at words r 4))) ∙ is in
     let lawful = other-push words head earlier r (three-one words r typed) in
     let same = read-same words head earlier (earlier ++ r ∷ []) lawful in
     record {
-      read_are = read ∙ (so_far.read_are ∙ sym same);
+      hists_are = ap (map histogram_view) hists ∙ (so_far.hists_are ∙ ap (map (histogram_of words [])) (sym same));
       bad_are = ap (map bad_view) bad
           ∙ bad-none words head earlier r g.bad.items so_far.bad_are
           (fault_behind-sample words head earlier r false (three-one words r typed) three fine);

@@ -1,39 +1,40 @@
--- What is gathered of the list, and the histograms that are read, are the reading.
-use Rattle.std.proofs.Common.{◌≡◌, ℕ, ◌<◌, List, length, map, true, None, refl, ap, sym, ◌∙◌, subst}
-use Rattle.std.specs.Prelude.{slice_index}
-use Rattle.bucket_ranges.specs.Reading.{IsListed, is_block, record_fault, lawful_samples, histogram_of, reading_along, stop_of}
-use Rattle.image_reader.proofs.ReadRecords.{read-lawful, read-blocks, same_reading}
+-- What is gathered of the list, with the samples given, is the reading.
+use Rattle.std.proofs.Common.{◌≡◌, ℕ, List, [], length, map, refl, ap, sym, ◌∙◌, subst}
+use Rattle.std.proofs.lemmas.List.{length-map, with_items_is}
+use Rattle.std.proofs.lemmas.Simd.{map-map}
+use Rattle.bucket_ranges.specs.Reading.{Histogram, IsListed, lawful_samples, read_records, histogram_of, reading_along, stop_of}
+use Rattle.image_reader.specs.Samples.{with_samples}
+use Rattle.image_reader.specs.Views.{histogram_view}
+use Rattle.image_reader.proofs.ReadRecords.{same_reading}
+use Rattle.image_reader.proofs.Sound.{given-samples}
 use Rattle.image_reader.proofs.reader.read_list.Goals as goal
-
-pub histograms-requires-clause-lawful : goal.histograms-requires-clause-lawful
-histograms-requires-clause-lawful c =
-    subst (λ rs. (i : ℕ) → i < length rs → record_fault c.args.words.now c.args.head.now (slice_index rs i) ≡ None)
-    (sym (c.deref-2.ensures.value ∙ c.in_ok-gathered.ensures.gathered.read_are))
-    (read-lawful c.args.words.now c.args.head.now c.deref.result.now)
-
-pub histograms-requires-clause-blocks : goal.histograms-requires-clause-blocks
-histograms-requires-clause-blocks c =
-    let same : c.deref.result.now ≡ c.in_ok-references.field-0.references.items =
-    c.deref.ensures.value in
-    let list : IsListed c.args.words.now c.args.head.now c.deref.result.now =
-    subst (IsListed c.args.words.now c.args.head.now) (sym same) c.in_ok-references.ensures.listed in
-    subst (λ rs. (i : ℕ) → i < length rs → is_block c.args.words.now c.args.head.now (slice_index rs i) ≡ true)
-    (sym (c.deref-2.ensures.value ∙ c.in_ok-gathered.ensures.gathered.read_are))
-    (read-blocks c.args.words.now c.args.head.now c.deref.result.now list.walk.lawful)
 
 pub returns : goal.returns
 returns c =
+    let words : List ℕ = c.args.words.now in
     let references : List ℕ = c.deref.result.now in
     let same : references ≡ c.in_ok-references.field-0.references.items =
     c.deref.ensures.value in
-    let list : IsListed c.args.words.now c.args.head.now references =
-    subst (IsListed c.args.words.now c.args.head.now) (sym same) c.in_ok-references.ensures.listed in
-    let samples : List ℕ = lawful_samples c.args.words.now c.args.head.now references in (
+    let list : IsListed words c.args.head.now references =
+    subst (IsListed words c.args.head.now) (sym same) c.in_ok-references.ensures.listed in
+    let samples : List ℕ = lawful_samples words c.args.head.now references in
+    let given : Histogram → Histogram = with_samples c.in_ok-gathered.gathered.samples in
+    let given_length : length c.give_samples.new.hists ≡ c.in_ok-gathered.gathered.hists.len =
+    sym (length-map c.give_samples.new.hists histogram_view)
+    ∙ (ap length c.in_ok-give_samples.ensures
+    ∙ (length-map (map histogram_view c.deref_mut.result.now) given
+    ∙ (length-map c.deref_mut.result.now histogram_view
+    ∙ (ap length c.deref_mut.ensures.value ∙ sym c.in_ok-gathered.gathered.hists.ok.0)))) in
+    let read : List ℕ = read_records words c.args.head.now references in (
       references,
       list,
-      same_reading _ (reading_along c.args.words.now c.args.head.now references) refl refl refl
-          (c.in_ok-hists.ensures samples c.in_ok-gathered.ensures.gathered.samples_are
-          ∙ ap (map (histogram_of c.args.words.now samples)) (c.deref-2.ensures.value ∙ c.in_ok-gathered.ensures.gathered.read_are))
+      same_reading _ (reading_along words c.args.head.now references) refl refl refl
+          (ap (map histogram_view) (with_items_is c.in_ok-gathered.gathered.hists c.give_samples.new.hists given_length)
+          ∙ (c.in_ok-give_samples.ensures
+          ∙ (ap (λ hists. map given (map histogram_view hists)) c.deref_mut.ensures.value
+          ∙ (ap (map given) c.in_ok-gathered.ensures.gathered.hists_are
+          ∙ (map-map given (histogram_of words []) read
+          ∙ (λ i. map (λ at. given-samples words samples c.in_ok-gathered.gathered.samples at c.in_ok-gathered.ensures.gathered.samples_are i) read))))))
           c.in_ok-gathered.ensures.gathered.bad_are
-          (c.in_ok-references.ensures.stopped ∙ ap (stop_of c.args.words.now c.args.head.now) (sym same)),
+          (c.in_ok-references.ensures.stopped ∙ ap (stop_of words c.args.head.now) (sym same)),
     )

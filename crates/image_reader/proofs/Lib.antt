@@ -3,7 +3,6 @@ pub mod Lists
 pub mod Places
 pub mod Leads
 pub mod Records
-pub mod ReadRecords
 pub mod Sound
 pub mod SampleMaps
 pub mod SpecWords

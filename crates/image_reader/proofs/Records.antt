@@ -11,7 +11,7 @@ use Rattle.segment_image.specs.Blocks.{field_at}
 use Rattle.segment_image.specs.declared.head.SegmentHead.{SegmentHead}
 use Rattle.bucket_ranges.specs.declared.reading.RecordFault.{RecordFault}
 use Rattle.bucket_ranges.specs.declared.reading.RecordFault.TheVariants.{BadKind, BadName, BadSpec, BadCounts, BadSingle, BadMark, BadSum}
-use Rattle.bucket_ranges.specs.Reading.{Histogram, record_fault, record_single, is_bad_kind, has_name, is_bad_spec, is_bad_counts, has_large, is_bad_single, is_bad_mark, is_bad_sum, sum_of, sum_mark_of}
+use Rattle.bucket_ranges.specs.Reading.{Histogram, Reading, record_fault, record_single, is_bad_kind, has_name, is_bad_spec, is_bad_counts, has_large, is_bad_single, is_bad_mark, is_bad_sum, sum_of, sum_mark_of}
 use Rattle.image_reader.proofs.Lists.{list_any-push}
 use Rattle.image_reader.specs.declared.record.Refusal.{Refusal}
 use Rattle.image_reader.specs.declared.record.Refusal.TheVariants.{Memory, Fault}
@@ -135,3 +135,8 @@ pub map-range-push : {X : Type 0} (f : ℕ → X) (i : ℕ) (old new : List X) (
 map-range-push f i old new x before pushed value =
     pushed ∙ (ap (λ xs. xs ++ x ∷ []) before ∙ (ap (λ y. map f (range_with_len 0 i) ++ y ∷ []) value
     ∙ sym (map-range_with_len_more f 0 i i (omega arith))))
+
+-- two readings are the same where their fields are
+pub same_reading : (a b : Reading) → a.id ≡ b.id → a.full ≡ b.full → a.corrupt ≡ b.corrupt → a.hists ≡ b.hists → a.bad ≡ b.bad
+    → a.stopped ≡ b.stopped → a ≡ b
+same_reading a b d f c h w s = λ i. record { id = d i; full = f i; corrupt = c i; hists = h i; bad = w i; stopped = s i }

@@ -3,14 +3,8 @@ use Rattle.std.proofs.Common.{◌≡◌, true, false, not, ◌||◌, ◌==◌, n
 use Rattle.std.proofs.lemmas.Bool.{and_parts, leb-true, eq-eqb}
 use Rattle.std.proofs.lemmas.List.Elements.{All-nil, All-cons}
 use Rattle.segment_image.specs.Blocks.{field_at}
-use Rattle.bucket_ranges.specs.Reading.{name_words, is_name, name_of, has_name, record_words, record_buckets, inner_ranges, has_spec, is_bad_spec, is_spec_named, is_custom_named, ascends_above}
+use Rattle.bucket_ranges.specs.Reading.{name_words, record_words, record_buckets, inner_ranges, has_spec, is_bad_spec, is_spec_named, is_custom_named, ascends_above}
 use Rattle.bucket_ranges.proofs.Named.{named-buckets, IsInner-from_named, inner-last}
-
--- a name's words lie in the block
-pub has_name-fits : (words : List ℕ) (at : ℕ) → has_name words at ≡ true
-    → 15 + name_words (field_at words at 14) ≤ field_at words at 0
-has_name-fits words at e =
-    leb-true _ _ (and_parts (nat_le (15 + name_words (field_at words at 14)) (field_at words at 0)) (is_name (name_of words at)) e).0
 
 -- what is known of a lawful spec
 pub has_spec-parts : (words : List ℕ) (at : ℕ) → has_spec words at ≡ true

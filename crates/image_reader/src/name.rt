@@ -36,8 +36,8 @@ pub(crate) fn name_at(alloc: Global, words: &[u64], at: usize) -> Result<Vec<u8>
     Ok(name)
 }
 
-/// The bytes of the name of a record, so many as `len` says, whose words lie in the image.
-pub(crate) fn read_name(
+// The bytes of the name of a record, so many as `len` says, whose words lie in the image.
+fn read_name(
     alloc: Global,
     words: &[u64],
     at: usize,

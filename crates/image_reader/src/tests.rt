@@ -7,12 +7,12 @@ mod marks;
 mod slow_reader;
 mod sparse;
 
-use crate::{BadRecord, HistReading, Reading, RecordFault, read};
+use crate::{BadRecord, HistReading, Reading, RecordFault, name_digest, read};
 use bucket_ranges::Spec;
 use forgeries::Random;
 use images::{
-    DISABLED, Words, blank, changed, custom, one_counted, one_empty, shared_counts, sparse_race,
-    sparse_samples, three, two_empty,
+    DIGEST_NAMES, DISABLED, Words, blank, changed, custom, one_counted, one_empty, same_digests,
+    shared_counts, sparse_race, sparse_samples, three, two_empty,
 };
 use segment_image::ImageFault;
 use slow_reader::slow_read;
@@ -240,6 +240,23 @@ fn several_records(rt: HostRuntime) -> Result<(), Fail> {
     Ok(())
 }
 
+// Names that have one digest are told apart, and each is read once.
+#[test]
+fn names_of_one_digest(rt: HostRuntime) -> Result<(), Fail> {
+    let digest = name_digest(DIGEST_NAMES[0].as_bytes());
+    let reading = read(rt.alloc(), &same_digests(&rt))?;
+    assert_eq!(rt; reading.hists.len(), 3);
+    for (i, at) in [16, 35, 64].iter().enumerate() {
+        let name = DIGEST_NAMES[i].as_bytes();
+        assert_eq!(rt; name_digest(name), digest);
+        assert_eq!(rt; reading.hists[i].reference, *at);
+        assert!(rt; reading.hists[i].name.as_slice() == name);
+    }
+    assert!(rt; reading.bad.is_empty());
+    assert_eq!(rt; reading.stopped, None);
+    Ok(())
+}
+
 // That both readers read words as the same, and what they read.
 fn read_alike(rt: &impl Abort, alloc: Global, words: &[u64]) -> Result<Reading, ImageFault> {
     let reading = read(alloc, words);
@@ -255,6 +272,7 @@ fn reads_as_the_slow_reader(rt: HostRuntime) -> Result<(), Fail> {
         one_counted(&rt),
         two_empty(&rt, 65),
         two_empty(&rt, 66),
+        same_digests(&rt),
         shared_counts(&rt),
         three(&rt),
         sparse_samples(&rt),

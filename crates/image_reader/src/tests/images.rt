@@ -14,6 +14,35 @@ pub(crate) const DISABLED: u64 = 1 << 63;
 /// A disabled single word where nothing was packed.
 pub(crate) const NOTHING_PACKED: u64 = DISABLED + 65_535;
 
+/// Three names of which all have the same digest.
+pub(crate) const DIGEST_NAMES: [&str; 3] = [
+    "Page.Load.000013EF.sy88E.Samples",
+    "Page.Load.0000486G0wx9m5.Samples",
+    "Page.Load.000005T.1JzgMa.Samples",
+];
+
+// Their words.
+const DIGEST_WORDS: [[u64; 4]; 3] = [
+    [
+        0x616F_4C2E_6567_6150,
+        0x3331_3030_3030_2E64,
+        0x4538_3879_732E_4645,
+        0x7365_6C70_6D61_532E,
+    ],
+    [
+        0x616F_4C2E_6567_6150,
+        0x3834_3030_3030_2E64,
+        0x356D_3978_7730_4736,
+        0x7365_6C70_6D61_532E,
+    ],
+    [
+        0x616F_4C2E_6567_6150,
+        0x3530_3030_3030_2E64,
+        0x614D_677A_4A31_2E54,
+        0x7365_6C70_6D61_532E,
+    ],
+];
+
 /// The words with some of them changed.
 pub(crate) fn changed(rt: &impl Abort, words: &Words, changes: &[(usize, u64)]) -> Words {
     let mut words = *words;
@@ -59,6 +88,39 @@ fn with_boolean(rt: &impl Abort, words: &Words, at: usize, name: u64) -> Words {
         (at + 15, name),
     ];
     changed(rt, words, &record)
+}
+
+/// The words with an empty boolean histogram, of these four words as its name, in 19 words at `at`, which is 0 until then.
+/// It is no part of the list yet, and its next is the end.
+fn with_long_boolean(rt: &impl Abort, words: &Words, at: usize, name: &[u64; 4]) -> Words {
+    assert!(rt; at <= 109);
+    let fields = with_boolean(rt, words, at, name[0]);
+    let rest = [
+        (at, 19),
+        (at + 14, 32),
+        (at + 16, name[1]),
+        (at + 17, name[2]),
+        (at + 18, name[3]),
+    ];
+    changed(rt, &fields, &rest)
+}
+
+/// Five empty boolean histograms, at 16, 35, 64, 83 and 102, whose names are the three of `DIGEST_NAMES`, the second of
+/// them again and the first again.
+pub(crate) fn same_digests(rt: &impl Abort) -> Words {
+    let records = [
+        (16, 0, 35),
+        (35, 1, 64),
+        (64, 2, 83),
+        (83, 1, 102),
+        (102, 0, 12),
+    ];
+    let mut words = changed(rt, &blank(rt), &[(7, 121), (8, 102), (15, 16)]);
+    for (at, name, next) in records {
+        words = with_long_boolean(rt, &words, at, &DIGEST_WORDS[name]);
+        words = changed(rt, &words, &[(at + 3, next)]);
+    }
+    words
 }
 
 /// An empty boolean histogram `A` at 16.

@@ -5,7 +5,6 @@ use Rattle.std.proofs.lemmas.Int.{to_z-of_z}
 use Rattle.bucket_ranges.specs.Reading.{histogram_of, sum_of, sum_mark_of}
 use Rattle.image_reader.proofs.Records.{same_histogram}
 use Rattle.image_reader.proofs.Sound.{IsReadable-from_none, counts-buckets, marks-buckets, counts-none, marks-none}
-use Rattle.image_reader.proofs.SpecWords.{has_name-fits}
 use Rattle.image_reader.proofs.histogram.histogram.Goals as goal
 use Rattle.image_reader.proofs.histogram.histogram.Goals.{then-words-at-eq-SPARSE, else-words-at-eq-SPARSE+in_ok-counts}
 

@@ -5,7 +5,7 @@ use Rattle.std.proofs.lemmas.Simd.{map-map}
 use Rattle.bucket_ranges.specs.Reading.{Histogram, IsListed, lawful_samples, read_records, histogram_of, reading_along, stop_of}
 use Rattle.image_reader.specs.Samples.{with_samples}
 use Rattle.image_reader.specs.Views.{histogram_view}
-use Rattle.image_reader.proofs.ReadRecords.{same_reading}
+use Rattle.image_reader.proofs.Records.{same_reading}
 use Rattle.image_reader.proofs.Sound.{given-samples}
 use Rattle.image_reader.proofs.reader.read_list.Goals as goal
 

@@ -1,12 +1,12 @@
 -- The set's order finds a short name by its prefix; a longer name is none of the short ones, and a short one none of the longer.
-use Rattle.std.proofs.Common.{◌≡◌, ◌<◌, ◌≤◌, length, ℕ, List, All, Bool, true, false, ap, not, sym, subst, ◌∙◌, ◌||◌, nat_le}
+use Rattle.std.proofs.Common.{◌≡◌, length, ℕ, List, All, Bool, true, false, ap, not, sym, subst, ◌∙◌, ◌||◌, nat_le}
 use Rattle.std.specs.Ordering.{nat_cmp}
 use Rattle.std.specs.List.{list_any}
 use Rattle.std.specs.Str.{bytes_eq}
 use Rattle.std.proofs.lemmas.List.Elements.{recursion_from_All}
 use Rattle.std.proofs.lemmas.Map.Views.{All-insert_key}
 use Rattle.image_reader.specs.Prefix.{prefix_of}
-use Rattle.image_reader.specs.Names.{short_name, IsShort, names_of, holds_short, holds_long, kept_with}
+use Rattle.image_reader.specs.Names.{short_name, IsShort, names_of, holds_short, holds_long}
 use Rattle.image_reader.proofs.NameSets.{list_any-insert_key, look_up-is, prefix-ties, prefix-same, short_name-of, IsShort-of, kept_with-same, within-kept, apart_by_length, one_more}
 use Rattle.image_reader.specs.Digest.{digest_of}
 use Rattle.std.specs.BTreeMap.{get}

@@ -1,7 +1,7 @@
 -- A digest leads to the first name that has it, and other names of the same digest stand apart.
-use Rattle.std.proofs.Common.{◌≡◌, ℕ, ◌<◌, List, [], All, Bool, true, false, None, Some, cond, length, not, ap, sym, subst, ◌∙◌, ◌||◌, get_or, Vec, Global, Option, ◌++◌, ◌∷◌, arith}
-use Rattle.std.specs.Prelude.{IfSome, is_some, nat_eq}
-use Rattle.std.specs.Ordering.{nat_cmp, is_eq}
+use Rattle.std.proofs.Common.{◌≡◌, ℕ, ◌<◌, List, [], All, Bool, true, false, None, Some, cond, length, not, ap, sym, subst, ◌∙◌, ◌||◌, get_or, Vec, Global, Option, ◌∷◌, arith}
+use Rattle.std.specs.Prelude.{IfSome, is_some}
+use Rattle.std.specs.Ordering.{nat_cmp}
 use Rattle.std.specs.List.{list_any}
 use Rattle.std.specs.Str.{bytes_eq}
 use Rattle.std.specs.Cmp.Lexicographic.{slice_cmp}
@@ -9,7 +9,7 @@ use Rattle.std.specs.Map.{lookup, keys_of}
 use Rattle.std.specs.List.Sorted.{IsStrictlySortedBy}
 use Rattle.image_reader.specs.declared.reading.HistReading.{HistReading}
 use Rattle.std.specs.BTreeMap.{get, is_at, insert_entry}
-use Rattle.std.proofs.Math.Bool.{or-false, or_assoc}
+use Rattle.std.proofs.Math.Bool.{or_assoc}
 use Rattle.std.proofs.lemmas.Cmp.{nat_cmp_total}
 use Rattle.std.proofs.lemmas.List.{get_or-map, length-map, length-append}
 use Rattle.std.proofs.lemmas.Bool.{not-false}

@@ -373,6 +373,20 @@ def scattered_alike(size):
     return boolean_histograms(size, alike_names(size // 31), is_scattered=True)
 
 
+def one_digest_names(count):
+    """Distinct names of 32 bytes for which the reader's hash makes one number.
+
+    It multiplies the numbers of the last two eight bytes, each joined with another number. The first eight of these are
+    that other number here, so the product is 0 whatever stands behind.
+    """
+    return [f"Page.Load.006597-&s%HkfC{number:08}" for number in random.Random(10).sample(range(10**8), count)]
+
+
+def digests(size):
+    """Boolean histograms of 19 words, whose names all have one digest, on a list in no order."""
+    return boolean_histograms(size, one_digest_names(size // 19), is_scattered=True)
+
+
 def samples(size):
     """Samples that begin every five words, so that the size of each is the value of the one before it.
 
@@ -424,6 +438,7 @@ FORGED = {
     "scattered_faults": (scattered_faults, [MIB, 2 * MIB, 4 * MIB, 8 * MIB]),
     "scattered_samples": (scattered_samples, [MIB, 2 * MIB, 4 * MIB, 8 * MIB]),
     "scattered_alike": (scattered_alike, [MIB, 2 * MIB, 4 * MIB, 8 * MIB]),
+    "digests": (digests, [MIB, 2 * MIB, 4 * MIB, 8 * MIB]),
     "samples": (samples, [MIB, 2 * MIB, 4 * MIB, 8 * MIB]),
 }
 FAMILIES = {**LAWFUL, **FORGED}

@@ -1,13 +1,13 @@
 -- Keys in an ordered set, looked for by their names.
-use Rattle.std.proofs.Common.{◌≡◌, ◌≢◌, Bool, true, false, ◌||◌, ℕ, ◌≤◌, ◌<◌, Option, Some, None, cond, inl, inr, List, [], ◌∷◌, ◌++◌, refl, ap, sym, subst, ◌∙◌, length, Vec, Global, arith}
+use Rattle.std.proofs.Common.{◌≡◌, ◌≢◌, Bool, true, false, ◌||◌, ℕ, ◌≤◌, ◌<◌, Option, Some, None, cond, inl, inr, List, [], ◌∷◌, ◌++◌, refl, ap, sym, subst, ◌∙◌, length, drop, ◌&&◌, Vec, Global, arith}
 use Rattle.std.proofs.lemmas.List.{length-append}
 use Rattle.std.specs.Prelude.{IfSome, is_some, nat_le, if◌then◌else◌}
 use Rattle.std.specs.List.{list_any, list_all, AllByRecursion}
 use Rattle.std.specs.Str.{bytes_eq}
 use Rattle.std.specs.declared.cmp.Ordering.{Ordering}
 use Rattle.std.specs.declared.cmp.Ordering.TheVariants.{Less, Equal, Greater}
-use Rattle.std.specs.Ordering.{nat_cmp, is_eq, match_ordering}
-use Rattle.std.specs.Cmp.{Equal-is, nat_cmp_is}
+use Rattle.std.specs.Ordering.{nat_cmp, is_eq, match_ordering, ordering_then}
+use Rattle.std.specs.Cmp.{Equal-is, nat_cmp_is, tied_then}
 use Rattle.std.specs.Cmp.Lexicographic.{slice_cmp}
 use Rattle.std.specs.BTreeMap.{is_at}
 use Rattle.std.specs.BTreeSet.{insert_key}
@@ -23,17 +23,13 @@ use Rattle.std.proofs.Math.Bool.{or_comm, or_assoc, or-false}
 use Rattle.image_reader.specs.Digest.{digest_of}
 use Rattle.image_reader.specs.Prefix.{prefix_of}
 use Rattle.bucket_ranges.specs.Reading.{is_name_byte}
-use Rattle.image_reader.specs.Names.{short_name, is_kept_at, kept_with, IsShort}
+use Rattle.image_reader.specs.Names.{other_name, IsOther, short_name, is_kept_at, kept_with, IsShort}
 use Rattle.image_reader.proofs.Prefixes.{prefix_bytes-number}
 use Rattle.std.proofs.lemmas.List.{take_all}
 
 -- an order of keys that ties only keys of the same bytes
 abbrev pub TiesSame : {K : Type 0} → (K → List ℕ) → (K → K → Ordering) → Type 0
 TiesSame {K} items cmp = (a b : K) → Equal ≡ cmp a b → items a ≡ items b
-
--- the bytes that are kept of a name
-abbrev pub items_of : Vec ℕ Global → List ℕ
-items_of name = name.items
 
 or_again : (a b : Bool) → (a || b) ≡ ((a || b) || a)
 or_again true b = refl
@@ -69,8 +65,13 @@ list_any-insert_key items cmp ties (x ∷ xs) key name =
     (choice (list_any (λ y. bytes_eq name (items y))) (cmp key x) (key ∷ x ∷ xs) (x ∷ xs) (x ∷ insert_key cmp xs key))
 
 -- names that the order ties are the same
-pub slice_ties : TiesSame items_of (λ a b. slice_cmp nat_cmp a.items b.items)
-slice_ties a b e = (bytes_eq-Decides a.items b.items).0 (sym (is_eq-slice_cmp a.items b.items) ∙ ap is_eq (sym e))
+slice_ties : (a b : List ℕ) → Equal ≡ slice_cmp nat_cmp a b → a ≡ b
+slice_ties a b e = (bytes_eq-Decides a b).0 (sym (is_eq-slice_cmp a b) ∙ ap is_eq (sym e))
+
+then_ties : (o : Ordering) (a b : List ℕ) → Equal ≡ ordering_then o (slice_cmp nat_cmp a b) → a ≡ b
+then_ties Less a b e = absurd (cc e)
+then_ties Equal a b e = slice_ties a b e
+then_ties Greater a b e = absurd (cc e)
 
 -- keys of one name are tied
 abbrev pub SameTied : {K : Type 0} → (K → List ℕ) → (K → Type 0) → (K → K → Ordering) → Type 0
@@ -115,9 +116,19 @@ IsShort-of name lawful few =
     let same : short_name (prefix_of name) ≡ name = short_name-of name lawful few in
     record { prefix = ap prefix_of (sym same); few = subst (λ n. length n ≤ 8) (sym same) few }
 
--- any names are tied where they are the same
-pub slice_same : SameTied items_of (λ _. Unit {0}) (λ a b. slice_cmp nat_cmp a.items b.items)
-slice_same a b p q e = is_eq-slice_cmp a.items b.items ∙ (bytes_eq-Decides a.items b.items).1 e
+-- the order of the other names: the digests before them, then the names
+abbrev pub by_key : ℕ × Vec ℕ Global → ℕ × Vec ℕ Global → Ordering
+by_key a b = ordering_then (nat_cmp a.0 b.0) (slice_cmp nat_cmp a.1.items b.1.items)
+
+pub by_key-ties : TiesSame other_name by_key
+by_key-ties a b e = then_ties (nat_cmp a.0 b.0) a.1.items b.1.items e
+
+pub by_key-same : SameTied other_name IsOther by_key
+by_key-same a b p q e =
+    let digests : a.0 ≡ b.0 = p ∙ (ap (λ n. digest_of (drop 8 n)) e ∙ sym q) in
+    sym (tied_then (nat_cmp a.0 b.0) (slice_cmp nat_cmp a.1.items b.1.items))
+    ∙ (ap (λ o. is_eq o && is_eq (slice_cmp nat_cmp a.1.items b.1.items)) (sym (nat_cmp_is a.0 b.0 Equal digests))
+    ∙ (is_eq-slice_cmp a.1.items b.1.items ∙ (bytes_eq-Decides a.1.items b.1.items).1 e))
 
 -- ---- names behind their digests
 

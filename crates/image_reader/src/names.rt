@@ -43,8 +43,9 @@ pub(crate) struct Names {
     short: BTreeSet<u64>,
     // By the digest of a longer name, the place of the first histogram whose name has it.
     first: BTreeMap<u64, usize>,
-    // The longer names whose digest the name of an earlier histogram has.
-    others: BTreeSet<Vec<u8>>,
+    // The longer names whose digest the name of an earlier histogram has, each behind the digest of its bytes from the
+    // ninth on: who picks names of one digest cannot as easily have these the same, so a comparison seldom goes further.
+    others: BTreeSet<(u64, Vec<u8>)>,
 }
 
 impl Names {
@@ -92,6 +93,7 @@ impl Names {
         hists: &[HistReading],
     ) -> Result<bool, AllocError>
         requires long { ArePlaces self.old (names_of hists.now) }
+        requires more { 8 < length name.now }
         ensures new { IfOk result (λ new. new ≡ not (holds_long self.old (names_of hists.now) name.now)) }
         ensures holds { IfOk result (λ new. (other : List ℕ) → holds_long self.new (kept_with (names_of hists.now) name.now new) other
             ≡ (holds_long self.old (names_of hists.now) other || bytes_eq other name.now)) }
@@ -106,7 +108,8 @@ impl Names {
         if name == hists[place].name.as_slice() {
             return Ok(false);
         }
+        let rest = name_digest(&name[8..]);
         let whole = Vec::from_slice(alloc, name)?;
-        Ok(self.others.insert(whole)?)
+        Ok(self.others.insert((rest, whole))?)
     }
 }

@@ -1,35 +1,39 @@
 -- Keys in an ordered set, looked for by their names.
-use Rattle.std.proofs.Common.{◌≡◌, ◌≢◌, Bool, true, false, ◌||◌, ℕ, ◌≤◌, ◌<◌, Option, Some, None, cond, inl, inr, List, [], ◌∷◌, ◌++◌, refl, ap, sym, subst, ◌∙◌, length, drop, ◌&&◌, Vec, Global, arith}
+use Rattle.std.proofs.Common.{◌≡◌, ◌≢◌, Bool, true, false, ◌||◌, ◌&&◌, ℕ, ◌≤◌, ◌<◌, Option, Some, None, cond, inl, inr, List, [], ◌∷◌, ◌++◌, refl, ap, sym, subst, ◌∙◌, length, Vec, Global, arith}
 use Rattle.std.proofs.lemmas.List.{length-append}
 use Rattle.std.specs.Prelude.{IfSome, is_some, nat_le, if◌then◌else◌}
 use Rattle.std.specs.List.{list_any, list_all, AllByRecursion}
 use Rattle.std.specs.Str.{bytes_eq}
 use Rattle.std.specs.declared.cmp.Ordering.{Ordering}
 use Rattle.std.specs.declared.cmp.Ordering.TheVariants.{Less, Equal, Greater}
-use Rattle.std.specs.Ordering.{nat_cmp, is_eq, match_ordering, ordering_then}
-use Rattle.std.specs.Cmp.{Equal-is, nat_cmp_is, tied_then}
+use Rattle.std.specs.Ordering.{nat_cmp, is_eq, match_ordering}
+use Rattle.std.specs.Cmp.{IsTotalOrder, Equal-is, nat_cmp_is, tied_then, then_total, on_total}
 use Rattle.std.specs.Cmp.Lexicographic.{slice_cmp}
 use Rattle.std.specs.BTreeMap.{is_at}
 use Rattle.std.specs.BTreeSet.{insert_key}
-use Rattle.std.proofs.lemmas.Cmp.{ranked}
+use Rattle.std.proofs.lemmas.Cmp.{ranked, nat_cmp_total}
 use Rattle.std.specs.Bool.{Decides}
 use Rattle.std.proofs.lemmas.Bool.Decides.{same_from_decides}
-use Rattle.std.proofs.lemmas.Bool.{false_from_ne_true, cases_Bool, both_ways}
+use Rattle.std.proofs.lemmas.Bool.{false_from_ne_true, cases_Bool, both_ways, and_parts}
 use Rattle.std.proofs.lemmas.List.{get_or_append_left}
 use Rattle.std.proofs.Math.Seq.{get_or-append_seam}
 use Rattle.std.proofs.lemmas.Map.Text.{is_eq-slice_cmp}
 use Rattle.std.proofs.lemmas.Slice.Eq.{bytes_eq-Decides}
 use Rattle.std.proofs.Math.Bool.{or_comm, or_assoc, or-false}
-use Rattle.image_reader.specs.Digest.{digest_of}
+use Rattle.image_reader.specs.Digest.{digests_of}
 use Rattle.image_reader.specs.Prefix.{prefix_of}
 use Rattle.bucket_ranges.specs.Reading.{is_name_byte}
-use Rattle.image_reader.specs.Names.{other_name, IsOther, short_name, is_kept_at, kept_with, IsShort}
+use Rattle.image_reader.specs.Names.{by_digests, short_name, is_kept_at, kept_with, IsShort}
 use Rattle.image_reader.proofs.Prefixes.{prefix_bytes-number}
 use Rattle.std.proofs.lemmas.List.{take_all}
 
 -- an order of keys that ties only keys of the same bytes
 abbrev pub TiesSame : {K : Type 0} → (K → List ℕ) → (K → K → Ordering) → Type 0
 TiesSame {K} items cmp = (a b : K) → Equal ≡ cmp a b → items a ≡ items b
+
+-- the bytes that are kept of a name
+abbrev pub items_of : Vec ℕ Global → List ℕ
+items_of name = name.items
 
 or_again : (a b : Bool) → (a || b) ≡ ((a || b) || a)
 or_again true b = refl
@@ -65,13 +69,8 @@ list_any-insert_key items cmp ties (x ∷ xs) key name =
     (choice (list_any (λ y. bytes_eq name (items y))) (cmp key x) (key ∷ x ∷ xs) (x ∷ xs) (x ∷ insert_key cmp xs key))
 
 -- names that the order ties are the same
-slice_ties : (a b : List ℕ) → Equal ≡ slice_cmp nat_cmp a b → a ≡ b
-slice_ties a b e = (bytes_eq-Decides a b).0 (sym (is_eq-slice_cmp a b) ∙ ap is_eq (sym e))
-
-then_ties : (o : Ordering) (a b : List ℕ) → Equal ≡ ordering_then o (slice_cmp nat_cmp a b) → a ≡ b
-then_ties Less a b e = absurd (cc e)
-then_ties Equal a b e = slice_ties a b e
-then_ties Greater a b e = absurd (cc e)
+pub slice_ties : TiesSame items_of (λ a b. slice_cmp nat_cmp a.items b.items)
+slice_ties a b e = (bytes_eq-Decides a.items b.items).0 (sym (is_eq-slice_cmp a.items b.items) ∙ ap is_eq (sym e))
 
 -- keys of one name are tied
 abbrev pub SameTied : {K : Type 0} → (K → List ℕ) → (K → Type 0) → (K → K → Ordering) → Type 0
@@ -116,19 +115,9 @@ IsShort-of name lawful few =
     let same : short_name (prefix_of name) ≡ name = short_name-of name lawful few in
     record { prefix = ap prefix_of (sym same); few = subst (λ n. length n ≤ 8) (sym same) few }
 
--- the order of the other names: the digests before them, then the names
-abbrev pub by_key : ℕ × Vec ℕ Global → ℕ × Vec ℕ Global → Ordering
-by_key a b = ordering_then (nat_cmp a.0 b.0) (slice_cmp nat_cmp a.1.items b.1.items)
-
-pub by_key-ties : TiesSame other_name by_key
-by_key-ties a b e = then_ties (nat_cmp a.0 b.0) a.1.items b.1.items e
-
-pub by_key-same : SameTied other_name IsOther by_key
-by_key-same a b p q e =
-    let digests : a.0 ≡ b.0 = p ∙ (ap (λ n. digest_of (drop 8 n)) e ∙ sym q) in
-    sym (tied_then (nat_cmp a.0 b.0) (slice_cmp nat_cmp a.1.items b.1.items))
-    ∙ (ap (λ o. is_eq o && is_eq (slice_cmp nat_cmp a.1.items b.1.items)) (sym (nat_cmp_is a.0 b.0 Equal digests))
-    ∙ (is_eq-slice_cmp a.1.items b.1.items ∙ (bytes_eq-Decides a.1.items b.1.items).1 e))
+-- any names are tied where they are the same
+pub slice_same : SameTied items_of (λ _. Unit {0}) (λ a b. slice_cmp nat_cmp a.items b.items)
+slice_same a b p q e = is_eq-slice_cmp a.items b.items ∙ (bytes_eq-Decides a.items b.items).1 e
 
 -- ---- names behind their digests
 
@@ -152,16 +141,33 @@ or-known p name other known = elim (cases_Bool (bytes_eq other name)) [
   | inr apart ↦ sym (ap (λ b. p other || b) apart ∙ or-false (p other))
 ]
 
--- a digest that led nowhere leads to the name that goes behind the others
+-- the order of digests is total, and ties only those that are the same
+pub by_digests-total : IsTotalOrder by_digests
+by_digests-total = then_total (on_total (λ (d : ℕ × ℕ). d.0) nat_cmp_total) (on_total (λ (d : ℕ × ℕ). d.1) nat_cmp_total)
+
+nat_tied : (a b : ℕ) → is_eq (nat_cmp a b) ≡ true → a ≡ b
+nat_tied a b e = ranked a b Equal (sym ((Equal-is (nat_cmp a b)).0 e))
+
+digests_tied : (a b : ℕ × ℕ) → is_eq (by_digests a b) ≡ true → a ≡ b
+digests_tied a b e =
+    let parts = and_parts (is_eq (nat_cmp a.0 b.0)) (is_eq (nat_cmp a.1 b.1)) (tied_then (nat_cmp a.0 b.0) (nat_cmp a.1 b.1) ∙ e) in
+    λ i. (nat_tied a.0 b.0 parts.0 i, nat_tied a.1 b.1 parts.1 i)
+
+tied_digests : (a b : ℕ × ℕ) → a ≡ b → is_eq (by_digests a b) ≡ true
+tied_digests a b e =
+    sym (tied_then (nat_cmp a.0 b.0) (nat_cmp a.1 b.1))
+    ∙ (λ i. is_eq (sym (nat_cmp_is a.0 b.0 Equal (ap (λ d. d.0) e)) i) && is_eq (sym (nat_cmp_is a.1 b.1 Equal (ap (λ d. d.1) e)) i))
+
+-- digests that led nowhere lead to the name that goes behind the others
 pub holds-added : (kept : List (List ℕ)) (name other : List ℕ) (old new : Option ℕ) (rest : Bool)
     → IfSome old (λ at. at < length kept)
-    → new ≡ cond (is_eq (nat_cmp (digest_of name) (digest_of other))) (Some (length kept)) old
-    → (digest_of name ≡ digest_of other → old ≡ None)
+    → new ≡ cond (is_eq (by_digests (digests_of name) (digests_of other))) (Some (length kept)) old
+    → (digests_of name ≡ digests_of other → old ≡ None)
     → (is_kept_at (kept ++ name ∷ []) other new || rest) ≡ ((is_kept_at kept other old || rest) || bytes_eq other name)
-holds-added kept name other old new rest within is none = elim (cases_Bool (is_eq (nat_cmp (digest_of name) (digest_of other)))) [
+holds-added kept name other old new rest within is none = elim (cases_Bool (is_eq (by_digests (digests_of name) (digests_of other)))) [
   | inl same ↦
       let found : new ≡ Some (length kept) = is ∙ ap (λ b. cond b (Some (length kept)) old) same in
-      let before : old ≡ None = none (ranked (digest_of name) (digest_of other) Equal (sym ((Equal-is (nat_cmp (digest_of name) (digest_of other))).0 same))) in
+      let before : old ≡ None = none (digests_tied (digests_of name) (digests_of other) same) in
       ap (λ o. is_kept_at (kept ++ name ∷ []) other o || rest) found
       ∙ (ap (λ n. bytes_eq other n || rest) (get_or-append_seam kept name [] [])
       ∙ (or_comm (bytes_eq other name) rest
@@ -170,8 +176,7 @@ holds-added kept name other old new rest within is none = elim (cases_Bool (is_e
       let found : new ≡ old = is ∙ ap (λ b. cond b (Some (length kept)) old) apart in
       let another : bytes_eq other name ≡ false =
       false_from_ne_true (bytes_eq other name) (λ e.
-      both_ways _ apart (ap is_eq (sym (nat_cmp_is (digest_of name) (digest_of other) Equal
-      (ap digest_of (sym ((bytes_eq-Decides other name).0 e))))))) in
+      both_ways _ apart (tied_digests (digests_of name) (digests_of other) (ap digests_of (sym ((bytes_eq-Decides other name).0 e))))) in
       ap (λ o. is_kept_at (kept ++ name ∷ []) other o || rest) found
       ∙ (ap (λ b. b || rest) (kept-more kept (name ∷ []) other old within)
       ∙ sym (ap (λ b. (is_kept_at kept other old || rest) || b) another ∙ or-false (is_kept_at kept other old || rest)))

@@ -1,12 +1,11 @@
 -- The names that a reader has met.
-use Rattle.std.specs.Prelude.{◌≡◌, Bool, true, false, ◌||◌, if◌then◌else◌, ℕ, ◌<◌, ◌≤◌, nat_lt, nat_le, List, [], ◌∷◌, ◌++◌, length, drop, map, get_or, Option, Some, None, IfSome, is_some, All}
+use Rattle.std.specs.Prelude.{◌≡◌, Bool, true, false, ◌||◌, if◌then◌else◌, ℕ, ◌<◌, ◌≤◌, nat_lt, nat_le, List, [], ◌∷◌, ◌++◌, length, map, get_or, Option, Some, None, IfSome, is_some, All}
 use Rattle.std.specs.List.{list_any, filter}
 use Rattle.std.specs.Str.{bytes_eq}
-use Rattle.std.specs.Ordering.{nat_cmp}
+use Rattle.std.specs.Ordering.{nat_cmp, ordering_then}
+use Rattle.std.specs.declared.cmp.Ordering.{Ordering}
 use Rattle.std.specs.BTreeMap.{get}
-use Rattle.std.specs.declared.vec.Vec.{Vec}
-use Rattle.std.specs.declared.alloc.Global.{Global}
-use Rattle.image_reader.specs.Digest.{digest_of}
+use Rattle.image_reader.specs.Digest.{digests_of}
 use Rattle.image_reader.specs.Prefix.{prefix_of, prefix_bytes}
 use Rattle.image_reader.specs.declared.names.Names.{Names}
 use Rattle.image_reader.specs.declared.reading.HistReading.{HistReading}
@@ -32,15 +31,15 @@ abbrev pub is_kept_at : List (List ℕ) → List ℕ → Option ℕ → Bool
 is_kept_at kept name None = false
 is_kept_at kept name (Some place) = bytes_eq name (get_or kept place [])
 
--- the name of a key of the others, behind the digest of what stands behind its first eight bytes
-abbrev pub other_name : ℕ × Vec ℕ Global → List ℕ
-other_name key = key.1.items
+-- the order of two digests
+abbrev pub by_digests : ℕ × ℕ → ℕ × ℕ → Ordering
+by_digests a b = ordering_then (nat_cmp a.0 b.0) (nat_cmp a.1 b.1)
 
--- whether a longer name is: the histogram to which its digest leads has it, or it is among the others
+-- whether a longer name is: the histogram to which its digests lead has it, or it is among the others
 abbrev pub holds_long : Names → List (List ℕ) → List ℕ → Bool
 holds_long names kept name =
-    is_kept_at kept name (get nat_cmp names.first (digest_of name))
-    || list_any (λ key. bytes_eq name (other_name key)) names.others.keys
+    is_kept_at kept name (get by_digests names.first (digests_of name))
+    || list_any (λ other. bytes_eq name other.items) names.others.keys
 
 -- whether a name is among them, where these are the names of the histograms
 abbrev pub holds : Names → List (List ℕ) → List ℕ → Bool
@@ -51,15 +50,10 @@ pub record IsShort (number : ℕ) : Type 0 where
   pub prefix : number ≡ prefix_of (short_name number)
   pub few : length (short_name number) ≤ 8
 
--- a key is of its name
-abbrev pub IsOther : ℕ × Vec ℕ Global → Type 0
-IsOther key = key.0 ≡ digest_of (drop 8 (other_name key))
-
--- each digest leads to one of the histograms, and so does that of each of the others; each key of these is of its name
+-- all digests lead to one of the histograms or nowhere, and those of each of the others to one
 pub record ArePlaces (names : Names) (kept : List (List ℕ)) : Type 0 where
-  pub places : (digest : ℕ) → IfSome (get nat_cmp names.first digest) (λ place. place < length kept)
-  pub others : All (λ key. is_some (get nat_cmp names.first (digest_of (other_name key))) ≡ true) names.others.keys
-  pub keys : All IsOther names.others.keys
+  pub places : (digests : ℕ × ℕ) → IfSome (get by_digests names.first digests) (λ place. place < length kept)
+  pub others : All (λ other. is_some (get by_digests names.first (digests_of other.items)) ≡ true) names.others.keys
 
 -- each prefix is of its name, and each place is one of a histogram
 pub record AreKeys (names : Names) (kept : List (List ℕ)) : Type 0 where

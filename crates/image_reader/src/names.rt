@@ -1,11 +1,11 @@
 //! The names that a reader has met.
 
-ghost use Rattle.std.specs.Prelude.{◌≡◌, ◌||◌, ◌<◌, [], ℕ, List, true, false, not, length, IfOk};
+ghost use Rattle.std.specs.Prelude.{◌≡◌, ◌||◌, ◌<◌, ◌≤◌, [], ℕ, List, true, false, not, length, IfOk};
 ghost use Rattle.std.specs.List.{list_all};
 ghost use Rattle.std.specs.Str.{bytes_eq};
 ghost use Rattle.bucket_ranges.specs.Reading.{is_name_byte};
 ghost use Rattle.image_reader.specs.Prefix.{prefix_of};
-ghost use Rattle.image_reader.specs.Digest.{digest_of};
+ghost use Rattle.image_reader.specs.Digest.{digest_of, digests_of};
 
 use crate::reading::HistReading;
 use std::alloc::{AllocError, Global};
@@ -34,18 +34,26 @@ pub fn name_digest(name: &[u8]) -> u64
     hasher.finish()
 }
 
+// The digest of a name, and that of what stands behind its first eight bytes.
+fn name_digests(name: &[u8]) -> (u64, u64)
+    requires { 8 ≤ length name.now }
+    ensures { result ≡ digests_of name.now }
+{
+    (name_digest(name), name_digest(&name[8..]))
+}
+
 /// The names of histograms. No byte of a name is 0, so the prefix of a name of up to eight bytes tells the name: such a
-/// name is one number, and so the set of them stays small enough for a core's cache. A longer name is found by its digest,
-/// which leads to the histogram that has it, so no bytes are kept here but of those names whose digest another one has.
+/// name is one number, and so the set of them stays small enough for a core's cache. A longer name is found by two digests,
+/// which lead to the histogram that has it, so no bytes are kept here but of those names whose digests another one has. Of two
+/// digests, since whoever picks the names can make one of them the same for many.
 #[derive(Drop)]
 pub(crate) struct Names {
     // The names of up to eight bytes, as their prefixes.
     short: BTreeSet<u64>,
-    // By the digest of a longer name, the place of the first histogram whose name has it.
-    first: BTreeMap<u64, usize>,
-    // The longer names whose digest the name of an earlier histogram has, each behind the digest of its bytes from the
-    // ninth on: who picks names of one digest cannot as easily have these the same, so a comparison seldom goes further.
-    others: BTreeSet<(u64, Vec<u8>)>,
+    // By the digests of a longer name, the place of the first histogram whose name has them.
+    first: BTreeMap<(u64, u64), usize>,
+    // The longer names whose digests the name of an earlier histogram has.
+    others: BTreeSet<Vec<u8>>,
 }
 
 impl Names {
@@ -100,16 +108,15 @@ impl Names {
         ensures long { IfOk result (λ new. ArePlaces self.new (kept_with (names_of hists.now) name.now new)) }
         ensures short { self.new.short ≡ self.old.short }
     {
-        let digest = name_digest(name);
-        let Some(place) = self.first.insert(digest, hists.len())? else {
+        let digests = name_digests(name);
+        let Some(place) = self.first.insert(digests, hists.len())? else {
             return Ok(true);
         };
-        self.first.insert(digest, place)?;
+        self.first.insert(digests, place)?;
         if name == hists[place].name.as_slice() {
             return Ok(false);
         }
-        let rest = name_digest(&name[8..]);
         let whole = Vec::from_slice(alloc, name)?;
-        Ok(self.others.insert((rest, whole))?)
+        Ok(self.others.insert(whole)?)
     }
 }

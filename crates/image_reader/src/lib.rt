@@ -5,8 +5,9 @@
 //! fault, and why the list goes no further. The reader takes time that is linear in the words and in the buckets that
 //! it reads, up to a logarithm for names and samples: a list that ascends in memory is walked by its references, any
 //! other by the numbers of the image's lawful blocks, where a block that was met is marked; a sparse histogram that is
-//! read is marked in one truth value a word, names are kept in an ordered set, and samples in an ordered map. A list of
-//! buckets is made only of a record without a fault, and only of the first of its name.
+//! read is marked in one truth value a word, names are found by numbers in an ordered set and an ordered map, and samples
+//! are kept in an ordered map. A list of buckets is made only of a record without a fault, and only of the first of its
+//! name.
 #![tactic(auto)]
 
 mod buckets;

@@ -37,12 +37,7 @@ pub(crate) fn name_at(alloc: Global, words: &[u64], at: usize) -> Result<Vec<u8>
 }
 
 // The bytes of the name of a record, so many as `len` says, whose words lie in the image.
-fn read_name(
-    alloc: Global,
-    words: &[u64],
-    at: usize,
-    len: u64,
-) -> Result<Vec<u8>, AllocError>
+fn read_name(alloc: Global, words: &[u64], at: usize, len: u64) -> Result<Vec<u8>, AllocError>
     requires length { len ≡ field_at words.now at 14 }
     requires within { at + (15 + name_words (field_at words.now at 14)) ≤ length words.now }
     ensures { IfOk result (λ name. name.items ≡ name_of words.now at) }

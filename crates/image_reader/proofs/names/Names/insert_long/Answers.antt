@@ -62,8 +62,11 @@ restored old mid new digests last place sorted found added again =
 within : (names : Names) (hists : List HistReading) (digests : ℕ × ℕ) (place : ℕ) → ArePlaces names (names_of hists)
     → get by_digests names.first digests ≡ Some place → place < length hists
 within names hists digests place are found =
-    omega (arith, subst (λ o. IfSome o (λ at. at < length (names_of hists))) found (are.places digests),
-    length-map hists (λ (hist : HistReading). hist.name.items))
+    omega (
+      arith,
+      subst (λ o. IfSome o (λ at. at < length (names_of hists))) found (are.places digests),
+      length-map hists (λ (hist : HistReading). hist.name.items),
+    )
 
 -- the histogram to which the digests of a name lead tells whether the name is there
 named : (names : Names) (hists : List HistReading) (name : List ℕ) (digests : ℕ × ℕ) (place : ℕ) (d : HistReading) → ArePlaces names (names_of hists)

@@ -3,7 +3,7 @@
 ghost use Rattle.std.specs.Prelude.{◌≡◌, ◌<◌, ◌≤◌, length};
 ghost use Rattle.persist_report_core.specs.Number.{whole_number, unsigned_number as unsigned_number_of, long_number as long_number_of, signed_number as signed_number_of};
 
-// So many digits write a number below 2^64, whatever they are.
+// So many digits write a number below 2^64, whichever they are.
 const SHORT: usize = 19;
 
 // The number that so few digits write, where no step can overflow.

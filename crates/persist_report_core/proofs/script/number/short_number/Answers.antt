@@ -1,4 +1,4 @@
-use Rattle.std.proofs.Common.{◌<◌, ◌≤◌, ◌+◌, rules, arith, get_or}
+use Rattle.std.proofs.Common.{rules, arith, get_or}
 use Rattle.std.specs.Char.{IsAsciiDigit}
 use Rattle.std.proofs.lemmas.Int.Digits.{digits_value_more}
 use Rattle.persist_report_core.proofs.Numbers.{below-more, digit_value-is, few_digits, more_digits}

@@ -9,6 +9,7 @@ pub mod Readables
 pub mod Numbers
 pub mod FieldLemmas
 pub mod NameLemmas
+pub mod NameNumbers
 pub mod DraftLemmas
 pub mod Requests
 pub mod Rows

@@ -9,8 +9,7 @@ use Rattle.std.specs.HashMap.{HashMap, UpdatesBy, get_by}
 use Rattle.std.specs.Map.{IsKeyTest, AreApart, KeepsOthers, lookup}
 use Rattle.std.specs.Str.{bytes_eq}
 use Rattle.std.proofs.lemmas.Bool.{cases_Bool, eqb-true, eq-eqb}
-use Rattle.image_reader.specs.Digest.{digest_of}
-use Rattle.persist_report_core.specs.Names.{known_or}
+use Rattle.persist_report_core.specs.Names.{known_or, number_of, AreBytes, HasNumber, IsThere}
 use Rattle.persist_report_core.specs.declared.script.names.Known.{Known}
 
 -- a key of one name is none of another
@@ -72,29 +71,54 @@ part-new bytes more =
 
 -- so a name that was known is known
 known-kept : (bytes more : List ℕ) (known : Option Known) (name : List ℕ) (other : Option ℕ)
-    → IfSome known (λ one. (one.start ≤ one.end) × (one.end ≤ length bytes)) → known_or (bytes ++ more) known name other ≡ known_or bytes known name other
-known-kept bytes more None name other within = refl
-known-kept bytes more (Some known) name other within =
-    ap (λ part. if bytes_eq part name then Some known.place else other) (part-kept bytes more known.start known.end within.0 within.1)
+    → (number : ℕ) → IfSome known (IsThere bytes number) → known_or (bytes ++ more) known name other ≡ known_or bytes known name other
+known-kept bytes more None name other number there = refl
+known-kept bytes more (Some known) name other number there =
+    ap (λ part. if bytes_eq part name then Some known.place else other) (part-kept bytes more known.start known.end there.0 there.1)
 
 -- names of two numbers are two names
-unlike : (name other : List ℕ) (same : Bool) → (same ≡ true → name ≡ other) → (digest_of name == digest_of other) ≡ false → same ≡ false
-unlike name other true is differ = absurd (let e = eq-eqb (digest_of name) (digest_of other) (ap digest_of (is refl)) in cc)
+unlike : (name other : List ℕ) (same : Bool) → (same ≡ true → name ≡ other) → (number_of name == number_of other) ≡ false → same ≡ false
+unlike name other true is differ = absurd (let e = eq-eqb (number_of name) (number_of other) (ap number_of (is refl)) in cc)
 unlike name other false is differ = refl
 
 -- a name more that takes its number
 pub found-packed : (bytes : List ℕ) (old new : ℕ → Option Known) (others : List ℕ → Option ℕ) (name : List ℕ) (known : Known)
-    → ((number : ℕ) → IfSome (old number) (λ one. (one.start ≤ one.end) × (one.end ≤ length bytes)))
-    → ((number : ℕ) → new number ≡ (if digest_of name == number then Some known else old number))
-    → old (digest_of name) ≡ None → known.start ≡ length bytes → known.end ≡ length (bytes ++ name)
-    → (other : List ℕ) → known_or (bytes ++ name) (new (digest_of other)) other (others other)
-    ≡ (if bytes_eq name other then Some known.place else known_or bytes (old (digest_of other)) other (others other))
+    → ((number : ℕ) → IfSome (old number) (IsThere bytes number))
+    → ((number : ℕ) → new number ≡ (if number_of name == number then Some known else old number))
+    → old (number_of name) ≡ None → known.start ≡ length bytes → known.end ≡ length (bytes ++ name)
+    → (other : List ℕ) → known_or (bytes ++ name) (new (number_of other)) other (others other)
+    ≡ (if bytes_eq name other then Some known.place else known_or bytes (old (number_of other)) other (others other))
 found-packed bytes old new others name known packed put free start end other =
-    elim (cases_Bool (digest_of name == digest_of other)) [
+    elim (cases_Bool (number_of name == number_of other)) [
       | inl same ↦
-          let none : old (digest_of other) ≡ None = subst (λ number. old number ≡ None) (eqb-true (digest_of name) (digest_of other) same) free in
-          rw (put (digest_of other), same, none, start, end, part-new bytes name) refl
+          let none : old (number_of other) ≡ None = subst (λ number. old number ≡ None) (eqb-true (number_of name) (number_of other) same) free in
+          rw (put (number_of other), same, none, start, end, part-new bytes name) refl
       | inr differ ↦
           let apart : bytes_eq name other ≡ false = unlike name other (bytes_eq name other) (bytes_decides name other).0 differ in
-          rw (put (digest_of other), differ, apart) (known-kept bytes name (old (digest_of other)) other (others other) (packed (digest_of other)))
+          rw (put (number_of other), differ, apart) (known-kept bytes name (old (number_of other)) other (others other) (number_of other) (packed (number_of other)))
+    ]
+
+-- bytes that were there are there
+there-kept : (bytes more : List ℕ) (known : Option Known) (number : ℕ) → IfSome known (IsThere bytes number) → IfSome known (IsThere (bytes ++ more) number)
+there-kept bytes more None number there = there
+there-kept bytes more (Some known) number there = (
+  there.0,
+  omega (arith, there.1, length-append bytes more),
+  subst (HasNumber number) (sym (part-kept bytes more known.start known.end there.0 there.1)) there.2,
+)
+
+-- the bytes of a name more that takes its number are there too
+pub packed-put : (bytes : List ℕ) (old new : ℕ → Option Known) (name : List ℕ) (known : Known) → ((number : ℕ) → IfSome (old number) (IsThere bytes number))
+    → AreBytes name → ((number : ℕ) → new number ≡ (if number_of name == number then Some known else old number))
+    → known.start ≡ length bytes → known.end ≡ length (bytes ++ name) → (number : ℕ) → IfSome (new number) (IsThere (bytes ++ name) number)
+packed-put bytes old new name known packed are put start end number =
+    elim (cases_Bool (number_of name == number)) [
+      | inl same ↦
+          let part : slice_range (bytes ++ name) known.start known.end ≡ name = rw (start, end) (part-new bytes name) in
+          rw (put number, same) (
+            omega (arith, start, end, length-append bytes name),
+            omega (arith, end),
+            subst (HasNumber number) (sym part) (eqb-true (number_of name) number same, are),
+          )
+      | inr differ ↦ rw (put number, differ) (there-kept bytes name (old number) number (packed number))
     ]

@@ -3,8 +3,9 @@
 ghost use Rattle.std.specs.Prelude.{◌≡◌, ℕ, List, None, Some, OnOk, if◌then◌else◌};
 ghost use Rattle.std.specs.Option.{option_or};
 ghost use Rattle.std.specs.Str.{bytes_eq};
-ghost use Rattle.persist_report_core.specs.Names.{found, IsPacked};
+ghost use Rattle.persist_report_core.specs.Names.{found, is_two_words as is_two_words_of, number_of, AreBytes, HasNumber, IsPacked};
 
+use byteorder::{ByteOrder, LittleEndian};
 use image_reader::name_digest;
 use std::alloc::{AllocError, Global};
 use std::collections::HashMap;
@@ -14,7 +15,7 @@ use std::collections::HashMap;
 #[derive(Drop)]
 pub(crate) struct Names {
     // The names that have taken their numbers.
-    first: HashMap<u64, Known>,
+    first: HashMap<u128, Known>,
     // The bytes of these names, one behind the other, so that a look-up goes to few places of memory.
     bytes: Vec<u8>,
     others: HashMap<Vec<u8>, u32>,
@@ -30,6 +31,44 @@ struct Known {
 
 // The names that are found by their numbers have at most so many bytes together.
 const MAX_BYTES: usize = 0xFFFF_FFFF;
+
+// A word of eight bytes has so many values.
+const WORD_VALUES: u128 = 0x1_0000_0000_0000_0000;
+
+// Whether the first eight bytes of a name of this length and its last eight are all of its bytes.
+fn is_two_words(len: usize) -> bool
+    ensures { result ≡ is_two_words_of len }
+{
+    len >= 8 && len <= 16
+}
+
+// The number that the bytes of a name make. A name of 8 to 16 bytes is its first eight and its last eight, which tell all
+// of it to whoever knows its length, so that a look-up need not go to the bytes of the known name. Other names that
+// differ seldom have the same number.
+#[tactic(auto, unfolding(crate::specs::Names::number_of))]
+fn number(name: &[u8]) -> u128
+    ensures { result ≡ number_of name.now }
+{
+    if !is_two_words(name.len()) {
+        return u128::from(name_digest(name));
+    }
+    let first = LittleEndian::read_u64(name);
+    let last = LittleEndian::read_u64(&name[name.len() - 8..]);
+    u128::from(first) * WORD_VALUES + u128::from(last)
+}
+
+// Whether two names of one number are the same.
+fn are_same(known: &[u8], name: &[u8]) -> bool
+    requires known { HasNumber (number_of name.now) known.now }
+    requires name { AreBytes name.now }
+    ensures { result ≡ bytes_eq known.now name.now }
+{
+    if is_two_words(name.len()) {
+        known.len() == name.len()
+    } else {
+        known == name
+    }
+}
 
 impl Names {
     /// No names.
@@ -49,8 +88,9 @@ impl Names {
         requires { IsPacked self.now }
         ensures { result ≡ found self.now name.now }
     {
-        if let Some(known) = self.first.get(&name_digest(name)) {
-            if &self.bytes[known.start as usize..known.end as usize] == name {
+        if let Some(known) = self.first.get(&number(name)) {
+            let known_name = &self.bytes[known.start as usize..known.end as usize];
+            if are_same(known_name, name) {
                 return Some(known.place);
             }
         }
@@ -64,15 +104,15 @@ impl Names {
         ensures found { OnOk result ((other : List ℕ) → found self.new other ≡ (if bytes_eq name.now other then Some place else found self.old other)) }
         ensures packed { OnOk result (IsPacked self.new) }
     {
-        let digest = name_digest(name);
-        if self.first.contains_key(&digest) || self.bytes.len() + name.len() > MAX_BYTES {
+        let number = number(name);
+        if self.first.contains_key(&number) || self.bytes.len() + name.len() > MAX_BYTES {
             self.others.insert(Vec::from_slice(alloc, name)?, place)?;
             return Ok(());
         }
         let start = self.bytes.len() as u32;
         self.bytes.extend_from_slice(name)?;
         let end = self.bytes.len() as u32;
-        match self.first.insert(digest, Known { start, end, place }) {
+        match self.first.insert(number, Known { start, end, place }) {
             Ok(_) => Ok(()),
             Err(_) => Err(AllocError),
         }

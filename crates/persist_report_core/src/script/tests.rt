@@ -383,6 +383,45 @@ fn many_names(rt: HostRuntime) -> Result<(), Fail> {
     Ok(())
 }
 
+// Names that begin and end alike, of lengths about those at which they are two words of eight bytes.
+#[test]
+fn names_of_like_ends(rt: HostRuntime) -> Result<(), Fail> {
+    let alloc = rt.alloc();
+    let names = [
+        b"aaaaaaa".as_slice(),
+        b"aaaaaaaa",
+        b"aaaaaaaaa",
+        b"aaaaaaaaaaaaaaa",
+        b"aaaaaaaaaaaaaaaa",
+        b"aaaaaaaaaaaaaaaaa",
+        b"aaaaaaaabaaaaaaaa",
+        b"aaaaaaab",
+        b"baaaaaaa",
+        b"aaaaaaabbaaaaaaa",
+    ];
+    let mut script = lines(alloc, &[b"segment,1024,64,7"])?;
+    for name in &names {
+        script.extend_from_slice(b"hist,")?;
+        script.extend_from_slice(name)?;
+        script.extend_from_slice(b",boolean\n")?;
+    }
+    for name in names.iter().rev() {
+        script.extend_from_slice(b"delta,")?;
+        script.extend_from_slice(name)?;
+        script.push(b'\n')?;
+    }
+    let script = read(alloc, &script)?;
+    assert_eq!(rt; script.calls.len(), 10);
+    for (hist, call) in script.calls.iter().rev().enumerate() {
+        assert_eq!(rt; call.hist as usize, hist);
+    }
+    assert_eq!(rt;
+        third(alloc, b"delta,AAAAAAAA")?,
+        Some(ScriptFault::BadLine(3))
+    );
+    Ok(())
+}
+
 // Gives a byte a call, and fails after so many.
 #[derive(Drop)]
 struct Failing {

@@ -1,12 +1,13 @@
-use Rattle.std.proofs.Common.{◌≡◌, true, take}
+use Rattle.std.proofs.Common.{◌≡◌, ◌<◌, ◌^◌, true, take}
 use Rattle.std.specs.Char.{is_ascii_digit}
 use Rattle.std.specs.List.{list_all}
 use Rattle.std.specs.Str.Parse.{digits_value}
-use Rattle.persist_report_core.proofs.script.number.number_up_to.Given as goal
+use Rattle.persist_report_core.proofs.script.number.short_number.Given as goal
 
--- digits so far, and the number that they write
+-- digits so far, the number that they write, and that it has no more digits than they are
 abbrev pub invariant-loop-digit : goal.invariant-loop-digit
 invariant-loop-digit l = record {
   decimal : list_all is_ascii_digit (take l.digit-index l.digits) ≡ true;
   value : l.value ≡ digits_value 10 (take l.digit-index l.digits);
+  below : l.value < 10 ^ l.digit-index;
 }

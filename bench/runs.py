@@ -3,6 +3,7 @@
 import argparse
 import dataclasses
 import pathlib
+import statistics
 import subprocess
 import sys
 import threading
@@ -59,16 +60,29 @@ def seconds_of(program, path):
     return time.perf_counter() - start
 
 
-def best_by_turns(runs, most_turns, most_seconds):
-    """The best time of each of some runs, which are pairs of program and image, by turns: three turns at least."""
-    best = [float("inf")] * len(runs)
+def times_by_turns(runs, most_turns, most_seconds):
+    """The times of some runs, which are pairs of program and image, in each turn over all of them: three turns at least."""
+    turns = []
     end = time.perf_counter() + most_seconds
-    for turn in range(most_turns):
-        if turn >= 3 and time.perf_counter() > end:
-            break
-        for i, (program, path) in enumerate(runs):
-            best[i] = min(best[i], seconds_of(program, path))
-    return best
+    while len(turns) < 3 or len(turns) < most_turns and time.perf_counter() < end:
+        turns.append([seconds_of(program, path) for program, path in runs])
+    return turns
+
+
+def best_of(turns):
+    """The best time of each run."""
+    return [min(times) for times in zip(*turns)]
+
+
+def best_by_turns(runs, most_turns, most_seconds):
+    """The best time of each of some runs by turns."""
+    return best_of(times_by_turns(runs, most_turns, most_seconds))
+
+
+def median_ratios(turns):
+    """How much longer each run but the first took than the one before it in the same turn: the median over the turns."""
+    pairs = zip(zip(*turns), list(zip(*turns))[1:])
+    return [statistics.median(later / earlier for earlier, later in zip(*pair)) for pair in pairs]
 
 
 def program_of(path):

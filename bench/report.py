@@ -7,12 +7,12 @@ For each family of images of images.py, four images are made in a scratch folder
 the one before it. The report of each is compared with the one that it has to give. Then the built program runs over
 the four by turns, TURNS times or until SECONDS have passed, but three times at least. Printed are for each image its
 words, what it holds, its load (its words and the buckets that are looked at), the most memory of a run and the memory
-allowed, in MiB, the best time in milliseconds, and how load and time grew from the image before: the time by the median
-over all turns, in each of which the two are measured one after the other, and beside it by the best times.
+allowed, in MiB, the best time in milliseconds, and how load and time grew from the image before: the time by the best
+times, and beside it by the median over all turns, in each of which the two are measured one after the other.
 
-The speed of a virtual machine changes from second to second, so times that were not measured together tell little of one
-another: a short run more often meets a fast moment as a whole than a long one. So the median is what is judged. It
-may be 2.3 where the load doubles, and in proportion where it grows otherwise. Allowed are 64 bytes a word,
+The best time may grow by 2.3 where the load doubles, and in proportion where it grows otherwise. (The speed of a virtual
+machine changes from second to second, and a short run more often meets a fast moment as a whole than a long one; so the
+median is told too, and not judged.) Allowed are 64 bytes a word,
 32 bytes a bucket of a record that is not bad, three times the bytes of the report, and 16 MiB for the program.
 
 At last one forged image of 8 MiB with more than five GiB of report is read with no more than GIB of memory: the
@@ -61,15 +61,15 @@ def row_of(program, name, size, folder, gibibytes):
 
 def print_rows(rows, turns):
     """Prints the rows of a family with their times; whether no memory and no time is more than it may be."""
-    print("    words  holds                       load        MiB    allowed         ms    load x   time x   best x")
+    print("    words  holds                       load        MiB    allowed         ms    load x   time x   median")
     is_right = True
-    best, grown = runs.best_of(turns), [1, *runs.median_ratios(turns)]
+    best, medians = runs.best_of(turns), [1, *runs.median_ratios(turns)]
     for i, (row, seconds) in enumerate(zip(rows, best)):
         text = f"{row.words:9}  {row.holds:20}  {row.load:10}  {row.peak:9.1f}  {row.allowed:9.1f}  {1000 * seconds:9.2f}"
         wrong = "" if row.peak <= row.allowed else "  too much memory"
         if i > 0:
-            by_load, by_time = row.load / rows[i - 1].load, grown[i]
-            text += f"  {by_load:8.2f} {by_time:8.2f} {seconds / best[i - 1]:8.2f}"
+            by_load, by_time = row.load / rows[i - 1].load, seconds / best[i - 1]
+            text += f"  {by_load:8.2f} {by_time:8.2f} {medians[i]:8.2f}"
             wrong += "" if by_time <= MOST * by_load else "  too much time"
         is_right = is_right and not wrong
         print(text + wrong, flush=True)

@@ -1,11 +1,15 @@
 -- The digest of a name, by which names are told apart first.
-use Rattle.std.specs.Prelude.{ℕ, List, drop}
+use Rattle.std.specs.Prelude.{ℕ, ◌%◌, List, drop}
 use Rattle.std.specs.Hash.FoldHasher as folding
 
 -- the number that all bytes of a name make
 abbrev pub digest_of : List ℕ → ℕ
 digest_of name = folding.finish (folding.write folding.initial name)
 
--- that number, and the one that the bytes behind the first eight make
+-- the lower half of a number of 64 bits
+abbrev pub lower_half : ℕ → ℕ
+lower_half number = number % 4294967296
+
+-- the lower half of that number, and of the one that the bytes behind the first eight make
 abbrev pub digests_of : List ℕ → ℕ × ℕ
-digests_of name = (digest_of name, digest_of (drop 8 name))
+digests_of name = (lower_half (digest_of name), lower_half (digest_of (drop 8 name)))

@@ -7,7 +7,7 @@ use Rattle.bucket_ranges.specs.Reading.{read_records, lawful_records, lawful_sam
 use Rattle.image_reader.specs.declared.gathering.Gathering.{Gathering}
 use Rattle.image_reader.specs.Views.{bad_view, histogram_view}
 use Rattle.image_reader.specs.Names.{holds, names_of, AreKeys}
-use Rattle.image_reader.specs.Samples.{AreSamples, HoldsSamples}
+use Rattle.image_reader.specs.Samples.{AreNear, AreSamples, HoldsSamples}
 
 -- whether a name is that of a histogram which is read
 abbrev pub knows : Gathering → List ℕ → Bool
@@ -27,4 +27,5 @@ pub record IsGathered (words : List ℕ) (head : SegmentHead) (references : List
 pub record IsReady (words : List ℕ) (gathering : Gathering) : Type 0 where
   pub keys : AreKeys gathering.names (names_of gathering.hists.items)
   pub samples : AreSamples gathering.samples
+  pub near : AreNear gathering.hists.items
   pub long : length gathering.sparse.items ≡ length words

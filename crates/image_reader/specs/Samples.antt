@@ -1,5 +1,5 @@
 -- The samples that a reader has met.
-use Rattle.std.specs.Prelude.{◌≡◌, Bool, true, not, ◌||◌, ◌==◌, nat_lt, ℕ, ℤ, List, All, map}
+use Rattle.std.specs.Prelude.{◌≡◌, Bool, true, not, ◌||◌, ◌==◌, nat_lt, ℕ, ◌≤◌, ℤ, List, All, map}
 use Rattle.std.specs.List.{filter}
 use Rattle.std.specs.declared.cmp.Ordering.{Ordering}
 use Rattle.std.specs.Ordering.{nat_cmp, int_cmp, ordering_then}
@@ -9,6 +9,7 @@ use Rattle.segment_image.specs.Blocks.{field_at}
 use Rattle.bucket_ranges.specs.Reading.{is_i32, sample_value, first_samples, Histogram}
 use Rattle.bucket_ranges.specs.declared.spec.Spec.{Spec}
 use Rattle.bucket_ranges.specs.declared.spec.Spec.TheVariants.{Linear, Boolean, Custom, Sparse}
+use Rattle.image_reader.specs.declared.reading.HistReading.{HistReading}
 use Rattle.image_reader.specs.declared.sample.Sample.{Sample}
 use Rattle.image_reader.specs.declared.sample.Samples.{Samples}
 
@@ -61,6 +62,10 @@ pub record AreSamples (samples : Samples) : Type 0 where
 abbrev pub HoldsSamples : List ℕ → List ℕ → Samples → Type 0
 HoldsSamples words samples reader =
     (histogram : ℕ) → held reader histogram ≡ map (sample_entry words) (first_samples words samples histogram)
+
+-- the references of histograms, each of which is one of a segment's words
+abbrev pub AreNear : List HistReading → Type 0
+AreNear hists = All (λ hist. hist.reference ≤ 1048576) hists
 
 -- of two values the first where a spec is sparse
 abbrev pub if_sparse : {X : Type 0} → Spec → X → X → X

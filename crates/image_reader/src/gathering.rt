@@ -144,6 +144,7 @@ impl Gathering {
         head: &SegmentHead,
         reference: u64,
     ) -> Result<(), AllocError>
+        requires header { header_of words.now ≡ Ok head.now }
         requires tag { field_at words.now reference 2 ≡ 3 }
         requires least { 5 ≤ field_at words.now reference 0 }
         requires within { reference + field_at words.now reference 0 ≤ length words.now }

@@ -5,7 +5,7 @@ ghost use Rattle.segment_image.specs.Head.{header_of};
 ghost use Rattle.segment_image.specs.Blocks.{field_at};
 ghost use Rattle.bucket_ranges.specs.Reading.{record_fault, histogram_of, name_of, bucket_counts, bucket_marks, spec_of};
 ghost use Rattle.image_reader.specs.Views.{histogram_view};
-ghost use Rattle.image_reader.specs.Samples.{AreSamples, with_samples};
+ghost use Rattle.image_reader.specs.Samples.{AreNear, AreSamples, with_samples};
 
 use crate::buckets::{Buckets, counts_of, marks_of};
 use crate::reading::HistReading;
@@ -75,11 +75,12 @@ fn bucket_lists(
 
 // Gives a sparse histogram, which has no counts yet, those of its samples.
 fn give(alloc: Global, hist: &mut HistReading, samples: &Samples) -> Result<(), AllocError>
-    requires { AreSamples samples.now }
+    requires are { AreSamples samples.now }
+    requires near { hist.old.reference ≤ 1048576 }
     ensures { OnOk result (histogram_view hist.new ≡ with_samples samples.now (histogram_view hist.old)) }
 {
     if let Spec::Sparse = hist.spec {
-        let (counts, marks) = samples.of(alloc, hist.reference)?;
+        let (counts, marks) = samples.of(alloc, hist.reference as u32)?;
         hist.counts = counts;
         hist.marks = marks;
     }
@@ -92,7 +93,8 @@ pub(crate) fn give_samples(
     hists: &mut [HistReading],
     samples: &Samples,
 ) -> Result<(), AllocError>
-    requires { AreSamples samples.now }
+    requires are { AreSamples samples.now }
+    requires near { AreNear hists.old }
     ensures { OnOk result (map histogram_view hists.new ≡ map (with_samples samples.now) (map histogram_view hists.old)) }
 {
     for hist in hists.iter_mut() {

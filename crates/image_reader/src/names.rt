@@ -5,7 +5,7 @@ ghost use Rattle.std.specs.List.{list_all};
 ghost use Rattle.std.specs.Str.{bytes_eq};
 ghost use Rattle.bucket_ranges.specs.Reading.{is_name_byte};
 ghost use Rattle.image_reader.specs.Prefix.{prefix_of};
-ghost use Rattle.image_reader.specs.Digest.{digest_of, digests_of};
+ghost use Rattle.image_reader.specs.Digest.{digest_of, digests_of, lower_half as lower_half_of};
 
 use crate::reading::HistReading;
 use std::alloc::{AllocError, Global};
@@ -34,12 +34,21 @@ pub fn name_digest(name: &[u8]) -> u64
     hasher.finish()
 }
 
-// The digest of a name, and that of what stands behind its first eight bytes.
-fn name_digests(name: &[u8]) -> (u64, u64)
+// The lower half of a number.
+fn lower_half(number: u64) -> u32
+    ensures { result ≡ lower_half_of number }
+{
+    (number % (1 << 32)) as u32
+}
+
+// The lower halves of the digest of a name, and of that of what stands behind its first eight bytes.
+fn name_digests(name: &[u8]) -> (u32, u32)
     requires { 8 ≤ length name.now }
     ensures { result ≡ digests_of name.now }
 {
-    (name_digest(name), name_digest(&name[8..]))
+    let whole = name_digest(name);
+    let behind = name_digest(&name[8..]);
+    (lower_half(whole), lower_half(behind))
 }
 
 /// The names of histograms. No byte of a name is 0, so the prefix of a name of up to eight bytes tells the name: such a
@@ -51,7 +60,7 @@ pub(crate) struct Names {
     // The names of up to eight bytes, as their prefixes.
     short: BTreeSet<u64>,
     // By the digests of a longer name, the place of the first histogram whose name has them.
-    first: BTreeMap<(u64, u64), usize>,
+    first: BTreeMap<(u32, u32), usize>,
     // The longer names whose digests the name of an earlier histogram has.
     others: BTreeSet<Vec<u8>>,
 }

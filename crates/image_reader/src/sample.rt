@@ -14,16 +14,14 @@ use std::collections::BTreeMap;
 
 const MIN_SIZE: u64 = 8;
 
-const MAX_COUNT: u64 = 4_294_967_295;
-
-/// What the record of a sample says.
+/// What the record of a sample says. It has 16 bytes, so that many of them stay in a core's cache.
 #[derive(Clone, Copy, Debug)]
 pub(crate) struct Sample {
     /// The reference of its histogram's record.
-    histogram: u64,
+    histogram: u32,
     value: i32,
-    count: u64,
-    mark: u64,
+    count: u32,
+    mark: u32,
 }
 
 /// The sample of the record in a block at `at`, or nothing where the record is bad. Of each word `sparse` says whether
@@ -31,6 +29,7 @@ pub(crate) struct Sample {
 pub(crate) fn sample_at(words: &[u64], at: usize, sparse: &[bool]) -> Option<Sample>
     requires least { 5 ≤ field_at words.now at 0 }
     requires within { at + field_at words.now at 0 ≤ length words.now }
+    requires few { length sparse.now ≤ 1048576 }
     ensures { MatchOption result
         (is_bad_sample_by words.now at (get_or sparse.now (field_at words.now at 4) false) ≡ true)
         (λ sample. (is_bad_sample_by words.now at (get_or sparse.now (field_at words.now at 4) false) ≡ false) × (entry_of sample ≡ sample_entry words.now at)) }
@@ -40,13 +39,13 @@ pub(crate) fn sample_at(words: &[u64], at: usize, sparse: &[bool]) -> Option<Sam
         return None;
     }
     let value = i32::try_from(words[at + 5].cast_signed()).ok()?;
-    let count = words[at + 6];
-    let mark = words[at + 7];
-    if count > MAX_COUNT || mark > count {
+    let count = u32::try_from(words[at + 6]).ok()?;
+    let mark = u32::try_from(words[at + 7]).ok()?;
+    if mark > count {
         return None;
     }
     Some(Sample {
-        histogram,
+        histogram: histogram as u32,
         value,
         count,
         mark,
@@ -63,7 +62,7 @@ fn is_marked(marks: &[bool], reference: u64) -> bool
 /// The samples that a reader has met, in an ordered map: the count and the mark of each value of each histogram.
 #[derive(Drop)]
 pub(crate) struct Samples {
-    map: BTreeMap<(u64, i32), (u64, u64)>,
+    map: BTreeMap<(u32, i32), (u32, u32)>,
 }
 
 impl Samples {
@@ -96,7 +95,7 @@ impl Samples {
     pub(crate) fn of(
         &self,
         alloc: Global,
-        histogram: u64,
+        histogram: u32,
     ) -> Result<(Vec<(i32, u64)>, Vec<u64>), AllocError>
         requires { AreSamples self.now }
         ensures { IfOk result (λ lists. (lists.0.items ≡ map entry_count (held self.now histogram)) × (lists.1.items ≡ map entry_mark (held self.now histogram))) }
@@ -107,8 +106,8 @@ impl Samples {
             .map
             .range((histogram, i32::MIN)..=(histogram, i32::MAX))
         {
-            counts.push((key.1, units.0))?;
-            marks.push(units.1)?;
+            counts.push((key.1, u64::from(units.0)))?;
+            marks.push(u64::from(units.1))?;
         }
         Ok((counts, marks))
     }

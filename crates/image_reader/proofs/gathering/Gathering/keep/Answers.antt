@@ -1,8 +1,10 @@
 -- A name that is known adds nothing; one that is new adds the record, and marks it where it is sparse.
-use Rattle.std.proofs.Common.{◌≡◌, ℕ, Bool, length-set, List, [], ◌∷◌, ◌++◌, map, true, ◌<◌, ◌||◌, ◌&&◌, ◌==◌, length, get_or, false, not, refl, arith, ap, sym, subst, ◌∙◌, ◌≤◌}
+use Rattle.std.proofs.Common.{◌≡◌, ℕ, Bool, length-set, List, [], ◌∷◌, ◌++◌, map, true, ◌<◌, ◌||◌, ◌&&◌, ◌==◌, length, get_or, false, not, refl, arith, ap, sym, subst, ◌∙◌, ◌≤◌, ◌+◌, Ok, None}
 use Rattle.std.proofs.lemmas.Bool.{not-false, not-true, eq-eqb, ne_eqb}
 use Rattle.segment_image.specs.Blocks.{field_at}
-use Rattle.bucket_ranges.specs.Reading.{Histogram, histogram_of, name_of, is_sparse}
+use Rattle.segment_image.specs.Head.{header_of}
+use Rattle.segment_image.specs.declared.head.SegmentHead.{SegmentHead}
+use Rattle.bucket_ranges.specs.Reading.{Histogram, histogram_of, name_of, is_sparse, record_fault}
 use Rattle.std.proofs.lemmas.List.{map-append}
 use Rattle.image_reader.specs.declared.reading.HistReading.{HistReading}
 use Rattle.image_reader.specs.Views.{histogram_view}
@@ -11,6 +13,9 @@ use Rattle.image_reader.specs.declared.names.Names.{Names}
 use Rattle.std.specs.Str.{bytes_eq}
 use Rattle.image_reader.proofs.Sound.{IsReadable-from_none}
 use Rattle.image_reader.specs.Gathering.{knows}
+use Rattle.std.proofs.lemmas.List.Elements.{All-push}
+use Rattle.image_reader.specs.Samples.{AreNear}
+use Rattle.image_reader.proofs.Headers.{IsHeaded-from_header}
 use Rattle.image_reader.proofs.Gathered.{marked-sparse, unmarked-sparse}
 use Rattle.image_reader.proofs.Gathers.{IsGathered-known, IsGathered-new}
 use Rattle.image_reader.proofs.gathering.Gathering.keep.Goals as goal
@@ -111,6 +116,15 @@ keys_more : (new : Names) (slice before now : List HistReading) (bytes name : Li
 keys_more new slice before now bytes name added same_hists same_name is keys =
     subst (AreKeys new) (sym (is ∙ (λ i. kept_with (names_of (sym same_hists i)) (sym same_name i) added))) keys
 
+-- and the references stay those of words
+near_more : (before now : List HistReading) (hist : HistReading) (words : List ℕ) (head : SegmentHead) (at : ℕ) → header_of words ≡ Ok head
+    → record_fault words head at ≡ None → at + field_at words at 0 ≤ length words → now ≡ before ++ hist ∷ []
+    → histogram_view hist ≡ histogram_of words [] at → AreNear before → AreNear now
+near_more before now hist words head at header lawful within is seen near =
+    subst AreNear (sym is)
+    (All-push (λ (h : HistReading). h.reference ≤ 1048576) before hist near
+    (omega (arith, ap (λ (h : Histogram). h.reference) seen, within, (IsHeaded-from_header words head header).few)))
+
 pub returns-then-words-at-eq-SPARSE-clause-ready : goal.returns-then-words-at-eq-SPARSE-clause-ready
 returns-then-words-at-eq-SPARSE-clause-ready c = record {
   keys = keys_more c.insert.new.self c.deref-2.result.now c.args.self.now.hists.items c.push.new.self.items c.deref.result.now c.args.name.items
@@ -119,6 +133,8 @@ returns-then-words-at-eq-SPARSE-clause-ready c = record {
       c.in_ok-insert.field-0 c.in_ok-push.ensures.items c.in_ok-histogram.ensures c.requires.name c.if-not-branch.false)
       c.in_ok-insert.ensures.keys;
   samples = c.requires.ready.samples;
+  near = near_more c.args.self.now.hists.items c.push.new.self.items c.in_ok-histogram.field-0 c.args.words.now c.args.head.now c.args.reference
+      c.requires.header c.requires.lawful c.requires.within c.in_ok-push.ensures.items c.in_ok-histogram.ensures c.requires.ready.near;
   long = length-set c.args.self.now.sparse.items c.args.reference true ∙ c.requires.ready.long;
 }
 
@@ -130,5 +146,7 @@ returns-else-words-at-eq-SPARSE-clause-ready c = record {
       c.in_ok-insert.field-0 c.in_ok-push.ensures.items c.in_ok-histogram.ensures c.requires.name c.if-not-branch.false)
       c.in_ok-insert.ensures.keys;
   samples = c.requires.ready.samples;
+  near = near_more c.args.self.now.hists.items c.push.new.self.items c.in_ok-histogram.field-0 c.args.words.now c.args.head.now c.args.reference
+      c.requires.header c.requires.lawful c.requires.within c.in_ok-push.ensures.items c.in_ok-histogram.ensures c.requires.ready.near;
   long = c.requires.ready.long;
 }

@@ -5,6 +5,7 @@ pub mod Leads
 pub mod Records
 pub mod Sound
 pub mod SampleMaps
+pub mod Looks
 pub mod SpecWords
 pub mod BucketChecks
 pub mod NameLengths

@@ -11,6 +11,7 @@ pub mod Links
 pub mod Records
 pub mod Buckets
 pub mod Samples
+pub mod Look
 pub mod Prefix
 pub mod Digest
 pub mod Names

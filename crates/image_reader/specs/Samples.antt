@@ -1,5 +1,5 @@
 -- The samples that a reader has met.
-use Rattle.std.specs.Prelude.{◌≡◌, Bool, true, not, ◌||◌, ◌==◌, nat_lt, ℕ, ◌≤◌, ℤ, List, All, map}
+use Rattle.std.specs.Prelude.{◌≡◌, Bool, true, not, Option, Some, None, if◌then◌else◌, ◌||◌, ◌==◌, nat_lt, ℕ, ◌≤◌, ℤ, List, All, map}
 use Rattle.std.specs.List.{filter}
 use Rattle.std.specs.declared.cmp.Ordering.{Ordering}
 use Rattle.std.specs.Ordering.{nat_cmp, int_cmp, ordering_then}
@@ -21,6 +21,26 @@ is_bad_sample_by words at known =
     || nat_lt 4294967295 (field_at words at 6)
     || nat_lt (field_at words at 6) (field_at words at 7)
     || not known
+
+-- whether the words of a sample's record alone make it bad: the reference of a histogram has no more than 32 bits
+abbrev pub is_bad_alone : List ℕ → ℕ → Bool
+is_bad_alone words at =
+    nat_lt (field_at words at 0) 8
+    || nat_lt 4294967295 (field_at words at 4)
+    || not (is_i32 (sample_value words at))
+    || nat_lt 4294967295 (field_at words at 6)
+    || nat_lt (field_at words at 6) (field_at words at 7)
+
+-- what these words say
+abbrev pub own_sample : List ℕ → ℕ → Option Sample
+own_sample words at =
+    if is_bad_alone words at then None
+    else Some (record {
+      histogram = field_at words at 4;
+      value = sample_value words at;
+      count = field_at words at 6;
+      mark = field_at words at 7;
+    })
 
 -- a histogram and a value, and their count and mark
 abbrev pub Entry : Type 0

@@ -5,20 +5,19 @@ ghost use Rattle.segment_image.specs.Head.{header_of};
 ghost use Rattle.segment_image.specs.Blocks.{field_at};
 ghost use Rattle.std.specs.List.{list_all};
 ghost use Rattle.bucket_ranges.specs.Reading.{is_block, is_name_byte, name_of, record_fault};
+ghost use Rattle.image_reader.specs.Look.{look_of, name_len_of};
+ghost use Rattle.image_reader.specs.Samples.{own_sample};
 ghost use Rattle.image_reader.specs.Gathering.{IsGathered, IsReady};
 
 use crate::histogram::histogram;
+use crate::look::Look;
 use crate::names::Names;
 use crate::reading::{BadRecord, HistReading};
 use crate::record::{Refusal, check_record};
-use crate::sample::{Samples, sample_at};
+use crate::sample::{Sample, Samples};
 use bucket_ranges::reading::RecordFault;
 use segment_image::SegmentHead;
 use std::alloc::{AllocError, Global};
-
-const HISTOGRAM_TAG: u64 = 1;
-
-const SAMPLE_TAG: u64 = 3;
 
 const SPARSE: u64 = 4;
 
@@ -56,48 +55,50 @@ impl Gathering {
         })
     }
 
-    /// Gathers what the record at a reference says, whose type is `tag` and which stands behind those so far.
+    /// Gathers what the record at a reference says, which stands behind those so far, and of which a look told `look`.
     pub(crate) fn add(
         &mut self,
         alloc: Global,
         words: &[u64],
         head: &SegmentHead,
         reference: u64,
-        tag: u64,
+        look: Look,
     ) -> Result<(), AllocError>
         requires header { header_of words.now ≡ Ok head.now }
         requires block { is_block words.now head.now reference ≡ true }
-        requires tag { tag ≡ field_at words.now reference 2 }
+        requires look { look ≡ look_of words.now reference }
         requires ready { IsReady words.now self.old }
         ensures gathered { OnOk result ((earlier : List ℕ) → IsGathered words.now head.now earlier self.old → IsGathered words.now head.now (earlier ++ reference ∷ []) self.new) }
         ensures ready { OnOk result (IsReady words.now self.new) }
     {
-        if tag == HISTOGRAM_TAG {
-            self.add_histogram(alloc, words, head, reference)
-        } else if tag == SAMPLE_TAG {
-            self.add_sample(words, head, reference)
-        } else {
-            Ok(())
+        match look {
+            Look::Histogram(name_len) => {
+                self.add_histogram(alloc, words, head, reference, name_len)
+            }
+            Look::Sample(sample) => self.add_sample(words, head, reference, sample),
+            Look::Other => Ok(()),
         }
     }
 
-    // Gathers a histogram's record.
+    // Gathers a histogram's record, which says that its name has so many bytes.
     fn add_histogram(
         &mut self,
         alloc: Global,
         words: &[u64],
         head: &SegmentHead,
         reference: u64,
+        name_len: u64,
     ) -> Result<(), AllocError>
         requires header { header_of words.now ≡ Ok head.now }
         requires tag { field_at words.now reference 2 ≡ 1 }
+        requires name_len { name_len ≡ name_len_of words.now reference }
         requires least { 5 ≤ field_at words.now reference 0 }
         requires within { reference + field_at words.now reference 0 ≤ length words.now }
         requires ready { IsReady words.now self.old }
         ensures gathered { OnOk result ((earlier : List ℕ) → IsGathered words.now head.now earlier self.old → IsGathered words.now head.now (earlier ++ reference ∷ []) self.new) }
         ensures ready { OnOk result (IsReady words.now self.new) }
     {
-        match check_record(alloc, words, head, reference as usize) {
+        match check_record(alloc, words, head, reference as usize, name_len) {
             Ok(name) => self.keep(alloc, words, head, reference, name),
             Err(Refusal::Fault(fault)) => {
                 self.bad.push(BadRecord { reference, fault })?;
@@ -137,27 +138,29 @@ impl Gathering {
         Ok(())
     }
 
-    // Gathers a sample's record.
+    // Gathers a sample's record, whose own words say this.
     fn add_sample(
         &mut self,
         words: &[u64],
         head: &SegmentHead,
         reference: u64,
+        sample: Option<Sample>,
     ) -> Result<(), AllocError>
         requires header { header_of words.now ≡ Ok head.now }
         requires tag { field_at words.now reference 2 ≡ 3 }
-        requires least { 5 ≤ field_at words.now reference 0 }
-        requires within { reference + field_at words.now reference 0 ≤ length words.now }
+        requires sample { sample ≡ own_sample words.now reference }
         requires ready { IsReady words.now self.old }
         ensures gathered { OnOk result ((earlier : List ℕ) → IsGathered words.now head.now earlier self.old → IsGathered words.now head.now (earlier ++ reference ∷ []) self.new) }
         ensures ready { OnOk result (IsReady words.now self.new) }
     {
-        let Some(sample) = sample_at(words, reference as usize, &self.sparse) else {
-            let fault = RecordFault::BadSample;
-            self.bad.push(BadRecord { reference, fault })?;
-            return Ok(());
-        };
-        self.samples.insert(&sample)?;
+        if let Some(sample) = sample {
+            if sample.is_of(&self.sparse) {
+                self.samples.insert(&sample)?;
+                return Ok(());
+            }
+        }
+        let fault = RecordFault::BadSample;
+        self.bad.push(BadRecord { reference, fault })?;
         Ok(())
     }
 }

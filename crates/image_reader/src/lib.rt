@@ -14,6 +14,7 @@ mod buckets;
 mod gathering;
 mod histogram;
 mod links;
+mod look;
 mod name;
 mod names;
 mod reader;

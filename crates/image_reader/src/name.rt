@@ -14,15 +14,15 @@ use std::alloc::{AllocError, Global};
 
 const MAX_NAME: u64 = 128;
 
-/// The name of the record in a block at `at`, or `BadName`.
-pub(crate) fn name_at(alloc: Global, words: &[u64], at: usize) -> Result<Vec<u8>, Refusal>
+/// The name of the record in a block at `at`, which says that it has `len` bytes, or `BadName`.
+pub(crate) fn name_at(alloc: Global, words: &[u64], at: usize, len: u64) -> Result<Vec<u8>, Refusal>
     requires within { at + field_at words.now at 0 ≤ length words.now }
     requires long { 16 ≤ field_at words.now at 0 }
+    requires len { len ≡ field_at words.now at 14 }
     ensures name { IfOk result (λ name. (has_name words.now at ≡ true) × (name.items ≡ name_of words.now at)) }
     ensures lawful { IfOk result (λ name. list_all is_name_byte name.items ≡ true) }
     ensures fault { RefusedOnly RecordFault.BadName (has_name words.now at ≡ false) result }
 {
-    let len = words[at + 14];
     if len == 0 || len > MAX_NAME {
         return Err(Refusal::Fault(RecordFault::BadName));
     }

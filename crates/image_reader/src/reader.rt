@@ -10,6 +10,7 @@ ghost use Rattle.image_reader.specs.Gathering.{IsGathered, IsReady};
 
 use crate::gathering::Gathering;
 use crate::histogram::give_samples;
+use crate::look::look_at_all;
 use crate::reading::Reading;
 use crate::walk::{Listed, walk};
 use segment_image::{ImageFault, SegmentHead, header};
@@ -17,9 +18,6 @@ use std::alloc::{AllocError, Global};
 
 // So many blocks are looked at together.
 const BATCH: usize = 64;
-
-// The field of a block that has its type.
-const TAG: usize = 2;
 
 /// What the words of a segment read as.
 ///
@@ -56,25 +54,7 @@ fn read_list(alloc: Global, words: &[u64], head: &SegmentHead) -> Result<Reading
     })
 }
 
-// A field of each of the blocks at these references.
-fn fields_at(
-    alloc: Global,
-    words: &[u64],
-    references: &[u64],
-    field: usize,
-) -> Result<Vec<u64>, AllocError>
-    requires { (i : ℕ) → i < length references.now → slice_index references.now i + field < length words.now }
-    ensures { IfOk result (λ fields. fields.items ≡ map (λ reference. field_at words.now reference field) references.now) }
-{
-    let mut fields = Vec::with_capacity(alloc, references.len())?;
-    for reference in references {
-        fields.push(words[*reference as usize + field])?;
-    }
-    Ok(fields)
-}
-
-// Gathers what the records at a few references say. The blocks may lie apart in memory, and what is short goes over all
-// of them first: so the processor waits for many of them at once, and not for one after the other.
+// Gathers what the records at a few references say. All of them are looked at before the first is gathered.
 fn gather_batch(
     alloc: Global,
     words: &[u64],
@@ -88,9 +68,9 @@ fn gather_batch(
     ensures gathered { OnOk result ((earlier : List ℕ) → IsGathered words.now head.now earlier gathering.old → IsGathered words.now head.now (earlier ++ batch.now) gathering.new) }
     ensures ready { OnOk result (IsReady words.now gathering.new) }
 {
-    let tags = fields_at(alloc, words, batch, TAG)?;
+    let looks = look_at_all(alloc, words, batch)?;
     for (i, reference) in batch.iter().enumerate() {
-        gathering.add(alloc, words, head, *reference, tags[i])?;
+        gathering.add(alloc, words, head, *reference, looks[i])?;
     }
     Ok(())
 }

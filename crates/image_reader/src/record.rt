@@ -11,6 +11,7 @@ ghost use Rattle.segment_image.specs.Checks.{first_fault};
 ghost use Rattle.segment_image.specs.Head.{header_of};
 ghost use Rattle.segment_image.specs.Blocks.{field_at};
 ghost use Rattle.bucket_ranges.specs.Reading.{is_name_byte, has_name, is_bad_kind as is_bad_kind_of, is_bad_sum as is_bad_sum_of, record_buckets};
+ghost use Rattle.image_reader.specs.Look.{name_len_of};
 ghost use Rattle.image_reader.specs.Records.{IsRefusedBy, IsNamedAt, checks_behind_name, units_checks};
 
 use crate::buckets::{Buckets, buckets_fault};
@@ -57,24 +58,26 @@ impl<T: Drop> From<AllocFailed<T>> for Refusal {
     }
 }
 
-/// The name of the record in a block at `at`, where the record has no fault, or its first fault. No list of its
-/// buckets is made.
+/// The name of the record in a block at `at`, where the record has no fault, or its first fault. The name has so many
+/// bytes, where the block is long enough to say so. No list of the buckets is made.
 pub(crate) fn check_record(
     alloc: Global,
     words: &[u64],
     head: &SegmentHead,
     at: usize,
+    name_len: u64,
 ) -> Result<Vec<u8>, Refusal>
     requires header { header_of words.now ≡ Ok head.now }
     requires least { 5 ≤ field_at words.now at 0 }
     requires within { at + field_at words.now at 0 ≤ length words.now }
+    requires name_len { name_len ≡ name_len_of words.now at }
     ensures found { MatchResult result (IsNamedAt words.now head.now at) (IsRefusedBy words.now head.now at) }
     ensures name { IfOk result (λ name. list_all is_name_byte name.items ≡ true) }
 {
     if is_bad_kind(words, at) {
         return Err(Refusal::Fault(RecordFault::BadKind));
     }
-    let name = name_at(alloc, words, at)?;
+    let name = name_at(alloc, words, at, name_len)?;
     match fault_behind_name(words, head, at) {
         Some(fault) => Err(Refusal::Fault(fault)),
         None => Ok(name),

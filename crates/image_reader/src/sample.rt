@@ -7,7 +7,7 @@ ghost use Rattle.std.specs.Prelude.{◌≡◌, ◌≤◌, ◌+◌, [], true, fal
 ghost use Rattle.std.specs.BTreeSet.{insert_key};
 ghost use Rattle.segment_image.specs.Blocks.{field_at};
 ghost use Rattle.bucket_ranges.specs.Reading.{is_i32};
-ghost use Rattle.image_reader.specs.Samples.{Entry, by_entry_value, is_bad_sample_by, sample_entry, entry_of, held, AreSamples, entry_count, entry_mark};
+ghost use Rattle.image_reader.specs.Samples.{Entry, by_entry_value, own_sample, entry_of, held, AreSamples, entry_count, entry_mark};
 
 use std::alloc::{AllocError, Global};
 use std::collections::BTreeMap;
@@ -24,20 +24,16 @@ pub(crate) struct Sample {
     mark: u32,
 }
 
-/// The sample of the record in a block at `at`, or nothing where the record is bad. Of each word `sparse` says whether
-/// a sparse histogram is read there.
-pub(crate) fn sample_at(words: &[u64], at: usize, sparse: &[bool]) -> Option<Sample>
+/// What the record of a sample in a block at `at` says, or nothing where its own words are not those of a sample.
+pub(crate) fn sample_at(words: &[u64], at: usize) -> Option<Sample>
     requires least { 5 ≤ field_at words.now at 0 }
     requires within { at + field_at words.now at 0 ≤ length words.now }
-    requires few { length sparse.now ≤ 1048576 }
-    ensures { MatchOption result
-        (is_bad_sample_by words.now at (get_or sparse.now (field_at words.now at 4) false) ≡ true)
-        (λ sample. (is_bad_sample_by words.now at (get_or sparse.now (field_at words.now at 4) false) ≡ false) × (entry_of sample ≡ sample_entry words.now at)) }
+    ensures { result ≡ own_sample words.now at }
 {
-    let histogram = words[at + 4];
-    if words[at] < MIN_SIZE || !is_marked(sparse, histogram) {
+    if words[at] < MIN_SIZE {
         return None;
     }
+    let histogram = u32::try_from(words[at + 4]).ok()?;
     let value = i32::try_from(words[at + 5].cast_signed()).ok()?;
     let count = u32::try_from(words[at + 6]).ok()?;
     let mark = u32::try_from(words[at + 7]).ok()?;
@@ -45,18 +41,21 @@ pub(crate) fn sample_at(words: &[u64], at: usize, sparse: &[bool]) -> Option<Sam
         return None;
     }
     Some(Sample {
-        histogram: histogram as u32,
+        histogram,
         value,
         count,
         mark,
     })
 }
 
-fn is_marked(marks: &[bool], reference: u64) -> bool
-    ensures { result ≡ get_or marks.now reference false }
-{
-    let at = reference as usize;
-    at < marks.len() && marks[at]
+impl Sample {
+    /// Whether its histogram is one that is read. Of each word `sparse` says whether a sparse histogram is read there.
+    pub(crate) fn is_of(&self, sparse: &[bool]) -> bool
+        ensures { result ≡ get_or sparse.now self.now.histogram false }
+    {
+        let at = self.histogram as usize;
+        at < sparse.len() && sparse[at]
+    }
 }
 
 /// The samples that a reader has met, in an ordered map: the count and the mark of each value of each histogram.

@@ -29,8 +29,11 @@ give-requires-clause-near c =
     ∙ (get_or-drop at first (at - at) view
     ∙ (ap (λ i. get_or first i view) (omega arith)
     ∙ get_or-map histogram_view initial at hist view c.loop-hist-test.true)))) in
-    omega (arith, ap (λ (h : Histogram). h.reference) same,
-    All-get_or (λ (h : HistReading). h.reference ≤ 1048576) initial at hist c.loop-hist-test.true c.requires.near)
+    omega (
+      arith,
+      ap (λ (h : Histogram). h.reference) same,
+      All-get_or (λ (h : HistReading). h.reference ≤ 1048576) initial at hist c.loop-hist-test.true c.requires.near,
+    )
 
 pub loop-hist-preserved : goal.loop-hist-preserved
 loop-hist-preserved c =

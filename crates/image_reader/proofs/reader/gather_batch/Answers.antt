@@ -1,14 +1,18 @@
 -- Each record is gathered behind those so far.
-use Rattle.std.proofs.Common.{◌++◌, ◌∷◌, [], ℕ, List, take, ap, sym, ◌∙◌, subst, arith, append_assoc}
+use Rattle.std.proofs.Common.{◌++◌, ◌∷◌, [], ℕ, List, take, ap, sym, ◌∙◌, subst, append_assoc}
 use Rattle.std.specs.Prelude.{slice_index}
 use Rattle.std.proofs.lemmas.List.{take_more}
 use Rattle.image_reader.specs.Gathering.{IsGathered}
 use Rattle.image_reader.proofs.Headers.{block_in_words}
 use Rattle.image_reader.proofs.reader.gather_batch.Goals as goal
 
-pub fields_at-requires : goal.fields_at-requires
-fields_at-requires c = λ i within.
-    omega (arith, block_in_words c.args.words.now c.args.head.now (slice_index c.args.batch.now i) c.requires.header (c.requires.lawful i within))
+pub look_at_all-requires-clause-least : goal.look_at_all-requires-clause-least
+look_at_all-requires-clause-least c = λ i within.
+    (block_in_words c.args.words.now c.args.head.now (slice_index c.args.batch.now i) c.requires.header (c.requires.lawful i within)).0
+
+pub look_at_all-requires-clause-within : goal.look_at_all-requires-clause-within
+look_at_all-requires-clause-within c = λ i within.
+    (block_in_words c.args.words.now c.args.head.now (slice_index c.args.batch.now i) c.requires.header (c.requires.lawful i within)).1
 
 pub loop-i-preserved : goal.loop-i-preserved
 loop-i-preserved c =

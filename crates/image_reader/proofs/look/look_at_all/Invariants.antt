@@ -1,0 +1,7 @@
+use Rattle.std.proofs.Common.{◌≡◌, map, take}
+use Rattle.image_reader.specs.Look.{look_of}
+use Rattle.image_reader.proofs.look.look_at_all.Given as goal
+
+-- the looks so far
+abbrev pub invariant-loop-reference : goal.invariant-loop-reference
+invariant-loop-reference l = l.looks.items ≡ map (look_of l.words) (take l.reference-index l.references)

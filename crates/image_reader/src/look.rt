@@ -4,15 +4,13 @@ ghost use Rattle.std.specs.Prelude.{◌≡◌, ◌≤◌, ◌+◌, ℕ, ◌<◌,
 ghost use Rattle.segment_image.specs.Blocks.{field_at};
 ghost use Rattle.image_reader.specs.Look.{look_of, name_len_of};
 
+use crate::record::MIN_SIZE;
 use crate::sample::{Sample, sample_at};
 use std::alloc::{AllocError, Global};
 
 const HISTOGRAM_TAG: u64 = 1;
 
 const SAMPLE_TAG: u64 = 3;
-
-// The least size of a block that has a histogram's record.
-const MIN_SIZE: u64 = 16;
 
 /// What a look at a record tells.
 #[derive(Clone, Copy)]

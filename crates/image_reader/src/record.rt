@@ -21,7 +21,8 @@ use bucket_ranges::reading::RecordFault;
 use segment_image::SegmentHead;
 use std::alloc::{AllocError, AllocFailed, Global};
 
-const MIN_SIZE: u64 = 16;
+/// The least size of a block that has a histogram's record, in words.
+pub(crate) const MIN_SIZE: u64 = 16;
 
 const LINEAR: u64 = 1;
 

@@ -1,11 +1,11 @@
 pub mod Headers
+pub mod Looks
 pub mod Lists
 pub mod Places
 pub mod Leads
 pub mod Records
 pub mod Sound
 pub mod SampleMaps
-pub mod Looks
 pub mod SpecWords
 pub mod BucketChecks
 pub mod NameLengths

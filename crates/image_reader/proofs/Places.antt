@@ -231,6 +231,7 @@ ArePlaces-from_groups words head groups held header are all small long =
       blocks_are = are.are.blocks_are;
       places_are = places;
       nexts_are = are.nexts_are;
+      types_are = are.types_are;
       index_is = record {
         long = omega arith;
         fits = λ reference.

@@ -2,9 +2,13 @@
 use Rattle.std.specs.Prelude.{◌≡◌, ◌==◌, true, false, if◌then◌else◌, ℕ, ◌+◌, ◌*◌, ◌/◌, ◌^◌, ◌<◌, ◌≤◌, List, length, get_or, map, min, slice_index}
 use Rattle.std.specs.List.{AllPairs}
 use Rattle.segment_image.specs.declared.head.SegmentHead.{SegmentHead}
-use Rattle.bucket_ranges.specs.Reading.{before, next_of, is_block, IsWalk}
+use Rattle.bucket_ranges.specs.Reading.{before, next_of, is_block, IsWalk, IsListed}
+use Rattle.image_reader.specs.Look.{AreTyped}
 use Rattle.image_reader.specs.declared.links.Places.{Places}
 use Rattle.image_reader.specs.declared.links.Links.{Links}
+use Rattle.image_reader.specs.declared.walk.Records.{Records}
+use Rattle.image_reader.specs.declared.look.RecordType.{RecordType}
+use Rattle.image_reader.specs.declared.look.RecordType.TheVariants.{Other}
 
 -- references of blocks in the order of memory: that of the queue block, and then of lawful ones
 pub record AreBlocks (words : List ℕ) (head : SegmentHead) (references : List ℕ) : Type 0 where
@@ -37,11 +41,12 @@ pub record ArePlacesBelow (words : List ℕ) (head : SegmentHead) (bound : ℕ) 
 abbrev pub near_next : List ℕ → ℕ → ℕ
 near_next words reference = min (next_of words reference) 4294967295
 
--- those of so many groups, each with its next
+-- those of so many groups, each with its type and its next
 pub record AreGroups (words : List ℕ) (head : SegmentHead) (groups : ℕ) (held : Places) : Type 0 where
   pub are : ArePlacesBelow words head (128 * groups) held.references.items held.starts.items held.steps.items
   pub count : length held.starts.items ≡ groups
   pub nexts_are : held.nexts.items ≡ map (near_next words) held.references.items
+  pub types_are : AreTyped words held.references.items held.types.items
 
 -- each word with steps has a group, no word has so many that its place is too large, and the words are few
 pub record IsIndex (starts steps : List ℕ) : Type 0 where
@@ -49,21 +54,32 @@ pub record IsIndex (starts steps : List ℕ) : Type 0 where
   pub fits : (reference : ℕ) → place_of starts steps reference < 2 ^ 32
   pub few : length steps < 4294967295
 
--- the blocks of an image, each with its next, and the place of each word
+-- the blocks of an image, each with its type and its next, and the place of each word
 pub record ArePlaces (words : List ℕ) (head : SegmentHead) (held : Places) : Type 0 where
   pub blocks_are : AreBlocks words head held.references.items
   pub places_are : (reference : ℕ) → IsPlace words head held.references.items reference (place_of held.starts.items held.steps.items reference)
   pub nexts_are : held.nexts.items ≡ map (near_next words) held.references.items
+  pub types_are : AreTyped words held.references.items held.types.items
   pub index_is : IsIndex held.starts.items held.steps.items
   pub few : length held.references.items < 4294967295
 
--- the blocks of an image, and the place of each one's next
+-- the blocks of an image, each with its type and the place of its next
 pub record AreLinks (words : List ℕ) (head : SegmentHead) (links : Links) : Type 0 where
   pub blocks_are : AreBlocks words head links.references.items
   pub few : length links.references.items < 4294967295
+  pub types_are : AreTyped words links.references.items links.types.items
   pub long : length links.leads.items ≡ length links.references.items
   pub leads_are : (place : ℕ) → place < length links.references.items
       → IsPlace words head links.references.items (next_of words (slice_index links.references.items place)) (slice_index links.leads.items place)
+
+-- the type at a place, which there is
+abbrev pub type_at : List RecordType → ℕ → RecordType
+type_at types place = get_or types place Other
+
+-- these records are the list, with their types
+pub record AreListed (words : List ℕ) (head : SegmentHead) (records : Records) : Type 0 where
+  pub listed : IsListed words head records.references.items
+  pub typed : AreTyped words records.references.items records.types.items
 
 -- the list leads from a block to a lawful one that is not behind it in memory
 abbrev pub GoesBack : List ℕ → SegmentHead → Type 0

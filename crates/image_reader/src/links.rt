@@ -9,6 +9,7 @@ ghost use Rattle.std.specs.Prelude.{◌≡◌, ◌<◌, ◌≤◌, ◌+◌, ◌*
 ghost use Rattle.segment_image.specs.Head.{header_of};
 ghost use Rattle.image_reader.specs.Links.{AreGroups, ArePlaces, IsIndex, AreLinks, place_of};
 
+use crate::look::RecordType;
 use segment_image::{SegmentHead, block};
 use std::alloc::{AllocError, Global};
 
@@ -21,6 +22,8 @@ const GROUP: usize = 128;
 pub(crate) struct Links {
     /// The reference of the block at each place.
     pub(crate) references: Vec<u32>,
+    /// What the record in it is.
+    pub(crate) types: Vec<RecordType>,
     /// The place of the block that its next names, 0 where no lawful block stands there.
     pub(crate) leads: Vec<u32>,
 }
@@ -35,17 +38,20 @@ impl Links {
         turn_into_places(&places.starts, &places.steps, &mut places.nexts);
         Ok(Links {
             references: places.references,
+            types: places.types,
             leads: places.nexts,
         })
     }
 }
 
-// The same blocks with their nexts, and the places of the words at which they begin: that of a word is so many steps
+// The same blocks with their types and nexts, and the places of the words at which they begin: that of a word is so many steps
 // behind the start of its group of 128 words.
 #[derive(Drop)]
 struct Places {
     // The reference of the block at each place.
     references: Vec<u32>,
+    // What the record in it is.
+    types: Vec<RecordType>,
     // The next of the block at each place, as far as 32 bits hold it.
     nexts: Vec<u32>,
     // Of each group the last place before it.
@@ -63,6 +69,7 @@ impl Places {
         let groups = (head.free as usize).div_ceil(GROUP);
         let mut places = Places {
             references: vec![in alloc; QUEUE_BLOCK; 1]?,
+            types: vec![in alloc; RecordType::of(words[14]); 1]?,
             nexts: vec![in alloc; near(words[15]); 1]?,
             starts: Vec::with_capacity(alloc, groups)?,
             steps: vec![in alloc; 0_u8; groups * GROUP]?,
@@ -94,6 +101,7 @@ impl Places {
             if let Ok(found) = block(words, head, reference as u64) {
                 self.steps[reference] = (self.references.len() as u32 - start) as u8;
                 self.references.push(reference as u32)?;
+                self.types.push(RecordType::of(found.tag))?;
                 self.nexts.push(near(found.next))?;
             }
         }

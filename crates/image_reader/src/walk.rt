@@ -3,9 +3,11 @@
 ghost use Rattle.std.specs.Prelude.{◌≡◌, ◌<◌, Ok, All, length, map, slice_index, IfOk, MatchOption};
 ghost use Rattle.segment_image.specs.Head.{header_of};
 ghost use Rattle.bucket_ranges.specs.Reading.{IsListed, before, stop_of};
-ghost use Rattle.image_reader.specs.Links.{GoesBack};
+ghost use Rattle.image_reader.specs.Look.{AreTyped};
+ghost use Rattle.image_reader.specs.Links.{GoesBack, AreListed, type_at};
 
 use crate::links::Links;
+use crate::look::RecordType;
 use segment_image::{ImageFault, QUEUE, SegmentHead, block};
 use std::alloc::{AllocError, Global};
 
@@ -16,22 +18,33 @@ const MET: u32 = u32::MAX;
 #[derive(Drop)]
 pub(crate) struct Listed {
     pub(crate) references: Vec<u64>,
+    /// What each of them is.
+    pub(crate) types: Vec<RecordType>,
     pub(crate) stopped: Option<ImageFault>,
+}
+
+// The records of a list and what each of them is.
+#[derive(Drop)]
+struct Records {
+    references: Vec<u64>,
+    types: Vec<RecordType>,
 }
 
 /// The list of the segment whose header is `head`.
 pub(crate) fn walk(alloc: Global, words: &[u64], head: &SegmentHead) -> Result<Listed, AllocError>
     requires { header_of words.now ≡ Ok head.now }
     ensures listed { IfOk result (λ list. IsListed words.now head.now list.references.items) }
+    ensures typed { IfOk result (λ list. AreTyped words.now list.references.items list.types.items) }
     ensures stopped { IfOk result (λ list. list.stopped ≡ stop_of words.now head.now list.references.items) }
 {
-    let references = match ascending(alloc, words, head)? {
-        Some(references) => references,
+    let Records { references, types } = match ascending(alloc, words, head)? {
+        Some(records) => records,
         None => along_links(alloc, words, head)?,
     };
     let stopped = stop(words, head, &references);
     Ok(Listed {
         references,
+        types,
         stopped,
     })
 }
@@ -41,11 +54,12 @@ fn ascending(
     alloc: Global,
     words: &[u64],
     head: &SegmentHead,
-) -> Result<Option<Vec<u64>>, AllocError>
+) -> Result<Option<Records>, AllocError>
     requires { header_of words.now ≡ Ok head.now }
-    ensures { IfOk result (λ found. MatchOption found (GoesBack words.now head.now) (λ references. IsListed words.now head.now references.items)) }
+    ensures { IfOk result (λ found. MatchOption found (GoesBack words.now head.now) (AreListed words.now head.now)) }
 {
     let mut references = Vec::new(alloc);
+    let mut types = Vec::new(alloc);
     let mut last = QUEUE;
     let mut next = words[15];
     while let Ok(found) = block(words, head, next) {
@@ -53,16 +67,17 @@ fn ascending(
             return Ok(None);
         }
         references.push(next)?;
+        types.push(RecordType::of(found.tag))?;
         last = next;
         next = found.next;
     }
-    Ok(Some(references))
+    Ok(Some(Records { references, types }))
 }
 
 // The records of the list, in whatever order they stand in memory.
-fn along_links(alloc: Global, words: &[u64], head: &SegmentHead) -> Result<Vec<u64>, AllocError>
+fn along_links(alloc: Global, words: &[u64], head: &SegmentHead) -> Result<Records, AllocError>
     requires { header_of words.now ≡ Ok head.now }
-    ensures { IfOk result (λ references. IsListed words.now head.now references.items) }
+    ensures { IfOk result (AreListed words.now head.now) }
 {
     let links = Links::of(alloc, words, head)?;
     let mut leads = links.leads;
@@ -74,7 +89,9 @@ fn along_links(alloc: Global, words: &[u64], head: &SegmentHead) -> Result<Vec<u
         leads[place as usize] = MET;
         place = next;
     }
-    references_at(alloc, &links.references, &places)
+    let references = references_at(alloc, &links.references, &places)?;
+    let types = types_at(alloc, &links.types, &places)?;
+    Ok(Records { references, types })
 }
 
 // The references of the blocks at these places.
@@ -85,6 +102,22 @@ fn references_at(alloc: Global, references: &[u32], places: &[u32]) -> Result<Ve
     let mut found = Vec::with_capacity(alloc, places.len())?;
     for place in places {
         found.push(u64::from(references[*place as usize]))?;
+    }
+    Ok(found)
+}
+
+// What the records in the blocks at these places are.
+fn types_at(
+    alloc: Global,
+    types: &[RecordType],
+    places: &[u32],
+) -> Result<Vec<RecordType>, AllocError>
+    requires { All (λ place. place < length types.now) places.now }
+    ensures { IfOk result (λ found. found.items ≡ map (type_at types.now) places.now) }
+{
+    let mut found = Vec::with_capacity(alloc, places.len())?;
+    for place in places {
+        found.push(types[*place as usize])?;
     }
     Ok(found)
 }

@@ -3,5 +3,5 @@ use Rattle.image_reader.specs.Look.{look_of}
 use Rattle.image_reader.proofs.look.look_at_all.Given as goal
 
 -- the looks so far
-abbrev pub invariant-loop-reference : goal.invariant-loop-reference
-invariant-loop-reference l = l.looks.items ≡ map (look_of l.words) (take l.reference-index l.references)
+abbrev pub invariant-loop-i : goal.invariant-loop-i
+invariant-loop-i l = l.looks.items ≡ map (look_of l.words) (take l.i l.references)

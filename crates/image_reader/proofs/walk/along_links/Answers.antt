@@ -1,18 +1,16 @@
 -- Each step of the walk along the places.
-use Rattle.std.proofs.Common.{◌≡◌, ◌≢◌, false, ◌==◌, ℕ, ◌<◌, List, [], ◌∷◌, ◌++◌, length, get_or, map, arith, sym, ◌∙◌, subst}
-use Rattle.std.specs.Prelude.{Result, IfOk, slice_index}
+use Rattle.std.proofs.Common.{◌≡◌, ◌≢◌, false, ◌==◌, ℕ, ◌<◌, List, [], ◌∷◌, ◌++◌, length, get_or, map, arith, ap, sym, ◌∙◌, subst}
+use Rattle.std.specs.Prelude.{slice_index}
 use Rattle.std.specs.List.{list_any}
 use Rattle.std.proofs.lemmas.Bool.{false≢true}
 use Rattle.std.proofs.lemmas.Grind.{get_or_default_zero}
 use Rattle.std.proofs.lemmas.List.Elements.{All-nil, All-push}
-use Rattle.std.proofs.lemmas.Result.{IfOk-weaker}
-use Rattle.std.specs.declared.vec.Vec.{Vec}
-use Rattle.std.specs.declared.alloc.Global.{Global}
-use Rattle.std.specs.declared.alloc.AllocError.{AllocError}
-use Rattle.segment_image.specs.declared.head.SegmentHead.{SegmentHead}
 use Rattle.bucket_ranges.specs.Reading.{next_of, IsListed}
 use Rattle.bucket_ranges.proofs.Walks.{IsWalk-none, IsListed-from_no_block}
-use Rattle.image_reader.specs.Links.{AreLinks, IsPlace}
+use Rattle.std.proofs.lemmas.List.{length-map}
+use Rattle.image_reader.specs.Links.{AreLinks, IsPlace, type_at}
+use Rattle.image_reader.specs.Look.{type_of}
+use Rattle.image_reader.proofs.Looks.{typed-along}
 use Rattle.image_reader.proofs.Leads.{unmet-set, AreLeft-new, AreLeft-met, AreLeft-push}
 use Rattle.image_reader.proofs.Places.{before-places, IsWalk-place, IsListed-from_place}
 use Rattle.image_reader.proofs.walk.along_links.Goals as goal
@@ -83,15 +81,12 @@ loop-place-smaller c =
 pub references_at-requires : goal.references_at-requires
 references_at-requires c = rw (c.deref.ensures.value, c.deref-2.ensures.value) c.loop-place.invariant.within
 
--- the references that the call returns are those of the walk, which is the list
-returned : (words : List ℕ) (head : SegmentHead) (references places blocks behind : List ℕ) (result : Result (Vec ℕ Global) AllocError)
-    → blocks ≡ references → behind ≡ places → IfOk result (λ found. found.items ≡ map (slice_index blocks) behind)
-    → IsListed words head (map (slice_index references) places)
-    → IfOk result (λ found. IsListed words head found.items)
-returned words head references places blocks behind result same_blocks same_places found listed =
-    IfOk-weaker result (λ found. found.items ≡ map (slice_index blocks) behind) (λ found. IsListed words head found.items)
-    (λ found is. subst (λ listed. IsListed words head listed) (sym (is ∙ (λ i. map (slice_index (same_blocks i)) (same_places i)))) listed)
-    found
+pub types_at-requires : goal.types_at-requires
+types_at-requires c =
+    let links : AreLinks c.args.words.now c.args.head.now c.in_ok-links.links = c.in_ok-links.ensures in
+    let typed : length c.in_ok-links.links.types.items ≡ length c.in_ok-links.links.references.items =
+    ap length links.types_are ∙ length-map c.in_ok-links.links.references.items (type_of c.args.words.now) in
+    rw (c.deref-3.ensures.value, c.deref-4.ensures.value, typed) c.loop-place.invariant.within
 
 pub returns : goal.returns
 returns c =
@@ -111,5 +106,12 @@ returns c =
           IsListed-from_no_block c.args.words.now c.args.head.now (map (slice_index blocks) c.loop-place.places.items)
           c.loop-place.invariant.walk (c.loop-place.invariant.place_is.none w.loop-place-test.false)
     ] in
-    returned c.args.words.now c.args.head.now blocks c.loop-place.places.items c.deref.result.now c.deref-2.result.now
-    c.references_at.result c.deref.ensures.value c.deref-2.ensures.value c.references_at.ensures listed
+    let places : List ℕ = c.loop-place.places.items in
+    let are : c.in_ok-references.references.items ≡ map (slice_index blocks) places =
+    c.in_ok-references.ensures ∙ (λ i. map (slice_index (c.deref.ensures.value i)) (c.deref-2.ensures.value i)) in
+    record {
+      listed = subst (IsListed c.args.words.now c.args.head.now) (sym are) listed;
+      typed = typed-along c.args.words.now blocks places c.in_ok-references.references.items c.in_ok-links.links.types.items
+          c.in_ok-types.types.items links.types_are c.loop-place.invariant.within are
+          (c.in_ok-types.ensures ∙ (λ i. map (type_at (c.deref-3.ensures.value i)) (c.deref-4.ensures.value i)));
+    }

@@ -26,6 +26,7 @@ returns c =
     record {
       blocks_are = held.blocks_are;
       few = held.few;
+      types_are = held.types_are;
       long = ap length written ∙ long;
       leads_are = λ place within.
           let reference : ℕ = get_or references place 0 in

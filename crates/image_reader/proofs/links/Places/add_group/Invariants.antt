@@ -1,5 +1,6 @@
 use Rattle.std.proofs.Common.{◌≡◌, ◌+◌, ◌<◌, ◌≤◌, length, get_or, map}
 use Rattle.image_reader.specs.Links.{ArePlacesBelow, near_next}
+use Rattle.image_reader.specs.Look.{AreTyped}
 use Rattle.image_reader.proofs.links.Places.add_group.Given as goal
 
 -- the blocks so far with their nexts, and their places; those of the group are no more than its words so far
@@ -11,5 +12,6 @@ invariant-loop-reference l = record {
   started : l.start < length l.self.references.items;
   recent : length l.self.references.items + l.first ≤ l.start + 1 + l.reference;
   long : length l.self.steps.items ≡ length l.initial.self.steps.items;
+  types_are : AreTyped l.words l.self.references.items l.self.types.items;
   nexts_are : l.self.nexts.items ≡ map (near_next l.words) l.self.references.items;
 }

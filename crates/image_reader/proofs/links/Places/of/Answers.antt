@@ -12,15 +12,17 @@ use Rattle.image_reader.proofs.links.Places.of.Goals as goal
 pub loop-group-init : goal.loop-group-init
 loop-group-init c =
     let queue : c.in_ok-vec.field-0.items ≡ 12 ∷ [] = c.in_ok-vec.ensures.items_if_clones_equal (λ y e. e) in
-    let nexts : c.in_ok-vec-2.field-0.items ≡ c.near.result ∷ [] = c.in_ok-vec-2.ensures.items_if_clones_equal (λ y e. e) in
+    let nexts : c.in_ok-vec-3.field-0.items ≡ c.near.result ∷ [] = c.in_ok-vec-3.ensures.items_if_clones_equal (λ y e. e) in
+    let types : c.in_ok-vec-2.field-0.items ≡ c.of.result ∷ [] = c.in_ok-vec-2.ensures.items_if_clones_equal (λ y e. e) in
     let starts : c.in_ok-with_capacity.field-0.items ≡ [] = c.in_ok-with_capacity.ensures.items in
-    let steps : c.in_ok-vec-3.field-0.items ≡ replicate (c.div_ceil-groups.result * 128) 0 =
-    c.in_ok-vec-3.ensures.items_if_clones_equal (λ y e. e) in
+    let steps : c.in_ok-vec-4.field-0.items ≡ replicate (c.div_ceil-groups.result * 128) 0 =
+    c.in_ok-vec-4.ensures.items_if_clones_equal (λ y e. e) in
     record {
       are = record {
         are = rw (queue, starts, steps) (ArePlacesBelow-none c.args.words.now c.args.head.now (c.div_ceil-groups.result * 128));
         count = ap length starts;
         nexts_are = rw (nexts, queue, c.near.ensures) refl;
+        types_are = rw (types, queue, c.of.ensures) refl;
       };
       long = ap length steps ∙ length-replicate (c.div_ceil-groups.result * 128) 0;
     }
@@ -39,6 +41,12 @@ free_is_few words head header =
     let within : head.free ≤ length words = headed.free_within in
     let few : length words ≤ 1048576 = headed.few in
     omega arith
+
+pub overflow_mul-groups : goal.overflow_mul-groups
+overflow_mul-groups c =
+    let groups = enough c.args.head.now.free c.div_ceil-groups.result c.div_ceil-groups.ensures
+    (free_is_few c.args.words.now c.args.head.now c.requires) in
+    grind (arith, groups.1)
 
 pub add_group-requires-clause-small : goal.add_group-requires-clause-small
 add_group-requires-clause-small c =

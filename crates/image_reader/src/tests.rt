@@ -11,8 +11,9 @@ use crate::{BadRecord, HistReading, Reading, RecordFault, name_digest, read};
 use bucket_ranges::Spec;
 use forgeries::Random;
 use images::{
-    DIGEST_NAMES, DISABLED, Words, blank, changed, custom, one_counted, one_empty, same_digests,
-    shared_counts, sparse_race, sparse_samples, three, two_empty,
+    BOTH_DIGESTS_NAMES, BOTH_DIGESTS_WORDS, DIGEST_NAMES, DIGEST_WORDS, DISABLED, Words, blank,
+    changed, custom, long_names, one_counted, one_empty, shared_counts, sparse_race,
+    sparse_samples, three, two_empty,
 };
 use segment_image::ImageFault;
 use slow_reader::slow_read;
@@ -240,20 +241,43 @@ fn several_records(rt: HostRuntime) -> Result<(), Fail> {
     Ok(())
 }
 
+// That five records with three long names, each at its place, are read as the first three of them.
+fn expect_long_names(
+    rt: &impl Abort,
+    alloc: Global,
+    names: &[&str; 3],
+    words: &[[u64; 4]; 3],
+) -> Result<(), ImageFault> {
+    let reading = read(alloc, &long_names(rt, words))?;
+    assert_eq!(rt; reading.hists.len(), 3);
+    for (i, at) in [16, 35, 64].iter().enumerate() {
+        assert_eq!(rt; reading.hists[i].reference, *at);
+        assert!(rt; reading.hists[i].name.as_slice() == names[i].as_bytes());
+    }
+    assert!(rt; reading.bad.is_empty());
+    assert_eq!(rt; reading.stopped, None);
+    Ok(())
+}
+
 // Names that have one digest are told apart, and each is read once.
 #[test]
 fn names_of_one_digest(rt: HostRuntime) -> Result<(), Fail> {
     let digest = name_digest(DIGEST_NAMES[0].as_bytes());
-    let reading = read(rt.alloc(), &same_digests(&rt))?;
-    assert_eq!(rt; reading.hists.len(), 3);
-    for (i, at) in [16, 35, 64].iter().enumerate() {
-        let name = DIGEST_NAMES[i].as_bytes();
-        assert_eq!(rt; name_digest(name), digest);
-        assert_eq!(rt; reading.hists[i].reference, *at);
-        assert!(rt; reading.hists[i].name.as_slice() == name);
+    for name in DIGEST_NAMES {
+        assert_eq!(rt; name_digest(name.as_bytes()), digest);
     }
-    assert!(rt; reading.bad.is_empty());
-    assert_eq!(rt; reading.stopped, None);
+    expect_long_names(&rt, rt.alloc(), &DIGEST_NAMES, &DIGEST_WORDS)?;
+    Ok(())
+}
+
+// So are names of which the lower halves of both digests are the same.
+#[test]
+fn names_of_both_digests(rt: HostRuntime) -> Result<(), Fail> {
+    for name in BOTH_DIGESTS_NAMES {
+        assert_eq!(rt; name_digest(name.as_bytes()), 0);
+        assert_eq!(rt; name_digest(&name.as_bytes()[8..]) % (1 << 32), 0x0011_A95C);
+    }
+    expect_long_names(&rt, rt.alloc(), &BOTH_DIGESTS_NAMES, &BOTH_DIGESTS_WORDS)?;
     Ok(())
 }
 
@@ -272,7 +296,8 @@ fn reads_as_the_slow_reader(rt: HostRuntime) -> Result<(), Fail> {
         one_counted(&rt),
         two_empty(&rt, 65),
         two_empty(&rt, 66),
-        same_digests(&rt),
+        long_names(&rt, &DIGEST_WORDS),
+        long_names(&rt, &BOTH_DIGESTS_WORDS),
         shared_counts(&rt),
         three(&rt),
         sparse_samples(&rt),

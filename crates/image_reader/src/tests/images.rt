@@ -21,8 +21,8 @@ pub(crate) const DIGEST_NAMES: [&str; 3] = [
     "Page.Load.000005T.1JzgMa.Samples",
 ];
 
-// Their words.
-const DIGEST_WORDS: [[u64; 4]; 3] = [
+/// Their words.
+pub(crate) const DIGEST_WORDS: [[u64; 4]; 3] = [
     [
         0x616F_4C2E_6567_6150,
         0x3331_3030_3030_2E64,
@@ -40,6 +40,36 @@ const DIGEST_WORDS: [[u64; 4]; 3] = [
         0x3530_3030_3030_2E64,
         0x614D_677A_4A31_2E54,
         0x7365_6C70_6D61_532E,
+    ],
+];
+
+/// Three names of which all have the same digest, and whose digests of what stands behind the first eight bytes have the
+/// same lower half.
+pub(crate) const BOTH_DIGESTS_NAMES: [&str; 3] = [
+    "Page.Load.006597-&s%HkfC03862946",
+    "Page.Load.006597-&s%HkfC06819266",
+    "Page.Load.006597-&s%HkfC12620067",
+];
+
+/// Their words.
+pub(crate) const BOTH_DIGESTS_WORDS: [[u64; 4]; 3] = [
+    [
+        0x616F_4C2E_6567_6150,
+        0x3739_3536_3030_2E64,
+        0x4366_6B48_2573_262D,
+        0x3634_3932_3638_3330,
+    ],
+    [
+        0x616F_4C2E_6567_6150,
+        0x3739_3536_3030_2E64,
+        0x4366_6B48_2573_262D,
+        0x3636_3239_3138_3630,
+    ],
+    [
+        0x616F_4C2E_6567_6150,
+        0x3739_3536_3030_2E64,
+        0x4366_6B48_2573_262D,
+        0x3736_3030_3236_3231,
     ],
 ];
 
@@ -105,9 +135,9 @@ fn with_long_boolean(rt: &impl Abort, words: &Words, at: usize, name: &[u64; 4])
     changed(rt, &fields, &rest)
 }
 
-/// Five empty boolean histograms, at 16, 35, 64, 83 and 102, whose names are the three of `DIGEST_NAMES`, the second of
-/// them again and the first again.
-pub(crate) fn same_digests(rt: &impl Abort) -> Words {
+/// Five empty boolean histograms, at 16, 35, 64, 83 and 102, whose names have these words: the three of them, the second
+/// again and the first again.
+pub(crate) fn long_names(rt: &impl Abort, names: &[[u64; 4]; 3]) -> Words {
     let records = [
         (16, 0, 35),
         (35, 1, 64),
@@ -117,7 +147,7 @@ pub(crate) fn same_digests(rt: &impl Abort) -> Words {
     ];
     let mut words = changed(rt, &blank(rt), &[(7, 121), (8, 102), (15, 16)]);
     for (at, name, next) in records {
-        words = with_long_boolean(rt, &words, at, &DIGEST_WORDS[name]);
+        words = with_long_boolean(rt, &words, at, &names[name]);
         words = changed(rt, &words, &[(at + 3, next)]);
     }
     words

@@ -1,5 +1,5 @@
 -- Keys in an ordered set, looked for by their names.
-use Rattle.std.proofs.Common.{◌≡◌, ◌≢◌, Bool, true, false, ◌||◌, ◌&&◌, ℕ, ◌≤◌, ◌<◌, Option, Some, None, cond, inl, inr, List, [], ◌∷◌, ◌++◌, refl, ap, sym, subst, ◌∙◌, length, Vec, Global, arith}
+use Rattle.std.proofs.Common.{◌≡◌, ◌≢◌, Bool, true, false, ◌||◌, ℕ, ◌≤◌, ◌<◌, Option, Some, None, cond, inl, inr, List, [], ◌∷◌, ◌++◌, refl, ap, sym, subst, ◌∙◌, length, Vec, Global, arith}
 use Rattle.std.proofs.lemmas.List.{length-append}
 use Rattle.std.specs.Prelude.{IfSome, is_some, nat_le, if◌then◌else◌}
 use Rattle.std.specs.List.{list_any, list_all, AllByRecursion}
@@ -7,23 +7,23 @@ use Rattle.std.specs.Str.{bytes_eq}
 use Rattle.std.specs.declared.cmp.Ordering.{Ordering}
 use Rattle.std.specs.declared.cmp.Ordering.TheVariants.{Less, Equal, Greater}
 use Rattle.std.specs.Ordering.{nat_cmp, is_eq, match_ordering}
-use Rattle.std.specs.Cmp.{IsTotalOrder, Equal-is, nat_cmp_is, tied_then, then_total, on_total}
+use Rattle.std.specs.Cmp.{Equal-is, nat_cmp_is}
 use Rattle.std.specs.Cmp.Lexicographic.{slice_cmp}
 use Rattle.std.specs.BTreeMap.{is_at}
 use Rattle.std.specs.BTreeSet.{insert_key}
-use Rattle.std.proofs.lemmas.Cmp.{ranked, nat_cmp_total}
+use Rattle.std.proofs.lemmas.Cmp.{ranked}
 use Rattle.std.specs.Bool.{Decides}
 use Rattle.std.proofs.lemmas.Bool.Decides.{same_from_decides}
-use Rattle.std.proofs.lemmas.Bool.{false_from_ne_true, cases_Bool, both_ways, and_parts}
+use Rattle.std.proofs.lemmas.Bool.{false_from_ne_true, cases_Bool, both_ways}
 use Rattle.std.proofs.lemmas.List.{get_or_append_left}
 use Rattle.std.proofs.Math.Seq.{get_or-append_seam}
 use Rattle.std.proofs.lemmas.Map.Text.{is_eq-slice_cmp}
 use Rattle.std.proofs.lemmas.Slice.Eq.{bytes_eq-Decides}
 use Rattle.std.proofs.Math.Bool.{or_comm, or_assoc, or-false}
-use Rattle.image_reader.specs.Digest.{digests_of}
+use Rattle.image_reader.specs.Digest.{key_of}
 use Rattle.image_reader.specs.Prefix.{prefix_of}
 use Rattle.bucket_ranges.specs.Reading.{is_name_byte}
-use Rattle.image_reader.specs.Names.{by_digests, short_name, is_kept_at, kept_with, IsShort}
+use Rattle.image_reader.specs.Names.{short_name, is_kept_at, kept_with, IsShort}
 use Rattle.image_reader.proofs.Prefixes.{prefix_bytes-number}
 use Rattle.std.proofs.lemmas.List.{take_all}
 
@@ -119,7 +119,7 @@ IsShort-of name lawful few =
 pub slice_same : SameTied items_of (λ _. Unit {0}) (λ a b. slice_cmp nat_cmp a.items b.items)
 slice_same a b p q e = is_eq-slice_cmp a.items b.items ∙ (bytes_eq-Decides a.items b.items).1 e
 
--- ---- names behind their digests
+-- ---- names behind their keys
 
 -- one more name behind those that are kept changes no place of theirs
 kept-more : (kept more : List (List ℕ)) (name : List ℕ) (place : Option ℕ) → IfSome place (λ at. at < length kept)
@@ -141,33 +141,23 @@ or-known p name other known = elim (cases_Bool (bytes_eq other name)) [
   | inr apart ↦ sym (ap (λ b. p other || b) apart ∙ or-false (p other))
 ]
 
--- the order of digests is total, and ties only those that are the same
-pub by_digests-total : IsTotalOrder by_digests
-by_digests-total = then_total (on_total (λ (d : ℕ × ℕ). d.0) nat_cmp_total) (on_total (λ (d : ℕ × ℕ). d.1) nat_cmp_total)
-
+-- the order of numbers ties only those that are the same
 nat_tied : (a b : ℕ) → is_eq (nat_cmp a b) ≡ true → a ≡ b
 nat_tied a b e = ranked a b Equal (sym ((Equal-is (nat_cmp a b)).0 e))
 
-digests_tied : (a b : ℕ × ℕ) → is_eq (by_digests a b) ≡ true → a ≡ b
-digests_tied a b e =
-    let parts = and_parts (is_eq (nat_cmp a.0 b.0)) (is_eq (nat_cmp a.1 b.1)) (tied_then (nat_cmp a.0 b.0) (nat_cmp a.1 b.1) ∙ e) in
-    λ i. (nat_tied a.0 b.0 parts.0 i, nat_tied a.1 b.1 parts.1 i)
+tied_nat : (a b : ℕ) → a ≡ b → is_eq (nat_cmp a b) ≡ true
+tied_nat a b e = ap is_eq (sym (nat_cmp_is a b Equal e))
 
-tied_digests : (a b : ℕ × ℕ) → a ≡ b → is_eq (by_digests a b) ≡ true
-tied_digests a b e =
-    sym (tied_then (nat_cmp a.0 b.0) (nat_cmp a.1 b.1))
-    ∙ (λ i. is_eq (sym (nat_cmp_is a.0 b.0 Equal (ap (λ d. d.0) e)) i) && is_eq (sym (nat_cmp_is a.1 b.1 Equal (ap (λ d. d.1) e)) i))
-
--- digests that led nowhere lead to the name that goes behind the others
+-- a key that led nowhere leads to the name that goes behind the others
 pub holds-added : (kept : List (List ℕ)) (name other : List ℕ) (old new : Option ℕ) (rest : Bool)
     → IfSome old (λ at. at < length kept)
-    → new ≡ cond (is_eq (by_digests (digests_of name) (digests_of other))) (Some (length kept)) old
-    → (digests_of name ≡ digests_of other → old ≡ None)
+    → new ≡ cond (is_eq (nat_cmp (key_of name) (key_of other))) (Some (length kept)) old
+    → (key_of name ≡ key_of other → old ≡ None)
     → (is_kept_at (kept ++ name ∷ []) other new || rest) ≡ ((is_kept_at kept other old || rest) || bytes_eq other name)
-holds-added kept name other old new rest within is none = elim (cases_Bool (is_eq (by_digests (digests_of name) (digests_of other)))) [
+holds-added kept name other old new rest within is none = elim (cases_Bool (is_eq (nat_cmp (key_of name) (key_of other)))) [
   | inl same ↦
       let found : new ≡ Some (length kept) = is ∙ ap (λ b. cond b (Some (length kept)) old) same in
-      let before : old ≡ None = none (digests_tied (digests_of name) (digests_of other) same) in
+      let before : old ≡ None = none (nat_tied (key_of name) (key_of other) same) in
       ap (λ o. is_kept_at (kept ++ name ∷ []) other o || rest) found
       ∙ (ap (λ n. bytes_eq other n || rest) (get_or-append_seam kept name [] [])
       ∙ (or_comm (bytes_eq other name) rest
@@ -176,13 +166,13 @@ holds-added kept name other old new rest within is none = elim (cases_Bool (is_e
       let found : new ≡ old = is ∙ ap (λ b. cond b (Some (length kept)) old) apart in
       let another : bytes_eq other name ≡ false =
       false_from_ne_true (bytes_eq other name) (λ e.
-      both_ways _ apart (tied_digests (digests_of name) (digests_of other) (ap digests_of (sym ((bytes_eq-Decides other name).0 e))))) in
+      both_ways _ apart (tied_nat (key_of name) (key_of other) (ap key_of (sym ((bytes_eq-Decides other name).0 e))))) in
       ap (λ o. is_kept_at (kept ++ name ∷ []) other o || rest) found
       ∙ (ap (λ b. b || rest) (kept-more kept (name ∷ []) other old within)
       ∙ sym (ap (λ b. (is_kept_at kept other old || rest) || b) another ∙ or-false (is_kept_at kept other old || rest)))
 ]
 
--- one more place is below a length that is greater, and no digest leads nowhere again
+-- one more place is below a length that is greater, and no key leads nowhere again
 pub within-added : (here : Bool) (old new : Option ℕ) (last more : ℕ) → last < more → new ≡ cond here (Some last) old
     → IfSome old (λ at. at < last) → IfSome new (λ at. at < more)
 within-added true old new last more lt is within = subst (λ o. IfSome o (λ at. at < more)) (sym is) lt

@@ -1,5 +1,5 @@
 -- The digest of a name, by which names are told apart first.
-use Rattle.std.specs.Prelude.{ℕ, ◌%◌, List, drop}
+use Rattle.std.specs.Prelude.{ℕ, ◌+◌, ◌%◌, List, drop}
 use Rattle.std.specs.Hash.FoldHasher as folding
 
 -- the number that all bytes of a name make
@@ -10,6 +10,6 @@ digest_of name = folding.finish (folding.write folding.initial name)
 abbrev pub lower_half : ℕ → ℕ
 lower_half number = number % 4294967296
 
--- the lower half of that number, and of the one that the bytes behind the first eight make
-abbrev pub digests_of : List ℕ → ℕ × ℕ
-digests_of name = (lower_half (digest_of name), lower_half (digest_of (drop 8 name)))
+-- the lower half of the sum of that number and of the one that the bytes behind the first eight make
+abbrev pub key_of : List ℕ → ℕ
+key_of name = lower_half (digest_of name + digest_of (drop 8 name))

@@ -2,10 +2,9 @@
 use Rattle.std.specs.Prelude.{◌≡◌, Bool, true, false, ◌||◌, if◌then◌else◌, ℕ, ◌<◌, ◌≤◌, nat_lt, nat_le, List, [], ◌∷◌, ◌++◌, length, map, get_or, Option, Some, None, IfSome, is_some, All}
 use Rattle.std.specs.List.{list_any, filter}
 use Rattle.std.specs.Str.{bytes_eq}
-use Rattle.std.specs.Ordering.{nat_cmp, ordering_then}
-use Rattle.std.specs.declared.cmp.Ordering.{Ordering}
+use Rattle.std.specs.Ordering.{nat_cmp}
 use Rattle.std.specs.BTreeMap.{get}
-use Rattle.image_reader.specs.Digest.{digests_of}
+use Rattle.image_reader.specs.Digest.{key_of}
 use Rattle.image_reader.specs.Prefix.{prefix_of, prefix_bytes}
 use Rattle.image_reader.specs.declared.names.Names.{Names}
 use Rattle.image_reader.specs.declared.reading.HistReading.{HistReading}
@@ -31,14 +30,10 @@ abbrev pub is_kept_at : List (List ℕ) → List ℕ → Option ℕ → Bool
 is_kept_at kept name None = false
 is_kept_at kept name (Some place) = bytes_eq name (get_or kept place [])
 
--- the order of two digests
-abbrev pub by_digests : ℕ × ℕ → ℕ × ℕ → Ordering
-by_digests a b = ordering_then (nat_cmp a.0 b.0) (nat_cmp a.1 b.1)
-
--- whether a longer name is: the histogram to which its digests lead has it, or it is among the others
+-- whether a longer name is: the histogram to which its key leads has it, or it is among the others
 abbrev pub holds_long : Names → List (List ℕ) → List ℕ → Bool
 holds_long names kept name =
-    is_kept_at kept name (get by_digests names.first (digests_of name))
+    is_kept_at kept name (get nat_cmp names.first (key_of name))
     || list_any (λ other. bytes_eq name other.items) names.others.keys
 
 -- whether a name is among them, where these are the names of the histograms
@@ -50,10 +45,10 @@ pub record IsShort (number : ℕ) : Type 0 where
   pub prefix : number ≡ prefix_of (short_name number)
   pub few : length (short_name number) ≤ 8
 
--- all digests lead to one of the histograms or nowhere, and those of each of the others to one
+-- every key leads to one of the histograms or nowhere, and that of each of the others to one
 pub record ArePlaces (names : Names) (kept : List (List ℕ)) : Type 0 where
-  pub places : (digests : ℕ × ℕ) → IfSome (get by_digests names.first digests) (λ place. place < length kept)
-  pub others : All (λ other. is_some (get by_digests names.first (digests_of other.items)) ≡ true) names.others.keys
+  pub places : (key : ℕ) → IfSome (get nat_cmp names.first key) (λ place. place < length kept)
+  pub others : All (λ other. is_some (get nat_cmp names.first (key_of other.items)) ≡ true) names.others.keys
 
 -- each prefix is of its name, and each place is one of a histogram
 pub record AreKeys (names : Names) (kept : List (List ℕ)) : Type 0 where

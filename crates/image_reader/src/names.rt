@@ -5,7 +5,7 @@ ghost use Rattle.std.specs.List.{list_all};
 ghost use Rattle.std.specs.Str.{bytes_eq};
 ghost use Rattle.bucket_ranges.specs.Reading.{is_name_byte};
 ghost use Rattle.image_reader.specs.Prefix.{prefix_of};
-ghost use Rattle.image_reader.specs.Digest.{digest_of, digests_of, lower_half as lower_half_of};
+ghost use Rattle.image_reader.specs.Digest.{digest_of, key_of, lower_half as lower_half_of};
 
 use crate::reading::HistReading;
 use std::alloc::{AllocError, Global};
@@ -41,27 +41,27 @@ fn lower_half(number: u64) -> u32
     (number % (1 << 32)) as u32
 }
 
-// The lower halves of the digest of a name, and of that of what stands behind its first eight bytes.
-fn name_digests(name: &[u8]) -> (u32, u32)
+// The key of a name: the lower half of the sum of its digest, and of that of what stands behind its first eight bytes.
+fn name_key(name: &[u8]) -> u32
     requires { 8 ≤ length name.now }
-    ensures { result ≡ digests_of name.now }
+    ensures { result ≡ key_of name.now }
 {
     let whole = name_digest(name);
     let behind = name_digest(&name[8..]);
-    (lower_half(whole), lower_half(behind))
+    lower_half(whole.wrapping_add(behind))
 }
 
 /// The names of histograms. No byte of a name is 0, so the prefix of a name of up to eight bytes tells the name: such a
-/// name is one number, and so the set of them stays small enough for a core's cache. A longer name is found by two digests,
-/// which lead to the histogram that has it, so no bytes are kept here but of those names whose digests another one has. Of two
-/// digests, since whoever picks the names can make one of them the same for many.
+/// name is one number, and so the set of them stays small enough for a core's cache. A longer name is found by a key, which
+/// leads to the histogram that has it, so no bytes are kept here but of those names whose key another one has. The key is
+/// made of two digests, since whoever picks the names can make one of them the same for many.
 #[derive(Drop)]
 pub(crate) struct Names {
     // The names of up to eight bytes, as their prefixes.
     short: BTreeSet<u64>,
-    // By the digests of a longer name, the place of the first histogram whose name has them.
-    first: BTreeMap<(u32, u32), usize>,
-    // The longer names whose digests the name of an earlier histogram has.
+    // By the key of a longer name, the place of the first histogram whose name has it.
+    first: BTreeMap<u32, u32>,
+    // The longer names whose key the name of an earlier histogram has.
     others: BTreeSet<Vec<u8>>,
 }
 
@@ -102,7 +102,7 @@ impl Names {
         self.insert_long(alloc, name, hists)
     }
 
-    // Adds a name of more than eight bytes.
+    // Adds a name of more than eight bytes. There is no memory for more than 2^32 histograms.
     fn insert_long(
         &mut self,
         alloc: Global,
@@ -117,12 +117,15 @@ impl Names {
         ensures long { IfOk result (λ new. ArePlaces self.new (kept_with (names_of hists.now) name.now new)) }
         ensures short { self.new.short ≡ self.old.short }
     {
-        let digests = name_digests(name);
-        let Some(place) = self.first.insert(digests, hists.len())? else {
+        let key = name_key(name);
+        let Ok(last) = u32::try_from(hists.len()) else {
+            return Err(AllocError);
+        };
+        let Some(place) = self.first.insert(key, last)? else {
             return Ok(true);
         };
-        self.first.insert(digests, place)?;
-        if name == hists[place].name.as_slice() {
+        self.first.insert(key, place)?;
+        if name == hists[place as usize].name.as_slice() {
             return Ok(false);
         }
         let whole = Vec::from_slice(alloc, name)?;

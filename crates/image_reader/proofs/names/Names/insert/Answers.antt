@@ -6,9 +6,9 @@ use Rattle.std.specs.Str.{bytes_eq}
 use Rattle.std.proofs.lemmas.List.Elements.{recursion_from_All}
 use Rattle.std.proofs.lemmas.Map.Views.{All-insert_key}
 use Rattle.image_reader.specs.Prefix.{prefix_of}
-use Rattle.image_reader.specs.Names.{by_digests, short_name, IsShort, names_of, holds_short, holds_long}
+use Rattle.image_reader.specs.Names.{short_name, IsShort, names_of, holds_short, holds_long}
 use Rattle.image_reader.proofs.NameSets.{list_any-insert_key, look_up-is, prefix-ties, prefix-same, short_name-of, IsShort-of, kept_with-same, within-kept, apart_by_length, one_more}
-use Rattle.image_reader.specs.Digest.{digests_of}
+use Rattle.image_reader.specs.Digest.{key_of}
 use Rattle.std.specs.BTreeMap.{get}
 use Rattle.std.specs.Prelude.{if◌then◌else◌}
 use Rattle.std.proofs.Math.Bool.{or-false}
@@ -41,7 +41,7 @@ returns-then-name-le8-clause-holds c other =
     (λ few. ap (list_any (λ x. bytes_eq other (short_name x))) c.in_ok-insert.ensures.keys
     ∙ (list_any-insert_key short_name nat_cmp prefix-ties c.args.self.now.short.keys prefix other ∙ ap (λ n. short || bytes_eq other n) same))
     (λ many. ap (λ b. b || list_any (λ x. bytes_eq other x.items) c.args.self.now.others.keys)
-    (kept_with-same kept name other c.in_ok-insert.field-0 (get by_digests c.args.self.now.first (digests_of other)) (c.requires.keys.long.places (digests_of other)))
+    (kept_with-same kept name other c.in_ok-insert.field-0 (get nat_cmp c.args.self.now.first (key_of other)) (c.requires.keys.long.places (key_of other)))
     ∙ sym (ap (λ b. long || b) (apart_by_length other name false true many (le-leb (length name) 8 c.if-name-le8.true) (λ e. absurd (cc))) ∙ or-false long))
 
 pub returns-then-name-le8-clause-keys : goal.returns-then-name-le8-clause-keys
@@ -52,7 +52,7 @@ returns-then-name-le8-clause-keys c =
       short = subst (All IsShort) (sym c.in_ok-insert.ensures.keys)
           (All-insert_key nat_cmp c.name_prefix-prefix.result IsShort c.args.self.now.short.keys c.requires.keys.short own);
       long = record {
-        places = λ digest. within-kept (names_of c.args.hists.now) c.args.name.now c.in_ok-insert.field-0 _ (c.requires.keys.long.places digest);
+        places = λ key. within-kept (names_of c.args.hists.now) c.args.name.now c.in_ok-insert.field-0 _ (c.requires.keys.long.places key);
         others = c.requires.keys.long.others;
       };
     }

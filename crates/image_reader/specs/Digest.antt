@@ -6,10 +6,6 @@ use Rattle.std.specs.Hash.FoldHasher as folding
 abbrev pub digest_of : List ℕ → ℕ
 digest_of name = folding.finish (folding.write folding.initial name)
 
--- the lower half of a number of 64 bits
-abbrev pub lower_half : ℕ → ℕ
-lower_half number = number % 4294967296
-
--- the lower half of the sum of that number and of the one that the bytes behind the first eight make
+-- the sum of that number and of the one that the bytes behind the first eight make, of 64 bits
 abbrev pub key_of : List ℕ → ℕ
-key_of name = lower_half (digest_of name + digest_of (drop 8 name))
+key_of name = (digest_of name + digest_of (drop 8 name)) % 18446744073709551616

@@ -5,7 +5,7 @@ ghost use Rattle.std.specs.List.{list_all};
 ghost use Rattle.std.specs.Str.{bytes_eq};
 ghost use Rattle.bucket_ranges.specs.Reading.{is_name_byte};
 ghost use Rattle.image_reader.specs.Prefix.{prefix_of};
-ghost use Rattle.image_reader.specs.Digest.{digest_of, key_of, lower_half as lower_half_of};
+ghost use Rattle.image_reader.specs.Digest.{digest_of, key_of};
 
 use crate::reading::HistReading;
 use std::alloc::{AllocError, Global};
@@ -34,33 +34,26 @@ pub fn name_digest(name: &[u8]) -> u64
     hasher.finish()
 }
 
-// The lower half of a number.
-fn lower_half(number: u64) -> u32
-    ensures { result ≡ lower_half_of number }
-{
-    (number % (1 << 32)) as u32
-}
-
-// The key of a name: the lower half of the sum of its digest, and of that of what stands behind its first eight bytes.
-fn name_key(name: &[u8]) -> u32
+// The key of a name: the sum of its digest, and of that of what stands behind its first eight bytes.
+fn name_key(name: &[u8]) -> u64
     requires { 8 ≤ length name.now }
     ensures { result ≡ key_of name.now }
 {
     let whole = name_digest(name);
     let behind = name_digest(&name[8..]);
-    lower_half(whole.wrapping_add(behind))
+    whole.wrapping_add(behind)
 }
 
 /// The names of histograms. No byte of a name is 0, so the prefix of a name of up to eight bytes tells the name: such a
 /// name is one number, and so the set of them stays small enough for a core's cache. A longer name is found by a key, which
 /// leads to the histogram that has it, so no bytes are kept here but of those names whose key another one has. The key is
-/// made of two digests, since whoever picks the names can make one of them the same for many.
+/// the sum of two digests, since whoever picks the names can make one of them the same for many.
 #[derive(Drop)]
 pub(crate) struct Names {
     // The names of up to eight bytes, as their prefixes.
     short: BTreeSet<u64>,
     // By the key of a longer name, the place of the first histogram whose name has it.
-    first: BTreeMap<u32, u32>,
+    first: BTreeMap<u64, u32>,
     // The longer names whose key the name of an earlier histogram has.
     others: BTreeSet<Vec<u8>>,
 }

@@ -43,12 +43,12 @@ pub(crate) const DIGEST_WORDS: [[u64; 4]; 3] = [
     ],
 ];
 
-/// Three names of which all have the same digest, and whose digests of what stands behind the first eight bytes have the
-/// same lower half.
+/// Three names of which all have the same digest, and the first two also the same digest of what stands behind the first
+/// eight bytes.
 pub(crate) const BOTH_DIGESTS_NAMES: [&str; 3] = [
-    "Page.Load.006597-&s%HkfC03862946",
-    "Page.Load.006597-&s%HkfC06819266",
-    "Page.Load.006597-&s%HkfC12620067",
+    "Page.Load.006597-&s%HkfCpIgJLL00",
+    "Page.Load.006597-&s%HkfCm4miIf00",
+    "Page.Load.006597-&s%HkfCSGeDBN00",
 ];
 
 /// Their words.
@@ -57,19 +57,19 @@ pub(crate) const BOTH_DIGESTS_WORDS: [[u64; 4]; 3] = [
         0x616F_4C2E_6567_6150,
         0x3739_3536_3030_2E64,
         0x4366_6B48_2573_262D,
-        0x3634_3932_3638_3330,
+        0x3030_4C4C_4A67_4970,
     ],
     [
         0x616F_4C2E_6567_6150,
         0x3739_3536_3030_2E64,
         0x4366_6B48_2573_262D,
-        0x3636_3239_3138_3630,
+        0x3030_6649_696D_346D,
     ],
     [
         0x616F_4C2E_6567_6150,
         0x3739_3536_3030_2E64,
         0x4366_6B48_2573_262D,
-        0x3736_3030_3236_3231,
+        0x3030_4E42_4465_4753,
     ],
 ];
 

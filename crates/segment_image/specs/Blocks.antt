@@ -6,10 +6,11 @@ use Rattle.segment_image.specs.declared.fault.ImageFault.{ImageFault}
 use Rattle.segment_image.specs.declared.fault.ImageFault.TheVariants.{BadRef, BadBlock}
 use Rattle.segment_image.specs.declared.head.SegmentHead.{SegmentHead}
 use Rattle.segment_image.specs.declared.blocks.BlockHead.{BlockHead}
+use Rattle.segment_image.specs.declared.layout.TheConstants.{HEADER_WORDS, BLOCK_SIZE, BLOCK_COOKIE, BLOCK_TYPE, BLOCK_NEXT, BLOCK_LEAST, CLAIMED_COOKIE}
 
 -- a reference at which the smallest block, of five words, lies behind the header and below the free pointer
 abbrev pub is_placed : SegmentHead → ℕ → Bool
-is_placed head reference = nat_le 16 reference && nat_le (reference + 5) head.free
+is_placed head reference = nat_le HEADER_WORDS reference && nat_le (reference + BLOCK_LEAST) head.free
 
 -- the word at k of the block at a reference
 abbrev pub field_at : List ℕ → ℕ → ℕ → ℕ
@@ -19,8 +20,8 @@ field_at words reference k = word_at words (reference + k)
 -- first and last word lie in one page
 abbrev pub is_claimed : List ℕ → SegmentHead → ℕ → Bool
 is_claimed words head reference =
-    let size = field_at words reference 0 in
-    (field_at words reference 1 == 0xC8799269) && nat_le 5 size && nat_le (reference + size) head.free
+    let size = field_at words reference BLOCK_SIZE in
+    (field_at words reference BLOCK_COOKIE == CLAIMED_COOKIE) && nat_le BLOCK_LEAST size && nat_le (reference + size) head.free
     && (reference / head.shape.page == (reference + size - 1) / head.shape.page)
 
 -- what can be wrong with a block, in order
@@ -31,9 +32,9 @@ block_checks words head reference =
 -- what a block's header says
 abbrev pub block_head_of : List ℕ → ℕ → BlockHead
 block_head_of words reference = record {
-  size = field_at words reference 0;
-  tag = field_at words reference 2;
-  next = field_at words reference 3;
+  size = field_at words reference BLOCK_SIZE;
+  tag = field_at words reference BLOCK_TYPE;
+  next = field_at words reference BLOCK_NEXT;
 }
 
 -- the first fault of the block at a reference, or what its header says

@@ -18,10 +18,11 @@ ghost use Rattle.segment_image.specs.Head.{header_of};
 ghost use Rattle.segment_image.specs.Blocks.{block_of};
 
 use crate::head::SegmentHead;
+use crate::layout::{
+    BLOCK_COOKIE, BLOCK_LEAST, BLOCK_NEXT, BLOCK_SIZE, BLOCK_TYPE, CLAIMED_COOKIE, HEADER_WORDS,
+};
 
-const BLOCK_COOKIE: u64 = 0xC879_9269;
-
-const MIN_BLOCK: u64 = 5;
+const LEAST: u64 = BLOCK_LEAST as u64;
 
 /// The header of the block at a reference of an image whose header, read from the same words, is `head`.
 ///
@@ -32,12 +33,12 @@ pub fn block(words: &[u64], head: &SegmentHead, reference: u64) -> Result<BlockH
     requires { header_of words.now ≡ Ok head.now }
     ensures { result ≡ block_of words.now head.now reference }
 {
-    if reference < 16 || head.free < MIN_BLOCK || reference > head.free - MIN_BLOCK {
+    if reference < HEADER_WORDS as u64 || head.free < LEAST || reference > head.free - LEAST {
         return Err(ImageFault::BadRef);
     }
     let at = reference as usize;
-    let size = words[at];
-    if words[at + 1] != BLOCK_COOKIE || size < MIN_BLOCK || size > head.free - reference {
+    let size = words[at + BLOCK_SIZE];
+    if words[at + BLOCK_COOKIE] != CLAIMED_COOKIE || size < LEAST || size > head.free - reference {
         return Err(ImageFault::BadBlock);
     }
     let page = head.shape.page();
@@ -46,7 +47,7 @@ pub fn block(words: &[u64], head: &SegmentHead, reference: u64) -> Result<BlockH
     }
     Ok(BlockHead {
         size,
-        tag: words[at + 2],
-        next: words[at + 3],
+        tag: words[at + BLOCK_TYPE],
+        next: words[at + BLOCK_NEXT],
     })
 }

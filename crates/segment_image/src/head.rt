@@ -1,6 +1,12 @@
 //! The header of an image.
 
 use crate::fault::ImageFault;
+use crate::layout::{
+    BLOCK_COOKIE, BLOCK_SIZE, BLOCK_TYPE, COOKIE_WORD, FLAG_CORRUPT, FLAG_FULL, FLAGS_WORD,
+    FREE_WORD, HEADER_WORDS, ID_WORD, PAGE_WORD, QUEUE, QUEUE_COOKIE, QUEUE_SIZE, SEGMENT_COOKIE,
+    SIZE_WORD, STATE_DELETED, STATE_READY, STATE_WORD, TAIL_WORD, TYPE_PURGED, VERSION,
+    VERSION_WORD,
+};
 use crate::shape::Shape;
 
 /// What an image's header says.
@@ -26,23 +32,6 @@ ghost use Rattle.std.specs.Prelude.{◌≡◌, ◌==◌, ◌&&◌, not, [], ◌�
 ghost use Rattle.segment_image.specs.Checks.{first_fault};
 ghost use Rattle.segment_image.specs.Head.{header_of};
 
-/// Where the queue block stands, from which the list of records starts; and the next of the last record of the list.
-pub const QUEUE: u64 = 12;
-
-pub(crate) const SEGMENT_COOKIE: u64 = 0x4083_05DC;
-
-pub(crate) const HEADER_WORDS: usize = 16;
-
-pub(crate) const READY: u64 = 1;
-
-pub(crate) const VERSION: u64 = 1;
-
-const DELETED: u64 = 2;
-
-const CORRUPT_FLAG: u64 = 1;
-
-const FULL_FLAG: u64 = 2;
-
 /// The header of an image, or its first fault: `TooShort`, `BadCookie`, `BadVersion`, `BadPage`, `BadSize`,
 /// `NotReady`, `Deleted`, `BadFree`, `BadQueue`, checked in this order. Any words may be given. It takes no memory.
 pub fn header(words: &[u64]) -> Result<SegmentHead, ImageFault>
@@ -51,36 +40,40 @@ pub fn header(words: &[u64]) -> Result<SegmentHead, ImageFault>
     if words.len() < HEADER_WORDS {
         return Err(ImageFault::TooShort);
     }
-    if words[0] != SEGMENT_COOKIE {
+    if words[COOKIE_WORD] != SEGMENT_COOKIE {
         return Err(ImageFault::BadCookie);
     }
-    if words[1] != VERSION {
+    if words[VERSION_WORD] != VERSION {
         return Err(ImageFault::BadVersion);
     }
-    let size = words[2];
-    let shape = match Shape::of(size, words[3]) {
+    let size = words[SIZE_WORD];
+    let shape = match Shape::of(size, words[PAGE_WORD]) {
         Err(ImageFault::BadPage) => return Err(ImageFault::BadPage),
         Ok(shape) if size == words.len() as u64 => shape,
         _ => return Err(ImageFault::BadSize),
     };
-    if let Some(fault) = state_fault(words[5]) {
+    if let Some(fault) = state_fault(words[STATE_WORD]) {
         return Err(fault);
     }
-    let free = words[7];
-    if free < 16 || free > size {
+    let free = words[FREE_WORD];
+    if free < HEADER_WORDS as u64 || free > size {
         return Err(ImageFault::BadFree);
     }
-    if words[12] != 4 || words[13] != 1 || words[14] != 0 {
+    let queue = QUEUE as usize;
+    if words[queue + BLOCK_SIZE] != QUEUE_SIZE
+        || words[queue + BLOCK_COOKIE] != QUEUE_COOKIE
+        || words[queue + BLOCK_TYPE] != TYPE_PURGED
+    {
         return Err(ImageFault::BadQueue);
     }
     Ok(SegmentHead {
         shape,
-        version: words[1],
-        id: words[4],
+        version: words[VERSION_WORD],
+        id: words[ID_WORD],
         free,
-        tail: words[8],
-        corrupt: words[6] & CORRUPT_FLAG != 0,
-        full: words[6] & FULL_FLAG != 0,
+        tail: words[TAIL_WORD],
+        corrupt: words[FLAGS_WORD] & FLAG_CORRUPT != 0,
+        full: words[FLAGS_WORD] & FLAG_FULL != 0,
     })
 }
 
@@ -88,10 +81,10 @@ pub fn header(words: &[u64]) -> Result<SegmentHead, ImageFault>
 fn state_fault(state: u64) -> Option<ImageFault>
     ensures { result ≡ first_fault ((not (state == 1) && not (state == 2), ImageFault.NotReady) ∷ (state == 2, ImageFault.Deleted) ∷ []) }
 {
-    if state != READY && state != DELETED {
+    if state != STATE_READY && state != STATE_DELETED {
         return Some(ImageFault::NotReady);
     }
-    if state == DELETED {
+    if state == STATE_DELETED {
         return Some(ImageFault::Deleted);
     }
     None

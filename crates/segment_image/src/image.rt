@@ -1,7 +1,10 @@
 //! An image that a process holds whole.
 
 use crate::fault::ImageFault;
-use crate::head::{HEADER_WORDS, QUEUE, READY, SEGMENT_COOKIE, VERSION};
+use crate::layout::{
+    HEADER_WORDS, QUEUE, QUEUE_COOKIE, QUEUE_SIZE, SEGMENT_COOKIE, STATE_DELETED, STATE_READY,
+    STATE_WORD, TYPE_PURGED, VERSION,
+};
 use crate::shape::Shape;
 use std::alloc::{AllocError, Global};
 use std::marker::Model;
@@ -58,7 +61,7 @@ impl Image {
     pub fn set_deleted(&mut self)
         ensures { self.new ≡ slice_set self.old 5 2 }
     {
-        self.words[5] = 2;
+        self.words[STATE_WORD] = STATE_DELETED;
     }
 }
 
@@ -78,16 +81,16 @@ fn blank_of(alloc: Global, shape: Shape, id: u64) -> Result<Image, AllocError>
         size,
         page,
         id,
-        READY,
+        STATE_READY,
         0,
         HEADER_WORDS as u64,
         QUEUE,
         0,
         0,
         0,
-        4,
-        1,
-        0,
+        QUEUE_SIZE,
+        QUEUE_COOKIE,
+        TYPE_PURGED,
         QUEUE,
     ])?;
     words.resize(size as usize, 0)?;

@@ -15,14 +15,16 @@ mod blocks;
 mod fault;
 mod head;
 mod image;
+pub mod layout;
 mod shape;
 mod transfer;
 mod watched;
 
 pub use blocks::{BlockHead, block};
 pub use fault::{ImageFault, ReadFault};
-pub use head::{QUEUE, SegmentHead, header};
+pub use head::{SegmentHead, header};
 pub use image::{Image, blank_is_ready};
+pub use layout::QUEUE;
 pub use shape::Shape;
 pub use transfer::{read_bytes, read_words};
 pub use watched::Watched;

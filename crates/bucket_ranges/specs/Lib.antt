@@ -6,5 +6,10 @@ pub mod Fault
 pub mod Spec
 pub mod Ranges
 pub mod Single
+pub mod Listed
+pub mod Record
+pub mod Units
+pub mod RecordChecks
+pub mod Sample
 pub mod Reading
 pub mod Tally

@@ -6,6 +6,7 @@
 #![tactic(auto)]
 
 mod custom;
+pub mod limits;
 mod ranges;
 pub mod reading;
 mod samples;

@@ -1,5 +1,6 @@
 //! The ranges of a histogram's buckets.
 
+use crate::limits::{LAST_BOUNDARY, MAX_BUCKETS, MAX_CUSTOM_VALUES, MAX_VALUE};
 use crate::spec::{Spec, SpecFault};
 use std::alloc::{AllocError, Global};
 use std::marker::Model;
@@ -118,12 +119,6 @@ pub fn one_bucket_has_a_value()
     ensures { (boundaries : List ℕ) (value i j : ℕ) → IsAscending boundaries → IsBucketOf boundaries value i → IsBucketOf boundaries value j → i ≡ j }
 {}
 
-const MAX_VALUE: u32 = 2_147_483_647;
-
-const MAX_BUCKETS: u32 = 1000;
-
-const MAX_CUSTOM_VALUES: usize = 999;
-
 // `half` where a value reaches a boundary, and 0 where it does not. No branch hangs on the value: the difference is
 // taken in 64 bits, so its upper half is all ones where it would be below 0, and 0 elsewhere.
 fn half_where_reached(half: usize, boundary: u32, value: u32) -> usize
@@ -138,7 +133,7 @@ fn half_where_reached(half: usize, boundary: u32, value: u32) -> usize
 pub(crate) fn clamp(value: i32) -> u32
     ensures { result ≡ clamped value }
 {
-    u32::try_from(value).unwrap_or(0).min(MAX_VALUE - 1)
+    u32::try_from(value).unwrap_or(0).min(MAX_VALUE)
 }
 
 // The first fault of a linear spec.
@@ -148,7 +143,7 @@ fn check_linear(min: u32, max: u32, n: u32) -> Result<(), SpecFault>
     if min == 0 {
         return Err(SpecFault::BadMin);
     }
-    if max <= min || max > MAX_VALUE - 1 {
+    if max <= min || max > MAX_VALUE {
         return Err(SpecFault::BadMax);
     }
     if n < 3 {
@@ -174,7 +169,7 @@ fn check_custom(values: &[u32]) -> Result<(), SpecFault>
     if values.len() > MAX_CUSTOM_VALUES {
         return Err(SpecFault::TooMany);
     }
-    if has_above(values, MAX_VALUE - 1) {
+    if has_above(values, MAX_VALUE) {
         return Err(SpecFault::BadRange);
     }
     if !has_above(values, 0) {
@@ -207,7 +202,7 @@ fn linear(alloc: Global, min: u32, max: u32, n: u32) -> Result<Ranges, AllocErro
     for i in 1..n {
         boundaries.push(inner_boundary(min, max, n, i))?;
     }
-    boundaries.push(MAX_VALUE)?;
+    boundaries.push(LAST_BOUNDARY)?;
     Ok(Ranges { boundaries })
 }
 
@@ -219,7 +214,7 @@ fn custom(alloc: Global, values: &[u32]) -> Result<Ranges, AllocError>
     let mut boundaries = Vec::with_capacity(alloc, values.len() + 2)?;
     boundaries.push(0)?;
     boundaries.extend_from_slice(values)?;
-    boundaries.push(MAX_VALUE)?;
+    boundaries.push(LAST_BOUNDARY)?;
     boundaries.sort_unstable();
     boundaries.dedup();
     Ok(Ranges { boundaries })

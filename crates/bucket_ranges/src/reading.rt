@@ -1,4 +1,5 @@
-//! What a record of a segment can be refused for. The definition of a reading is in `specs/Reading.antt`.
+//! What a record of a segment can be refused for. The definition of a reading is in `specs/Reading.antt`, of the
+//! parts that `specs/Listed.antt`, `Record.antt`, `Units.antt`, `RecordChecks.antt` and `Sample.antt` define.
 
 use thiserror::Error;
 
@@ -47,16 +48,17 @@ impl RecordFault {
     }
 }
 
-ghost use Rattle.std.specs.Prelude.{◌≡◌, ◌==◌, true, ℕ, ℤ, List, [], ◌∷◌, ◌++◌, None};
-ghost use Rattle.std.specs.List.{filter, find};
+ghost use Rattle.std.specs.Prelude.{◌≡◌, true, ℕ, ℤ, List, [], ◌∷◌, ◌++◌, None};
+ghost use Rattle.std.specs.List.{find};
 ghost use Rattle.std.specs.List.Sorted.{IsStrictlySortedBy};
 ghost use Rattle.std.specs.Ordering.{int_eq};
-ghost use Rattle.segment_image.specs.Blocks.{field_at};
 ghost use Rattle.segment_image.specs.declared.head.SegmentHead.{SegmentHead};
 ghost use Rattle.bucket_ranges.specs.declared.spec.Spec.TheVariants.{Custom};
 ghost use Rattle.bucket_ranges.specs.Spec.{spec_fault, buckets_of};
 ghost use Rattle.bucket_ranges.specs.Ranges.{boundaries_of};
-ghost use Rattle.bucket_ranges.specs.Reading.{IsListed, IsReading, Reading, is_custom_named, is_spec_named, spec_named, sample_value, by_value, first_samples};
+ghost use Rattle.bucket_ranges.specs.Reading.{IsListed, IsReading, Reading, is_custom_named, is_spec_named, spec_named, sample_value, by_value, samples_of, first_samples};
+
+use crate::limits::LAST_BOUNDARY;
 
 /// What a segment's list of records is, is settled by its words: any two lists of the same words are one.
 ///
@@ -86,7 +88,7 @@ pub fn named_specs_are_lawful()
 ///
 /// It does nothing: what it promises is a law of the definitions.
 pub fn inner_ranges_are_boundaries()
-    ensures { (min max n : ℕ) (inner : List ℕ) → is_custom_named min max n inner ≡ true → boundaries_of (Custom inner) ≡ 0 ∷ (inner ++ 2147483647 ∷ []) }
+    ensures { (min max n : ℕ) (inner : List ℕ) → is_custom_named min max n inner ≡ true → boundaries_of (Custom inner) ≡ 0 ∷ (inner ++ LAST_BOUNDARY ∷ []) }
 {}
 
 /// The samples that count for a sparse histogram stand in the order of their values, each value once, and the one of a
@@ -96,5 +98,5 @@ pub fn inner_ranges_are_boundaries()
 pub fn first_samples_are_first()
     ensures ascending { (words samples : List ℕ) (histogram : ℕ) → IsStrictlySortedBy (by_value words) (first_samples words samples histogram) }
     ensures first { (words samples : List ℕ) (histogram : ℕ) (value : ℤ) → find (λ sample. int_eq value (sample_value words sample)) (first_samples words samples histogram)
-        ≡ find (λ sample. int_eq value (sample_value words sample)) (filter (λ sample. field_at words sample 4 == histogram) samples) }
+        ≡ find (λ sample. int_eq value (sample_value words sample)) (samples_of words samples histogram) }
 {}

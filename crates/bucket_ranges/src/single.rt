@@ -3,6 +3,8 @@
 ghost use Rattle.std.specs.Prelude.{◌≡◌, ◌≤◌, Some, IfSome};
 ghost use Rattle.bucket_ranges.specs.Single.{single_of, word_of, IsForm};
 
+use crate::limits::MAX_PACKED;
+
 /// What the single word of a histogram says: a histogram whose samples all fell into one bucket needs no block of
 /// counts (after the packed single sample of Chromium's `HistogramSamples`).
 #[derive(Clone, Copy, Debug, PartialEq, Eq)]
@@ -35,7 +37,7 @@ impl SingleWord {
         if word < DISABLED_BIT {
             let bucket = (word / UNITS) as usize;
             let units = word % UNITS;
-            if bucket < buckets && units >= 1 && units <= NO_BUCKET {
+            if bucket < buckets && units >= 1 && units <= MAX_PACKED {
                 return Some(SingleWord::Packed { bucket, units });
             }
             return None;

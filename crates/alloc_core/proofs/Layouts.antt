@@ -1,5 +1,5 @@
 -- The words of a layout: a word of a block among all words, a block more, and the flags.
-use Rattle.std.proofs.Common.{◌≡◌, ◌≢◌, ℕ, zero, suc, ◌+◌, ◌-◌, ◌%◌, ◌<◌, ◌≤◌, Bool, true, false, List, [], ◌∷◌, ◌++◌, length, replicate, get_or, set, sym, refl, ap, ap₂, ◌∙◌, subst, arith, length-set, length-append}
+use Rattle.std.proofs.Common.{◌≡◌, ◌≢◌, ℕ, zero, suc, ◌+◌, ◌-◌, ◌%◌, ◌<◌, ◌≤◌, Bool, true, List, [], ◌∷◌, ◌++◌, length, replicate, get_or, set, sym, refl, ap, ap₂, ◌∙◌, subst, arith, length-set, length-append}
 use Rattle.std.specs.Prelude.{bit_or}
 use Rattle.std.proofs.lemmas.List.{set-append_left, set-append_right, length-replicate, replicate-append-replicate, get_or-append_right}
 use Rattle.std.specs.Prelude.{take, drop}
@@ -12,6 +12,7 @@ use Rattle.segment_image.specs.Words.{word_at}
 use Rattle.alloc_core.specs.Layout.{Block, extent, Layout, spread, end_of, free_of, flags_of, head_words, render, IsLaid, queue_block, IsShown, put, raw_block, grown}
 use Rattle.alloc_core.specs.Event.{set_flag, after}
 use Rattle.alloc_core.specs.Alloc.{IsRise}
+use Rattle.alloc_core.proofs.Flags.{corrupts, fills}
 use Rattle.alloc_core.proofs.Owners.{set_at}
 
 -- a block begins at the first place or behind it
@@ -107,6 +108,15 @@ laid-set page at (x ∷ xs) zero b b' e long place laid =
 laid-set page at (x ∷ xs) (suc k) b b' e long place laid =
     (laid.0, laid.1, laid.2, laid-set page (at + extent x) xs k b b' e long place laid.3)
 
+-- the words of a layout, with a word of flags and a free pointer in the place of its own, and others behind the header
+abbrev with_words : Dimensions → Layout → ℕ → ℕ → List ℕ → List ℕ
+with_words shape layout flags free body =
+    0x408305DC ∷ layout.version ∷ shape.size ∷ shape.page ∷ layout.id ∷ 1 ∷ flags ∷ free ∷ layout.tail
+    ∷ layout.reserved.0 ∷ layout.reserved.1 ∷ layout.reserved.2 ∷ body
+
+abbrev flags_in : Layout → ℕ
+flags_in layout = flags_of layout.corrupt layout.full layout.other_flags
+
 -- a word of a block of a layout is that word among all words
 set_render : (shape : Dimensions) (layout : Layout) (k : ℕ) (b b' : Block) (j v : ℕ) → IsLaid shape.page 12 layout.blocks
     → get_elem? layout.blocks k ≡ some b → j < extent b → b'.words ≡ set b.words j v
@@ -120,8 +130,7 @@ set_render shape layout k b b' j v laid e lt is =
     set-append_right (head_words shape layout) body 12 (b.at + j) v refl (omega arith)
     ∙ (ap (λ (l : List ℕ). head_words shape layout ++ l) (ap (λ (m : ℕ). set body m v) step
     ∙ set_spread shape.page 12 (replicate layout.spare 0) layout.blocks k b b' (b.at - 12) j v laid e (omega arith) lt is)
-    ∙ ap (λ (n : ℕ). 0x408305DC ∷ layout.version ∷ shape.size ∷ shape.page ∷ layout.id ∷ 1 ∷ flags_of layout.corrupt layout.full ∷ n
-    ∷ layout.tail ∷ 0 ∷ 0 ∷ 0 ∷ spread (replicate layout.spare 0) (set layout.blocks k b')) ends)
+    ∙ ap (λ (n : ℕ). with_words shape layout (flags_in layout) n (spread (replicate layout.spare 0) (set layout.blocks k b'))) ends)
 
 -- a store into a block that leaves the queue block one
 shown_put_at : (shape : Dimensions) (words : List ℕ) (layout : Layout) (k : ℕ) (b b' : Block) (j v : ℕ) → IsShown shape words layout
@@ -194,8 +203,7 @@ shown_grown shape words layout owner new shown up =
     let end : new ≡ free_of (grown layout owner n) = let e = end_of-snoc 12 layout.blocks b in omega (arith, e, long) in
     record {
       shows = ap (λ (ws : List ℕ). set ws 7 new) shown.shows
-          ∙ ap₂ (λ (m : ℕ) (rest : List ℕ). 0x408305DC ∷ layout.version ∷ shape.size ∷ shape.page ∷ layout.id ∷ 1
-          ∷ flags_of layout.corrupt layout.full ∷ m ∷ layout.tail ∷ 0 ∷ 0 ∷ 0 ∷ rest) end
+          ∙ ap₂ (λ (m : ℕ) (rest : List ℕ). with_words shape layout (flags_in layout) m rest) end
           (spread-snoc (replicate layout.spare 0) (replicate (layout.spare - n) 0) layout.blocks b (zeros n layout.spare (omega arith)));
       sound = record {
         lawful = sound.lawful;
@@ -207,26 +215,13 @@ shown_grown shape words layout owner new shown up =
       };
     }
 
-corrupts : (corrupt full : Bool) → bit_or (flags_of corrupt full) 1 ≡ flags_of true full
-corrupts false false = refl
-corrupts true false = refl
-corrupts false true = refl
-corrupts true true = refl
-
-fills : (corrupt full : Bool) → bit_or (flags_of corrupt full) 2 ≡ flags_of corrupt true
-fills false false = refl
-fills true false = refl
-fills false true = refl
-fills true true = refl
-
 -- other flags
 flagged : (shape : Dimensions) (words : List ℕ) (layout : Layout) (flag : ℕ) (corrupt full : Bool) → IsShown shape words layout
-    → bit_or (flags_of layout.corrupt layout.full) flag ≡ flags_of corrupt full
+    → bit_or (flags_in layout) flag ≡ flags_of corrupt full layout.other_flags
     → IsShown shape (after (set_flag flag) words) (record layout { corrupt = corrupt; full = full })
 flagged shape words layout flag corrupt full shown is = record {
   shows = ap (λ (ws : List ℕ). set ws 6 (bit_or (get_or ws 6 0) flag)) shown.shows
-      ∙ ap (λ (m : ℕ). 0x408305DC ∷ layout.version ∷ shape.size ∷ shape.page ∷ layout.id ∷ 1 ∷ m ∷ free_of layout ∷ layout.tail
-      ∷ 0 ∷ 0 ∷ 0 ∷ spread (replicate layout.spare 0) layout.blocks) is;
+      ∙ ap (λ (m : ℕ). with_words shape layout m (free_of layout) (spread (replicate layout.spare 0) layout.blocks)) is;
   sound = record {
     lawful = shown.sound.lawful;
     queue = shown.sound.queue;
@@ -239,12 +234,12 @@ flagged shape words layout flag corrupt full shown is = record {
 -- the corrupt flag is set
 pub shown_corrupt : (shape : Dimensions) (words : List ℕ) (layout : Layout) → IsShown shape words layout
     → IsShown shape (after (set_flag 1) words) (record layout { corrupt = true })
-shown_corrupt shape words layout shown = flagged shape words layout 1 true layout.full shown (corrupts layout.corrupt layout.full)
+shown_corrupt shape words layout shown = flagged shape words layout 1 true layout.full shown (corrupts layout.corrupt layout.full layout.other_flags)
 
 -- the full flag is set
 pub shown_full : (shape : Dimensions) (words : List ℕ) (layout : Layout) → IsShown shape words layout
     → IsShown shape (after (set_flag 2) words) (record layout { full = true })
-shown_full shape words layout shown = flagged shape words layout 2 layout.corrupt true shown (fills layout.corrupt layout.full)
+shown_full shape words layout shown = flagged shape words layout 2 layout.corrupt true shown (fills layout.corrupt layout.full layout.other_flags)
 
 -- another tail
 pub shown_tail : (shape : Dimensions) (words : List ℕ) (layout : Layout) (v : ℕ) → IsShown shape words layout
@@ -274,7 +269,7 @@ free_word shape words layout shown = ap (λ (ws : List ℕ). get_or ws 7 0) show
 
 -- the word of the flags
 pub flags_word : (shape : Dimensions) (words : List ℕ) (layout : Layout) → IsShown shape words layout
-    → word_at words 6 ≡ flags_of layout.corrupt layout.full
+    → word_at words 6 ≡ flags_of layout.corrupt layout.full layout.other_flags
 flags_word shape words layout shown = ap (λ (ws : List ℕ). get_or ws 6 0) shown.shows
 
 length-spread : (at : ℕ) (others : List ℕ) (blocks : List Block) → at + length (spread others blocks) ≡ end_of at blocks + length others

@@ -1,5 +1,6 @@
 pub mod Pages
 pub mod Lawful
+pub mod Flags
 pub mod Layouts
 pub mod Owners
 pub mod EventKinds

@@ -1,8 +1,9 @@
 -- A segment as the words before the queue block, blocks in a row, and zeros.
-use Rattle.std.specs.Prelude.{◌≡◌, ℕ, ◌+◌, ◌-◌, ◌%◌, ◌<◌, ◌≤◌, Bool, true, false, List, [], ◌∷◌, ◌++◌, length, replicate, slice_set}
+use Rattle.std.specs.Prelude.{◌≡◌, ℕ, ◌+◌, ◌-◌, ◌*◌, ◌%◌, ◌<◌, ◌≤◌, Bool, false, if◌then◌else◌, List, [], ◌∷◌, ◌++◌, length, replicate, slice_set}
 use mathlib.Core.Option.{Option, some, none}
 use lib.ListN.{get_elem?}
 use Rattle.segment_image.specs.Shape.{Dimensions}
+use Rattle.segment_image.specs.declared.layout.TheConstants.{HEADER_WORDS, SEGMENT_COOKIE, STATE_READY, FLAG_CORRUPT, FLAG_FULL, QUEUE, QUEUE_SIZE, QUEUE_COOKIE, TYPE_PURGED, BLOCK_LEAST}
 
 -- A piece of a segment: the word where it begins, the one whose it is, where there is one, and its words. The queue block
 -- is the first piece; the others are blocks that were claimed, wasted rests of pages, and gaps.
@@ -11,13 +12,17 @@ pub record Block : Type 0 where
   pub owner : Option ℕ
   pub words : List ℕ
 
--- what a segment consists of; `spare` are the words behind the last block
+-- What a segment consists of. `other_flags` are the bits of the word of flags above its first two, and `reserved` the three
+-- words between the tail and the queue block: both are 0 in a new segment, and whatever an image has in one that was made of
+-- it. `spare` are the words behind the last block.
 pub record Layout : Type 0 where
   pub version : ℕ
   pub id : ℕ
   pub corrupt : Bool
   pub full : Bool
+  pub other_flags : ℕ
   pub tail : ℕ
+  pub reserved : ℕ × ℕ × ℕ
   pub blocks : List Block
   pub spare : ℕ
 
@@ -32,20 +37,18 @@ end_of at (block ∷ blocks) = end_of (at + extent block) blocks
 
 -- the free pointer: where the last block ends
 abbrev pub free_of : Layout → ℕ
-free_of layout = end_of 12 layout.blocks
+free_of layout = end_of QUEUE layout.blocks
 
--- the word of flags: 1 is corrupt, 2 is full
-abbrev pub flags_of : Bool → Bool → ℕ
-flags_of false false = 0
-flags_of true false = 1
-flags_of false true = 2
-flags_of true true = 3
+-- the word of flags: whether the segment is corrupt, whether it is full, and all other bits
+abbrev pub flags_of : Bool → Bool → ℕ → ℕ
+flags_of corrupt full others = others * 4 + ((if full then FLAG_FULL else 0) + (if corrupt then FLAG_CORRUPT else 0))
 
 -- the words before the queue block
 abbrev pub head_words : Dimensions → Layout → List ℕ
 head_words shape layout =
-    0x408305DC ∷ layout.version ∷ shape.size ∷ shape.page ∷ layout.id ∷ 1 ∷ flags_of layout.corrupt layout.full
-    ∷ free_of layout ∷ layout.tail ∷ 0 ∷ 0 ∷ 0 ∷ []
+    SEGMENT_COOKIE ∷ layout.version ∷ shape.size ∷ shape.page ∷ layout.id ∷ STATE_READY
+    ∷ flags_of layout.corrupt layout.full layout.other_flags ∷ free_of layout ∷ layout.tail
+    ∷ layout.reserved.0 ∷ layout.reserved.1 ∷ layout.reserved.2 ∷ []
 
 -- the words of blocks, one block behind the other, and others behind them
 abbrev pub spread : List ℕ → List Block → List ℕ
@@ -64,7 +67,7 @@ IsLaid page at (block ∷ blocks) =
 
 -- the queue block: size 4, cookie 1, type 0, and the reference of the first record
 abbrev pub queue_block : ℕ → Block
-queue_block next = record { at = 12; owner = none; words = 4 ∷ 1 ∷ 0 ∷ next ∷ [] }
+queue_block next = record { at = QUEUE; owner = none; words = QUEUE_SIZE ∷ QUEUE_COOKIE ∷ TYPE_PURGED ∷ next ∷ [] }
 
 -- a page has at least 64 words, and a segment at most 2^20, in whole pages
 pub record IsShape (shape : Dimensions) : Type 0 where
@@ -78,9 +81,9 @@ pub record IsShape (shape : Dimensions) : Type 0 where
 pub record IsSound (shape : Dimensions) (layout : Layout) : Type 0 where
   pub lawful : IsShape shape
   pub queue : (next : ℕ) × (get_elem? layout.blocks 0 ≡ some (queue_block next))
-  pub laid : IsLaid shape.page 12 layout.blocks
+  pub laid : IsLaid shape.page QUEUE layout.blocks
   pub ends : free_of layout + layout.spare ≡ shape.size
-  pub leaves : free_of layout % shape.page + 5 ≤ shape.page
+  pub leaves : free_of layout % shape.page + BLOCK_LEAST ≤ shape.page
 
 -- the words are those of a layout
 pub record IsShown (shape : Dimensions) (words : List ℕ) (layout : Layout) : Type 0 where
@@ -99,9 +102,11 @@ fresh shape version id =
       id = id;
       corrupt = false;
       full = false;
-      tail = 12;
-      blocks = queue_block 12 ∷ [];
-      spare = size - 16;
+      other_flags = 0;
+      tail = QUEUE;
+      reserved = (0, 0, 0);
+      blocks = queue_block QUEUE ∷ [];
+      spare = size - HEADER_WORDS;
     }
 
 -- the layout with another block in the place of block k

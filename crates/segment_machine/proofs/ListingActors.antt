@@ -72,11 +72,11 @@ module _ (shape : Dimensions) (old new : Anatomy) (added : ℕ → Body → Type
     ended = calls.ended;
     met = λ entry of counted some_units first. ⊎_elim
         (λ before.
-        let (at, sampled, met, (tag, histogram_is, value)) = calls.met entry of counted some_units before in (
+        let (at, sampled, met, (tag, histogram_is, value, small)) = calls.met entry of counted some_units before in (
           at,
           subst (λ (records : List Listed). IsFirstOf records of entry.key at) (sym grows.records) (first_of_longer old.records grows.more of at entry.key sampled),
           more.chain at met,
-          (more.words (at + 2) 3 tag, more.words (at + 4) of histogram_is, more.words (at + 5) _ value),
+          (more.words (at + 2) 3 tag, more.words (at + 4) of histogram_is, more.words (at + 5) _ value, small),
         ))
         (λ new_one. absurd (no_name entry (keyed entry counted some_units) new_one.2))
         (grows.first_came entry.name spec.Sparse of first);

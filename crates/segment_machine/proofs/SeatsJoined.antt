@@ -262,7 +262,7 @@ module _ (shape : Dimensions) (words : List ℕ) (anatomy : Anatomy) (shown : Is
     met.0,
     met.1,
     longer_first (order_of anatomy) a.seen_chain b.seen_chain mine.walked theirs.walked met.0 met.2,
-    (seen_before a.seen_words b.seen_words _ _ met.3.0, seen_before a.seen_words b.seen_words _ _ met.3.1, seen_before a.seen_words b.seen_words _ _ met.3.2),
+    (seen_before a.seen_words b.seen_words _ _ met.3.0, seen_before a.seen_words b.seen_words _ _ met.3.1, seen_before a.seen_words b.seen_words _ _ met.3.2, met.3.3),
   )
 
   second_met : (entry : Entry) (of : ℕ) → Met b entry of → Met (joined a b) entry of
@@ -270,7 +270,7 @@ module _ (shape : Dimensions) (words : List ℕ) (anatomy : Anatomy) (shown : Is
     met.0,
     met.1,
     longer_second (order_of anatomy) a.seen_chain b.seen_chain mine.walked theirs.walked met.0 met.2,
-    (joined_word _ _ met.3.0, joined_word _ _ met.3.1, joined_word _ _ met.3.2),
+    (joined_word _ _ met.3.0, joined_word _ _ met.3.1, joined_word _ _ met.3.2, met.3.3),
   )
 
   pub joined_calls : Joins a b → a.taking ≡ false → CallsRight anatomy a → CallsRight anatomy b → CallsRight anatomy (joined a b)

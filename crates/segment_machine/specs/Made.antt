@@ -1,11 +1,12 @@
 -- What a record holds that was given to its maker, in the words of a payload and in what an actor has seen of it.
-use Rattle.std.specs.Prelude.{◌≡◌, ◌≢◌, ◌⊎◌, ℕ, ◌+◌, ◌-◌, ◌<◌, ℤ, List, [], ◌∷◌, ◌++◌, length, replicate, slice_index, Some}
+use Rattle.std.specs.Prelude.{◌≡◌, ◌≢◌, ◌⊎◌, true, ℕ, ◌+◌, ◌-◌, ◌<◌, ℤ, List, [], ◌∷◌, ◌++◌, length, replicate, slice_index, Some}
 use Rattle.std.specs.Int.{w64, cast_unsigned}
 use Rattle.std.specs.List.{All}
 use Rattle.segment_image.specs.Words.{bytes_of_words}
 use Rattle.bucket_ranges.specs.declared.spec.Spec.{Spec}
 use Rattle.bucket_ranges.specs.declared.spec.Spec.TheVariants.{Linear, Boolean, Custom, Sparse}
 use Rattle.bucket_ranges.specs.Spec.{distinct_values}
+use Rattle.bucket_ranges.specs.Reading.{is_i32}
 use Rattle.segment_machine.specs.declared.actor.Actor.{Actor}
 use Rattle.segment_machine.specs.declared.actor.Made.{Made}
 use Rattle.segment_machine.specs.declared.actor.Made.TheVariants.{Histogram, Sample}
@@ -77,11 +78,12 @@ abbrev pub IsFirstNamed : Actor → List ℕ → ℕ → Type 0
 IsFirstNamed a name at =
     (front behind : List ℕ) × (a.seen_chain ≡ front ++ at ∷ behind) × All (SawOtherName a name) front × SawName a name at
 
--- it saw that a record is a sample of this value of a histogram
+-- it saw that a record is a sample of this value of a histogram. The value is one of an `i32`, since two numbers that differ by 2^64
+-- are one word
 abbrev pub SawSample : Actor → ℕ → ℤ → ℕ → Type 0
 SawSample a histogram value at =
     (word_seen a.seen_words (at + 2) ≡ Some 3) × (word_seen a.seen_words (at + 4) ≡ Some histogram)
-    × (word_seen a.seen_words (at + 5) ≡ Some (cast_unsigned w64 value))
+    × (word_seen a.seen_words (at + 5) ≡ Some (cast_unsigned w64 value)) × (is_i32 value ≡ true)
 
 -- it saw that a record is none
 abbrev pub SawOther : Actor → ℕ → ℤ → ℕ → Type 0

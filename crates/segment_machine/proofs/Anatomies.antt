@@ -125,6 +125,7 @@ module _ (anatomy : Anatomy) (pieces : List Piece) (spare : ℕ) (corrupt full :
   fits_along shape cursors actors opener id a others free no_later fits = record {
     shaped = fits.shaped;
     versioned = fits.versioned;
+    numbered = fits.numbered;
     sees = sees_along cursors a free no_later fits.sees;
     own = own_stays shape anatomy later id (λ own. others own.at (held own)) a.own fits.own;
     apart = fits.apart;

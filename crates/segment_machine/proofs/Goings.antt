@@ -90,6 +90,7 @@ module _ (shape : Dimensions) (opened : Anatomy) (state : State) (kept : Kept sh
         let fits = kept.each id a mine turns.lived in record {
           shaped = fits.shaped;
           versioned = fits.versioned;
+          numbered = fits.numbered;
           sees = goes.sees;
           own = goes.own;
           apart = goes.apart;

@@ -137,6 +137,7 @@ module _ (shape : Dimensions) (old new : Anatomy) (added : ℕ → Body → Type
   fits_grow cursors opener id sees own apart fits = record {
     shaped = fits.shaped;
     versioned = fits.versioned ∙ sym grows.version;
+    numbered = fits.numbered;
     sees = sees;
     own = own;
     apart = apart;

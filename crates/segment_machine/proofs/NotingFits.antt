@@ -28,6 +28,7 @@ module _ (shape : Dimensions) (anatomy : Anatomy) (cursors : List ℕ) (actors :
   noting_fits fit names calls looks finals snapshots = record {
     shaped = fit.shaped;
     versioned = fit.versioned;
+    numbered = fit.numbered;
     sees = record {
       free = fit.sees.free;
       walked = fit.sees.walked;

@@ -57,7 +57,7 @@ module _ (shape : Dimensions) (version id cursors : ℕ) (lawful : IsShape shape
   opened = blank version id shape.size
 
   abbrev opener : Actor
-  opener = opener_of shape version
+  opener = opener_of shape version cursors
 
   abbrev actors : List Actor
   actors = opener ∷ []
@@ -156,6 +156,7 @@ module _ (shape : Dimensions) (version id cursors : ℕ) (lawful : IsShape shape
   fits = record {
     shaped = refl;
     versioned = refl;
+    numbered = sym (length-replicate {A = ℕ} cursors 12);
     sees = sees;
     own = All-nil _;
     apart = λ i j x y there. absurd (none_at i x there);

@@ -170,6 +170,7 @@ pub fits : (shape : Dimensions) (anatomy : Anatomy) (cursors : List ℕ) (old ne
 fits shape anatomy cursors old new opener later id a same since alone fit = record {
   shaped = fit.shaped;
   versioned = fit.versioned;
+  numbered = fit.numbered;
   sees = fit.sees;
   own = fit.own;
   apart = fit.apart;

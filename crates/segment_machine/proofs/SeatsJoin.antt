@@ -161,6 +161,7 @@ module _ (shape : Dimensions) (opened : Anatomy) (old : State) (kept : Kept shap
   joined_fits = record {
     shaped = mine.shaped;
     versioned = mine.versioned;
+    numbered = mine.numbered;
     sees = sees_passed other 0 kept.anatomy old.cursors later (joined_sees kept.anatomy old.cursors opener b mine.sees theirs.sees);
     own = joined_own shape old.words kept.anatomy kept.shown other apart opener b mine.own theirs.own;
     apart = joined_apart shape old.words kept.anatomy kept.shown other apart opener b mine.own theirs.own mine.apart theirs.apart;

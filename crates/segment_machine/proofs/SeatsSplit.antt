@@ -130,6 +130,7 @@ module _ (anatomy : Anatomy) (cursors : List ℕ) (actors : List Actor) (later a
   fresh_fits shape old opener id k fit = record {
     shaped = fit.shaped;
     versioned = fit.versioned;
+    numbered = fit.numbered;
     sees = fresh_sees fit.sees;
     own = All-nil (HoldsOwn shape anatomy.pieces id);
     apart = λ i j x y first. absurd (none_at i x first);

@@ -59,6 +59,7 @@ module _ (shape : Dimensions) (anatomy : Anatomy) (cursors : List ℕ) (actors :
   shared_fits fit = record {
     shaped = fit.shaped;
     versioned = fit.versioned;
+    numbered = fit.numbered;
     sees = turned_sees anatomy a share a.made a.outstanding cursors fit.sees;
     own = fit.own;
     apart = fit.apart;
@@ -88,6 +89,7 @@ module _ (shape : Dimensions) (anatomy : Anatomy) (cursors : List ℕ) (actors :
   opener_fits fit = record {
     shaped = fit.shaped;
     versioned = fit.versioned;
+    numbered = fit.numbered;
     sees = turned_sees anatomy a share made outstanding cursors fit.sees;
     own = fit.own;
     apart = fit.apart;

@@ -72,7 +72,7 @@ whole entry = record { entry = entry; counted = true; summed = not (int_eq entry
 
 -- who made `A` and recorded these, of a unit each
 abbrev pub maker : List ℕ → Actor
-maker values = record (opener_of shape 1) {
+maker values = record (opener_of shape 1 0) {
   share = 4294967295 - length values;
   costs = record { name = letter_a; units = length values } ∷ [];
   log = map (λ value. whole (one value)) values;

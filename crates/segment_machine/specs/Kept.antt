@@ -349,6 +349,7 @@ pub record FinalsAreExact (actors : List Actor) (opener : Actor) (id : ℕ) (a :
 pub record Fits (shape : Dimensions) (anatomy : Anatomy) (cursors : List ℕ) (actors : List Actor) (opener : Actor) (id : ℕ) (a : Actor) : Type 0 where
   pub shaped : a.shape ≡ shape
   pub versioned : a.version ≡ anatomy.version
+  pub numbered : a.cursors ≡ length cursors
   pub sees : Sees anatomy cursors a
   pub own : All (HoldsOwn shape anatomy.pieces id) a.own
   pub apart : (i j : ℕ) (x y : Own) → get_elem? a.own i ≡ some x → get_elem? a.own j ≡ some y → x.at ≡ y.at → i ≡ j

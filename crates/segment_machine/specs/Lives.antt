@@ -24,10 +24,10 @@ abbrev pub with_actors : List Actor → State
 with_actors actors = record opened { actors = actors }
 
 abbrev pub split_opener : Actor
-split_opener = parent (opener_of shape 1) 5
+split_opener = parent (opener_of shape 1 1) 5
 
 abbrev pub recorder : Actor
-recorder = newcomer (opener_of shape 1) 5
+recorder = newcomer (opener_of shape 1 1) 5
 
 abbrev pub lent : Actor
 lent = borrower recorder 3

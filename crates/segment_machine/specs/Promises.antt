@@ -40,7 +40,7 @@ abbrev pub new_state : Dimensions → ℕ → ℕ → ℕ → State
 new_state shape version id cursors = record {
   words = render shape (fresh shape version id);
   cursors = replicate cursors 12;
-  actors = opener_of shape version ∷ [];
+  actors = opener_of shape version cursors ∷ [];
 }
 
 -- an opener makes a recorder, and joins one

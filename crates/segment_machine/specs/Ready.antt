@@ -195,5 +195,5 @@ Ready a (purge_block at) = (look : Look) × (a.place ≡ Losing look at)
 Ready a (disable histogram old) = (look : Look) × (known : Known) × LooksOpen a histogram old look known × (look.counts ≢ 0)
 Ready a (add_moved counts bucket units) = (look : Look) × (a.place ≡ Moving look bucket units) × (look.counts ≡ counts)
 Ready a (raise_single_mark histogram least) = MayRaiseSingle a histogram least
-Ready a (load_cursor cursor) = MayTurn a
+Ready a (load_cursor cursor) = MayTurn a × (cursor < a.cursors)
 Ready a (move_cursor cursor old new) = a.place ≡ BehindCursor cursor old new

@@ -10,10 +10,11 @@ use Rattle.segment_machine.specs.declared.actor.Taken.{Taken}
 use Rattle.segment_machine.specs.Actor.{log_of, is_bound, looking}
 
 -- an actor that has done nothing, and has seen this free pointer
-abbrev pub idle : Dimensions → ℕ → ℕ → ℕ → Actor
-idle shape version free share = record {
+abbrev pub idle : Dimensions → ℕ → ℕ → ℕ → ℕ → Actor
+idle shape version cursors free share = record {
   shape = shape;
   version = version;
+  cursors = cursors;
   share = share;
   costs = [];
   held = [];
@@ -46,9 +47,9 @@ idle shape version free share = record {
   outstanding = 0;
 }
 
--- the opener of a new segment, with all its units
-abbrev pub opener_of : Dimensions → ℕ → Actor
-opener_of shape version = record (idle shape version 16 4294967295) { opener = 1 }
+-- the opener of a new segment with so many shared cursors, with all its units
+abbrev pub opener_of : Dimensions → ℕ → ℕ → Actor
+opener_of shape version cursors = record (idle shape version cursors 16 4294967295) { opener = 1 }
 
 -- ---- a recorder is made
 
@@ -61,7 +62,7 @@ parent a units = record a { share = a.share - units; made = a.made + 1; outstand
 
 -- and the recorder: it has seen what its opener has, done nothing, and knows no histogram
 abbrev pub newcomer : Actor → ℕ → Actor
-newcomer a units = looking (record (idle a.shape a.version a.seen_free units) {
+newcomer a units = looking (record (idle a.shape a.version a.cursors a.seen_free units) {
   inherited = log_of a;
   seen_chain = a.seen_chain;
   seen_tail = a.seen_tail;
@@ -133,4 +134,4 @@ joined a b = record a {
 
 -- what the recorder is then
 abbrev pub spent : Actor
-spent = record (idle (record { size = 0; page = 0 }) 0 0 0) { place = Spent }
+spent = record (idle (record { size = 0; page = 0 }) 0 0 0 0) { place = Spent }

@@ -107,6 +107,8 @@ pub struct Actor {
     pub shape: Shape,
     /// The version of its format, 1 or 2.
     pub version: u64,
+    /// How many shared cursors stand beside it.
+    pub cursors: u64,
 
     // ---- units
 

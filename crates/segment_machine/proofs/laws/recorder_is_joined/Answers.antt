@@ -30,7 +30,7 @@ abbrev looked : State
 looked = lives.with_actors (opener ∷ lives.looked ∷ [])
 
 splits : IsSplit lives.opened 0 5 made
-splits = (opener_of shape 1, refl, (refl, refl, omega arith, omega arith), refl)
+splits = (opener_of shape 1 1, refl, (refl, refl, omega arith, omega arith), refl)
 
 apart : (n : ℕ) → n ≡ 0 → n ≢ 1
 apart n is e = omega (arith, is, e)
@@ -63,7 +63,7 @@ looks = record {
   before = [];
   at = loaded;
   notes_before = refl;
-  ready = refl;
+  ready = (refl, omega arith);
   behind = [];
   then_is = lives.looked;
   notes_behind = refl;

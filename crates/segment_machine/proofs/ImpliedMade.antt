@@ -13,7 +13,7 @@ use Rattle.alloc_core.specs.Layout.{IsShape}
 use Rattle.bucket_ranges.specs.declared.spec.Spec.{Spec}
 use Rattle.bucket_ranges.specs.declared.spec.Spec.TheVariants as spec
 use Rattle.bucket_ranges.specs.Spec.{spec_fault, distinct_values}
-use Rattle.bucket_ranges.specs.Reading.{name_of, name_words, is_name, has_name, has_spec, is_spec_named, inner_ranges, is_sparse, ascends_above}
+use Rattle.bucket_ranges.specs.Reading.{name_of, name_words, is_name, has_name, has_spec, is_kind, is_spec_named, inner_ranges, is_sparse, ascends_above}
 use Rattle.bucket_ranges.specs.Reading as reading
 use Rattle.bucket_ranges.proofs.Distinct.{Member, Ascends, ascends-from}
 use Rattle.bucket_ranges.proofs.Customs.{is_custom-from_checks, length-distinct, some_distinct, custom_boundaries-ascending}
@@ -68,6 +68,13 @@ spec_is_named (spec.Custom values) inner lawful ranges =
     (eq-eqb (slice_index distinct 0) (slice_index distinct 0) refl))
     (eq-eqb (slice_index distinct (length distinct + 1 - 2)) (slice_index distinct (length distinct - 1)) (ap (slice_index distinct) last)))
 
+-- a spec has a kind that is read
+kind_named : (kind : Spec) → is_kind (slice_index (spec_fields kind) 0) ≡ true
+kind_named (spec.Linear min max n) = refl
+kind_named spec.Boolean = refl
+kind_named (spec.Custom values) = refl
+kind_named spec.Sparse = refl
+
 -- ---- a kept state of a new segment
 
 module _ (shape : Dimensions) (version id : ℕ) (state : State) (lawful : IsShape shape) (kept : Kept shape (blank version id shape.size) state) where
@@ -92,6 +99,7 @@ module _ (shape : Dimensions) (version id : ℕ) (state : State) (lawful : IsSha
         and_from _ _ (le-leb (15 + name_words (field_at state.words at 14)) (field_at state.words at 0) (omega (arith, long, letters, size, sized)))
             (ap is_name named ∙ right.named),
         named,
+        ap is_kind (word 4 (omega arith)) ∙ kind_named r.spec,
         and_from _ _ (le-leb (reading.record_words state.words at) (field_at state.words at 0)
             (room at r has (field_at state.words at 4 == 3) (eqb-true (field_at state.words at 4) 3) (15 + name_words (field_at state.words at 14)) (field_at state.words at 7 - 1)
             (omega (arith, long, letters))

@@ -174,7 +174,7 @@ here at there = only 16 (λ (k : ℕ). 16 ≡ k) refl at there
 records : RecordsHold opening.words [] mounted all chain
 records = record {
   made = λ p there. only _ (λ (p : Published). HoldsMade mounted chain p.reference p.made)
-      (refl, refl, refl, refl, (refl, refl), omega arith, (7, omega arith, refl)) p there;
+      (refl, refl, refl, refl, refl, (refl, refl), omega arith, (7, omega arith, refl)) p there;
   still = λ front at is there. absurd (nobody front at is there);
   formed = λ at there tag. subst (HasForm 1 mounted) (here at there) form;
   own_counts = λ a b first second tag other counts same. sym (here a first) ∙ here b second;

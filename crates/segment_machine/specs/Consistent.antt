@@ -15,7 +15,7 @@ use Rattle.list_core.specs.Walk.{IsPrefix}
 use Rattle.bucket_ranges.specs.declared.single.SingleWord.{SingleWord}
 use Rattle.bucket_ranges.specs.Ranges.{boundaries_of}
 use Rattle.bucket_ranges.specs.Single.{packed_bucket}
-use Rattle.bucket_ranges.specs.Reading.{name_of, name_words, is_sparse, spec_of, has_spec, has_name, has_counts, record_buckets, total_at, mark_at, sum_of, sum_mark_of, sample_value, is_i32}
+use Rattle.bucket_ranges.specs.Reading.{name_of, name_words, is_kind, is_sparse, spec_of, has_spec, has_name, has_counts, record_buckets, total_at, mark_at, sum_of, sum_mark_of, sample_value, is_i32}
 use Rattle.segment_machine.specs.declared.entry.Entry.{Entry}
 use Rattle.segment_machine.specs.declared.place.Place.TheVariants.{SumLoaded}
 use Rattle.segment_machine.specs.declared.actor.Actor.{Actor}
@@ -133,13 +133,13 @@ pub record ListIsChain (opened : List ℕ) (first : List Claim) (words cursors :
 
 -- ---- 2: the records hold what they were given
 
--- a record holds what its maker was given. A histogram's name is lawful and padded with zeros, its spec is the one given and
--- lawful, the words of both lie in its block, and its counts fit in a page; a sample names the first record of a name, which
--- is sparse and stands before it on the chain
+-- a record holds what its maker was given. A histogram's name is lawful and padded with zeros, its kind is one that is read, its spec
+-- is the one given and lawful, the words of name and spec lie in its block, and its counts fit in a page; a sample names the first
+-- record of a name, which is sparse and stands before it on the chain
 abbrev pub HoldsMade : List ℕ → List ℕ → ℕ → Made → Type 0
 HoldsMade words chain at (Histogram name spec) =
     (field_at words at 2 ≡ 1) × (has_name words at ≡ true) × (name_of words at ≡ name)
-    × (has_spec words at ≡ true) × SameSpec (spec_of words at) spec
+    × (is_kind (field_at words at 4) ≡ true) × (has_spec words at ≡ true) × SameSpec (spec_of words at) spec
     × (4 + 2 * record_buckets words at ≤ (head_of words).shape.page)
     × AreNameWords name (slice_range words (at + 15) (at + 15 + name_words (length name)))
 HoldsMade words chain at (Sample histogram value) =

@@ -1,5 +1,5 @@
 -- What becomes of an actor at an event, by the number that it found.
-use Rattle.std.specs.Prelude.{Bool, true, false, not, ◌&&◌, ◌==◌, nat_lt, ℕ, ◌+◌, ◌-◌, max, ℤ, pos, ◌-ℤ◌, if◌then◌else◌, List, [], ◌∷◌, ◌++◌, length, replicate, slice_index, bit_and, Option, Some, None, unwrap_or}
+use Rattle.std.specs.Prelude.{Bool, true, false, not, ◌&&◌, ◌==◌, nat_lt, ℕ, ◌+◌, ◌-◌, max, ℤ, pos, ◌+ℤ◌, ◌-ℤ◌, if◌then◌else◌, List, [], ◌∷◌, ◌++◌, length, replicate, slice_index, bit_and, Option, Some, None, unwrap_or}
 use Rattle.std.specs.Int.{w64, cast_signed}
 use Rattle.std.specs.List.{filter}
 use Rattle.bucket_ranges.specs.Single.{packed_bucket}
@@ -178,6 +178,10 @@ abbrev pub take_units : ℤ → ℕ → ℕ → Taken → Taken
 take_units key least found taken =
     record taken { counts = taken.counts ++ (if nat_lt found least then (key, least - found) ∷ [] else []) }
 
+-- a sum mark that was m and is the sum now: the difference is taken, beside what was taken of the sum before
+abbrev pub swap_sum : ℤ → ℤ → Taken → Taken
+swap_sum sum mark taken = record taken { sum = taken.sum +ℤ (sum -ℤ mark); swapped = true }
+
 -- ---- what becomes of it
 
 -- after an exchange of the free pointer, which went through or not
@@ -274,7 +278,7 @@ next a (raise_mark at least) found = record a {
 }
 next a (load_sum histogram) found = record a { place = SumLoaded histogram (cast_signed w64 found) }
 next a (swap_sum_mark histogram sum) found =
-    record a { place = Idle; taken = change_last (λ t. record t { sum = sum -ℤ cast_signed w64 found; swapped = true }) a.taken }
+    record a { place = Idle; taken = change_last (swap_sum sum (cast_signed w64 found)) a.taken }
 next a (load_redundant histogram) found = record a { seen_counts = a.seen_counts ++ sight (histogram + 13) found }
 next a (load_single histogram) found = record a {
   place = Looking (record (look_of a.place histogram) { single = Some found });

@@ -22,6 +22,7 @@ use Rattle.segment_machine.specs.Form.{is_off, units_in, IsPacking}
 use Rattle.segment_machine.specs.Actor.{is_bound, Buckets, Sparse, bucket_key, word_seen}
 use Rattle.segment_machine.specs.Made.{IsPayload, IsFirstSample, SawSample}
 use Rattle.segment_machine.specs.Next.{form_seen}
+use Rattle.segment_machine.specs.Note.{SawSingle}
 use Rattle.segment_machine.specs.Event.{Event, load_flags, load_free, exchange_free, store_size, store_cookie, store_type, store_payload, set_flag, store_own_next, load_tail, link, move_tail, load_next, load_published, load_counts, add_count, add_sum, add_redundant, load_count, raise_mark, load_sum, swap_sum_mark, load_redundant, load_single, pack, mount_counts, purge_block, disable, add_moved, raise_single_mark, load_cursor, move_cursor}
 
 -- it may turn to another part of its call, or to another call
@@ -67,6 +68,10 @@ LooksOff a look known =
 abbrev pub IsBlankCounts : Own → ℕ → Type 0
 IsBlankCounts own n = (own.tag ≡ 2) × (own.next ≡ 0) × (own.payload ≡ []) × (4 + 2 * n ≤ own.size)
 
+-- the units of the entry that is next are counted in this histogram
+abbrev pub CountsIn : Actor → Known → Type 0
+CountsIn a known = (c : Counting) × CountsNext a c × (c.entry.name ≡ known.name)
+
 -- the units of the entry that is next are added to a count: of its bucket, where the single word is off, or of the first
 -- sample of its value
 abbrev pub MayCount : Actor → ℕ → ℕ → Type 0
@@ -74,7 +79,7 @@ MayCount a at units =
     (c : Counting) × (known : Known) × CountsNext a c × (c.entry.name ≡ known.name) × (c.entry.units ≡ units)
     × (((look : Look) × (bucket : ℕ) × LooksOff a look known × HasKey known bucket c.entry.key
     × (at ≡ look.counts + 4 + bucket))
-    ⊎ ((sample : ℕ) × Sparse a known.reference known × IsFirstSample a known.reference c.entry.key sample × (at ≡ sample + 6)))
+    ⊎ ((sample : ℕ) × MayTurn a × Sparse a known.reference known × IsFirstSample a known.reference c.entry.key sample × (at ≡ sample + 6)))
 
 -- it knows the single word or the counts of a histogram with buckets
 abbrev pub is_looking : Place → Bool
@@ -82,14 +87,14 @@ is_looking (Looking look) = true
 is_looking (CountLoaded look bucket count) = true
 is_looking _ = false
 
--- a count is loaded: of a bucket, where the single word is off, or of a sample
+-- a count is loaded: of a bucket, where the single word is off, or of a sample that was met on the list
 abbrev pub MayLoadCount : Actor → ℕ → Type 0
 MayLoadCount a at =
     ((look : Look) × (known : Known) × (bucket : ℕ)
     × (LooksOff a look known ⊎ ((b count : ℕ) × (a.place ≡ CountLoaded look b count) × Buckets a look.histogram known))
     × (bucket < buckets_of known.spec) × (at ≡ look.counts + 4 + bucket))
     ⊎ ((known : Known) × (sample : ℕ) × (value : ℤ) × Sparse a known.reference known
-    × SawSample a known.reference value sample × (at ≡ sample + 6)
+    × Contains a.seen_chain sample × SawSample a known.reference value sample × (at ≡ sample + 6)
     × MayTurn a × (is_looking a.place ≡ false))
 
 -- the delta that is going on is of this histogram
@@ -109,13 +114,13 @@ MayRaise a at least =
     ⊎ ((sample histogram : ℕ) × (known : Known) × (a.place ≡ SampleLoaded sample least)
     × (word_seen a.seen_words (sample + 4) ≡ Some histogram) × Takes a histogram known × (at ≡ sample + 7)))
 
--- the single mark is raised: to the packed units; or, where the word is off, to the count that was loaded of the packed
+-- the single mark is raised: to the packed units that were seen since the delta began; or, where the word is off, to the count that was loaded of the packed
 -- bucket, in version 2 with the units that the word keeps
 abbrev pub MayRaiseSingle : Actor → ℕ → ℕ → Type 0
 MayRaiseSingle a histogram least =
     (1 ≤ least) × ((known : Known) × Takes a histogram known)
     × (((look : Look) × (known : Known) × (word : ℕ) × LooksOpen a histogram word look known
-    × (least ≡ units_in (form_seen a histogram word)))
+    × SawSingle a (histogram + 9) word × (least ≡ units_in (form_seen a histogram word)))
     ⊎ ((look : Look) × (bucket count word : ℕ) × (a.place ≡ CountLoaded look bucket count) × (look.histogram ≡ histogram)
     × (look.single ≡ Some word) × (packed_bucket (form_seen a histogram word) ≡ Some bucket)
     × (least ≡ count + units_in (form_seen a histogram word))))
@@ -190,9 +195,10 @@ Ready a (pack histogram old new) =
     × (c.entry.name ≡ known.name) × HasKey known bucket c.entry.key × IsPacking bucket c.entry.units old new
 Ready a (mount_counts histogram at) =
     (own : Own) × (known : Known) × MayTurn a × Contains a.own own × (own.at ≡ at) × Buckets a histogram known
-    × IsBlankCounts own (buckets_of known.spec)
+    × CountsIn a known × IsBlankCounts own (buckets_of known.spec)
 Ready a (purge_block at) = (look : Look) × (a.place ≡ Losing look at)
-Ready a (disable histogram old) = (look : Look) × (known : Known) × LooksOpen a histogram old look known × (look.counts ≢ 0)
+Ready a (disable histogram old) =
+    (look : Look) × (known : Known) × LooksOpen a histogram old look known × (look.counts ≢ 0) × CountsIn a known
 Ready a (add_moved counts bucket units) = (look : Look) × (a.place ≡ Moving look bucket units) × (look.counts ≡ counts)
 Ready a (raise_single_mark histogram least) = MayRaiseSingle a histogram least
 Ready a (load_cursor cursor) = MayTurn a × (cursor < a.cursors)

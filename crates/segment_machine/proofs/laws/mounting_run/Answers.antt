@@ -6,6 +6,7 @@ use Rattle.segment_machine.specs.declared.entry.Counting.{Counting}
 use Rattle.segment_machine.specs.declared.place.Look.{Look}
 use Rattle.segment_machine.specs.Entry.{fresh}
 use Rattle.segment_machine.specs.Actor.{Buckets}
+use Rattle.segment_machine.specs.Ready.{CountsIn}
 use Rattle.segment_machine.specs.Examples.{letter_a, one, mounts}
 use Rattle.segment_machine.proofs.laws.mounting_run.Goals as goal
 
@@ -27,6 +28,10 @@ off_look = record { histogram = 16; single = Some 9223372036854775809; counts = 
 
 abbrev counted : Counting
 counted = record { entry = one 0; counted = true; summed = false; noted = false }
+
+-- its entry is next all along
+counts_next : CountsIn mounts known
+counts_next = (fresh (one 0), (([], refl), refl), refl)
 
 not_zero : off_look.counts ≢ 0
 not_zero e = omega (arith, e)
@@ -50,11 +55,11 @@ returns c = (
                 (
                   ((10, refl), omega arith, omega arith),
                   (
-                    (block, known, refl, (0, omega arith, refl), refl, knows, (refl, refl, refl, omega arith)),
+                    (block, known, refl, (0, omega arith, refl), refl, knows, counts_next, (refl, refl, refl, omega arith)),
                     (
                       (refl, (known, knows)),
                       (
-                        (open_look, known, (refl, refl, refl, refl, knows), not_zero),
+                        (open_look, known, (refl, refl, refl, refl, knows), not_zero, counts_next),
                         (
                           (off_look, refl, refl),
                           (

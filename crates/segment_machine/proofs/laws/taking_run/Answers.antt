@@ -8,7 +8,7 @@ returns c = (
   (
     (refl, (known_a, knows)),
     (
-      (omega arith, (known_a, takes), inl (look, known_a, 4294967298, (refl, refl, refl, refl, knows), refl)),
+      (omega arith, (known_a, takes), inl (look, known_a, 4294967298, (refl, refl, refl, refl, knows), (0, omega arith, refl), refl)),
       (
         (refl, (known_a, (0, omega arith, refl), refl)),
         (

@@ -11,3 +11,4 @@ pub mod Masks
 pub mod Named
 pub mod Earlier
 pub mod FirstSamples
+pub mod SameSpecs

@@ -1,6 +1,7 @@
 -- The boundaries of buckets.
 use Rattle.std.specs.Prelude.{◌≡◌, ℕ, ◌+◌, ◌-◌, ◌*◌, ◌/◌, ◌<◌, ◌≤◌, min, ℤ, pos, negsuc, List, [], ◌∷◌, ◌++◌, map, length, slice_index}
 use Rattle.std.specs.List.{range_with_len}
+use Rattle.bucket_ranges.specs.declared.limits.TheConstants.{LAST_BOUNDARY, MAX_VALUE}
 use Rattle.bucket_ranges.specs.declared.spec.Spec.{Spec}
 use Rattle.bucket_ranges.specs.declared.spec.Spec.TheVariants.{Linear, Boolean, Custom, Sparse}
 use Rattle.bucket_ranges.specs.Spec.{distinct_values}
@@ -11,11 +12,11 @@ inner_boundary min max n i = (2 * (min * (n - 1 - i) + max * (i - 1)) + (n - 2))
 
 -- all boundaries of a linear spec, from 0 to 2,147,483,647
 abbrev pub linear_boundaries : ℕ → ℕ → ℕ → List ℕ
-linear_boundaries min max n = 0 ∷ (map (inner_boundary min max n) (range_with_len 1 (n - 1)) ++ 2147483647 ∷ [])
+linear_boundaries min max n = 0 ∷ (map (inner_boundary min max n) (range_with_len 1 (n - 1)) ++ LAST_BOUNDARY ∷ [])
 
 -- all boundaries of a custom spec: the distinct values above 0, ascending, between 0 and 2,147,483,647
 abbrev pub custom_boundaries : List ℕ → List ℕ
-custom_boundaries values = 0 ∷ (distinct_values values ++ 2147483647 ∷ [])
+custom_boundaries values = 0 ∷ (distinct_values values ++ LAST_BOUNDARY ∷ [])
 
 -- the boundaries of a spec; a sparse one has none
 abbrev pub boundaries_of : Spec → List ℕ
@@ -26,7 +27,7 @@ boundaries_of Sparse = []
 
 -- each is at most 2,147,483,647
 abbrev pub AreValues : List ℕ → Type 0
-AreValues boundaries = (i : ℕ) → slice_index boundaries i ≤ 2147483647
+AreValues boundaries = (i : ℕ) → slice_index boundaries i ≤ LAST_BOUNDARY
 
 -- each is below the next
 abbrev pub IsAscending : List ℕ → Type 0
@@ -38,11 +39,11 @@ pub record AreBoundaries (boundaries : List ℕ) : Type 0 where
   pub small : AreValues boundaries
   pub ascending : IsAscending boundaries
   pub ends : 0 < length boundaries
-      → (slice_index boundaries 0 ≡ 0) × (slice_index boundaries (length boundaries - 1) ≡ 2147483647)
+      → (slice_index boundaries 0 ≡ 0) × (slice_index boundaries (length boundaries - 1) ≡ LAST_BOUNDARY)
 
 -- a value as it is counted: one below 0 as 0, one above 2,147,483,646 as that
 abbrev pub clamped : ℤ → ℕ
-clamped (pos value) = min value 2147483646
+clamped (pos value) = min value MAX_VALUE
 clamped (negsuc value) = 0
 
 -- the bucket of a value: the one whose boundaries hold it
@@ -55,5 +56,5 @@ pub record IsBucketOf (boundaries : List ℕ) (value bucket : ℕ) : Type 0 wher
 pub record IsSplit (buckets : ℕ) (boundaries : List ℕ) : Type 0 where
   pub count : length boundaries ≡ buckets + 1
   pub first : slice_index boundaries 0 ≡ 0
-  pub last : slice_index boundaries buckets ≡ 2147483647
+  pub last : slice_index boundaries buckets ≡ LAST_BOUNDARY
   pub ascending : IsAscending boundaries

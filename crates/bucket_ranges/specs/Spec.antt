@@ -1,8 +1,10 @@
--- Which specs are lawful.
-use Rattle.std.specs.Prelude.{◌↔◌, Bool, not, ◌||◌, ◌==◌, nat_lt, nat_le, if◌then◌else◌, ℕ, ◌+◌, ◌-◌, ◌<◌, ◌≤◌, List, [], ◌∷◌, length, Option}
-use Rattle.std.specs.List.{All, Any, Contains, list_any}
+-- Which specs are lawful, and which are the same.
+use Rattle.std.specs.Prelude.{◌≡◌, ◌↔◌, Bool, not, ◌||◌, ◌==◌, nat_lt, nat_le, if◌then◌else◌, ℕ, ◌+◌, ◌-◌, ◌<◌, ◌≤◌, List, [], ◌∷◌, length, slice_index, Option}
+use Rattle.std.specs.List.{All, Any, Contains, list_any, list_all}
 use Rattle.std.specs.List.Sorted.{IsStrictlyIncreasing}
 use Rattle.segment_image.specs.Checks.{first_fault}
+use Rattle.segment_image.specs.declared.layout.TheConstants.{KIND_LINEAR, KIND_BOOLEAN, KIND_CUSTOM, KIND_SPARSE}
+use Rattle.bucket_ranges.specs.declared.limits.TheConstants.{MAX_VALUE, MAX_BUCKETS, MAX_CUSTOM_VALUES}
 use Rattle.bucket_ranges.specs.declared.spec.Spec.{Spec}
 use Rattle.bucket_ranges.specs.declared.spec.Spec.TheVariants.{Linear, Boolean, Custom, Sparse}
 use Rattle.bucket_ranges.specs.declared.spec.SpecFault.{SpecFault}
@@ -12,16 +14,16 @@ use Rattle.bucket_ranges.specs.declared.spec.SpecFault.TheVariants.{BadMin, BadM
 abbrev pub linear_checks : ℕ → ℕ → ℕ → List (Bool × SpecFault)
 linear_checks min max n =
     (min == 0, BadMin)
-    ∷ (nat_le max min || nat_lt 2147483646 max, BadMax)
+    ∷ (nat_le max min || nat_lt MAX_VALUE max, BadMax)
     ∷ (nat_lt n 3, TooFew)
-    ∷ (nat_lt 1000 n || nat_lt (max - min + 2) n, TooMany)
+    ∷ (nat_lt MAX_BUCKETS n || nat_lt (max - min + 2) n, TooMany)
     ∷ []
 
 -- what can be wrong with the values of a custom spec, in order
 abbrev pub custom_checks : List ℕ → List (Bool × SpecFault)
 custom_checks values =
-    (nat_lt 999 (length values), TooMany)
-    ∷ (list_any (λ value. nat_lt 2147483646 value) values, BadRange)
+    (nat_lt MAX_CUSTOM_VALUES (length values), TooMany)
+    ∷ (list_any (λ value. nat_lt MAX_VALUE value) values, BadRange)
     ∷ (not (list_any (λ value. nat_lt 0 value) values), Empty)
     ∷ []
 
@@ -61,17 +63,45 @@ buckets_of Boolean = 3
 buckets_of (Custom values) = length (distinct_values values) + 1
 buckets_of Sparse = 0
 
+-- ---- the same specs
+
+-- the kind, the minimum, the maximum and the number of buckets of a spec, as its record has them
+abbrev pub spec_fields : Spec → List ℕ
+spec_fields (Linear min max n) = KIND_LINEAR ∷ min ∷ max ∷ n ∷ []
+spec_fields Boolean = KIND_BOOLEAN ∷ 1 ∷ 2 ∷ 3 ∷ []
+spec_fields (Custom values) =
+    let inner = distinct_values values in
+    KIND_CUSTOM ∷ slice_index inner 0 ∷ slice_index inner (length inner - 1) ∷ (length inner + 1) ∷ []
+spec_fields Sparse = KIND_SPARSE ∷ 0 ∷ 0 ∷ 0 ∷ []
+
+-- the ranges that stand behind the name in the record of a custom spec
+abbrev pub spec_ranges : Spec → List ℕ
+spec_ranges (Linear min max n) = []
+spec_ranges Boolean = []
+spec_ranges (Custom values) = distinct_values values
+spec_ranges Sparse = []
+
+-- two specs are the same: kind, minimum, maximum, number of buckets and, of custom ones, all ranges
+abbrev pub SameSpec : Spec → Spec → Type 0
+SameSpec a b = (spec_fields a ≡ spec_fields b) × (spec_ranges a ≡ spec_ranges b)
+
+-- whether each of the values that is above 0 is among the others
+abbrev pub has_values : List ℕ → List ℕ → Bool
+has_values others values = list_all (λ value. (value == 0) || list_any (λ other. other == value) others) values
+
+-- ---- lawful specs
+
 -- a linear spec that has no fault
 pub record IsLinear (min max n : ℕ) : Type 0 where
   pub min_above : 0 < min
   pub max_above : min < max
-  pub max_below : max ≤ 2147483646
+  pub max_below : max ≤ MAX_VALUE
   pub few : 3 ≤ n
-  pub many : n ≤ 1000
+  pub many : n ≤ MAX_BUCKETS
   pub room : n ≤ max - min + 2
 
 -- the values of a custom spec that has no fault
 pub record IsCustom (values : List ℕ) : Type 0 where
-  pub few : length values ≤ 999
-  pub below : All (λ value. value ≤ 2147483646) values
+  pub few : length values ≤ MAX_CUSTOM_VALUES
+  pub below : All (λ value. value ≤ MAX_VALUE) values
   pub some : Any (λ value. 0 < value) values

@@ -18,6 +18,50 @@ pub enum Spec {
     Sparse,
 }
 
+ghost use Rattle.std.specs.Prelude.{◌≡◌, ◌↔◌, true};
+ghost use Rattle.bucket_ranges.specs.Spec.{SameSpec, distinct_values, has_values as has_values_of};
+
+impl Spec {
+    /// Whether two specs are the same: their kind, minimum, maximum and number of buckets are, and of custom ones all
+    /// ranges. So the order of custom values, values that repeat and values of 0 make no difference. It takes no memory.
+    pub fn is_same(&self, other: &Spec) -> bool
+        ensures { (result ≡ true) ↔ SameSpec self.now other.now }
+    {
+        match (self, other) {
+            (
+                Spec::Linear { min, max, n },
+                Spec::Linear {
+                    min: other_min,
+                    max: other_max,
+                    n: other_n,
+                },
+            ) => min == other_min && max == other_max && n == other_n,
+            (Spec::Boolean, Spec::Boolean) => true,
+            (Spec::Custom(values), Spec::Custom(others)) => {
+                have_same_values(values.as_slice(), others.as_slice())
+            }
+            (Spec::Sparse, Spec::Sparse) => true,
+            _ => false,
+        }
+    }
+}
+
+// Whether two lists have the same values above 0.
+fn have_same_values(values: &[u32], others: &[u32]) -> bool
+    ensures { (result ≡ true) ↔ (distinct_values values.now ≡ distinct_values others.now) }
+{
+    has_values(others, values) && has_values(values, others)
+}
+
+// Whether each of the values that is above 0 is among the others.
+fn has_values(others: &[u32], values: &[u32]) -> bool
+    ensures { result ≡ has_values_of others.now values.now }
+{
+    values
+        .iter()
+        .all(|value| *value == 0 || others.contains(value))
+}
+
 /// What is wrong with a spec: the first of these that holds.
 #[derive(Clone, Copy, Debug, PartialEq, Eq, Error)]
 pub enum SpecFault {

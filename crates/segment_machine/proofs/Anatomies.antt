@@ -108,8 +108,8 @@ module _ (anatomy : Anatomy) (pieces : List Piece) (spare : ℕ) (corrupt full :
   looks_along actors a looks = record {
     most = looks.most;
     packed = looks.packed;
-    counted = λ known bucket counts count r there below saw counted has settled.
-        looks.counted known bucket counts count r there below saw counted (stays.back _ _ has)
+    counted = λ known bucket count r there below has mounts saw settled.
+        looks.counted known bucket count r there below (stays.back _ _ has) mounts saw
         (⊎_elim (λ second. inl second) (λ rest. inr (⊎_elim (λ alone. inl alone) (λ apart. inr (λ r has. apart r (stays.there _ _ has))) rest)) settled);
     samples = looks.samples;
     rising = looks.rising;

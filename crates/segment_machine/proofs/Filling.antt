@@ -194,6 +194,8 @@ module _ (shape : Dimensions) (opened : Anatomy) (state : State) (kept : Kept sh
           saw = (refl, refl, refl, refl, refl);
           names = λ known has. has;
           words = λ s has. has;
+          seen = λ at word has. has;
+          chain = λ at has. has;
           own = own_others;
           spent = λ is. absurd (lived (ap (λ (b : Actor). b.place) is));
         })

@@ -68,9 +68,9 @@ IsStill shape version id words i = word_at words i ≡ word_at (render shape (fr
 
 -- the words of the header that no event changes
 header : (shape : Dimensions) (version id : ℕ) (words : List ℕ) (anatomy : Anatomy) → IsShown shape words (layout_of anatomy)
-    → anatomy.version ≡ version → anatomy.id ≡ id → (i : ℕ) → (i < 6) ⊎ ((9 ≤ i) × (i < 15))
+    → anatomy.version ≡ version → anatomy.id ≡ id → anatomy.reserved ≡ (0, 0, 0) → (i : ℕ) → (i < 6) ⊎ ((9 ≤ i) × (i < 15))
     → IsStill shape version id words i
-header shape version id words anatomy shown same_version same_id i within =
+header shape version id words anatomy shown same_version same_id same_reserved i within =
     ⊎_elim (below_six (IsStill shape version id words) (word 0) (word 1 ∙ same_version) (word 2) (word 3) (word 4 ∙ same_id) (word 5) i) behind within
   where
     word : (i : ℕ) → word_at words i ≡ word_at (render shape (layout_of anatomy)) i
@@ -83,7 +83,8 @@ header shape version id words anatomy shown same_version same_id i within =
     behind (from, below) =
         let split : 9 + (i - 9) ≡ i = omega (arith, from) in
         subst (IsStill shape version id words) split
-        (below_six (λ k. IsStill shape version id words (9 + k)) (word 9) (word 10) (word 11) (queue 0 (omega arith)) (queue 1 (omega arith)) (queue 2 (omega arith)) (i - 9)
+        (below_six (λ k. IsStill shape version id words (9 + k)) (word 9 ∙ ap (λ (r : ℕ × ℕ × ℕ). r.0) same_reserved) (word 10 ∙ ap (λ (r : ℕ × ℕ × ℕ). r.1) same_reserved)
+        (word 11 ∙ ap (λ (r : ℕ × ℕ × ℕ). r.2) same_reserved) (queue 0 (omega arith)) (queue 1 (omega arith)) (queue 2 (omega arith)) (i - 9)
         (omega (arith, from, below)))
 
 -- ---- what was seen
@@ -203,7 +204,7 @@ module _ (shape : Dimensions) (version id : ℕ) (state : State) (lawful : IsSha
   is_chain : ListIsChain opened [] words state.cursors state.actors chain
   is_chain = record {
     size = size;
-    header = header shape version id words anatomy kept.shown kept.same.0 kept.same.1;
+    header = header shape version id words anatomy kept.shown kept.same.0 kept.same.1 kept.same.3;
     free = subst (λ (s : Dimensions). is_pointer s (word_at words 7) ≡ true) (sym shape_is) (free_is_pointer shape words (layout_of anatomy) kept.shown);
     zeros = λ i from below. behind_shown shape words (layout_of anatomy) i kept.shown (let free = free_is in omega (arith, from, free));
     chained = chained;

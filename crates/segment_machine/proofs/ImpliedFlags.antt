@@ -4,6 +4,7 @@ use Rattle.std.specs.Prelude.{◌↔◌, bit_and}
 use Rattle.std.specs.List.{Contains}
 use Rattle.segment_image.specs.Words.{word_at}
 use Rattle.alloc_core.specs.Layout.{flags_of}
+use Rattle.alloc_core.proofs.Flags.{other_bits, corrupt_bit, full_bit}
 use Rattle.alloc_core.proofs.Layouts.{flags_word}
 use Rattle.segment_machine.specs.Body.{layout_of}
 use Rattle.segment_machine.specs.Kept.{IsSetBy}
@@ -23,25 +24,6 @@ all_of list there = let place = at_from list true there in any_there list place.
 set_by : (now : Bool) (set : List Bool) → IsSetBy now false set → (now ≡ true) ↔ Contains set true
 set_by now set is = (λ on. one_of set (sym is ∙ on), λ there. is ∙ all_of set there)
 
--- the bits of the word of flags
-corrupt_bit : (corrupt full : Bool) → (bit_and (flags_of corrupt full) 1 ≡ 1) ↔ (corrupt ≡ true)
-corrupt_bit false false = (λ e. absurd (omega (arith, e)), λ e. cc e)
-corrupt_bit false true = (λ e. absurd (omega (arith, e)), λ e. cc e)
-corrupt_bit true false = (λ e. refl, λ e. refl)
-corrupt_bit true true = (λ e. refl, λ e. refl)
-
-full_bit : (corrupt full : Bool) → (bit_and (flags_of corrupt full) 2 ≡ 2) ↔ (full ≡ true)
-full_bit false false = (λ e. absurd (omega (arith, e)), λ e. cc e)
-full_bit true false = (λ e. absurd (omega (arith, e)), λ e. cc e)
-full_bit false true = (λ e. refl, λ e. refl)
-full_bit true true = (λ e. refl, λ e. refl)
-
-no_other_bit : (corrupt full : Bool) → flags_of corrupt full / 4 ≡ 0
-no_other_bit false false = refl
-no_other_bit true false = refl
-no_other_bit false true = refl
-no_other_bit true true = refl
-
 -- a bit of the word is one of a word of flags that has none set, or an actor has set it
 bit_is : (bit word : ℕ) (now : Bool) (set : List Bool) → (bit_and 0 bit ≡ bit → ⊥) → (bit_and word bit ≡ bit) ↔ (now ≡ true) → IsSetBy now false set
     → (bit_and word bit ≡ bit) ↔ ((bit_and 0 bit ≡ bit) ⊎ Contains set true)
@@ -53,11 +35,11 @@ bit_is bit word now set none shows is = (
 pub flags_are_set : KeptFlagsAreSet
 flags_are_set shape version id state lawful kept =
     let anatomy = kept.anatomy in
-    let word : flags_of anatomy.corrupt anatomy.full ≡ word_at state.words 6 = sym (flags_word shape state.words (layout_of anatomy) kept.shown) in
+    let word : flags_of anatomy.corrupt anatomy.full anatomy.other_flags ≡ word_at state.words 6 = sym (flags_word shape state.words (layout_of anatomy) kept.shown) in
     record {
       corrupt = bit_is 1 (word_at state.words 6) anatomy.corrupt _ (λ e. omega (arith, e))
-          (subst (λ (n : ℕ). (bit_and n 1 ≡ 1) ↔ (anatomy.corrupt ≡ true)) word (corrupt_bit anatomy.corrupt anatomy.full)) kept.corrupt;
+          (subst (λ (n : ℕ). (bit_and n 1 ≡ 1) ↔ (anatomy.corrupt ≡ true)) word (corrupt_bit anatomy.corrupt anatomy.full anatomy.other_flags)) kept.corrupt;
       full = bit_is 2 (word_at state.words 6) anatomy.full _ (λ e. omega (arith, e))
-          (subst (λ (n : ℕ). (bit_and n 2 ≡ 2) ↔ (anatomy.full ≡ true)) word (full_bit anatomy.corrupt anatomy.full)) kept.full;
-      others = sym (ap (λ (n : ℕ). n / 4) word) ∙ no_other_bit anatomy.corrupt anatomy.full;
+          (subst (λ (n : ℕ). (bit_and n 2 ≡ 2) ↔ (anatomy.full ≡ true)) word (full_bit anatomy.corrupt anatomy.full anatomy.other_flags)) kept.full;
+      others = sym (ap (λ (n : ℕ). n / 4) word) ∙ (other_bits anatomy.corrupt anatomy.full anatomy.other_flags ∙ kept.same.2);
     }

@@ -86,7 +86,7 @@ module _ (shape : Dimensions) (version id : ℕ) (state : State) (kept : Kept sh
   -- single words lead on from those that were seen
   pub single_leads : (s : Sighting) (at : ℕ) → WasSingle kept.anatomy.version kept.anatomy.pieces s → s.at ≡ at + 9
       → Leads version (record_buckets state.words at) s.word (word_at state.words s.at)
-  single_leads s at (place, r, has, there, leads) same =
+  single_leads s at (place, r, has, there, formed, leads) same =
       let spot : place ≡ at = omega (arith, there, same) in
       let here = subst (λ (at : ℕ). HasRecord kept.anatomy.pieces at r) spot has in
       let many = buckets_are shape state.words kept.anatomy kept.shown kept.anatomy.version at r here (kept.records.lawful at r here) in

@@ -19,7 +19,7 @@ use Rattle.segment_machine.specs.declared.actor.Sighting.{Sighting}
 use Rattle.segment_machine.specs.Entry.{tally_units}
 use Rattle.segment_machine.specs.Form.{form_of}
 use Rattle.segment_machine.specs.Actor.{word_seen, counted_of, bucket_key}
-use Rattle.segment_machine.specs.Note.{SawBucket}
+use Rattle.segment_machine.specs.Note.{SawBucket, SawCount}
 use Rattle.segment_machine.specs.Promises.{accepted_by}
 use Rattle.segment_machine.specs.Body.{Record, Body, histogram, sample, words_of, Listed, Anatomy}
 use Rattle.segment_machine.specs.Ledger.{form_at}
@@ -103,12 +103,12 @@ module _ (shape : Dimensions) (old new : Anatomy) (added : ℕ → Body → Type
     packed = λ known bucket word named below saw on.
         subst (λ (version : ℕ). tally_units (accepted_by x) known.name (bucket_key (Some known) bucket) ≤ units_packed (form_of version (buckets_of known.spec) word) bucket)
         (sym grows.version) (looks.packed known bucket word named below saw on);
-    counted = λ known bucket place count r named below seen saw there settled. ⊎_elim
+    counted = λ known bucket count r named below there mounts saw settled. ⊎_elim
         (λ t. let (r0, n, before, is) = t in
         subst (λ (z : ℕ × Record). tally_units (accepted_by x) known.name (bucket_key (Some known) bucket) ≤ count + units_packed (form_at z.0 z.1) bucket)
         (λ i. (sym grows.version i, sym is i))
-        (looks.counted known bucket place count r0 named below (more.counts known place named seen) saw before
-        (settled_before known bucket settled)))
+        (looks.counted known bucket count r0 named below before (λ none. mounts (ap (λ (z : Record). z.counts) is ∙ none))
+        (subst (λ (z : Record). SawCount x (z.counts + 4 + bucket) count) is saw) (settled_before known bucket settled)))
         (λ new_one. let (r1, stood) = known_record known named in absurd (no_record known.reference (histogram r) r1 (omega arith) new_one stood))
         (record_came old new added grows known.reference r there);
     samples = λ known value at count named first saw. ⊎_elim

@@ -252,6 +252,8 @@ module _ (shape : Dimensions) (opened : Anatomy) (state : State) (kept : Kept sh
         saw = (refl, refl, refl, refl, refl);
         names = λ known has. has;
         words = λ s has. has;
+        seen = λ x word has. has;
+        chain = λ x has. extended_has ((slice_index (stops a.seen_chain) (length a.seen_chain) == at) && not (found == 12)) a.seen_chain found x has;
         own = λ block has. (block, has, refl, refl);
         spent = λ spent. absurd (lives (ap (λ (b : Actor). b.place) spent));
       } in

@@ -19,7 +19,7 @@ use Rattle.segment_machine.specs.declared.actor.Sighting.{Sighting}
 use Rattle.segment_machine.specs.declared.actor.Made.{Made}
 use Rattle.segment_machine.specs.declared.actor.Made.TheVariants as made
 use Rattle.segment_machine.specs.declared.actor.Own.{Own}
-use Rattle.segment_machine.specs.Form.{is_off, Leads}
+use Rattle.segment_machine.specs.Form.{is_off, form_of, Leads}
 use Rattle.segment_machine.specs.Body.{Record, Counts, Sample, Body, queue, plain, held, histogram, counts, sample, other, words_of, is_claimed, Piece, Listed, Anatomy, order_of, free_of}
 use Rattle.segment_machine.specs.Ledger.{all_held, all_amounts}
 use Rattle.segment_machine.specs.Seen.{Stands, HasPlain, HasRecord, HasCounts, HasSample, IsNamed, IsFirst, IsFirstOf, IsFixedIn, IsCounterIn, WasFixed, WasCounter, WasInUse, WasSingle, IsNoLater, Knows, Sees}
@@ -293,9 +293,15 @@ module _ (old new : Anatomy) (added : ℕ → Body → Type 0) (grows : Grows ol
       )
 
   pub single_stays : (s : Sighting) → WasSingle old.version old.pieces s → WasSingle new.version new.pieces s
-  single_stays s (at, r, there, is, leads) =
-      let (n, stands) = record_stays at r there in
-      (at, record r { next = n }, stands, is, subst (λ (version : ℕ). Leads version (buckets_of r.spec) s.word r.single) (sym grows.version) leads)
+  single_stays s (at, r, there, is, formed, leads) =
+      let (n, stands) = record_stays at r there in (
+        at,
+        record r { next = n },
+        stands,
+        is,
+        subst (λ (version : ℕ). form_of version (buckets_of r.spec) s.word ≢ None) (sym grows.version) formed,
+        subst (λ (version : ℕ). Leads version (buckets_of r.spec) s.word r.single) (sym grows.version) leads,
+      )
 
   pub in_use_stays : (s : Sighting) → WasInUse old.pieces s → WasInUse new.pieces s
   in_use_stays s was at i c there is from below = ⊎_elim

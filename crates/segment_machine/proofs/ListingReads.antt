@@ -157,6 +157,8 @@ module _ (shape : Dimensions) (opened : Anatomy) (state : State) (kept : Kept sh
           saw = (refl, refl, refl, refl, refl);
           names = λ known has. has;
           words = λ t has. Contains-append_left a.seen_words (sight (at + index) found) t has;
+          seen = λ x word seen. word_still a.seen_words x word (sight (at + index) found) seen;
+          chain = λ x has. has;
           own = λ block has. (block, has, refl, refl);
           spent = λ spent. absurd (lives (ap (λ (b : Actor). b.place) spent));
         } in

@@ -165,6 +165,8 @@ module _ (shape : Dimensions) (opened : Anatomy) (state : State) (kept : Kept sh
                 saw = (refl, refl, refl, refl, refl);
                 names = knows;
                 words = λ s has. has;
+                seen = λ at word has. has;
+                chain = λ at has. has;
                 own = λ block has. (block, has, refl, refl);
                 spent = λ is. absurd (lived (ap (λ (b : Actor). b.place) is));
               })

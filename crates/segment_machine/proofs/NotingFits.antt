@@ -80,7 +80,7 @@ module _ (anatomy : Anatomy) (actors : List Actor) (a : Actor) (n : Noting) wher
   looks_anew looks = record {
     most = λ known bucket total has below saw. absurd (nothing_single _ saw.1);
     packed = λ known bucket word has below saw. absurd (nothing_single _ saw);
-    counted = λ known bucket counts count r has below seen saw. absurd (nothing_counted _ saw);
+    counted = λ known bucket count r has below there mounts saw. absurd (nothing_counted _ saw);
     samples = λ known value at count has first saw. absurd (nothing_counted _ saw);
     rising = λ s t before behind. absurd (nothing_counted t behind);
     noted = λ known count has saw. absurd (nothing_counted _ saw);

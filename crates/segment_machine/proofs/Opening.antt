@@ -171,7 +171,7 @@ module _ (shape : Dimensions) (version id cursors : ℕ) (lawful : IsShape shape
   kept versions = record {
     anatomy = opened;
     shown = record { shows = refl; sound = fresh_sound shape version id lawful };
-    same = (refl, refl);
+    same = (refl, refl, refl, refl);
     versions = versions;
     still = λ k p there. (p, there, refl);
     blocks = each_of_one the_queue (λ k piece. ClaimedRight piece) (λ e. cc e);

@@ -36,7 +36,8 @@ GivenInOrder chain list = (i j k l : ℕ) (x y : Given) → i < j
 
 pub record Books (shape : Dimensions) (opened anatomy : Anatomy) (words cursors : List ℕ) (actors : List Actor) : Type 0 where
   pub shown : IsShown shape words (layout_of anatomy)
-  pub same : (anatomy.version ≡ opened.version) × (anatomy.id ≡ opened.id)
+  pub same : (anatomy.version ≡ opened.version) × (anatomy.id ≡ opened.id) × (anatomy.other_flags ≡ opened.other_flags)
+      × (anatomy.reserved ≡ opened.reserved)
   pub versions : (anatomy.version ≡ 1) ⊎ (anatomy.version ≡ 2)
   pub still : StandStill opened.pieces anatomy.pieces
   pub blocks : (k : ℕ) (piece : Piece) → get_elem? anatomy.pieces k ≡ some piece → ClaimedRight piece

@@ -116,7 +116,7 @@ looks_back anatomy old new a same alone looks = record {
       let counted = same.counted known.name (bucket_key (Some known) bucket) in
       omega (arith, was, counted);
   packed = looks.packed;
-  counted = λ known bucket counts count r has below at saw there settled. looks.counted known bucket counts count r has below at saw there
+  counted = λ known bucket count r has below there mounts saw settled. looks.counted known bucket count r has below there mounts saw
       (⊎_elim (λ second. inl second) (λ rest. inr (⊎_elim (λ only. inl (alone only)) (λ other. inr other) rest)) settled);
   samples = looks.samples;
   rising = looks.rising;

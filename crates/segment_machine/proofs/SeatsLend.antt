@@ -116,6 +116,8 @@ module _ (shape : Dimensions) (opened : Anatomy) (old : State) (kept : Kept shap
         saw = (refl, refl, refl, refl, refl);
         names = λ known has. has;
         words = λ s has. has;
+        seen = λ at word has. has;
+        chain = λ at has. has;
         own = λ block has. (block, has, refl, refl);
         spent = λ is. absurd (may.2 (ap (λ (c : Actor). c.place) is));
       })

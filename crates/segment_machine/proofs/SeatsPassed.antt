@@ -98,8 +98,9 @@ module _ (from to : ℕ) where
     shows = shown.shows
         ∙ ap (λ (tail : List ℕ). head_words shape (layout_of anatomy) ++ tail) (sym (spread_passed (replicate anatomy.spare 0) anatomy.pieces))
         ∙ ap (λ (head : List ℕ). head ++ spread (replicate anatomy.spare 0) (map block_of (map (pass from to) anatomy.pieces)))
-        (ap (λ (free : ℕ). 0x408305DC ∷ anatomy.version ∷ shape.size ∷ shape.page ∷ anatomy.id ∷ 1 ∷ flags_of anatomy.corrupt anatomy.full
-        ∷ free ∷ anatomy.tail ∷ 0 ∷ 0 ∷ 0 ∷ []) (sym (free_passed anatomy)));
+        (ap (λ (free : ℕ). 0x408305DC ∷ anatomy.version ∷ shape.size ∷ shape.page ∷ anatomy.id ∷ 1
+        ∷ flags_of anatomy.corrupt anatomy.full anatomy.other_flags
+        ∷ free ∷ anatomy.tail ∷ anatomy.reserved.0 ∷ anatomy.reserved.1 ∷ anatomy.reserved.2 ∷ []) (sym (free_passed anatomy)));
     sound = record {
       lawful = shown.sound.lawful;
       queue = (

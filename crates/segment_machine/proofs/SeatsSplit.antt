@@ -110,7 +110,7 @@ module _ (anatomy : Anatomy) (cursors : List ℕ) (actors : List Actor) (later a
   fresh_looks = record {
     most = λ known bucket total has. absurd (none_in known has);
     packed = λ known bucket word has. absurd (none_in known has);
-    counted = λ known bucket counts count r has. absurd (none_in known has);
+    counted = λ known bucket count r has. absurd (none_in known has);
     samples = λ known value at count has. absurd (none_in known has);
     rising = λ s t before since. absurd (none_in t (subst (λ (list : List Sighting). Contains list t) (drop_all (length a.seen_counts) a.seen_counts (omega arith)) since));
     noted = λ known count has. absurd (none_in known has);

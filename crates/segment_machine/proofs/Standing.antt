@@ -1,5 +1,6 @@
 -- Where an actor stands, it stands right on while it knows no less, and while the blocks and the list stay that this rests on.
 use Rattle.std.proofs.Common.{◌≡◌, ◌≢◌, ℕ, ◌+◌, List, All, Contains, refl, sym, ◌∙◌, subst}
+use Rattle.std.specs.Prelude.{Some}
 use Rattle.std.proofs.lemmas.List.Elements.{All-weaker}
 use Rattle.segment_image.specs.Shape.{Dimensions}
 use Rattle.list_core.specs.Laws.{IsStop, AreNeighbours}
@@ -10,6 +11,7 @@ use Rattle.segment_machine.specs.declared.actor.Actor.{Actor}
 use Rattle.segment_machine.specs.declared.actor.Known.{Known}
 use Rattle.segment_machine.specs.declared.actor.Own.{Own}
 use Rattle.segment_machine.specs.declared.actor.Sighting.{Sighting}
+use Rattle.segment_machine.specs.Actor.{word_seen}
 use Rattle.segment_machine.specs.Body.{Record, Anatomy, order_of}
 use Rattle.segment_machine.specs.Seats.{spent}
 use Rattle.segment_machine.specs.Seen.{HasPlain, HasOwn, HasRecord}
@@ -38,6 +40,8 @@ pub record Follows (x y : Actor) : Type 0 where
       × (y.seen_counts ≡ x.seen_counts) × (y.seen_cursors ≡ x.seen_cursors)
   pub names : (known : Known) → Contains x.names known → Contains y.names known
   pub words : (s : Sighting) → Contains x.seen_words s → Contains y.seen_words s
+  pub seen : (at word : ℕ) → word_seen x.seen_words at ≡ Some word → word_seen y.seen_words at ≡ Some word
+  pub chain : (at : ℕ) → Contains x.seen_chain at → Contains y.seen_chain at
   pub own : (block : Own) → Contains x.own block → (still : Own) × Contains y.own still × (still.at ≡ block.at) × (still.tag ≡ block.tag)
   pub spent : x ≡ spent → y ≡ spent
 
@@ -46,12 +50,14 @@ follows_itself x = record {
   saw = (refl, refl, refl, refl, refl);
   names = λ known there. there;
   words = λ s there. there;
+  seen = λ at word there. there;
+  chain = λ at there. there;
   own = λ block there. (block, there, refl, refl);
   spent = λ is. is;
 }
 
 module _ (shape : Dimensions) (old new : Anatomy) (id : ℕ) (x y : Actor) (grounds : Grounds old new id) (follows : Follows x y) where
-  looks_on : (look : Look) → LooksRight x look → LooksRight y look
+  abbrev looks_on : (look : Look) → LooksRight x look → LooksRight y look
   looks_on look right = record {
     known = right.known;
     knows = (follows.names right.known right.knows.0, right.knows.1, right.knows.2);
@@ -90,8 +96,18 @@ module _ (shape : Dimensions) (old new : Anatomy) (id : ℕ) (x y : Actor) (grou
         (record r { next = n }, still, packed, off),
         subst (All (λ s. s.at ≢ look.counts + 4 + bucket)) (sym follows.saw.3) apart,
       )
-  stands_on (CountLoaded look bucket count) ((right, there, off), saw) = ((looks_on look right, there, off), counts_on _ saw)
-  stands_on (SampleLoaded reference count) stands = counts_on _ stands
+  stands_on (CountLoaded look bucket count) ((right, there, off), below, saw) = ((looks_on look right, there, off), below, counts_on _ saw)
+  stands_on (SampleLoaded reference count) ((histogram, known, value, (named, refers, kind), met, (tag, of, valued, small)), saw) = (
+    (
+      histogram,
+      known,
+      value,
+      (follows.names known named, refers, kind),
+      follows.chain reference met,
+      (follows.seen _ _ tag, follows.seen _ _ of, follows.seen _ _ valued, small),
+    ),
+    counts_on _ saw,
+  )
   stands_on (SumLoaded reference sum) (known, has, same) = (known, follows.names known has, same)
   stands_on (CursorLoaded cursor at) stands = (grounds.stop at stands.0, cursors_on _ stands.1)
   stands_on (BehindCursor cursor at next) stands = (grounds.near at next stands.0, cursors_on _ stands.1)

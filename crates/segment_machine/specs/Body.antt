@@ -130,13 +130,16 @@ abbrev pub listed : Published → Listed
 listed p = record { reference = p.reference; made = std.Some p.made }
 
 -- What a segment consists of: what its header says, its blocks in a row, how many words are behind them, and the records on its
--- list, in the order of the list, with what each was given.
+-- list, in the order of the list, with what each was given. The other bits of the word of flags and the three words between the
+-- tail and the queue block are 0 in a new segment, and an adopted one keeps what it has there.
 pub record Anatomy : Type 0 where
   pub version : ℕ
   pub id : ℕ
   pub corrupt : Bool
   pub full : Bool
+  pub other_flags : ℕ
   pub tail : ℕ
+  pub reserved : ℕ × ℕ × ℕ
   pub pieces : List Piece
   pub spare : ℕ
   pub records : List Listed
@@ -147,7 +150,9 @@ layout_of anatomy = record {
   id = anatomy.id;
   corrupt = anatomy.corrupt;
   full = anatomy.full;
+  other_flags = anatomy.other_flags;
   tail = anatomy.tail;
+  reserved = anatomy.reserved;
   blocks = map block_of anatomy.pieces;
   spare = anatomy.spare;
 }
@@ -172,7 +177,9 @@ blank version id size = record {
   id = id;
   corrupt = false;
   full = false;
+  other_flags = 0;
   tail = 12;
+  reserved = (0, 0, 0);
   pieces = record { at = 12; owner = none; body = queue 12 } ∷ [];
   spare = size - 16;
   records = [];

@@ -32,7 +32,7 @@ use Rattle.segment_machine.specs.declared.actor.Sighting.{Sighting}
 use Rattle.segment_machine.specs.declared.actor.Taken.{Taken}
 use Rattle.segment_machine.specs.Entry.{is_counted, is_summed, has_ended, AreWithin, is_of, tally_units, tally_sum, tally_noted}
 use Rattle.segment_machine.specs.Form.{is_off, form_of, off_word, units_in}
-use Rattle.segment_machine.specs.Actor.{Buckets, log_of, counted_of, word_seen, bucket_key, units_listed, taken_sum, all_counted, all_summed, all_noted, all_taken, all_published, all_given, cost_of, units_of}
+use Rattle.segment_machine.specs.Actor.{Buckets, Sparse, log_of, counted_of, word_seen, bucket_key, units_listed, taken_sum, all_counted, all_summed, all_noted, all_taken, all_published, all_given, cost_of, units_of}
 use Rattle.segment_machine.specs.Made.{spec_fields, spec_ranges, AreNameWords, SawSample}
 use Rattle.segment_machine.specs.Note.{is_untouched, SawSingle, SawCount, SawBucket}
 use Rattle.segment_machine.specs.Promises.{accepted_by}
@@ -148,6 +148,12 @@ pub record LooksRight (a : Actor) (look : Look) : Type 0 where
 abbrev pub LooksOff : Actor → Look → Type 0
 LooksOff a look = LooksRight a look × (look.counts ≢ 0) × ((word : ℕ) × (look.single ≡ Some word) × (is_off word ≡ true))
 
+-- it has met a sample of a histogram that it knows
+abbrev pub MetSample : Actor → ℕ → Type 0
+MetSample a reference =
+    (histogram : ℕ) × (known : Known) × (value : ℤ) × Sparse a histogram known × Contains a.seen_chain reference
+    × SawSample a histogram value reference
+
 -- what holds where a running call stands: the block in its hands holds just what it stored, and what it loaded it saw
 abbrev pub StandsRight : Dimensions → Anatomy → ℕ → Actor → Place → Type 0
 StandsRight shape anatomy id a Spent = a ≡ spent
@@ -169,8 +175,10 @@ StandsRight shape anatomy id a (Moving look bucket units) =
     × ((r : Record) × HasRecord anatomy.pieces look.histogram r × (packed_bucket (form_at 1 r) ≡ Some bucket) × (is_off r.single ≡ true))
     × All (λ s. s.at ≢ look.counts + 4 + bucket) a.seen_counts
 StandsRight shape anatomy id a (CountLoaded look bucket count) =
-    LooksOff a look × Contains a.seen_counts (record { at = look.counts + 4 + bucket; word = count })
-StandsRight shape anatomy id a (SampleLoaded reference count) = Contains a.seen_counts (record { at = reference + 6; word = count })
+    (off : LooksOff a look) × (bucket < buckets_of off.0.known.spec)
+    × Contains a.seen_counts (record { at = look.counts + 4 + bucket; word = count })
+StandsRight shape anatomy id a (SampleLoaded reference count) =
+    MetSample a reference × Contains a.seen_counts (record { at = reference + 6; word = count })
 StandsRight shape anatomy id a (SumLoaded reference sum) = (known : Known) × Contains a.names known × (known.reference ≡ reference)
 StandsRight shape anatomy id a (CursorLoaded cursor at) =
     IsStop (order_of anatomy) at × Contains a.seen_cursors (record { at = cursor; word = at })
@@ -290,9 +298,9 @@ pub record LooksBack (anatomy : Anatomy) (actors : List Actor) (a : Actor) : Typ
   pub packed : (known : Known) (bucket word : ℕ) → Contains a.names known → bucket < buckets_of known.spec
       → SawSingle a (known.reference + 9) word → is_off word ≡ false
       → tally_units (accepted_by a) known.name (bucket_key (Some known) bucket) ≤ units_packed (form_of anatomy.version (buckets_of known.spec) word) bucket
-  pub counted : (known : Known) (bucket counts count : ℕ) (r : Record) → Contains a.names known → bucket < buckets_of known.spec
-      → word_seen a.seen_words (known.reference + 8) ≡ Some counts → SawCount a (counts + 4 + bucket) count
-      → HasRecord anatomy.pieces known.reference r → IsSettled anatomy actors a known bucket
+  pub counted : (known : Known) (bucket count : ℕ) (r : Record) → Contains a.names known → bucket < buckets_of known.spec
+      → HasRecord anatomy.pieces known.reference r → r.counts ≢ 0 → SawCount a (r.counts + 4 + bucket) count
+      → IsSettled anatomy actors a known bucket
       → tally_units (accepted_by a) known.name (bucket_key (Some known) bucket) ≤ count + units_packed (form_at anatomy.version r) bucket
   pub samples : (known : Known) (value : ℤ) (at count : ℕ) → Contains a.names known → IsFirstOf anatomy.records known.reference value at
       → SawCount a (at + 6) count → tally_units (accepted_by a) known.name value ≤ count
@@ -386,7 +394,8 @@ StandStill opened pieces = (k : ℕ) (p : Piece) → get_elem? opened k ≡ some
 pub record Kept (shape : Dimensions) (opened : Anatomy) (state : State) : Type 0 where
   pub anatomy : Anatomy
   pub shown : IsShown shape state.words (layout_of anatomy)
-  pub same : (anatomy.version ≡ opened.version) × (anatomy.id ≡ opened.id)
+  pub same : (anatomy.version ≡ opened.version) × (anatomy.id ≡ opened.id) × (anatomy.other_flags ≡ opened.other_flags)
+      × (anatomy.reserved ≡ opened.reserved)
   pub versions : (anatomy.version ≡ 1) ⊎ (anatomy.version ≡ 2)
   pub still : StandStill opened.pieces anatomy.pieces
   pub blocks : (k : ℕ) (piece : Piece) → get_elem? anatomy.pieces k ≡ some piece → ClaimedRight piece

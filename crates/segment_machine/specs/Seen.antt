@@ -1,7 +1,7 @@
 -- What an actor has seen, and that it lies behind the present. All that is said here stays true whatever others do, since a
 -- segment only grows: blocks keep their places, words that are fixed stay, counters rise, single words lead on, the list becomes
 -- longer at its end.
-use Rattle.std.specs.Prelude.{◌≡◌, ◌≢◌, ◌⊎◌, true, ℕ, ◌+◌, ◌<◌, ◌≤◌, ℤ, List, ◌∷◌, ◌++◌, length, slice_index, Some}
+use Rattle.std.specs.Prelude.{◌≡◌, ◌≢◌, ◌⊎◌, true, ℕ, ◌+◌, ◌<◌, ◌≤◌, ℤ, List, ◌∷◌, ◌++◌, length, slice_index, Some, None}
 use Rattle.std.specs.List.{All}
 use mathlib.Core.Option.{Option, some, none}
 use lib.ListN.{get_elem?}
@@ -15,7 +15,7 @@ use Rattle.segment_machine.specs.declared.actor.Known.{Known}
 use Rattle.segment_machine.specs.declared.actor.Made.TheVariants as made
 use Rattle.segment_machine.specs.declared.actor.Own.{Own}
 use Rattle.segment_machine.specs.declared.actor.Sighting.{Sighting}
-use Rattle.segment_machine.specs.Form.{is_off, Leads}
+use Rattle.segment_machine.specs.Form.{is_off, form_of, Leads}
 use Rattle.segment_machine.specs.Made.{SameSpec}
 use Rattle.segment_machine.specs.Body.{Record, Counts, Sample, Body, plain, held, histogram, counts, sample, other, words_of, Piece, Listed, Anatomy, order_of, free_of}
 
@@ -95,10 +95,11 @@ WasInUse pieces s =
     (at i : ℕ) (c : Counts) → HasCounts pieces at c → s.at ≡ at + i → 4 ≤ i → i < 4 + (length c.units + length c.marks)
     → (r : Record) × HasRecord pieces c.of r × (is_off r.single ≡ true)
 
--- a single word that was seen leads to the present one
+-- a single word that was seen has a form, and leads to the present one
 abbrev pub WasSingle : ℕ → List Piece → Sighting → Type 0
 WasSingle version pieces s =
-    (at : ℕ) × (r : Record) × HasRecord pieces at r × (s.at ≡ at + 9) × Leads version (buckets_of r.spec) s.word r.single
+    (at : ℕ) × (r : Record) × HasRecord pieces at r × (s.at ≡ at + 9) × (form_of version (buckets_of r.spec) s.word ≢ None)
+    × Leads version (buckets_of r.spec) s.word r.single
 
 -- one place on the list is no later than another
 abbrev pub IsNoLater : List ℕ → ℕ → ℕ → Type 0

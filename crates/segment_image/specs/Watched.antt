@@ -6,6 +6,10 @@ use Rattle.segment_image.specs.declared.watched.Watched.{Watched}
 abbrev pub has_failed : {T : Type 0} → Watched T → Bool
 has_failed watched = watched.failed
 
+-- whether a flush went well behind the last write
+abbrev pub is_flushed : {T : Type 0} → Watched T → Bool
+is_flushed watched = watched.flushed
+
 -- the reader or writer that it passes calls on to
 abbrev pub watched_inner : {T : Type 0} → Watched T → T
 watched_inner watched = watched.inner

@@ -8,7 +8,8 @@
 //! - [`read_bytes`] answers all bytes that a reader had left, up to a limit, and otherwise why there are none.
 //! - [`read_words`] answers the words whose bytes are all that a reader had left, and otherwise why there are none.
 //! - An [`Image`] has the words of a whole segment: those of a new one, or such as [`header`] accepts.
-//! - A [`Watched`] passes reads and writes on, and says whether one of them failed.
+//! - A [`Watched`] passes reads and writes on, and says whether one of them failed, and whether a flush went well
+//!   behind the last write.
 #![tactic(auto)]
 
 mod blocks;

@@ -114,6 +114,7 @@ pub fn read_words<R: Read>(
     requires { has_failed reader.old ≡ false }
     ensures answer { IfSome (R.remaining (watched_inner reader.old)) (λ bytes. MatchResult result
         (λ words. (bytes_of_words words.items ≡ bytes) × (vec_len words ≤ limit)) (IsCausedBy limit bytes)) }
+    ensures within { IfOk result (λ words. vec_len words ≤ limit) }
     ensures device { IsErrOf result ReadFault.Device ↔ (has_failed reader.new ≡ true) }
     ensures end { OnOk result (IsAtEnd (R.remaining (watched_inner reader.new))) }
     ensures taken { TakesAtMost (8 * limit + 1) (R.remaining (watched_inner reader.old)) (R.remaining (watched_inner reader.new)) }

@@ -1,30 +1,34 @@
-//! A reader or a writer that remembers whether it failed.
+//! A reader or a writer that remembers whether it failed, and whether it is flushed.
 
-ghost use Rattle.std.specs.Prelude.{◌≡◌, ◌||◌, true, false, is_err, OnOk};
+ghost use Rattle.std.specs.Prelude.{◌≡◌, ◌||◌, true, false, is_err, is_ok, OnOk};
 ghost use Rattle.std.specs.Io.{ReadsAtMost, WritesAtMost};
 ghost use Rattle.std.specs.Io.KnownBytes.{Appends, Consumes, Keeps, ReadConsumes, WriteAppends};
 
 use std::io;
 use std::io::{Read, Write};
 
-/// Passes reads and writes on, and remembers whether one of them failed.
+/// Passes reads and writes on, and remembers whether one of them failed, and whether a flush went well behind the last
+/// write.
 #[derive(Debug, Drop)]
 pub struct Watched<T> {
     inner: T,
     failed: bool,
+    flushed: bool,
 }
 
 impl<T> Watched<T> {
-    ghost use Rattle.segment_image.specs.Watched.{has_failed, watched_inner};
+    ghost use Rattle.segment_image.specs.Watched.{has_failed, is_flushed, watched_inner};
 
     /// Watches a reader or a writer from here on.
     pub fn new(inner: T) -> Watched<T>
         ensures inner { watched_inner result ≡ inner }
         ensures failed { has_failed result ≡ false }
+        ensures flushed { is_flushed result ≡ false }
     {
         Watched {
             inner,
             failed: false,
+            flushed: false,
         }
     }
 
@@ -35,11 +39,19 @@ impl<T> Watched<T> {
         self.failed
     }
 
+    /// Whether a flush that was passed on went well, and nothing was written and no flush failed from then on.
+    pub fn flushed(&self) -> bool
+        ensures { result ≡ is_flushed self.now }
+    {
+        self.flushed
+    }
+
     // Remembers whether a call failed, and passes its outcome on.
     fn watch<X>(&mut self, outcome: io::Result<X>) -> io::Result<X>
         ensures outcome { result ≡ outcome }
         ensures inner { watched_inner self.new ≡ watched_inner self.old }
         ensures failed { has_failed self.new ≡ (has_failed self.old || is_err outcome) }
+        ensures flushed { is_flushed self.new ≡ is_flushed self.old }
     {
         if outcome.is_err() {
             self.failed = true;
@@ -56,7 +68,7 @@ impl<T> Watched<T> {
 }
 
 impl<R: Read> Read for Watched<R> {
-    ghost use Rattle.segment_image.specs.Watched.{has_failed, watched_inner};
+    ghost use Rattle.segment_image.specs.Watched.{has_failed, is_flushed, watched_inner};
 
     ghost remaining = { λ watched. R.remaining (watched_inner watched) };
 
@@ -64,6 +76,7 @@ impl<R: Read> Read for Watched<R> {
         ensures bound { ReadsAtMost result buf.new }
         ensures bytes { ReadConsumes (R.remaining (watched_inner self.old)) (R.remaining (watched_inner self.new)) result buf.new }
         ensures failed { has_failed self.new ≡ (has_failed self.old || is_err result) }
+        ensures flushed { is_flushed self.new ≡ is_flushed self.old }
     {
         let read = self.inner.read(buf);
         self.watch(read)
@@ -72,6 +85,7 @@ impl<R: Read> Read for Watched<R> {
     fn read_exact(&mut self, buf: &mut [u8]) -> io::Result<()>
         ensures bytes { OnOk result (Consumes (R.remaining (watched_inner self.old)) (R.remaining (watched_inner self.new)) buf.new) }
         ensures failed { has_failed self.new ≡ (has_failed self.old || is_err result) }
+        ensures flushed { is_flushed self.new ≡ is_flushed self.old }
     {
         let filled = self.inner.read_exact(buf);
         self.watch(filled)
@@ -79,7 +93,7 @@ impl<R: Read> Read for Watched<R> {
 }
 
 impl<W: Write> Write for Watched<W> {
-    ghost use Rattle.segment_image.specs.Watched.{has_failed, watched_inner};
+    ghost use Rattle.segment_image.specs.Watched.{has_failed, is_flushed, watched_inner};
 
     ghost contents = { λ watched. W.contents (watched_inner watched) };
 
@@ -87,7 +101,9 @@ impl<W: Write> Write for Watched<W> {
         ensures bound { WritesAtMost result buf.now }
         ensures bytes { WriteAppends (W.contents (watched_inner self.old)) (W.contents (watched_inner self.new)) result buf.now }
         ensures failed { has_failed self.new ≡ (has_failed self.old || is_err result) }
+        ensures flushed { is_flushed self.new ≡ false }
     {
+        self.flushed = false;
         let written = self.inner.write(buf);
         self.watch(written)
     }
@@ -95,15 +111,19 @@ impl<W: Write> Write for Watched<W> {
     fn flush(&mut self) -> io::Result<()>
         ensures bytes { Keeps (W.contents (watched_inner self.old)) (W.contents (watched_inner self.new)) }
         ensures failed { has_failed self.new ≡ (has_failed self.old || is_err result) }
+        ensures flushed { is_flushed self.new ≡ is_ok result }
     {
         let flushed = self.inner.flush();
+        self.flushed = flushed.is_ok();
         self.watch(flushed)
     }
 
     fn write_all(&mut self, buf: &[u8]) -> io::Result<()>
         ensures bytes { OnOk result (Appends (W.contents (watched_inner self.old)) (W.contents (watched_inner self.new)) buf.now) }
         ensures failed { has_failed self.new ≡ (has_failed self.old || is_err result) }
+        ensures flushed { is_flushed self.new ≡ false }
     {
+        self.flushed = false;
         let sent = self.inner.write_all(buf);
         self.watch(sent)
     }

@@ -30,7 +30,7 @@ def plain_program(folder):
     """The plain program, built, or None where it does not answer as the known reports say."""
     program = folder / "plain_report"
     subprocess.run(["c++", "-std=c++17", "-O2", "-o", program, SOURCE], check=True)
-    compared = subprocess.run([TESTS / "run-cases", TESTS / "cases" / "reading", program], capture_output=True, text=True)
+    compared = subprocess.run([TESTS / "run", "--program", program, "known"], capture_output=True, text=True)
     print("images with known reports, by the plain program:", compared.stdout.splitlines()[-1])
     return program if compared.returncode == 0 else None
 

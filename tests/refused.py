@@ -1,0 +1,78 @@
+"""Memory that is refused: the program under ever larger limits of its data, until it needs no more.
+
+For small images the C library is told to ask the system for each allocation by itself. So each limit refuses the first
+allocation with which the program would have more than that, and each page more lets it come further.
+"""
+
+import os
+import random
+import resource
+
+import known
+import largest
+from program import EXAMPLE, answer, difference, fault
+
+PAGE = resource.getpagesize()
+MOST_TO_LOAD = 200
+MOST_PAGES = 100_000
+STEP = 100
+NO_MEMORY = fault("NoMemory", 5)
+NOT_LOADED = 127
+EACH_BY_ITSELF = {"MALLOC_MMAP_THRESHOLD_": "0", "MALLOC_TOP_PAD_": "0"}
+COMMAND_LINES = [
+    ["report"],
+    ["report", EXAMPLE],
+    ["report", "no/such/file"],
+    ["report", 5_000 * "a-long-path/"],
+    ["report", 60_000 * b"\xff"],
+    ["--help"],
+    ["--version"],
+    ["help", "report"],
+    [],
+    ["reports"],
+    ["report", "one", "two"],
+]
+
+
+def answer_within(program, pages, words, data=b"", setting=EACH_BY_ITSELF):
+    """What the program answers with so many pages of data."""
+    limits = (PAGE * pages, PAGE * pages)
+    limited = {"env": {**os.environ, **setting}, "preexec_fn": lambda: resource.setrlimit(resource.RLIMIT_DATA, limits)}
+    return answer(program, words, data, **limited)
+
+
+def least_pages(program):
+    """The fewest pages with which the program is loaded and runs."""
+    statuses = [answer_within(program, pages, ["--version"]).status for pages in range(MOST_TO_LOAD)]
+    return max((pages + 1 for pages, status in enumerate(statuses) if status == NOT_LOADED), default=0)
+
+
+def wrong_of(program, words, data, pages, step, setting):
+    """What is wrong with the answers under limits that grow by `step` from these pages on, or None.
+
+    Each has to be NoMemory until it is the one that the program gives with ample memory; and NoMemory has to come.
+    """
+    ample = answer(program, words, data)
+    refused = 0
+    came = answer_within(program, pages, words, data, setting)
+    while came == NO_MEMORY and pages < MOST_PAGES:
+        refused += 1
+        pages += step
+        came = answer_within(program, pages, words, data, setting)
+    if came != ample:
+        return f"under {pages} pages of data, wanted NoMemory or the whole answer: {difference(ample, came)}"
+    return None if refused else "wanted NoMemory under some limit, came none"
+
+
+def longest_report():
+    """The known image that has the longest report."""
+    return max(known.FOLDER.glob("*.out"), key=lambda path: path.stat().st_size).with_suffix(".img")
+
+
+def cases(program, _options):
+    least = least_pages(program)
+    for words in [*COMMAND_LINES, ["report", longest_report()]]:
+        yield str(words)[:60], wrong_of(program, words, EXAMPLE.read_bytes(), least, 1, EACH_BY_ITSELF)
+    for make in largest.IMAGES:
+        image, _ = make(random.Random(5))
+        yield f"the largest image of {make.__name__}", wrong_of(program, ["report"], image, least, STEP, {})

@@ -1,5 +1,5 @@
 -- Each event of each allocation keeps the allocation invariant.
-use Rattle.std.proofs.Common.{◌≡◌, ◌≢◌, ℕ, ◌+◌, ◌-◌, ◌<◌, ◌≤◌, ◌==◌, eq-eqb, ne_eqb, Bool, true, false, List, [], ◌∷◌, ◌++◌, length, replicate, set, inl, inr, ⊎_elim, sym, refl, ap, ◌∙◌, subst, arith, length-set}
+use Rattle.std.proofs.Common.{◌≡◌, ◌≢◌, ℕ, ◌+◌, ◌-◌, ◌/◌, ◌%◌, ◌<◌, ◌≤◌, ◌==◌, eq-eqb, ne_eqb, Bool, true, false, List, [], ◌∷◌, ◌++◌, length, replicate, set, inl, inr, ⊎_elim, sym, refl, ap, ◌∙◌, subst, arith, length-set}
 use Rattle.std.specs.Prelude.{bit_and, if◌then◌else◌, Some, Result, Ok, Err, max, nat_lt}
 use Rattle.std.proofs.lemmas.List.{length-replicate}
 use mathlib.Core.Logic.{dite}
@@ -16,16 +16,17 @@ use Rattle.alloc_core.specs.declared.alloc.Stage.TheVariants.{LoadFlags, LoadFre
 use Rattle.alloc_core.specs.declared.alloc.TooLarge.{TooLarge}
 use Rattle.alloc_core.specs.declared.planned.Planned.{Planned}
 use Rattle.alloc_core.specs.declared.planned.Planned.TheVariants as plan
-use Rattle.alloc_core.specs.Layout.{queue_block, Block, Layout, free_of, IsShown, IsAmong, put, raw_block, grown}
+use Rattle.alloc_core.specs.Layout.{queue_block, Block, Layout, free_of, render, IsShown, IsAmong, put, raw_block, grown}
 use Rattle.alloc_core.specs.Planned.{planned, is_pointer}
 use Rattle.alloc_core.specs.Event.{Event, load_flags, load_free, exchange_free, store_size, store_cookie, store_type, store_payload, set_flag, spot, after}
 use Rattle.alloc_core.specs.Alloc.{Allocation, cookie_of, stage_of_plan, stage_of_cookie, stage_after, seen_after, event_at, first_of, started, IsRise, IsAimed, IsLawful}
-use Rattle.alloc_core.specs.Laws.{Behind, own, claimed_words, Has, Fits, Keeps, IsListWord}
+use Rattle.alloc_core.specs.Laws.{Behind, own, claimed_words, Has, Fits, Keeps, IsListWord, IsImageWord}
 use Rattle.alloc_core.specs.Layout.{IsShape}
 use Rattle.std.proofs.Math.Nat.{le-max_right, max-le}
-use Rattle.std.proofs.lemmas.Bool.{ltb-false}
+use Rattle.std.proofs.lemmas.Bool.{cases_order, ltb-false}
 use Rattle.alloc_core.proofs.Lawful.{moved_lawful}
-use Rattle.alloc_core.proofs.Layouts.{shown_tail, shown_queue, free_word, free_from, free_grown, free_put}
+use Rattle.alloc_core.proofs.Flags.{word_of_flags}
+use Rattle.alloc_core.proofs.Layouts.{headed, shown_headed, flags_put, shown_tail, shown_queue, free_word, free_from, free_grown, free_put}
 use Rattle.alloc_core.proofs.EventKinds.{corrupt_set, full_set, sized, marked, length-sized, length-marked, length-claimed, flags_loaded, free_loaded, free_kept, free_exchanged, size_stored, cookie_stored, type_stored, behind_stored}
 use Rattle.alloc_core.proofs.Owners.{among_put, among_last, has_else, has_longer, has_beside_queue}
 
@@ -253,14 +254,51 @@ module _ (shape : Dimensions) (words : List ℕ) (allocations : List Allocation)
       let place : at + (2 + (2 + index)) ≡ at + (4 + index) = omega arith in
       subst (λ (i : ℕ). Keeps shape (set words i v) allocations) place (behind_keeps at size (2 + index) v e (omega (arith, lt)))
 
--- somebody sets the corrupt flag
-pub corrupt_keeps : (shape : Dimensions) (words : List ℕ) (allocations : List Allocation) → Keeps shape words allocations
-    → Keeps shape (after (set_flag 1) words) allocations
-corrupt_keeps shape words allocations keeps = record {
-  layout = record keeps.layout { corrupt = true };
-  shown = corrupt_set shape words keeps.layout keeps.shown;
-  each = λ owner a there. let f = keeps.each owner a there in record { shaped = f.shaped; lawful = f.lawful; behind = f.behind; has = f.has };
-}
+-- the words become those of a layout with another header
+module _ (shape : Dimensions) (words : List ℕ) (allocations : List Allocation) (keeps : Keeps shape words allocations) where
+  abbrev l : Layout
+  l = keeps.layout
+
+  beside : (words' : List ℕ) (version id : ℕ) (corrupt full : Bool) (other_flags tail : ℕ) (reserved : ℕ × ℕ × ℕ)
+      → words' ≡ render shape (headed l version id corrupt full other_flags tail reserved) → Keeps shape words' allocations
+  beside words' version id corrupt full other_flags tail reserved shows = record {
+    layout = headed l version id corrupt full other_flags tail reserved;
+    shown = shown_headed shape words words' l version id corrupt full other_flags tail reserved keeps.shown shows;
+    each = λ owner a there. let f = keeps.each owner a there in record { shaped = f.shaped; lawful = f.lawful; behind = f.behind; has = f.has };
+  }
+
+  -- somebody sets the corrupt flag
+  pub corrupt_keeps : Keeps shape (after (set_flag 1) words) allocations
+  corrupt_keeps =
+      beside (after (set_flag 1) words) l.version l.id true l.full l.other_flags l.tail l.reserved (corrupt_set shape words l keeps.shown).shows
+
+  -- another tail
+  tail_keeps : (v : ℕ) → Keeps shape (set words 8 v) allocations
+  tail_keeps v =
+      beside (set words 8 v) l.version l.id l.corrupt l.full l.other_flags v l.reserved (shown_tail shape words l v keeps.shown).shows
+
+  -- a word that an image may have had otherwise
+  pub image_word_keeps : (at v : ℕ) → IsImageWord at → Keeps shape (set words at v) allocations
+  image_word_keeps at v (inl version) =
+      subst (λ i. Keeps shape (set words i v) allocations) (sym version)
+      (beside (set words 1 v) v l.id l.corrupt l.full l.other_flags l.tail l.reserved (ap (λ ws. set ws 1 v) keeps.shown.shows))
+  image_word_keeps at v (inr (inl id)) =
+      subst (λ i. Keeps shape (set words i v) allocations) (sym id)
+      (beside (set words 4 v) l.version v l.corrupt l.full l.other_flags l.tail l.reserved (ap (λ ws. set ws 4 v) keeps.shown.shows))
+  image_word_keeps at v (inr (inr (inl flags))) =
+      subst (λ i. Keeps shape (set words i v) allocations) (sym flags)
+      (beside (set words 6 v) l.version l.id (v % 2 == 1) (v / 2 % 2 == 1) (v / 4) l.tail l.reserved
+      (flags_put shape words l v _ keeps.shown (sym (word_of_flags v))))
+  image_word_keeps at v (inr (inr (inr (behind, before)))) = elim (cases_order at 10) [
+    | inl ten ↦ subst (λ i. Keeps shape (set words i v) allocations) (sym ten)
+        (beside (set words 10 v) l.version l.id l.corrupt l.full l.other_flags l.tail (l.reserved.0, v, l.reserved.2) (ap (λ ws. set ws 10 v) keeps.shown.shows))
+    | inr other ↦ elim other [
+      | inl below ↦ subst (λ i. Keeps shape (set words i v) allocations) (let nine : 9 ≡ at = omega (arith, behind, below) in nine)
+          (beside (set words 9 v) l.version l.id l.corrupt l.full l.other_flags l.tail (v, l.reserved.1, l.reserved.2) (ap (λ ws. set ws 9 v) keeps.shown.shows))
+      | inr above ↦ subst (λ i. Keeps shape (set words i v) allocations) (let eleven : 11 ≡ at = omega (arith, before, above) in eleven)
+          (beside (set words 11 v) l.version l.id l.corrupt l.full l.other_flags l.tail (l.reserved.0, l.reserved.1, v) (ap (λ ws. set ws 11 v) keeps.shown.shows))
+    ]
+  ]
 
 -- what an allocation is at its start
 started_fits : (shape : Dimensions) (layout : Layout) (owner payload tag : ℕ) (a : Allocation) (over : Bool) → nat_lt shape.page (payload + 4) ≡ over
@@ -297,11 +335,8 @@ start_keeps shape words allocations payload tag a is keeps = record {
 -- a word of the list is stored
 pub list_keeps : (shape : Dimensions) (words : List ℕ) (allocations : List Allocation) (at v : ℕ) → IsListWord allocations at
     → Keeps shape words allocations → Keeps shape (set words at v) allocations
-list_keeps shape words allocations at v (inl tail) keeps = subst (λ (i : ℕ). Keeps shape (set words i v) allocations) (sym tail) record {
-  layout = record keeps.layout { tail = v };
-  shown = shown_tail shape words keeps.layout v keeps.shown;
-  each = λ owner a there. let f = keeps.each owner a there in record { shaped = f.shaped; lawful = f.lawful; behind = f.behind; has = f.has };
-}
+list_keeps shape words allocations at v (inl tail) keeps =
+    subst (λ (i : ℕ). Keeps shape (set words i v) allocations) (sym tail) (tail_keeps shape words allocations keeps v)
 list_keeps shape words allocations at v (inr (inl queue)) keeps =
     let old : Block = queue_block keeps.shown.sound.queue.0 in
     let here = keeps.shown.sound.queue.1 in

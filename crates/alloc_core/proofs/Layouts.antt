@@ -215,13 +215,23 @@ shown_grown shape words layout owner new shown up =
       };
     }
 
--- other flags
-flagged : (shape : Dimensions) (words : List ℕ) (layout : Layout) (flag : ℕ) (corrupt full : Bool) → IsShown shape words layout
-    → bit_or (flags_in layout) flag ≡ flags_of corrupt full layout.other_flags
-    → IsShown shape (after (set_flag flag) words) (record layout { corrupt = corrupt; full = full })
-flagged shape words layout flag corrupt full shown is = record {
-  shows = ap (λ (ws : List ℕ). set ws 6 (bit_or (get_or ws 6 0) flag)) shown.shows
-      ∙ ap (λ (m : ℕ). with_words shape layout m (free_of layout) (spread (replicate layout.spare 0) layout.blocks)) is;
+-- the layout with other words before the queue block
+abbrev pub headed : Layout → (version id : ℕ) → (corrupt full : Bool) → (other_flags tail : ℕ) → ℕ × ℕ × ℕ → Layout
+headed layout version id corrupt full other_flags tail reserved = record layout {
+  version = version;
+  id = id;
+  corrupt = corrupt;
+  full = full;
+  other_flags = other_flags;
+  tail = tail;
+  reserved = reserved;
+}
+
+pub shown_headed : (shape : Dimensions) (words words' : List ℕ) (layout : Layout) (version id : ℕ) (corrupt full : Bool) (other_flags tail : ℕ)
+    (reserved : ℕ × ℕ × ℕ) → IsShown shape words layout → words' ≡ render shape (headed layout version id corrupt full other_flags tail reserved)
+    → IsShown shape words' (headed layout version id corrupt full other_flags tail reserved)
+shown_headed shape words words' layout version id corrupt full other_flags tail reserved shown shows = record {
+  shows = shows;
   sound = record {
     lawful = shown.sound.lawful;
     queue = shown.sound.queue;
@@ -230,6 +240,22 @@ flagged shape words layout flag corrupt full shown is = record {
     leaves = shown.sound.leaves;
   };
 }
+
+-- the words with a word of the flags in the place of theirs
+pub flags_put : (shape : Dimensions) (words : List ℕ) (layout : Layout) (v flags : ℕ) → IsShown shape words layout → v ≡ flags
+    → set words 6 v ≡ with_words shape layout flags (free_of layout) (spread (replicate layout.spare 0) layout.blocks)
+flags_put shape words layout v flags shown is =
+    ap (λ (ws : List ℕ). set ws 6 v) shown.shows
+    ∙ ap (λ (m : ℕ). with_words shape layout m (free_of layout) (spread (replicate layout.spare 0) layout.blocks)) is
+
+-- other flags
+flagged : (shape : Dimensions) (words : List ℕ) (layout : Layout) (flag : ℕ) (corrupt full : Bool) → IsShown shape words layout
+    → bit_or (flags_in layout) flag ≡ flags_of corrupt full layout.other_flags
+    → IsShown shape (after (set_flag flag) words) (record layout { corrupt = corrupt; full = full })
+flagged shape words layout flag corrupt full shown is =
+    shown_headed shape words (after (set_flag flag) words) layout layout.version layout.id corrupt full layout.other_flags layout.tail layout.reserved shown
+    (flags_put shape words layout (bit_or (get_or words 6 0) flag) (flags_of corrupt full layout.other_flags) shown
+    (ap (λ (ws : List ℕ). bit_or (get_or ws 6 0) flag) shown.shows ∙ is))
 
 -- the corrupt flag is set
 pub shown_corrupt : (shape : Dimensions) (words : List ℕ) (layout : Layout) → IsShown shape words layout
@@ -244,16 +270,9 @@ shown_full shape words layout shown = flagged shape words layout 2 layout.corrup
 -- another tail
 pub shown_tail : (shape : Dimensions) (words : List ℕ) (layout : Layout) (v : ℕ) → IsShown shape words layout
     → IsShown shape (set words 8 v) (record layout { tail = v })
-shown_tail shape words layout v shown = record {
-  shows = ap (λ (ws : List ℕ). set ws 8 v) shown.shows;
-  sound = record {
-    lawful = shown.sound.lawful;
-    queue = shown.sound.queue;
-    laid = shown.sound.laid;
-    ends = shown.sound.ends;
-    leaves = shown.sound.leaves;
-  };
-}
+shown_tail shape words layout v shown =
+    shown_headed shape words (set words 8 v) layout layout.version layout.id layout.corrupt layout.full layout.other_flags v layout.reserved shown
+    (ap (λ (ws : List ℕ). set ws 8 v) shown.shows)
 
 -- another next of the queue block
 pub shown_queue : (shape : Dimensions) (words : List ℕ) (layout : Layout) (v : ℕ) → IsShown shape words layout

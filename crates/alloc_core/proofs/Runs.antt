@@ -1,6 +1,8 @@
 -- The laws of allocation over moves and runs.
-use Rattle.std.proofs.Common.{◌≡◌, ◌≢◌, ◌⊎◌, ℕ, ◌+◌, ◌<◌, ◌≤◌, true, List, [], ◌∷◌, length, set, inl, inr, sym, refl, ap, ◌∙◌, subst, arith}
+use Rattle.std.proofs.Common.{◌≡◌, ◌≢◌, ◌⊎◌, ℕ, ◌+◌, ◌^◌, ◌<◌, ◌≤◌, true, List, [], ◌∷◌, length, set, inl, inr, sym, refl, ap, ◌∙◌, subst, arith}
 use Rattle.std.specs.Prelude.{Some, nat_le, ◌&&◌, bit_or}
+use Rattle.std.specs.Int.{bit_at}
+use Rattle.std.proofs.lemmas.Nat.Bits.{bit_at_or, bit_at-pow_other}
 use Rattle.std.proofs.Math.Nat.{mod-le}
 use Rattle.std.proofs.lemmas.Bool.{and_from, le-leb}
 use Rattle.std.proofs.lemmas.List.{get_or-set_other, get_or-set_same}
@@ -130,6 +132,22 @@ flags_by shape (fills owner index value) old new keeps (a, mine, block, stage, l
     inl (ap (λ (s : State). word_at s.words 6) same ∙ beside old.words (block.0 + (4 + index)) value (λ e. omega arith))
 flags_by shape spoils old new keeps same =
     inr (inl (refl, ap (λ (s : State). word_at s.words 6) same ∙ flagged old.words (bit_or (word_at old.words 6) 1) (has_flags shape old keeps)))
+
+-- a flag is one of the two lowest bits
+flag_above : (word flag k bit : ℕ) → flag ≡ 2 ^ k → bit ≢ k → bit_at (bit_or word flag) bit ≡ bit_at word bit
+flag_above word flag k bit is ne =
+    let none : bit_at flag bit ≡ 0 = ap (λ (n : ℕ). bit_at n bit) is ∙ bit_at-pow_other k bit ne in
+    omega (arith, bit_at_or word flag bit, none)
+
+pub other_flags_stay : (shape : Dimensions) (move : Move) (old new : State) (bit : ℕ) → StateKeeps shape old → IsMove shape move old new → 2 ≤ bit
+    → bit_at (word_at new.words 6) bit ≡ bit_at (word_at old.words 6) bit
+other_flags_stay shape move old new bit keeps is above = elim (flags_by shape move old new keeps is) [
+  | inl same ↦ ap (λ (n : ℕ). bit_at n bit) same
+  | inr setter ↦ elim setter [
+    | inl spoiled ↦ ap (λ (n : ℕ). bit_at n bit) spoiled.1 ∙ flag_above (word_at old.words 6) 1 0 bit refl (λ e. omega arith)
+    | inr filled ↦ ap (λ (n : ℕ). bit_at n bit) filled.5 ∙ flag_above (word_at old.words 6) 2 1 bit refl (λ e. omega arith)
+  ]
+]
 
 -- the words from the free pointer on
 pub behind_free : (shape : Dimensions) (state : State) (at : ℕ) → StateKeeps shape state → word_at state.words 7 ≤ at → word_at state.words at ≡ 0

@@ -1,5 +1,5 @@
 -- What a step says, and what the words are then.
-use Rattle.std.proofs.Common.{◌≡◌, ◌≢◌, ℕ, ◌+◌, ◌-◌, ◌%◌, ◌<◌, ◌≤◌, ◌==◌, Bool, true, false, List, ◌∷◌, length, replicate, set, take, drop, inl, inr, sym, refl, ap, ◌∙◌, subst, arith}
+use Rattle.std.proofs.Common.{◌≡◌, ◌≢◌, ◌⊎◌, ℕ, ◌+◌, ◌-◌, ◌%◌, ◌<◌, ◌≤◌, ◌==◌, Bool, true, false, List, ◌∷◌, length, replicate, set, take, drop, inl, inr, sym, refl, ap, ◌∙◌, subst, arith}
 use Rattle.std.specs.Prelude.{bit_and, if◌then◌else◌, Option, Some, None, is_some, IfSome}
 use Rattle.std.proofs.lemmas.List.{length-replicate}
 use Rattle.std.proofs.lemmas.Bool.{eq-eqb}
@@ -25,7 +25,7 @@ use Rattle.alloc_core.specs.Layout.{IsLaid}
 use Rattle.alloc_core.proofs.Layouts.{apart, ends_within, free_word, slice_shown}
 use Rattle.alloc_core.proofs.Owners.{set_at}
 use Rattle.alloc_core.proofs.Keeping.{step_keeps, aimed_at, has_at}
-use Rattle.alloc_core.proofs.EventKinds.{marked, length-claimed, type_stored}
+use Rattle.alloc_core.proofs.EventKinds.{marked, length-marked, length-claimed, type_stored}
 
 -- what each answer says of the stage
 full_stage : (stage : Stage) → answer stage ≡ said.Full → stage ≡ Full
@@ -178,15 +178,31 @@ taken_among a blocks owner block (Claimed at size) aimed (behind, long, has) e =
 taken_among a blocks owner block Full aimed has e = absurd (cc e)
 taken_among a blocks owner block Corrupt aimed has e = absurd (cc e)
 
--- blocks of two owners are apart
+-- two blocks are one, or apart
+blocks_apart : (page : ℕ) (blocks : List Block) (b c : Block) → IsLaid page 12 blocks → IsAmong blocks b → IsAmong blocks c
+    → (b ≡ c) ⊎ Apart (b.at, extent b) (c.at, extent c)
+blocks_apart page blocks b c laid (k, there) (m, here) = elim (cases_order k m) [
+  | inl same ↦ inl (some-injective b c (sym there ∙ (ap (get_elem? blocks) same ∙ here)))
+  | inr apart_by ↦ elim apart_by [
+    | inl before ↦ inr (inl (apart page 12 blocks k m b c laid there here before))
+    | inr behind ↦ inr (inr (apart page 12 blocks m k c b laid here there behind))
+  ]
+]
+
+-- so blocks of two owners are apart
 owners_apart : (page : ℕ) (blocks : List Block) (i j : ℕ) (b c : Block) → IsLaid page 12 blocks → i ≢ j → b.owner ≡ some i → c.owner ≡ some j
     → IsAmong blocks b → IsAmong blocks c → Apart (b.at, extent b) (c.at, extent c)
-owners_apart page blocks i j b c laid ne mine yours (k, there) (m, here) = elim (cases_order k m) [
-  | inl same ↦ absurd (ne (some-injective i j (sym mine ∙ (ap (λ (z : Block). z.owner) (some-injective b c (sym there ∙ (ap (get_elem? blocks) same ∙ here))) ∙ yours))))
-  | inr apart_by ↦ elim apart_by [
-    | inl before ↦ inl (apart page 12 blocks k m b c laid there here before)
-    | inr behind ↦ inr (apart page 12 blocks m k c b laid here there behind)
-  ]
+owners_apart page blocks i j b c laid ne mine yours one other = elim (blocks_apart page blocks b c laid one other) [
+  | inl same ↦ absurd (ne (some-injective i j (sym mine ∙ (ap (λ (z : Block). z.owner) same ∙ yours))))
+  | inr apart_by ↦ apart_by
+]
+
+-- and a block at another place
+places_apart : (page : ℕ) (blocks : List Block) (b c : Block) → IsLaid page 12 blocks → IsAmong blocks b → IsAmong blocks c → c.at ≢ b.at
+    → Apart (b.at, extent b) (c.at, extent c)
+places_apart page blocks b c laid one other elsewhere = elim (blocks_apart page blocks b c laid one other) [
+  | inl same ↦ absurd (elsewhere (sym (ap (λ (z : Block). z.at) same)))
+  | inr apart_by ↦ apart_by
 ]
 
 -- the words that two allocations have taken are apart
@@ -250,7 +266,7 @@ typed_stage a found at size Corrupt event is to = absurd (cc to)
 module _ (words : List ℕ) (allocations : List Allocation) (owner : ℕ) (a : Allocation) (reference size : ℕ) (keeps : Keeps a.shape words allocations)
     (mine : get_elem? allocations owner ≡ some a) (e : a.stage ≡ StoreType reference size) where
   new_block : (b : Allocation) → b.shape ≡ a.shape → b.size ≡ a.size → b.tag ≡ a.tag
-      → IsNewBlock b reference (after (store_type reference a.tag) words) allocations owner
+      → IsNewBlock b reference (after (store_type reference a.tag) words) keeps.layout allocations owner
   new_block b shaped sized tagged =
       let (k, there) = has_at a.shape words allocations owner a keeps mine (StoreType reference size) e in
       let aimed = aimed_at a.shape words allocations owner a keeps mine (StoreType reference size) e in
@@ -274,6 +290,9 @@ module _ (words : List ℕ) (allocations : List Allocation) (owner : ℕ) (a : A
         from = aimed.0;
         below = omega (arith, ends, free, now);
         one_page = subst (λ (s : Dimensions). reference % s.page + size ≤ s.page) (sym shaped) (omega (arith, one_page));
+        alone = λ other among elsewhere.
+            subst (λ (n : ℕ). Apart (reference, n) (other.at, extent other)) (length-marked size 0xC8799269 least)
+            (places_apart a.shape.page keeps.layout.blocks (own owner reference old) other keeps.shown.sound.laid (k, there) among elsewhere);
         apart = λ other c found ne yours has.
             taken_apart a.shape words allocations owner other a c (reference, size) found keeps (λ same. ne (sym same)) mine yours (ap taken e) has;
       }
@@ -281,13 +300,13 @@ module _ (words : List ℕ) (allocations : List Allocation) (owner : ℕ) (a : A
 -- what an allocation says that it has claimed
 pub done_block : (old new : Allocation) (words new_words : List ℕ) (step : AllocStep) (reference : ℕ) (allocations : List Allocation) (owner : ℕ)
     → IsStep old words new new_words step → step ≡ said.Done reference → get_elem? allocations owner ≡ some old
-    → Keeps old.shape words allocations → IsNewBlock new reference new_words allocations owner
+    → (keeps : Keeps old.shape words allocations) → IsNewBlock new reference new_words keeps.layout allocations owner
 done_block old new words new_words step reference allocations owner is done mine keeps =
     let (size, claimed) = claimed_stage new.stage reference (sym is.answers ∙ done) in
     let stage = typed_stage old (word_at words (spot is.event)) reference size old.stage is.event is.next
     (sym (ap (λ (a : Allocation). a.stage) is.new_is) ∙ claimed) in
     let event : is.event ≡ store_type reference old.tag = cc (is.next, ap (event_at old) stage) in
     let changed : new_words ≡ after (store_type reference old.tag) words = is.words_are ∙ ap (λ (v : Event). after v words) event in
-    subst (λ (ws : List ℕ). IsNewBlock new reference ws allocations owner) (sym changed)
+    subst (λ (ws : List ℕ). IsNewBlock new reference ws keeps.layout allocations owner) (sym changed)
     (new_block words allocations owner old reference size keeps mine stage new
     (ap (λ (a : Allocation). a.shape) is.new_is) (ap (λ (a : Allocation). a.size) is.new_is) (ap (λ (a : Allocation). a.tag) is.new_is))

@@ -4,16 +4,17 @@ use mathlib.Core.Option.{some}
 use lib.ListN.{get_elem?}
 use Rattle.segment_image.specs.Shape.{Dimensions}
 use Rattle.segment_image.specs.Words.{word_at}
+use Rattle.segment_image.specs.declared.layout.TheConstants.{HEADER_WORDS, VERSION_WORD, ID_WORD, FLAGS_WORD, FREE_WORD, TAIL_WORD, QUEUE, FLAG_CORRUPT, FLAG_FULL, BLOCK_HEADER, BLOCK_NEXT, BLOCK_LEAST, CLAIMED_COOKIE}
 use Rattle.segment_image.specs.Image.{blank_words}
 use Rattle.alloc_core.specs.declared.alloc.Stage.{Stage}
 use Rattle.alloc_core.specs.declared.alloc.Stage.TheVariants.{StoreSize, StoreCookie, StoreType, SetFull, Claimed}
-use Rattle.alloc_core.specs.Layout.{Block, Layout, free_of, IsShown, IsAmong}
+use Rattle.alloc_core.specs.Layout.{Block, Layout, extent, free_of, IsShown, IsAmong}
 use Rattle.alloc_core.specs.Event.{Event, store_payload, set_flag, spot, after}
 use Rattle.alloc_core.specs.Alloc.{Allocation, next_event, moved, started, IsLawful}
 
 -- a number is another one, or at least five below it
 abbrev pub Behind : ℕ → ℕ → Type 0
-Behind seen free = (seen ≡ free) ⊎ (seen + 5 ≤ free)
+Behind seen free = (seen ≡ free) ⊎ (seen + BLOCK_LEAST ≤ free)
 
 -- the block of someone, with these words
 abbrev pub own : ℕ → ℕ → List ℕ → Block
@@ -21,16 +22,16 @@ own owner at words = record { at = at; owner = some owner; words = words }
 
 -- the words of a block that was claimed, before they are anything else
 abbrev pub claimed_words : ℕ → ℕ → List ℕ
-claimed_words size tag = size ∷ 0xC8799269 ∷ tag ∷ replicate (size - 3) 0
+claimed_words size tag = size ∷ CLAIMED_COOKIE ∷ tag ∷ replicate (size - 3) 0
 
 -- what an allocation has at a stage: until its block is claimed nobody else stores in it, and it holds just what was
 -- stored; once it is claimed, its size and its cookie stay, and its next belongs to the list
 abbrev pub Has : List Block → ℕ → Stage → Type 0
 Has blocks owner (StoreSize at size purpose) = IsAmong blocks (own owner at (replicate size 0))
 Has blocks owner (StoreCookie at size purpose) = IsAmong blocks (own owner at (size ∷ replicate (size - 1) 0))
-Has blocks owner (StoreType at size) = IsAmong blocks (own owner at (size ∷ 0xC8799269 ∷ replicate (size - 2) 0))
+Has blocks owner (StoreType at size) = IsAmong blocks (own owner at (size ∷ CLAIMED_COOKIE ∷ replicate (size - 2) 0))
 Has blocks owner (Claimed at size) =
-    (behind : List ℕ) × (length behind + 2 ≡ size) × IsAmong blocks (own owner at (size ∷ 0xC8799269 ∷ behind))
+    (behind : List ℕ) × (length behind + 2 ≡ size) × IsAmong blocks (own owner at (size ∷ CLAIMED_COOKIE ∷ behind))
 Has blocks owner _ = ⊤
 
 -- what holds of one allocation of a segment
@@ -71,24 +72,31 @@ IsRecord allocations reference =
 
 -- a word that only the list of records has a use for: the tail, the next of the queue block, or that of a claimed block
 abbrev pub IsListWord : List Allocation → ℕ → Type 0
-IsListWord allocations at = (at ≡ 8) ⊎ (at ≡ 15) ⊎ ((reference : ℕ) × IsRecord allocations reference × (at ≡ reference + 3))
+IsListWord allocations at = (at ≡ TAIL_WORD) ⊎ (at ≡ QUEUE + BLOCK_NEXT) ⊎ ((reference : ℕ) × IsRecord allocations reference × (at ≡ reference + BLOCK_NEXT))
+
+-- a word of the header that can be anything between two events, so that it is what an image had there: the version, the id,
+-- the flags, or one of those between the tail and the queue block
+abbrev pub IsImageWord : ℕ → Type 0
+IsImageWord at = (at ≡ VERSION_WORD) ⊎ (at ≡ ID_WORD) ⊎ (at ≡ FLAGS_WORD) ⊎ ((TAIL_WORD < at) × (at < QUEUE))
 
 -- of two runs of words one ends before the other begins
 abbrev pub Apart : ℕ × ℕ → ℕ × ℕ → Type 0
 Apart a b = (a.0 + a.1 ≤ b.0) ⊎ (b.0 + b.1 ≤ a.0)
 
--- what an allocation has claimed, at the moment that it says so
-pub record IsNewBlock (allocation : Allocation) (reference : ℕ) (words : List ℕ) (allocations : List Allocation) (owner : ℕ) : Type 0 where
+-- what an allocation has claimed, at the moment that it says so, in a segment of a layout
+pub record IsNewBlock (allocation : Allocation) (reference : ℕ) (words : List ℕ) (layout : Layout) (allocations : List Allocation) (owner : ℕ) : Type 0 where
   pub size : ℕ
   -- it has the words that were asked for, and fewer than five more
   pub enough : allocation.size ≤ size
-  pub spare : size < allocation.size + 5
+  pub spare : size < allocation.size + BLOCK_LEAST
   -- its header is stored, and its next and its payload are zeros
   pub holds : take size (drop reference words) ≡ claimed_words size allocation.tag
   -- it lies behind the queue block, below the free pointer, and in one page
-  pub from : 16 ≤ reference
-  pub below : reference + size ≤ word_at words 7
+  pub from : HEADER_WORDS ≤ reference
+  pub below : reference + size ≤ word_at words FREE_WORD
   pub one_page : reference % allocation.shape.page + size ≤ allocation.shape.page
+  -- it is apart from every other block of the layout: from each that was claimed, whoever's it is, each wasted rest, each gap
+  pub alone : (block : Block) → IsAmong layout.blocks block → block.at ≢ reference → Apart (reference, size) (block.at, extent block)
   -- and apart from what any other allocation has
   pub apart : (other : ℕ) (b : Allocation) (block : ℕ × ℕ) → other ≢ owner → get_elem? allocations other ≡ some b
       → taken b.stage ≡ Some block → Apart (reference, size) block
@@ -113,9 +121,9 @@ IsMove shape (steps owner) old new =
     (a : Allocation) × (get_elem? old.allocations owner ≡ some a) × (event : Event) × (next_event a ≡ Some event)
     × (new ≡ record { words = after event old.words; allocations = slice_set old.allocations owner (moved a (word_at old.words (spot event))) })
 IsMove shape (fills owner index value) old new =
-    (a : Allocation) × (get_elem? old.allocations owner ≡ some a) × (block : ℕ × ℕ) × (a.stage ≡ Claimed block.0 block.1) × (4 + index < block.1)
+    (a : Allocation) × (get_elem? old.allocations owner ≡ some a) × (block : ℕ × ℕ) × (a.stage ≡ Claimed block.0 block.1) × (BLOCK_HEADER + index < block.1)
     × (new ≡ record old { words = after (store_payload block.0 index value) old.words })
-IsMove shape spoils old new = new ≡ record old { words = after (set_flag 1) old.words }
+IsMove shape spoils old new = new ≡ record old { words = after (set_flag FLAG_CORRUPT) old.words }
 
 -- moves one after the other, whoever makes them
 abbrev pub IsRun : Dimensions → List Move → State → State → Type 0
@@ -133,7 +141,7 @@ opening shape id = record { words = blank_words shape.size shape.page id; alloca
 -- who set the flags of a state: nobody, somebody who spoiled the segment, or an allocation that is full
 abbrev pub FlagsBy : Move → State → State → Type 0
 FlagsBy move old new =
-    (word_at new.words 6 ≡ word_at old.words 6)
-    ⊎ ((move ≡ spoils) × (word_at new.words 6 ≡ bit_or (word_at old.words 6) 1))
+    (word_at new.words FLAGS_WORD ≡ word_at old.words FLAGS_WORD)
+    ⊎ ((move ≡ spoils) × (word_at new.words FLAGS_WORD ≡ bit_or (word_at old.words FLAGS_WORD) FLAG_CORRUPT))
     ⊎ ((owner : ℕ) × (a : Allocation) × (move ≡ steps owner) × (get_elem? old.allocations owner ≡ some a) × (a.stage ≡ SetFull)
-    × (word_at new.words 6 ≡ bit_or (word_at old.words 6) 2))
+    × (word_at new.words FLAGS_WORD ≡ bit_or (word_at old.words FLAGS_WORD) FLAG_FULL))

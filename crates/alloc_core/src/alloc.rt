@@ -183,7 +183,7 @@ impl Alloc {
         ensures full { result ≡ AllocStep.Full → self.new.shape.size < self.new.seen + self.new.size }
         ensures corrupt { result ≡ AllocStep.Corrupt → IsCorruptBy self.old words.old }
         ensures keeps { (allocations : List Allocation) (owner : ℕ) → get_elem? allocations owner ≡ some self.old → Keeps self.old.shape words.old allocations → Keeps self.old.shape words.new (slice_set allocations owner self.new) }
-        ensures done { (reference : ℕ) → result ≡ AllocStep.Done reference → (allocations : List Allocation) (owner : ℕ) → get_elem? allocations owner ≡ some self.old → Keeps self.old.shape words.old allocations → IsNewBlock self.new reference words.new allocations owner }
+        ensures done { (reference : ℕ) → result ≡ AllocStep.Done reference → (allocations : List Allocation) (owner : ℕ) → get_elem? allocations owner ≡ some self.old → (kept : Keeps self.old.shape words.old allocations) → IsNewBlock self.new reference words.new kept.layout allocations owner }
     {
         let found = self.act(words);
         self.go_on(found);

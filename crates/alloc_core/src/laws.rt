@@ -6,16 +6,18 @@
 
 ghost use Rattle.std.specs.Prelude.{◌≡◌, ◌≢◌, ℕ, ◌+◌, ◌*◌, ◌<◌, ◌≤◌, sum_by, List, [], true, Some, slice_set};
 ghost use Rattle.std.specs.List.{count_by};
+ghost use Rattle.std.specs.Int.{bit_at};
 ghost use mathlib.Core.Option.{some};
 ghost use lib.ListN.{get_elem?};
 ghost use Rattle.segment_image.specs.Shape.{Dimensions};
 ghost use Rattle.segment_image.specs.Words.{word_at};
 ghost use Rattle.segment_image.specs.Head.{head_of};
 ghost use Rattle.segment_image.specs.Blocks.{is_block};
+ghost use Rattle.segment_image.specs.declared.layout.TheConstants.{HEADER_WORDS, FLAGS_WORD, FREE_WORD, BLOCK_LEAST};
 ghost use Rattle.alloc_core.specs.Layout.{IsShape};
 ghost use Rattle.alloc_core.specs.Planned.{is_pointer};
 ghost use Rattle.alloc_core.specs.Alloc.{Allocation};
-ghost use Rattle.alloc_core.specs.Laws.{Keeps, Behind, taken, words_taken, Apart, State, Move, IsMove, IsRun, StateKeeps, opening, FlagsBy, IsRecord, IsListWord, has_claimed};
+ghost use Rattle.alloc_core.specs.Laws.{Keeps, Behind, taken, words_taken, Apart, State, Move, IsMove, IsRun, StateKeeps, opening, FlagsBy, IsRecord, IsListWord, IsImageWord, has_claimed};
 
 /// The words of a ready segment without blocks keep the allocation invariant.
 pub fn opening_words_keep()
@@ -50,13 +52,22 @@ pub fn claimed_blocks_are_lawful()
 /// exchange that fails finds it at least five higher.
 pub fn free_pointer_rises()
     ensures { (shape : Dimensions) (state : State) (owner : ℕ) (a : Allocation) → StateKeeps shape state → get_elem? state.allocations owner ≡ some a
-        → Behind a.seen (word_at state.words 7) × (is_pointer shape (word_at state.words 7) ≡ true) }
+        → Behind a.seen (word_at state.words FREE_WORD) × (is_pointer shape (word_at state.words FREE_WORD) ≡ true) }
 {}
 
 /// The flags change only by those that set them: the corrupt flag by somebody who spoils the segment, the full flag by
-/// an allocation that has found no room.
+/// an allocation that has found no room. All other bits of their word stay as they were.
 pub fn flags_have_setters()
-    ensures { (shape : Dimensions) (move : Move) (old new : State) → StateKeeps shape old → IsMove shape move old new → FlagsBy move old new }
+    ensures setters { (shape : Dimensions) (move : Move) (old new : State) → StateKeeps shape old → IsMove shape move old new → FlagsBy move old new }
+    ensures others { (shape : Dimensions) (move : Move) (old new : State) (bit : ℕ) → StateKeeps shape old → IsMove shape move old new
+        → 2 ≤ bit → bit_at (word_at new.words FLAGS_WORD) bit ≡ bit_at (word_at old.words FLAGS_WORD) bit }
+{}
+
+/// The version, the id, the flags and the words between the tail and the queue block may be anything. So the invariant holds
+/// of a segment that was made of an image, whatever these words are there.
+pub fn image_words_keep()
+    ensures { (shape : Dimensions) (state : State) (at value : ℕ) → StateKeeps shape state → IsImageWord at
+        → StateKeeps shape (record state { words = slice_set state.words at value }) }
 {}
 
 /// A word of the list of records may become anything: the tail, the next of the queue block, the next of a claimed block.
@@ -72,23 +83,23 @@ pub fn moves_leave_list_words()
         → IsListWord old.allocations at → (word_at new.words at ≡ word_at old.words at) × IsListWord new.allocations at }
 {}
 
-/// Whatever happens leaves the words of the header but the flags and the free pointer; the list beside allocations may
-/// store in the tail and in the next of the queue block.
+/// Whatever happens leaves the words of the header but the flags and the free pointer, those between the tail and the queue
+/// block among them; the list beside allocations may store in the tail and in the next of the queue block.
 pub fn header_words_stay()
     ensures { (shape : Dimensions) (move : Move) (old new : State) (at : ℕ) → StateKeeps shape old → IsMove shape move old new
-        → at < 16 → at ≢ 6 → at ≢ 7 → word_at new.words at ≡ word_at old.words at }
+        → at < HEADER_WORDS → at ≢ FLAGS_WORD → at ≢ FREE_WORD → word_at new.words at ≡ word_at old.words at }
 {}
 
 /// The words from the free pointer on are 0.
 pub fn words_behind_are_zeros()
-    ensures { (shape : Dimensions) (state : State) (at : ℕ) → StateKeeps shape state → word_at state.words 7 ≤ at → word_at state.words at ≡ 0 }
+    ensures { (shape : Dimensions) (state : State) (at : ℕ) → StateKeeps shape state → word_at state.words FREE_WORD ≤ at → word_at state.words at ≡ 0 }
 {}
 
 /// All words that allocations have taken and not wasted lie between the queue block and the free pointer. A claimed block is
 /// five of them or more, so five times the number of claimed blocks is at most the free pointer less 16.
 pub fn taken_words_fit()
     ensures claimed { (shape : Dimensions) (state : State) → StateKeeps shape state
-        → 16 + 5 * count_by (λ a. has_claimed a.stage) state.allocations ≤ word_at state.words 7 }
+        → HEADER_WORDS + BLOCK_LEAST * count_by (λ a. has_claimed a.stage) state.allocations ≤ word_at state.words FREE_WORD }
     ensures taken { (shape : Dimensions) (state : State) → StateKeeps shape state
-        → 16 + sum_by (λ a. words_taken (taken a.stage)) state.allocations ≤ word_at state.words 7 }
+        → HEADER_WORDS + sum_by (λ a. words_taken (taken a.stage)) state.allocations ≤ word_at state.words FREE_WORD }
 {}

@@ -3,6 +3,7 @@ use Rattle.std.specs.Prelude.{◌≡◌, ℕ, ◌+◌, ◌-◌, ◌%◌, ◌<◌
 use Rattle.alloc_core.specs.declared.alloc.TooLarge.{TooLarge}
 use Rattle.segment_image.specs.Shape.{Dimensions}
 use Rattle.segment_image.specs.Words.{word_at}
+use Rattle.segment_image.specs.declared.layout.TheConstants.{HEADER_WORDS, FLAGS_WORD, FREE_WORD, FLAG_CORRUPT, FLAG_FULL, BLOCK_HEADER, BLOCK_LEAST, CLAIMED_COOKIE, WASTED_COOKIE}
 use Rattle.alloc_core.specs.declared.planned.Planned.{Planned}
 use Rattle.alloc_core.specs.declared.planned.Planned.TheVariants as plan
 use Rattle.alloc_core.specs.declared.alloc.Purpose.{Purpose}
@@ -26,8 +27,8 @@ pub record Allocation : Type 0 where
 
 -- the cookie of a claimed block, and that of a wasted rest of a page
 abbrev pub cookie_of : Purpose → ℕ
-cookie_of purpose.Claim = 0xC8799269
-cookie_of purpose.Waste = 0xFFFFFFFFFFFFFFFF
+cookie_of purpose.Claim = CLAIMED_COOKIE
+cookie_of purpose.Waste = WASTED_COOKIE
 
 -- the event that is next at a stage, where the allocation has not ended
 abbrev pub event_at : Allocation → Stage → Option Event
@@ -37,7 +38,7 @@ event_at allocation (ExchangeFree next purpose) = Some (exchange_free allocation
 event_at allocation (StoreSize at size purpose) = Some (store_size at size)
 event_at allocation (StoreCookie at size purpose) = Some (store_cookie at (cookie_of purpose))
 event_at allocation (StoreType at size) = Some (store_type at allocation.tag)
-event_at allocation SetFull = Some (set_flag 2)
+event_at allocation SetFull = Some (set_flag FLAG_FULL)
 event_at allocation (Claimed at size) = None
 event_at allocation Full = None
 event_at allocation Corrupt = None
@@ -58,7 +59,7 @@ stage_of_cookie at size purpose.Waste = LoadFlags
 
 -- the stage behind an event that found a number
 abbrev pub stage_after : Allocation → ℕ → Stage → Stage
-stage_after allocation found LoadFlags = if bit_and found 1 == 0 then LoadFree else Corrupt
+stage_after allocation found LoadFlags = if bit_and found FLAG_CORRUPT == 0 then LoadFree else Corrupt
 stage_after allocation found LoadFree =
     if is_pointer allocation.shape found then stage_of_plan found (planned found allocation.size allocation.shape) else Corrupt
 stage_after allocation found (ExchangeFree next purpose) =
@@ -91,7 +92,7 @@ answer _ = said.More
 -- why a step finds a segment corrupt: it loaded the corrupt flag, or a free pointer that no segment has
 abbrev pub IsCorruptBy : Allocation → List ℕ → Type 0
 IsCorruptBy old words =
-    ((old.stage ≡ LoadFlags) × (bit_and (word_at words 6) 1 ≢ 0)) ⊎ ((old.stage ≡ LoadFree) × (is_pointer old.shape (word_at words 7) ≡ false))
+    ((old.stage ≡ LoadFlags) × (bit_and (word_at words FLAGS_WORD) FLAG_CORRUPT ≢ 0)) ⊎ ((old.stage ≡ LoadFree) × (is_pointer old.shape (word_at words FREE_WORD) ≡ false))
 
 -- one step: the next event happens, the allocation is what that makes of it, and the answer says how it stands
 pub record IsStep (old : Allocation) (words : List ℕ) (new : Allocation) (new_words : List ℕ) (step : AllocStep) : Type 0 where
@@ -104,34 +105,34 @@ pub record IsStep (old : Allocation) (words : List ℕ) (new : Allocation) (new_
 -- the free pointer may go from one number to another: a block of five words or more in one page, behind which the page
 -- has room for none or for five words
 pub record IsRise (shape : Dimensions) (old new : ℕ) : Type 0 where
-  pub five : old + 5 ≤ new
+  pub five : old + BLOCK_LEAST ≤ new
   pub within : new ≤ shape.size
   pub one_page : old % shape.page + (new - old) ≤ shape.page
-  pub leaves : new % shape.page + 5 ≤ shape.page
+  pub leaves : new % shape.page + BLOCK_LEAST ≤ shape.page
 
 -- a block of five words or more lies behind the queue block, within the segment, and in one page
 pub record IsPlace (shape : Dimensions) (at size : ℕ) : Type 0 where
-  pub from : 16 ≤ at
-  pub five : 5 ≤ size
+  pub from : HEADER_WORDS ≤ at
+  pub five : BLOCK_LEAST ≤ size
   pub within : at + size ≤ shape.size
   pub one_page : at % shape.page + size ≤ shape.page
 
 -- a block of so many words is what an allocation wants: no fewer, and not five more
 abbrev pub Suits : Allocation → Purpose → ℕ → Type 0
-Suits allocation purpose.Claim size = (allocation.size ≤ size) × (size < allocation.size + 5)
+Suits allocation purpose.Claim size = (allocation.size ≤ size) × (size < allocation.size + BLOCK_LEAST)
 Suits allocation purpose.Waste size = size < allocation.size
 
 -- what holds at a stage, whatever the words are: what it stores lies in the segment, and it is full where the words that
 -- it wants pass the end of the segment from the free pointer that it loaded
 abbrev pub IsAimed : Allocation → Stage → Type 0
 IsAimed allocation (ExchangeFree next purpose) =
-    (16 ≤ allocation.seen) × IsRise allocation.shape allocation.seen next × Suits allocation purpose (next - allocation.seen)
+    (HEADER_WORDS ≤ allocation.seen) × IsRise allocation.shape allocation.seen next × Suits allocation purpose (next - allocation.seen)
 IsAimed allocation (StoreSize at size purpose) =
-    (16 ≤ at) × IsRise allocation.shape at (at + size) × Suits allocation purpose size
+    (HEADER_WORDS ≤ at) × IsRise allocation.shape at (at + size) × Suits allocation purpose size
 IsAimed allocation (StoreCookie at size purpose) =
-    (16 ≤ at) × IsRise allocation.shape at (at + size) × Suits allocation purpose size
+    (HEADER_WORDS ≤ at) × IsRise allocation.shape at (at + size) × Suits allocation purpose size
 IsAimed allocation (StoreType at size) =
-    (16 ≤ at) × IsRise allocation.shape at (at + size) × Suits allocation purpose.Claim size
+    (HEADER_WORDS ≤ at) × IsRise allocation.shape at (at + size) × Suits allocation purpose.Claim size
 IsAimed allocation (Claimed at size) = IsPlace allocation.shape at size
 IsAimed allocation SetFull = allocation.shape.size < allocation.seen + allocation.size
 IsAimed allocation Full = allocation.shape.size < allocation.seen + allocation.size
@@ -140,14 +141,14 @@ IsAimed allocation _ = ⊤
 -- an allocation that was started lawfully, whatever was done to the words since
 pub record IsLawful (allocation : Allocation) : Type 0 where
   pub shaped : IsShape allocation.shape
-  pub least : 5 ≤ allocation.size
+  pub least : BLOCK_LEAST ≤ allocation.size
   pub most : allocation.size ≤ allocation.shape.page
   pub aimed : IsAimed allocation allocation.stage
 
 -- an allocation before its first event; a payload of 0 is taken as 1
 abbrev pub first_of : Dimensions → ℕ → ℕ → Allocation
-first_of shape payload tag = record { shape = shape; size = max payload 1 + 4; tag = tag; seen = 0; stage = LoadFlags }
+first_of shape payload tag = record { shape = shape; size = max payload 1 + BLOCK_HEADER; tag = tag; seen = 0; stage = LoadFlags }
 
 -- the allocation that is started, where its block fits in a page
 abbrev pub started : Dimensions → ℕ → ℕ → Result Allocation TooLarge
-started shape payload tag = if nat_lt shape.page (payload + 4) then Err (record {}) else Ok (first_of shape payload tag)
+started shape payload tag = if nat_lt shape.page (payload + BLOCK_HEADER) then Err (record {}) else Ok (first_of shape payload tag)

@@ -1,6 +1,7 @@
 -- The atomic operations on single words.
 use Rattle.std.specs.Prelude.{ℕ, ◌+◌, ◌==◌, List, bit_or, slice_set, if◌then◌else◌}
 use Rattle.segment_image.specs.Words.{word_at}
+use Rattle.segment_image.specs.declared.layout.TheConstants.{FLAGS_WORD, FREE_WORD, BLOCK_COOKIE, BLOCK_TYPE, BLOCK_HEADER}
 
 -- One atomic operation on one word: to load it; to store a value; to exchange it where it is an old value; to set bits.
 pub data Event : Type 0 where
@@ -29,25 +30,25 @@ after event words = slice_set words (spot event) (change event (word_at words (s
 
 -- the events of an allocation, and those that store a payload and set a flag
 abbrev pub load_flags : Event
-load_flags = load 6
+load_flags = load FLAGS_WORD
 
 abbrev pub load_free : Event
-load_free = load 7
+load_free = load FREE_WORD
 
 abbrev pub exchange_free : ℕ → ℕ → Event
-exchange_free old new = exchange 7 old new
+exchange_free old new = exchange FREE_WORD old new
 
 abbrev pub store_size : ℕ → ℕ → Event
 store_size at size = store at size
 
 abbrev pub store_cookie : ℕ → ℕ → Event
-store_cookie at cookie = store (at + 1) cookie
+store_cookie at cookie = store (at + BLOCK_COOKIE) cookie
 
 abbrev pub store_type : ℕ → ℕ → Event
-store_type at tag = store (at + 2) tag
+store_type at tag = store (at + BLOCK_TYPE) tag
 
 abbrev pub store_payload : ℕ → ℕ → ℕ → Event
-store_payload at index value = store (at + (4 + index)) value
+store_payload at index value = store (at + (BLOCK_HEADER + index)) value
 
 abbrev pub set_flag : ℕ → Event
-set_flag flag = set_bits 6 flag
+set_flag flag = set_bits FLAGS_WORD flag

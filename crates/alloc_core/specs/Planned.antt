@@ -1,6 +1,7 @@
 -- What an allocation does from a free pointer on.
 use Rattle.std.specs.Prelude.{ℕ, ◌+◌, ◌-◌, ◌%◌, Bool, ◌&&◌, nat_lt, nat_le, if◌then◌else◌}
 use Rattle.segment_image.specs.Shape.{Dimensions}
+use Rattle.segment_image.specs.declared.layout.TheConstants.{HEADER_WORDS, BLOCK_LEAST}
 use Rattle.alloc_core.specs.declared.planned.Planned.{Planned}
 use Rattle.alloc_core.specs.declared.planned.Planned.TheVariants.{Claim, Waste, Full}
 
@@ -15,9 +16,9 @@ planned free size shape =
     let room = room_at shape free in
     if nat_lt shape.size (free + size) then Full
     else if nat_lt room size then Waste room
-    else if nat_lt (room - size) 5 then Claim room (free + room)
+    else if nat_lt (room - size) BLOCK_LEAST then Claim room (free + room)
     else Claim size (free + size)
 
 -- a free pointer that is lawful: behind the queue block, within the segment, and with room for five words in its page
 abbrev pub is_pointer : Dimensions → ℕ → Bool
-is_pointer shape free = nat_le 16 free && nat_le free shape.size && nat_le 5 (room_at shape free)
+is_pointer shape free = nat_le HEADER_WORDS free && nat_le free shape.size && nat_le BLOCK_LEAST (room_at shape free)

@@ -1,24 +1,14 @@
 //! One allocation, an event at a time.
 
 use crate::event::{exchange, set_bits, store};
-use crate::planned::{FIRST, LEAST, Planned, is_pointer, plan};
+use crate::planned::{Planned, is_pointer, plan};
 use segment_image::Shape;
+use segment_image::layout::{
+    BLOCK_COOKIE, BLOCK_HEADER, BLOCK_SIZE, BLOCK_TYPE, CLAIMED_COOKIE, FLAG_CORRUPT, FLAG_FULL,
+    FLAGS_WORD, FREE_WORD, WASTED_COOKIE,
+};
 use std::marker::Model;
 use thiserror::Error;
-
-const FLAGS: usize = 6;
-
-const FREE: usize = 7;
-
-const CORRUPT: u64 = 1;
-
-const FULL: u64 = 2;
-
-const ALLOCATED: u64 = 0xC879_9269;
-
-const WASTED: u64 = u64::MAX;
-
-const HEADER: u64 = 4;
 
 /// What the words from a free pointer on are taken for.
 #[derive(Clone, Copy, Debug, PartialEq, Eq)]
@@ -135,8 +125,8 @@ impl Purpose {
         ensures { result ≡ cookie_of self }
     {
         match self {
-            Purpose::Claim => ALLOCATED,
-            Purpose::Waste => WASTED,
+            Purpose::Claim => CLAIMED_COOKIE,
+            Purpose::Waste => WASTED_COOKIE,
         }
     }
 }
@@ -157,12 +147,12 @@ impl Alloc {
     pub fn start(shape: Shape, payload: u64, tag: u64) -> Result<Alloc, TooLarge>
         ensures { result ≡ started shape payload tag }
     {
-        if payload > shape.page() - HEADER {
+        if payload > shape.page() - BLOCK_HEADER as u64 {
             return Err(TooLarge);
         }
         Ok(Alloc {
             shape,
-            size: HEADER + payload.max(1),
+            size: BLOCK_HEADER as u64 + payload.max(1),
             tag,
             seen: 0,
             stage: Stage::LoadFlags,
@@ -198,17 +188,17 @@ impl Alloc {
         ensures found { IfSome (next_event self.now) (λ event. result ≡ word_at words.old (spot event)) }
     {
         match self.stage {
-            Stage::LoadFlags => words[FLAGS],
-            Stage::LoadFree => words[FREE],
-            Stage::ExchangeFree { next, .. } => exchange(words, FREE, self.seen, next),
-            Stage::StoreSize { at, size, .. } => store(words, at as usize, size),
+            Stage::LoadFlags => words[FLAGS_WORD],
+            Stage::LoadFree => words[FREE_WORD],
+            Stage::ExchangeFree { next, .. } => exchange(words, FREE_WORD, self.seen, next),
+            Stage::StoreSize { at, size, .. } => store(words, at as usize + BLOCK_SIZE, size),
             Stage::StoreCookie { at, purpose, .. } => store(
                 words,
-                at as usize + 1,
+                at as usize + BLOCK_COOKIE,
                 purpose.cookie(),
             ),
-            Stage::StoreType { at, .. } => store(words, at as usize + 2, self.tag),
-            Stage::SetFull => set_bits(words, FLAGS, FULL),
+            Stage::StoreType { at, .. } => store(words, at as usize + BLOCK_TYPE, self.tag),
+            Stage::SetFull => set_bits(words, FLAGS_WORD, FLAG_FULL),
             Stage::Claimed { .. } | Stage::Full | Stage::Corrupt => 0,
         }
     }
@@ -238,7 +228,7 @@ impl Alloc {
         ensures { result ≡ stage_after self.now found self.now.stage }
     {
         match self.stage {
-            Stage::LoadFlags if found & CORRUPT == 0 => Stage::LoadFree,
+            Stage::LoadFlags if found & FLAG_CORRUPT == 0 => Stage::LoadFree,
             Stage::LoadFlags => Stage::Corrupt,
             Stage::LoadFree if is_pointer(found, &self.shape) => self.tried(found),
             Stage::LoadFree => Stage::Corrupt,

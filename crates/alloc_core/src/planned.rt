@@ -4,12 +4,7 @@ ghost use Rattle.std.specs.Prelude.{◌≡◌};
 ghost use Rattle.alloc_core.specs.Planned.{planned, is_pointer as is_pointer_of};
 
 use segment_image::Shape;
-
-/// The free pointer of a segment without blocks.
-pub(crate) const FIRST: u64 = 16;
-
-/// The words of a smallest block: its header, and one more.
-pub(crate) const LEAST: u64 = 5;
+use segment_image::layout::{BLOCK_LEAST, HEADER_WORDS};
 
 /// What an allocation does from a free pointer on (Chromium's persistent_memory_allocator).
 #[derive(Clone, Copy, Debug, PartialEq, Eq)]
@@ -33,7 +28,7 @@ pub fn plan(free: u64, size: u64, shape: Shape) -> Planned
     let room = room_at(free, &shape);
     if size > room {
         Planned::Waste { room }
-    } else if room - size < LEAST {
+    } else if room - size < BLOCK_LEAST as u64 {
         Planned::Claim {
             size: room,
             next: free + room,
@@ -60,5 +55,7 @@ fn room_at(free: u64, shape: &Shape) -> u64
 pub(crate) fn is_pointer(free: u64, shape: &Shape) -> bool
     ensures { result ≡ is_pointer_of shape.now free }
 {
-    free >= FIRST && free <= shape.size() && room_at(free, shape) >= LEAST
+    free >= HEADER_WORDS as u64
+        && free <= shape.size()
+        && room_at(free, shape) >= BLOCK_LEAST as u64
 }

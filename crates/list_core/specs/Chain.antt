@@ -1,24 +1,25 @@
 -- The chain of a segment: the references that the nexts give from the queue block. It knows nothing of the tail.
 use Rattle.std.specs.Prelude.{◌≡◌, ◌≢◌, ℕ, ◌+◌, ◌<◌, ◌≤◌, Bool, ◌&&◌, ◌||◌, ◌==◌, nat_le, List, [], ◌∷◌, ◌++◌, length, slice_index}
 use Rattle.segment_image.specs.Words.{word_at}
+use Rattle.segment_image.specs.declared.layout.TheConstants.{HEADER_WORDS, QUEUE, BLOCK_NEXT, BLOCK_LEAST}
 use Rattle.segment_image.specs.declared.head.SegmentHead.{SegmentHead}
 use Rattle.bucket_ranges.specs.Reading.{before, next_of, IsWalk}
 
 -- a word that a next or the tail can be: the queue block, or where a smallest block ends within n words
 abbrev pub is_reference : ℕ → ℕ → Bool
-is_reference n reference = (reference == 12) || (nat_le 16 reference && nat_le (reference + 5) n)
+is_reference n reference = (reference == QUEUE) || (nat_le HEADER_WORDS reference && nat_le (reference + BLOCK_LEAST) n)
 
 -- the blocks from which nexts lead: the queue block, then the records
 abbrev pub stops : List ℕ → List ℕ
-stops chain = 12 ∷ chain
+stops chain = QUEUE ∷ chain
 
--- the nexts lead from the queue block along the chain, whose last next is 12; no record stands twice
+-- the nexts lead from the queue block along the chain, whose last next is the queue block again; no record stands twice
 pub record IsLinked (words : List ℕ) (chain : List ℕ) : Type 0 where
-  pub linked : (i : ℕ) → i ≤ length chain → word_at words (slice_index (stops chain) i + 3) ≡ slice_index (chain ++ 12 ∷ []) i
+  pub linked : (i : ℕ) → i ≤ length chain → word_at words (slice_index (stops chain) i + BLOCK_NEXT) ≡ slice_index (chain ++ QUEUE ∷ []) i
   pub distinct : (i j : ℕ) → i < j → j ≤ length chain → slice_index (stops chain) i ≢ slice_index (stops chain) j
 
--- the chain of a segment whose header is `head`: distinct lawful blocks that the nexts give from the queue block, ended
--- by 12
+-- the chain of a segment whose header is `head`: distinct lawful blocks that the nexts give from the queue block, and back
+-- to it
 pub record IsChain (words : List ℕ) (head : SegmentHead) (chain : List ℕ) : Type 0 where
   pub walk : IsWalk words head chain
-  pub ended : next_of words (before chain (length chain)) ≡ 12
+  pub ended : next_of words (before chain (length chain)) ≡ QUEUE

@@ -4,6 +4,7 @@ use mathlib.Core.Option.{some}
 use lib.ListN.{get_elem?}
 use Rattle.segment_image.specs.Shape.{Dimensions}
 use Rattle.segment_image.specs.Words.{word_at}
+use Rattle.segment_image.specs.declared.layout.TheConstants.{FREE_WORD, TAIL_WORD, QUEUE, BLOCK_SIZE, BLOCK_NEXT}
 use Rattle.segment_image.specs.Head.{head_of}
 use Rattle.segment_image.specs.Blocks.{field_at, is_block}
 use Rattle.alloc_core.specs.Event.{Event, spot, after}
@@ -25,7 +26,7 @@ AreNeighbours chain at next = (k : ℕ) × (k < length chain) × (slice_index (s
 
 -- a record that is not on the chain yet, and whose next is stored
 abbrev pub Waits : List ℕ → List ℕ → ℕ → Type 0
-Waits words chain reference = (¬ (IsStop chain reference)) × (word_at words (reference + 3) ≡ 12)
+Waits words chain reference = (¬ (IsStop chain reference)) × (word_at words (reference + BLOCK_NEXT) ≡ QUEUE)
 
 -- where a publish stands, by its stage
 abbrev pub Stands : List ℕ → List ℕ → ℕ → Stage → Type 0
@@ -45,15 +46,15 @@ IsHeld chain publishings at =
 
 -- the words of a block: where it begins, and the size that it says
 abbrev pub block_words : List ℕ → ℕ → ℕ × ℕ
-block_words words at = (at, field_at words at 0)
+block_words words at = (at, field_at words at BLOCK_SIZE)
 
 -- What holds of any words with a list, and of the publishes of records. The free pointer lies within the words. There is a
 -- chain, and the tail is the queue block or a record of it. Each publish has a lawful block of its own as its record, and
 -- stands where its stage says: off the chain until it is linked. And no two different blocks among all these overlap.
 pub record IsList (words chain : List ℕ) (publishings : List Publishing) : Type 0 where
-  pub free : word_at words 7 ≤ length words
+  pub free : word_at words FREE_WORD ≤ length words
   pub chained : IsChain words (head_of words) chain
-  pub tail : IsStop chain (word_at words 8)
+  pub tail : IsStop chain (word_at words TAIL_WORD)
   pub lawful : (owner : ℕ) (publish : Publishing) → get_elem? publishings owner ≡ some publish → is_block words (head_of words) publish.reference ≡ true
   pub stands : (owner : ℕ) (publish : Publishing) → get_elem? publishings owner ≡ some publish → Stands words chain publish.reference publish.stage
   pub own : (i j : ℕ) (a b : Publishing) → get_elem? publishings i ≡ some a → get_elem? publishings j ≡ some b → a.reference ≡ b.reference → i ≡ j
@@ -85,7 +86,7 @@ pub record ListKeeps (shape : Dimensions) (state : ListState) : Type 0 where
 
 -- the chain after the next event of a publish: longer by its record, at its end, where the link succeeds
 abbrev pub chain_at : List ℕ → List ℕ → ℕ → Stage → List ℕ
-chain_at words chain reference (Link tail) = if word_at words (tail + 3) == 12 then chain ++ reference ∷ [] else chain
+chain_at words chain reference (Link tail) = if word_at words (tail + BLOCK_NEXT) == QUEUE then chain ++ reference ∷ [] else chain
 chain_at words chain reference _ = chain
 
 abbrev pub chain_after : List ℕ → List ℕ → Publishing → List ℕ
@@ -93,7 +94,7 @@ chain_after words chain publish = chain_at words chain publish.reference publish
 
 -- what a walk says next that has given these records
 abbrev pub next_said : List ℕ → List ℕ → WalkStep
-next_said words given = said_of (length words) (word_at words (stands_behind given + 3))
+next_said words given = said_of (length words) (word_at words (stands_behind given + BLOCK_NEXT))
 
 -- what can happen: something happens to an allocation; a publish of a claimed block starts that is not published yet, or
 -- goes on by its next event; a walk from the start begins, or loads a next
@@ -135,8 +136,8 @@ opening_list shape id = record { segment = opening shape id; publishes = []; cha
 -- the tail of a state, as a place of the chain, is not before that of an earlier state
 abbrev pub TailRises : ListState → ListState → Type 0
 TailRises old new =
-    (i j : ℕ) → i ≤ length old.chain → j ≤ length new.chain → slice_index (stops old.chain) i ≡ word_at old.segment.words 8
-    → slice_index (stops new.chain) j ≡ word_at new.segment.words 8 → i ≤ j
+    (i j : ℕ) → i ≤ length old.chain → j ≤ length new.chain → slice_index (stops old.chain) i ≡ word_at old.segment.words TAIL_WORD
+    → slice_index (stops new.chain) j ≡ word_at new.segment.words TAIL_WORD → i ≤ j
 
 -- a state after a step of one of its publishes, which led to these words and this publish
 abbrev pub stepped : ListState → ℕ → Publishing → List ℕ → Publishing → ListState

@@ -1,6 +1,7 @@
 -- A publish: what it does next, and what becomes of it.
 use Rattle.std.specs.Prelude.{◌≡◌, ℕ, ◌+◌, ◌≤◌, ◌==◌, ◌⊎◌, Bool, true, false, List, length, Option, Some, None, if◌then◌else◌, ⊤}
 use Rattle.segment_image.specs.Words.{word_at}
+use Rattle.segment_image.specs.declared.layout.TheConstants.{HEADER_WORDS, TAIL_WORD, QUEUE, BLOCK_NEXT, BLOCK_LEAST}
 use Rattle.alloc_core.specs.Event.{Event, load, store, exchange, spot, after}
 use Rattle.list_core.specs.declared.publish.Stage.{Stage}
 use Rattle.list_core.specs.declared.publish.Stage.TheVariants.{StoreOwnNext, LoadTail, Link, MoveTail, Published, Strayed}
@@ -15,16 +16,16 @@ pub record Publishing : Type 0 where
 
 -- the events of a publish
 abbrev pub store_own_next : ℕ → Event
-store_own_next reference = store (reference + 3) 12
+store_own_next reference = store (reference + BLOCK_NEXT) QUEUE
 
 abbrev pub load_tail : Event
-load_tail = load 8
+load_tail = load TAIL_WORD
 
 abbrev pub link : ℕ → ℕ → Event
-link tail reference = exchange (tail + 3) 12 reference
+link tail reference = exchange (tail + BLOCK_NEXT) QUEUE reference
 
 abbrev pub move_tail : ℕ → ℕ → Event
-move_tail old new = exchange 8 old new
+move_tail old new = exchange TAIL_WORD old new
 
 -- the event that is next at a stage, where the publish has not ended
 abbrev pub event_at : ℕ → Stage → Option Event
@@ -48,7 +49,7 @@ abbrev pub stage_after : ℕ → ℕ → ℕ → Stage → Stage
 stage_after n reference found StoreOwnNext = LoadTail
 stage_after n reference found LoadTail = if is_reference n found then Link found else Strayed
 stage_after n reference found (Link tail) =
-    if found == 12 then MoveTail tail reference true
+    if found == QUEUE then MoveTail tail reference true
     else if is_reference n found then MoveTail tail found false
     else Strayed
 stage_after n reference found (MoveTail old new linked) = stage_of_move linked
@@ -76,8 +77,8 @@ pub record IsStep (old : Publishing) (words : List ℕ) (new : Publishing) (new_
 -- why a step strays: the tail that it loaded, or the next that it found, is no reference that a list can have
 abbrev pub IsStrayBy : Publishing → List ℕ → Type 0
 IsStrayBy old words =
-    ((old.stage ≡ LoadTail) × (is_reference (length words) (word_at words 8) ≡ false))
-    ⊎ ((tail : ℕ) × (old.stage ≡ Link tail) × (is_reference (length words) (word_at words (tail + 3)) ≡ false))
+    ((old.stage ≡ LoadTail) × (is_reference (length words) (word_at words TAIL_WORD) ≡ false))
+    ⊎ ((tail : ℕ) × (old.stage ≡ Link tail) × (is_reference (length words) (word_at words (tail + BLOCK_NEXT)) ≡ false))
 
 -- what a publish stores into lies within n words
 abbrev pub IsWithin : ℕ → Stage → Type 0
@@ -86,9 +87,9 @@ IsWithin n _ = ⊤
 
 -- a publish of a record within n words, which are at least the words of a header
 pub record IsReach (n : ℕ) (publish : Publishing) : Type 0 where
-  pub headed : 16 ≤ n
-  pub from : 16 ≤ publish.reference
-  pub ends : publish.reference + 5 ≤ n
+  pub headed : HEADER_WORDS ≤ n
+  pub from : HEADER_WORDS ≤ publish.reference
+  pub ends : publish.reference + BLOCK_LEAST ≤ n
   pub within : IsWithin n publish.stage
 
 -- a publish before its first event

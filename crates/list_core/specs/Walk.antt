@@ -1,12 +1,13 @@
 -- A walk along the list.
 use Rattle.std.specs.Prelude.{◌≡◌, ◌⊎◌, ℕ, ◌<◌, ◌==◌, List, [], ◌∷◌, ◌++◌, length, slice_index, if◌then◌else◌}
+use Rattle.segment_image.specs.declared.layout.TheConstants.{QUEUE}
 use Rattle.list_core.specs.declared.walk.WalkStep.{WalkStep}
 use Rattle.list_core.specs.declared.walk.WalkStep.TheVariants.{Record, End, Stray}
 use Rattle.list_core.specs.Chain.{is_reference, stops}
 
 -- what a walk says of the next of the block where it stands
 abbrev pub said_of : ℕ → ℕ → WalkStep
-said_of n next = if next == 12 then End else if is_reference n next then Record next else Stray
+said_of n next = if next == QUEUE then End else if is_reference n next then Record next else Stray
 
 -- where a walk stands after it said this: at the record that it gave, or where it stood
 abbrev pub stands_after : ℕ → WalkStep → ℕ

@@ -8,6 +8,7 @@
 ghost use Rattle.std.specs.Prelude.{◌≡◌, ◌++◌, ◌∷◌, [], ℕ, List, ◌+◌, length};
 ghost use Rattle.segment_image.specs.Shape.{Dimensions};
 ghost use Rattle.segment_image.specs.Words.{word_at};
+ghost use Rattle.segment_image.specs.declared.layout.TheConstants.{BLOCK_NEXT};
 ghost use Rattle.segment_image.specs.Head.{head_of};
 ghost use Rattle.alloc_core.specs.Layout.{IsShape};
 ghost use Rattle.list_core.specs.Chain.{IsChain};
@@ -41,7 +42,7 @@ pub fn lawful_blocks_may_start()
 {}
 
 /// The records whose link has succeeded, in the order of these links, are the chain of the words: distinct lawful blocks
-/// that the nexts give from the queue block, ended by 12.
+/// that the nexts give from the queue block, and back to it.
 pub fn published_records_are_the_chain()
     ensures { (shape : Dimensions) (state : ListState) → ListKeeps shape state → IsChain state.segment.words (head_of state.segment.words) state.chain }
 {}
@@ -61,7 +62,7 @@ pub fn tail_never_goes_back()
 /// says that this is all of the chain; it never strays.
 pub fn walks_give_prefixes()
     ensures { (shape : Dimensions) (state : ListState) (given : List ℕ) → ListKeeps shape state → IsPrefix given state.chain
-        → IsGiven given state.chain (said_of (length state.segment.words) (word_at state.segment.words (stands_behind given + 3))) }
+        → IsGiven given state.chain (said_of (length state.segment.words) (word_at state.segment.words (stands_behind given + BLOCK_NEXT))) }
 {}
 
 /// What a walk has given stays a prefix of every later chain.

@@ -1,11 +1,9 @@
 //! One publish, an event at a time.
 
-use crate::reference::{NEXT, is_reference};
+use crate::reference::is_reference;
 use alloc_core::event::{exchange, store};
-use segment_image::QUEUE;
+use segment_image::layout::{BLOCK_NEXT, QUEUE, TAIL_WORD};
 use std::marker::Model;
-
-const TAIL: usize = 8;
 
 /// What a publish does next, or how it has ended.
 #[derive(Clone, Copy, Debug, PartialEq, Eq)]
@@ -124,10 +122,15 @@ impl Publish {
         ensures found { IfSome (next_event self.now) (λ event. result ≡ word_at words.old (spot event)) }
     {
         match self.stage {
-            Stage::StoreOwnNext => store(words, self.reference as usize + NEXT, QUEUE),
-            Stage::LoadTail => words[TAIL],
-            Stage::Link { tail } => exchange(words, tail as usize + NEXT, QUEUE, self.reference),
-            Stage::MoveTail { old, new, .. } => exchange(words, TAIL, old, new),
+            Stage::StoreOwnNext => store(words, self.reference as usize + BLOCK_NEXT, QUEUE),
+            Stage::LoadTail => words[TAIL_WORD],
+            Stage::Link { tail } => exchange(
+                words,
+                tail as usize + BLOCK_NEXT,
+                QUEUE,
+                self.reference,
+            ),
+            Stage::MoveTail { old, new, .. } => exchange(words, TAIL_WORD, old, new),
             Stage::Published | Stage::Strayed => 0,
         }
     }

@@ -1,7 +1,7 @@
 //! One walk along the list, an event at a time.
 
-use crate::reference::{NEXT, is_reference};
-use segment_image::QUEUE;
+use crate::reference::is_reference;
+use segment_image::layout::{BLOCK_NEXT, QUEUE};
 use std::marker::Model;
 
 /// What a step of a walk says.
@@ -49,12 +49,13 @@ impl Walk {
     ghost use Rattle.std.specs.Prelude.{◌≡◌, ℕ, List, ◌+◌, ◌≤◌, length, slice_index, true};
     ghost use Rattle.segment_image.specs.declared.head.SegmentHead.{SegmentHead};
     ghost use Rattle.segment_image.specs.Words.{word_at};
+    ghost use Rattle.segment_image.specs.declared.layout.TheConstants.{HEADER_WORDS, BLOCK_NEXT, QUEUE};
     ghost use Rattle.list_core.specs.Chain.{is_reference, stops, IsChain};
     ghost use Rattle.list_core.specs.Walk.{said_of, stands_after, stands_behind, given_after, GivesNext};
 
     /// A walk from the start of the list.
     pub fn from_start() -> Walk
-        ensures { result ≡ 12 }
+        ensures { result ≡ QUEUE }
     {
         Walk { at: QUEUE }
     }
@@ -73,9 +74,9 @@ impl Walk {
     /// nor from 16 to five below the number of words. After these two the walk stands where it stood, and can be stepped
     /// again. In any words with a chain, a walk at a place of it gives the record behind that place, or `End` at its end.
     pub fn step(&mut self, words: &[u64]) -> WalkStep
-        requires headed { 16 ≤ length words.now }
+        requires headed { HEADER_WORDS ≤ length words.now }
         requires reach { is_reference (length words.now) self.old ≡ true }
-        ensures says { result ≡ said_of (length words.now) (word_at words.now (self.old + 3)) }
+        ensures says { result ≡ said_of (length words.now) (word_at words.now (self.old + BLOCK_NEXT)) }
         ensures stands { self.new ≡ stands_after self.old result }
         ensures reach { is_reference (length words.now) self.new ≡ true }
         ensures given { (given : List ℕ) → self.old ≡ stands_behind given → self.new ≡ stands_behind (given_after given result) }
@@ -88,11 +89,11 @@ impl Walk {
 
     // The next of the block where the walk stands.
     fn next(&self, words: &[u64]) -> u64
-        requires headed { 16 ≤ length words.now }
+        requires headed { HEADER_WORDS ≤ length words.now }
         requires reach { is_reference (length words.now) self.now ≡ true }
-        ensures { result ≡ word_at words.now (self.now + 3) }
+        ensures { result ≡ word_at words.now (self.now + BLOCK_NEXT) }
     {
-        words[self.at as usize + NEXT]
+        words[self.at as usize + BLOCK_NEXT]
     }
 }
 

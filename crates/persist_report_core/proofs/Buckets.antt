@@ -1,17 +1,9 @@
 -- The buckets of a lawful spec and their boundaries.
-use Rattle.std.proofs.Common.{◌≡◌, ◌≢◌, ◌∙◌, map, ℕ, ◌+◌, ◌<◌, ◌≤◌, Bool, true, false, ◌==◌, List, [], ◌∷◌, length, Option, Some, None, if◌then◌else◌, All, ap, refl, arith}
-use Rattle.std.proofs.Common.{ℤ, pos, get_or, drop, take, sym, subst, Vec, Global}
-use Rattle.std.specs.Fmt.{decimal, signed_decimal}
-use Rattle.std.specs.List.{zip, flat_map}
+use Rattle.std.proofs.Common.{◌≡◌, ◌≢◌, ◌∙◌, map, ℕ, ◌+◌, ◌<◌, ◌≤◌, Bool, true, false, List, [], ◌∷◌, length, Option, Some, None, if◌then◌else◌, All, ap, refl, arith}
+use Rattle.std.proofs.Common.{ℤ, pos, get_or, drop, sym}
 use Rattle.std.proofs.lemmas.Grind.{get_or_after_one}
-use Rattle.std.proofs.lemmas.Slice.Zip.{get_or-zip, length-zip}
-use Rattle.bucket_ranges.specs.Reading.{Histogram}
-use Rattle.persist_report_core.specs.Text.{highs_of, bucket_text, line, kind_word}
+use Rattle.persist_report_core.specs.Text.{highs_of}
 use Rattle.persist_report_core.specs.Readable.{IsCounted}
-use Rattle.std.proofs.lemmas.Bool.Decides.{nat_tests}
-use Rattle.csv.specs.declared.writer.Writer.{Writer}
-use Rattle.persist_report_core.specs.Lines.{Adds}
-use Rattle.persist_report_core.proofs.Adding.{Adds-step, Adds-nothing}
 use Rattle.std.specs.Prelude.{◌+ℤ◌}
 use Rattle.std.proofs.lemmas.List.{length-drop, length-map, get_or-map}
 use Rattle.std.proofs.lemmas.List.Elements.{All-cons}
@@ -94,40 +86,3 @@ pub value_behind : (counts : List (ℤ × ℕ)) (i : ℕ) (count : ℤ × ℕ) �
     → get_or (highs_of Sparse counts) i (pos 0) ≡ count.0 +ℤ pos 1
 value_behind counts i count within is =
     get_or-map (λ (c : ℤ × ℕ). c.0 +ℤ pos 1) counts i count (pos 0) within ∙ ap (λ (c : ℤ × ℕ). c.0 +ℤ pos 1) (sym is)
-
--- the choice at a number that is not 0
-if_some : {X : Type 0} (n : ℕ) (x y : X) → 0 < n → (if n == 0 then x else y) ≡ y
-if_some n x y h = grind (arith, nat_tests)
-
--- and at 0
-if_zero : {X : Type 0} (n : ℕ) (x y : X) → n ≤ 0 → (if n == 0 then x else y) ≡ x
-if_zero n x y h = grind (arith, nat_tests)
-
--- the line of a bucket with units, its least value and the least value behind it
-abbrev pub line_of_bucket : Histogram → ℤ × ℕ → ℤ → List ℕ
-line_of_bucket hist bucket high = line (hist.name ∷ kind_word hist.spec ∷ signed_decimal bucket.0 ∷ signed_decimal high ∷ decimal bucket.1 ∷ [])
-
--- the step of a loop over the buckets, at one that has units
-pub Adds-bucket : (hist : Histogram) (highs : List ℤ) (i : ℕ) {first second third : Writer (Vec ℕ Global)} → i < length hist.counts → i < length highs
-    → Adds first second (flat_map (bucket_text hist) (take i (zip hist.counts highs)))
-    → 0 < (get_or hist.counts i (pos 0, 0)).1
-    → Adds second third (line_of_bucket hist (get_or hist.counts i (pos 0, 0)) (get_or highs i (pos 0)))
-    → Adds first third (flat_map (bucket_text hist) (take (i + 1) (zip hist.counts highs)))
-Adds-bucket hist highs i {first} {second} {third} h more before units after =
-    let bucket : ℤ × ℕ = get_or hist.counts i (pos 0, 0) in
-    let written = line_of_bucket hist bucket (get_or highs i (pos 0)) in
-    let text = ap (bucket_text hist) (get_or-zip hist.counts highs i ((pos 0, 0), pos 0) h more) ∙ if_some bucket.1 [] written units in
-    let within : i < length (zip hist.counts highs) = rw length-zip (omega (arith, more, h)) in
-    Adds-step (bucket_text hist) (zip hist.counts highs) i ((pos 0, 0), pos 0) within before (subst (Adds second third) (sym text) after)
-
--- and at one that has none
-pub Adds-no_bucket : (hist : Histogram) (highs : List ℤ) (i : ℕ) {first second : Writer (Vec ℕ Global)} → i < length hist.counts → i < length highs
-    → Adds first second (flat_map (bucket_text hist) (take i (zip hist.counts highs)))
-    → (get_or hist.counts i (pos 0, 0)).1 ≤ 0
-    → Adds first second (flat_map (bucket_text hist) (take (i + 1) (zip hist.counts highs)))
-Adds-no_bucket hist highs i {first} {second} h more before units =
-    let bucket : ℤ × ℕ = get_or hist.counts i (pos 0, 0) in
-    let written = line_of_bucket hist bucket (get_or highs i (pos 0)) in
-    let text = ap (bucket_text hist) (get_or-zip hist.counts highs i ((pos 0, 0), pos 0) h more) ∙ if_zero bucket.1 [] written units in
-    let within : i < length (zip hist.counts highs) = rw length-zip (omega (arith, more, h)) in
-    Adds-step (bucket_text hist) (zip hist.counts highs) i ((pos 0, 0), pos 0) within before (subst (Adds second second) (sym text) (Adds-nothing second before.ready))

@@ -2,14 +2,10 @@ pub mod Adding
 pub mod Answering
 pub mod Buckets
 pub mod Elements
-pub mod LineLemmas
 pub mod Orders
-pub mod Beginnings
 pub mod Readables
 pub mod Numbers
 pub mod FieldLemmas
-pub mod NameLemmas
-pub mod NameNumbers
 pub mod DraftLemmas
 pub mod Requests
 pub mod Rows

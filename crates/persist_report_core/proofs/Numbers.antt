@@ -1,6 +1,5 @@
 -- Numbers that decimal digits write.
-use Rattle.std.proofs.Common.{◌≡◌, ℕ, zero, suc, ◌+◌, ◌*◌, ◌<◌, ◌≤◌, Bool, true, false, ◌&&◌, nat_le, ◌==◌, if◌then◌else◌, List, [], ◌∷◌, length, take, get_or, Some, None, refl, ◌-◌, ◌^◌, ◌∙◌, ap, sym, arith}
-use Rattle.std.proofs.Math.Nat.{pow-suc, pow-le-pow_right}
+use Rattle.std.proofs.Common.{◌≡◌, ℕ, zero, suc, ◌+◌, ◌*◌, ◌<◌, ◌≤◌, Bool, true, false, ◌&&◌, nat_le, ◌==◌, if◌then◌else◌, List, [], ◌∷◌, length, take, get_or, Some, None, refl, ◌-◌, ◌∙◌, ap, sym, arith}
 use Rattle.std.specs.Char.{is_ascii_digit, digit_value}
 use Rattle.std.specs.List.{list_all}
 use Rattle.std.specs.Str.Parse.{digits_value, digits_value_after}
@@ -47,17 +46,6 @@ digit_value-is digit low high = grind (arith, nat_tests)
 pub more_digits : (digits : List ℕ) (i : ℕ) → i < length digits → list_all is_ascii_digit (take i digits) ≡ true
     → is_ascii_digit (get_or digits i 0) ≡ true → list_all is_ascii_digit (take (i + 1) digits) ≡ true
 more_digits digits i within before here = list_all_more is_ascii_digit digits i 0 within ∙ rw (before, here) refl
-
--- one digit more writes a number below the next power of ten
-pub below-more : (value i : ℕ) → value < 10 ^ i → (digit : ℕ) → digit ≤ 9 → value * 10 + digit < 10 ^ (i + 1)
-below-more value i below digit small =
-    let next : 10 ^ (i + 1) ≡ 10 ^ i * 10 = ap (λ k. 10 ^ k) (omega arith) ∙ pow-suc 10 i in omega arith
-
--- a number of so few digits has room for one digit more
-pub few_digits : (value i : ℕ) → value < 10 ^ i → i < 19 → value < 1000000000000000000
-few_digits value i below few =
-    let within : i ≤ 18 = omega arith in
-    let most : 10 ^ i ≤ 10 ^ 18 = pow-le-pow_right (omega arith) within in omega arith
 
 -- digits whose number fits 64 bits
 pub long_number-is : (digits : List ℕ) (value : ℕ) → 0 < length digits → list_all is_ascii_digit digits ≡ true → value ≡ digits_value 10 digits

@@ -1,5 +1,5 @@
 -- The order of the histograms of a report.
-use Rattle.std.proofs.Common.{◌≡◌, ◌∙◌, ◌+◌, ◌<◌, Bool, List, [], ◌∷◌, All, length, map, arith, is_lt, Ordering}
+use Rattle.std.proofs.Common.{◌+◌, ◌<◌, List, [], ◌∷◌, length, map, arith, is_lt, Ordering}
 use Rattle.std.specs.List.Sorted.{IsSortedBy, IsSortedByKey}
 use Rattle.std.proofs.lemmas.List.{get_or-map, length-map}
 
@@ -11,8 +11,3 @@ IsSortedByKey-map g key cmp (x ∷ xs) up = λ k d low h.
     let within : k + 1 < length (x ∷ xs) = rw length-map at h in
     let here : k < length (x ∷ xs) = omega (arith, within) in
     rw (get_or-map g (x ∷ xs) (k + 1) x d within, get_or-map g (x ∷ xs) k x d here) (up k x low within)
-
--- what ascends by one order ascends by another that answers the same on its elements
-pub IsSortedBy-same : {X : Type 0} (lt other : X → X → Bool) (P : X → Type 0) (xs : List X)
-    → ((a b : X) → P a → P b → other a b ≡ lt a b) → All P xs → IsSortedBy lt xs → IsSortedBy other xs
-IsSortedBy-same lt other P xs same all up = λ k d low h. same _ _ (all (k + 1) d h) (all k d (omega arith)) ∙ up k d low h

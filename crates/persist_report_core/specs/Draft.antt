@@ -1,11 +1,18 @@
 -- A script while it is read.
 use Rattle.std.specs.Prelude.{◌≡◌, true, false, if◌then◌else◌, ℕ, ◌≤◌, List, ◌∷◌, [], ◌++◌, Option, Some, None, option_to_list, Result, MatchResult, ⊤}
+use Rattle.std.specs.declared.alloc.Global.{Global}
+use Rattle.std.specs.declared.vec.Vec.{Vec}
+use Rattle.std.specs.HashMap.{HashMap, get_by}
+use Rattle.std.specs.Str.{bytes_eq}
 use Rattle.persist_report_core.specs.declared.script.draft.Draft.{Draft}
 use Rattle.persist_report_core.specs.declared.script.fault.ScriptFault.{ScriptFault}
 use Rattle.persist_report_core.specs.declared.script.fault.ScriptFault.TheVariants.{Read, TooLong, NoMemory, BadLine, ZeroCount, NoUnits}
-use Rattle.persist_report_core.specs.Names.{found, IsPacked}
 use Rattle.persist_report_core.specs.Request.{Request, request_in}
 use Rattle.persist_report_core.specs.Script.{Script, HistRecord, is_known, place_of, units_of, hist_from, call_from, opening_fault, later_fault, script_along, script_view}
+
+-- the place of a name
+abbrev pub found : {X S : Type 0} → HashMap (Vec ℕ Global) X S → List ℕ → Option X
+found names name = get_by (λ key. bytes_eq name key.items) names
 
 -- the index of the first `hist` record of a name, if there is one
 abbrev pub known_place : List HistRecord → List ℕ → Option ℕ
@@ -19,7 +26,6 @@ FindsPlace hists name number result = MatchResult result
 
 -- what a draft keeps beside its script: where each name stands first, and the units that were taken of the pool
 pub record IsDraft (draft : Draft) : Type 0 where
-  pub packed : IsPacked draft.names
   pub placed : (name : List ℕ) → found draft.names name ≡ known_place (script_view draft.script).hists name
   pub taken : draft.taken ≡ units_of draft.script.calls.items
   pub within : draft.taken ≤ draft.pool

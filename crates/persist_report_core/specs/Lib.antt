@@ -2,13 +2,10 @@ pub use Rattle.segment_image.specs.Watched
 pub use Rattle.bucket_ranges.specs.Reading
 pub mod Fault
 pub mod Text
-pub mod Beginning
-pub mod Lines
 pub mod Readable
 pub mod Report
 pub mod Number
 pub mod Request
 pub mod Script
-pub mod Names
 pub mod Draft
 pub mod Rows

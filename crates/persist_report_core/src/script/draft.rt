@@ -7,7 +7,7 @@ ghost use Rattle.persist_report_core.specs.Request.{request_in, add_in, delta_in
 ghost use Rattle.persist_report_core.specs.Script.{script_view};
 ghost use Rattle.persist_report_core.specs.Draft.{IsDraft, FindsPlace, Opens, Puts};
 
-use crate::script::names::Names;
+use crate::script::names::{Names, insert_first};
 use crate::script::request::{read_added, read_delta, read_hist, read_opening};
 use crate::script::{CallKind, Script, ScriptCall, ScriptFault, ScriptHist};
 use csv::ByteRecord;
@@ -81,8 +81,8 @@ impl Draft {
         requires { IsDraft self.now }
         ensures { FindsPlace (script_view self.now.script).hists name.now number result }
     {
-        match self.names.place(name) {
-            Some(place) => Ok(place),
+        match self.names.get(name) {
+            Some(place) => Ok(*place),
             None => Err(bad_line(number)),
         }
     }
@@ -147,7 +147,7 @@ impl Draft {
             return Err(bad_line(number));
         }
         let place = self.script.hists.len() as u32;
-        self.names.insert(alloc, hist.name, place)?;
+        insert_first(alloc, &mut self.names, hist.name, place)?;
         let name = Vec::from_slice(alloc, hist.name)?;
         let spec = hist.spec;
         match self.script.hists.push(ScriptHist { name, spec, number }) {

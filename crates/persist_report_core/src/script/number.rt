@@ -1,32 +1,15 @@
 //! Numbers in scripts: decimal digits, behind a `-` where a number may be below 0.
 
-ghost use Rattle.std.specs.Prelude.{◌≡◌, ◌<◌, ◌≤◌, length};
+ghost use Rattle.std.specs.Prelude.{◌≡◌};
 ghost use Rattle.persist_report_core.specs.Number.{whole_number, unsigned_number as unsigned_number_of, long_number as long_number_of, signed_number as signed_number_of};
 
-// So many digits write a number below 2^64, whichever they are.
-const SHORT: usize = 19;
-
-// The number that so few digits write, where no step can overflow.
-fn short_number(digits: &[u8]) -> Option<u64>
-    requires some { 0 < length digits.now }
-    requires short { length digits.now ≤ 19 }
+// The number that the digits write, where it fits 64 bits: zeros may lead, so the digits can be many.
+pub(crate) fn long_number(digits: &[u8]) -> Option<u64>
     ensures { result ≡ long_number_of digits.now }
 {
-    let mut value: u64 = 0;
-    for digit in digits {
-        if !digit.is_ascii_digit() {
-            return None;
-        }
-        value = value * 10 + u64::from(*digit - b'0');
+    if digits.is_empty() {
+        return None;
     }
-    Some(value)
-}
-
-// The number that any digits write, where it is below 2^64: zeros may lead, so the digits can be many.
-fn long_number(digits: &[u8]) -> Option<u64>
-    requires { 0 < length digits.now }
-    ensures { result ≡ long_number_of digits.now }
-{
     let mut value: u64 = 0;
     for digit in digits {
         if !digit.is_ascii_digit() {
@@ -40,17 +23,10 @@ fn long_number(digits: &[u8]) -> Option<u64>
 }
 
 // The number that the digits write, where it is at most `most`.
-pub(crate) fn number_up_to(most: u64, digits: &[u8]) -> Option<u64>
+fn number_up_to(most: u64, digits: &[u8]) -> Option<u64>
     ensures { result ≡ whole_number most digits.now }
 {
-    if digits.is_empty() {
-        return None;
-    }
-    let value = if digits.len() <= SHORT {
-        short_number(digits)?
-    } else {
-        long_number(digits)?
-    };
+    let value = long_number(digits)?;
     if value <= most { Some(value) } else { None }
 }
 

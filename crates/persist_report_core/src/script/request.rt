@@ -4,7 +4,7 @@ ghost use Rattle.std.specs.Prelude.{◌≡◌, ◌≢◌, ◌≤◌, [], ◌∷�
 ghost use Rattle.csv.specs.Records.{fields_of};
 ghost use Rattle.persist_report_core.specs.Request.{segment_in, add_in, delta_in, hist_in, spec_in, linear_in, custom_in, numbers_in, alone as alone_in, opening_view, added_view, new_hist_view, delta_view};
 
-use crate::script::number::{number_up_to, signed_number, unsigned_number};
+use crate::script::number::{long_number, signed_number, unsigned_number};
 use bucket_ranges::{CustomValues, Spec};
 use csv::ByteRecord;
 use std::alloc::{AllocError, Global};
@@ -54,7 +54,7 @@ pub(crate) fn read_opening(fields: &ByteRecord) -> Option<Opening>
     let (size, page, id) = three_from(fields, 1)?;
     let size = unsigned_number(size)?;
     let page = unsigned_number(page)?;
-    let id = number_up_to(u64::MAX, id)?;
+    let id = long_number(id)?;
     Some(Opening { size, page, id })
 }
 

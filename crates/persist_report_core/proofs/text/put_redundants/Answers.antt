@@ -1,7 +1,13 @@
+use Rattle.persist_report_core.specs.Readable.{IsReadable}
+use Rattle.persist_report_core.proofs.Elements.{All-image_at}
 use Rattle.image_reader.specs.Views.{histogram_view}
 use Rattle.persist_report_core.specs.Text.{redundant_text}
-use Rattle.persist_report_core.proofs.Adding.{Adds-all}
+use Rattle.persist_report_core.proofs.Adding.{written-all}
 use Rattle.persist_report_core.proofs.text.put_redundants.Goals as goal
 
 pub returns : goal.returns
-returns c = Adds-all redundant_text (λ named. histogram_view named.hist.now) c.args.hists.now c.loop-named.named-index c.loop-named-test.false c.loop-named.invariant
+returns c = written-all redundant_text (λ hist. histogram_view hist.now) c.args.hists.now c.loop-hist.hist-index c.args.text.now.items c.loop-hist-test.false c.loop-hist.invariant
+
+pub put_redundant-requires : goal.put_redundant-requires
+put_redundant-requires c =
+    All-image_at IsReadable (λ hist. histogram_view hist.now) c.args.hists.now c.loop-hist.hist-index c.hist-item.result c.requires c.loop-hist-test.true c.hist-item.is

@@ -1,9 +1,8 @@
-use Rattle.std.proofs.Common.{take}
+use Rattle.std.proofs.Common.{◌≡◌, ◌++◌, take}
 use Rattle.std.specs.List.{flat_map}
 use Rattle.image_reader.specs.Views.{histogram_view}
 use Rattle.persist_report_core.specs.Text.{redundant_text}
-use Rattle.persist_report_core.specs.Lines.{Adds}
 use Rattle.persist_report_core.proofs.text.put_redundants.Given as goal
 
-abbrev pub invariant-loop-named : goal.invariant-loop-named
-invariant-loop-named l = Adds l.initial.lines l.lines (flat_map (λ named. redundant_text (histogram_view named.hist.now)) (take l.named-index l.hists))
+abbrev pub invariant-loop-hist : goal.invariant-loop-hist
+invariant-loop-hist l = l.text.items ≡ l.initial.text.items ++ flat_map (λ hist. redundant_text (histogram_view hist.now)) (take l.hist-index l.hists)

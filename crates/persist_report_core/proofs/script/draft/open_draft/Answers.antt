@@ -1,4 +1,4 @@
-use Rattle.std.proofs.Common.{◌≡◌, ◌∙◌, true, false, codes, List, [], ◌∷◌, map, ℕ, Some, None, option_map, ap, refl, arith, sym}
+use Rattle.std.proofs.Common.{◌≡◌, ◌∙◌, true, false, codes, List, [], ◌∷◌, map, ℕ, Some, None, option_map, ap, refl, rules, arith, sym}
 use Rattle.std.specs.Str.{bytes_eq}
 use Rattle.csv.specs.Records.{fields_of}
 use Rattle.persist_report_core.specs.Request.{Segment, opening_view, request_in}
@@ -63,8 +63,7 @@ returns c =
       lawful = ap opening_fault request ∙ lawful;
       script_is = opened (fields_of c.args.fields.now) opening.size opening.page opening.id c.in-Ok.shape _ _ request shape (ap (map hist_view) c.new.ensures.items) c.new-2.ensures.items;
       keeps = record {
-        packed = c.new-3.ensures.packed;
-        placed = λ name. c.new-3.ensures.found name ∙ ap (λ hists. known_place hists name) (sym (ap (map hist_view) c.new.ensures.items));
+        placed = λ name. (search rules) ∙ ap (λ hists. known_place hists name) (sym (ap (map hist_view) c.new.ensures.items));
         taken = ap units_of (sym c.new-2.ensures.items);
         within = omega arith;
       };

@@ -1,5 +1,6 @@
 use Rattle.std.proofs.Common.{◌≡◌, ◌<◌, ◌+◌, ◌∙◌, ap, sym, take, rules, arith, get_or}
 use Rattle.std.proofs.lemmas.List.{take_all}
+use Rattle.std.proofs.lemmas.Bool.Decides.{nat_tests}
 use Rattle.std.specs.Str.Parse.{digits_value}
 use Rattle.std.specs.Char.{IsAsciiDigit, is_ascii_digit}
 use Rattle.std.specs.List.{list_all}
@@ -33,5 +34,5 @@ loop-digit-preserved c =
 pub returns : goal.returns
 returns c =
     let all : take c.loop-digit.digit-index c.args.digits.now ≡ c.args.digits.now = take_all c.loop-digit.digit-index c.args.digits.now (omega arith) in
-    sym (long_number-is c.args.digits.now c.loop-digit.value c.requires (ap (list_all is_ascii_digit) (sym all) ∙ c.loop-digit.invariant.decimal)
+    sym (long_number-is c.args.digits.now c.loop-digit.value (grind (arith, nat_tests)) (ap (list_all is_ascii_digit) (sym all) ∙ c.loop-digit.invariant.decimal)
     (c.loop-digit.invariant.value ∙ ap (digits_value 10) all) c.loop-digit.invariant.fits)

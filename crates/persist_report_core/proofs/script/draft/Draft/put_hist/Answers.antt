@@ -25,9 +25,8 @@ returns c = elim c.match-push.branch [
         lawful = lawful_hist c.args.self.now.pool c.args.number script one.name one.spec none;
         script_is = extended-hist script.shape script.id script.hists (map hist_view c.push.new.self.items) script.calls c.args.number one.name one.spec all;
         keeps = record {
-          packed = c.in_ok-insert.ensures.packed;
           placed = λ name.
-              c.in_ok-insert.ensures.found name
+              c.in_ok-insert_first.ensures name
               ∙ (ap (λ known. option_or known (if bytes_eq one.name name then Some c.len-place.result else None)) (c.requires.draft.placed name)
               ∙ (ap (λ place. option_or (known_place script.hists name) (if bytes_eq one.name name then Some place else None))
               (c.len-place.ensures ∙ (c.args.self.now.script.hists.ok.0 ∙ sym (length-map c.args.self.now.script.hists.items hist_view)))

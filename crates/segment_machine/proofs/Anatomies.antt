@@ -99,6 +99,7 @@ module _ (anatomy : Anatomy) (pieces : List Piece) (spare : ℕ) (corrupt full :
     within = calls.within;
     held = calls.held;
     ended = calls.ended;
+    spent = calls.spent;
     met = calls.met;
     taking = calls.taking;
   }
@@ -165,6 +166,7 @@ module _ (anatomy : Anatomy) (a : Actor) (d : Doing) where
     within = calls.within;
     held = calls.held;
     ended = calls.ended;
+    spent = calls.spent;
     met = calls.met;
     taking = calls.taking;
   }

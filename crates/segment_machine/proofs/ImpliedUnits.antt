@@ -1,5 +1,5 @@
 -- The units of a kept state are kept: its sums are near each other, by what was spent on their histogram.
-use Rattle.std.proofs.Common.{◌≡◌, ℕ, ◌+◌, ◌*◌, ◌≤◌, ℤ, pos, List, inl, inr, refl, ap, subst, ◌∙◌, arith}
+use Rattle.std.proofs.Common.{◌≡◌, ℕ, ◌+◌, ◌*◌, ◌≤◌, ℤ, pos, List, inl, inr, ⊎_elim, refl, sym, ap, subst, ◌∙◌, arith}
 use Rattle.std.specs.Prelude.{unsigned_abs, ◌-ℤ◌}
 use Rattle.std.specs.Int.{w64, cast_signed}
 use Rattle.std.proofs.Math.IntN.{+ℤ_idr}
@@ -7,16 +7,18 @@ use Rattle.std.proofs.lemmas.List.Sums.{sum_by-le-sum_by}
 use Rattle.segment_image.specs.Shape.{Dimensions}
 use Rattle.segment_machine.specs.declared.actor.Actor.{Actor}
 use Rattle.segment_machine.specs.State.{State}
-use Rattle.segment_machine.specs.Actor.{cost_of, all_costs}
+use Rattle.segment_machine.specs.Entry.{tally_noted}
+use Rattle.segment_machine.specs.Actor.{counted_of, cost_of, all_costs}
 use Rattle.segment_machine.specs.Consistent.{IsHistogram, IsSum}
 use Rattle.segment_machine.specs.Body.{Record, order_of, blank}
 use Rattle.segment_machine.specs.Seen.{HasRecord}
-use Rattle.segment_machine.specs.Kept.{summed_cost, summed_costs, IsSumOf, Kept}
+use Rattle.segment_machine.specs.Kept.{summed_cost, summed_costs, IsSumOf, StandsRight, Kept}
 use Rattle.segment_machine.specs.Keeps.{KeptUnitsAreKept}
 use Rattle.segment_machine.proofs.Lists.{at_from}
 use Rattle.segment_machine.proofs.Actors.{summed_most}
 use Rattle.segment_machine.proofs.ImpliedFirsts.{first_of_name}
 use Rattle.segment_machine.proofs.ImpliedRecords.{record_word}
+use Rattle.segment_machine.proofs.Spending.{counted_spent, spent_or_not, all_spent}
 
 -- what a sum has grown by was spent, or is held
 summed_is_spent : (name : List ℕ) (actors : List Actor) → summed_costs name actors ≤ all_costs actors name
@@ -53,6 +55,13 @@ module _ (shape : Dimensions) (version id : ℕ) (state : State) (kept : Kept sh
 pub units_are_kept : KeptUnitsAreKept
 units_are_kept shape version id state lawful kept = record {
   pool = kept.pool;
+  counted = λ name. all_spent state.actors name (λ a among.
+      let (who, there) = at_from state.actors a among in
+      ⊎_elim
+      (λ gone. subst (λ (b : Actor). tally_noted (counted_of b) name ≤ cost_of b.costs name + cost_of b.held name)
+      (sym (subst (StandsRight shape kept.anatomy who a) gone (kept.standing who a there))) (omega arith))
+      (λ lives. counted_spent kept.anatomy a (kept.each who a there lives).calls name)
+      (spent_or_not a.place));
   sums = λ name at a is sum.
       let (r, there, named) = histogram_record shape version id state kept name at is in
       let h = near shape version id state kept name at r a (pos 0) there named (sum_of_record shape version id state kept at r a there sum) (inl refl) in

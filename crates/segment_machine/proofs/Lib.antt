@@ -73,6 +73,7 @@ pub mod SeatsSplit
 pub mod SeatsSums
 pub mod SeatsTurned
 pub mod Singled
+pub mod Spending
 pub mod Standing
 pub mod Stops
 pub mod Storing

@@ -18,8 +18,8 @@ use Rattle.segment_machine.specs.declared.actor.Own.{Own}
 use Rattle.segment_machine.specs.declared.actor.Sighting.{Sighting}
 use Rattle.segment_machine.specs.Entry.{tally_units}
 use Rattle.segment_machine.specs.Form.{form_of}
-use Rattle.segment_machine.specs.Actor.{word_seen, counted_of, bucket_key}
-use Rattle.segment_machine.specs.Note.{SawBucket, SawCount}
+use Rattle.segment_machine.specs.Actor.{word_seen, counted_of, bucket_key, SawCount}
+use Rattle.segment_machine.specs.Note.{SawBucket}
 use Rattle.segment_machine.specs.Promises.{accepted_by}
 use Rattle.segment_machine.specs.Body.{Record, Body, histogram, sample, words_of, Listed, Anatomy}
 use Rattle.segment_machine.specs.Ledger.{form_at}
@@ -70,6 +70,7 @@ module _ (shape : Dimensions) (old new : Anatomy) (added : ℕ → Body → Type
     within = calls.within;
     held = calls.held;
     ended = calls.ended;
+    spent = calls.spent;
     met = λ entry of counted some_units first. ⊎_elim
         (λ before.
         let (at, sampled, met, (tag, histogram_is, value, small)) = calls.met entry of counted some_units before in (

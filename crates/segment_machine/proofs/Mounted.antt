@@ -28,6 +28,7 @@ use Rattle.segment_machine.specs.Consistent.{IsHistogram, redundant_at_opening, 
 use Rattle.segment_machine.specs.Examples.{letter_a, mounted, mounter, opening, one, whole, MountedIsConsistent}
 use Rattle.segment_machine.proofs.Lists.{none_in, none_at, one_in, each_of_one}
 use Rattle.segment_machine.proofs.Alone.{the_one, of_the_one, below_three}
+use Rattle.segment_machine.proofs.Spending.{by_name}
 
 -- who recorded 1, 1 and 0
 abbrev who : Actor
@@ -316,6 +317,9 @@ near a b (inr x) (inr y) = subst (λ (z : ℤ). unsigned_abs (z -ℤ b) ≤ 2) (
 units : UnitsAreKept mounted all chain
 units = record {
   pool = refl;
+  counted = λ name.
+      let covered = by_name letter_a name (all_counted all) 3 (all_of_three (λ (e : Entry). e.name ≡ letter_a) (one 1) (one 1) (one 0) refl refl refl) (omega arith) in
+      omega (arith, covered);
   sums = λ name at a is sum.
       let e = costs_three name at is in let f = small a (sum_there name at a is sum) in omega (arith, e, f);
   differences = λ name at a b is first second.

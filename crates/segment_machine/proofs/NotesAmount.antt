@@ -238,7 +238,7 @@ amounts_kept amount shape opened state id a kept mine records ((before, last, ru
           (omega (arith, bound, held_is))),
       known,
     ))
-    fit.calls.held fit.calls.ended
+    fit.calls.held fit.calls.ended fit.calls.spent
     (λ taking. absurd (not_empty before [] last (sym runs ∙ (fit.calls.taking taking).0))))
     (looks_on kept.anatomy _ a n (fit.looks records))
     (finals_on _ kept.roles.opener id a n (omega arith)

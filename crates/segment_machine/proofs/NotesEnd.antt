@@ -29,6 +29,7 @@ use Rattle.segment_machine.proofs.Countings.{noted_total, untouched_counts, unto
 use Rattle.segment_machine.proofs.Noting.{Noting, noting, noting_of, SameCounts, notes_on}
 use Rattle.segment_machine.proofs.NotingFits.{noting_fits, looks_anew, finals_on, calls_by}
 use Rattle.segment_machine.proofs.Notes.{takes_nothing}
+use Rattle.segment_machine.proofs.Spending.{by_name, held_covers}
 
 -- ---- its log is longer
 
@@ -79,7 +80,8 @@ module _ (a : Actor) (share : ℕ) (spent : List Cost) (ended : List Counting) w
   }
 
   module _ (counts : SameCounts a (noting a gone)) (done : All (λ c. has_ended c ≡ true) ended)
-      (running : (c : Counting) → Contains a.running c → Contains ended c ⊎ (is_untouched c ≡ true)) where
+      (running : (c : Counting) → Contains a.running c → Contains ended c ⊎ (is_untouched c ≡ true))
+      (pays : (anatomy : Anatomy) → CallsRight anatomy a → (name : List ℕ) → tally_noted (map (λ (c : Counting). c.entry) ended) name ≤ cost_of spent name) where
     ends_with : (shape : Dimensions) (opened : Anatomy) (state : State) (id : ℕ) (kept : Kept shape opened state) (mine : get_elem? state.actors id ≡ some a)
         → a.opener ≡ 0 → a.place ≢ Spent → Kept shape opened (record state { actors = set state.actors id (noting a gone) })
     ends_with shape opened state id kept mine records lived =
@@ -89,6 +91,13 @@ module _ (a : Actor) (share : ℕ) (spent : List Cost) (ended : List Counting) w
         (λ fit. noting_fits shape kept.anatomy state.cursors _ kept.roles.opener id a gone fit fit.sees.names
         (calls_by kept.anatomy a gone fit.calls counts none_ordered (λ some_run. absurd (some_run refl)) (omega arith)
         (All-append (λ (c : Counting). has_ended c ≡ true) a.log ended fit.calls.ended done)
+        (λ name.
+        let logs = ap (λ (entries : List Entry). tally_noted entries name) (log_more a ended) in
+        let both = noted_total name (log_of a) (map (λ (c : Counting). c.entry) ended) in
+        let costs = sum_by-append (λ (cost : Cost). if bytes_eq cost.name name then cost.units else 0) a.costs spent in
+        let before = fit.calls.spent name in
+        let now = pays kept.anatomy fit.calls name in
+        omega (arith, logs, both, costs, before, now))
         (λ taking. (refl, (fit.calls.taking taking).1)))
         (looks_anew kept.anatomy _ a gone (fit.looks records))
         (finals_on _ kept.roles.opener id a gone (omega (arith, longer, long)) (λ of k within quiet. quiet_before a ended of k running within quiet.0) fit.finals)
@@ -113,7 +122,7 @@ ends_counts a = record {
 
 pub ends_kept : NoteKeeps ends
 ends_kept shape opened state id a kept mine records (unbound, done) =
-    ends_with a a.share a.held a.running (ends_counts a) done (λ c has. inl has) shape opened state id kept mine records (unbound_lives a unbound)
+    ends_with a a.share a.held a.running (ends_counts a) done (λ c has. inl has) (λ anatomy calls. held_covers anatomy a calls) shape opened state id kept mine records (unbound_lives a unbound)
 
 -- ---- it is refused
 
@@ -158,6 +167,23 @@ module _ (a : Actor) (added : ℕ) where
           ∙ noted_total name (map (λ (c : Counting). c.entry) done) (map (λ (c : Counting). c.entry) left)) in
           let most = within.units in
           omega (arith, held_is, spent_is, all, most)
+
+  -- what it has spent covers what has ended, for each name
+  pays : (anatomy : Anatomy) → CallsRight anatomy a → (name : List ℕ) → tally_noted (map (λ (c : Counting). c.entry) done) name ≤ cost_of (spent_by added a) name
+  pays anatomy calls name = by_running a.running refl
+    where
+      by_running : (r : List Counting) → a.running ≡ r → tally_noted (map (λ (c : Counting). c.entry) done) name ≤ cost_of (spent_by added a) name
+      by_running [] runs =
+          let none = ap (λ (list : List Counting). tally_noted (map (λ (c : Counting). c.entry) list) name) (ap (take added) runs ∙ take-nil added) in
+          omega (arith, none)
+      by_running (c ∷ cs) runs =
+          let (other, cost, holds, within, known) = calls.within (λ none. cc (sym runs ∙ none)) in
+          let named : Entry → Type 0 = λ e. e.name ≡ other in
+          let entries : List Entry = map (λ (c : Counting). c.entry) done in
+          let all : All named entries = all_left named entries (map (λ (c : Counting). c.entry) left)
+          (subst (All named) (ap (map (λ (c : Counting). c.entry)) (sym (take-append-drop added a.running)) ∙ map-append (λ (c : Counting). c.entry) done left) within.of_name) in
+          subst (λ (held : List Cost). tally_noted entries name ≤ cost_of (map (λ (cost : Cost). record cost { units = units_running done cost.name }) held) name)
+          (sym holds) (by_name other name entries (units_running done other) all (omega arith))
 
   module _ (untouched : All (λ c. is_untouched c ≡ true) left) (unsummed : All (λ c. c.summed ≡ false) done) where
     each_left : (c : Counting) → Contains left c → is_untouched c ≡ true
@@ -204,4 +230,4 @@ refused_kept added shape opened state id a kept mine records (unbound, ended, un
     let lived = unbound_lives a unbound in
     ends_with a (a.share + (cost_total a.held - cost_total (spent_by added a))) (spent_by added a) (take added a.running)
     (refused_counts a added untouched unsummed (spends a added kept.anatomy (kept.each id a mine lived).calls))
-    ended (each a added untouched unsummed) shape opened state id kept mine records lived
+    ended (each a added untouched unsummed) (pays a added) shape opened state id kept mine records lived

@@ -78,7 +78,7 @@ module _ (a : Actor) (known : Known) where
         subst (λ (names : List (List ℕ)). Contains names name) (sym (map-append (λ (k : Known). k.name) a.names (known ∷ [])))
             (Contains-append_left (map (λ (k : Known). k.name) a.names) (known.name ∷ []) name named),
       ))
-      fit.calls.held fit.calls.ended fit.calls.taking)
+      fit.calls.held fit.calls.ended fit.calls.spent fit.calls.taking)
       (looks_anew kept.anatomy _ a knower (fit.looks records))
       (finals_on _ kept.roles.opener id a knower (omega arith) (λ name k within quiet. quiet) fit.finals)
       fit.snapshots)

@@ -3,13 +3,13 @@ use Rattle.std.proofs.Common.{◌≡◌, ◌≢◌, ℕ, ◌≤◌, true, List, 
 use Rattle.std.proofs.lemmas.List.Elements.{Contains-append_left, Contains-append_right, Contains-append_cases}
 use Rattle.bucket_ranges.specs.declared.spec.Spec.TheVariants as spec
 use Rattle.segment_machine.specs.declared.actor.Taken.{Taken}
-use Rattle.segment_machine.specs.Entry.{has_ended, AreWithin}
+use Rattle.segment_machine.specs.Entry.{has_ended, AreWithin, tally_noted}
 use Rattle.segment_machine.specs.Made.{SawSample}
 use Rattle.segment_image.specs.Shape.{Dimensions}
 use Rattle.segment_machine.specs.declared.actor.Actor.{Actor}
 use Rattle.segment_machine.specs.declared.actor.Moment.{Moment}
 use Rattle.segment_machine.specs.declared.actor.Sighting.{Sighting}
-use Rattle.segment_machine.specs.Actor.{log_of, counted_of}
+use Rattle.segment_machine.specs.Actor.{log_of, counted_of, cost_of}
 use Rattle.segment_machine.specs.Consistent.{IsWithinCounts}
 use Rattle.segment_machine.specs.Body.{Anatomy}
 use Rattle.segment_machine.specs.Seen.{Knows, IsFirst, IsFirstOf}
@@ -125,14 +125,15 @@ module _ (anatomy : Anatomy) (a : Actor) (n : Noting) where
       → (n.running ≢ [] → (name : List ℕ) × (cost : ℕ)
       × (n.held ≡ record { name = name; units = cost } ∷ []) × AreWithin name cost (map (λ c. c.entry) n.running)
       × Contains (map (λ known. known.name) n.names) name)
-      → length n.held ≤ 1 → All (λ c. has_ended c ≡ true) n.log
+      → length n.held ≤ 1 → All (λ c. has_ended c ≡ true) n.log → ((name : List ℕ) → tally_noted (log_of (noting a n)) name ≤ cost_of n.costs name)
       → (n.taking ≡ true → (n.running ≡ []) × ((before : List Taken) × (last : Taken) × (n.taken ≡ before ++ last ∷ [])))
       → CallsRight anatomy (noting a n)
-  calls_by calls same ordered within held ended taking = record {
+  calls_by calls same ordered within held ended spent taking = record {
     ordered = ordered;
     within = within;
     held = held;
     ended = ended;
+    spent = spent;
     met = λ entry of there some_units first. ⊎_elim
         (λ before. calls.met entry of (Contains-append_left a.inherited (counted_of a) entry before) some_units first)
         (λ counted.

@@ -136,6 +136,7 @@ module _ (shape : Dimensions) (version id cursors : ℕ) (lawful : IsShape shape
     within = λ runs. absurd (runs refl);
     held = omega arith;
     ended = All-nil _;
+    spent = λ name. omega arith;
     met = λ entry of there. absurd (none_in entry there);
     taking = λ e. cc e;
   }

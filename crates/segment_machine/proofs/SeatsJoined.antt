@@ -18,7 +18,7 @@ use Rattle.segment_machine.specs.declared.actor.Actor.{Actor}
 use Rattle.segment_machine.specs.declared.actor.Cost.{Cost}
 use Rattle.segment_machine.specs.declared.actor.Given.{Given}
 use Rattle.segment_machine.specs.declared.actor.Taken.{Taken}
-use Rattle.segment_machine.specs.Entry.{is_counted, is_summed, is_noted, has_ended, tally_sum}
+use Rattle.segment_machine.specs.Entry.{is_counted, is_summed, is_noted, has_ended, tally_sum, tally_noted}
 use Rattle.segment_machine.specs.Actor.{is_bound, word_seen, log_of, counted_of, summed_of, given_by, cost_of, cost_total}
 use Rattle.segment_machine.specs.Seats.{joined, spent, longer, shifted_taken, shifted}
 use Rattle.segment_machine.specs.Made.{SawSample}
@@ -36,6 +36,7 @@ use Rattle.segment_machine.proofs.Bodies.{fixed_within}
 use Rattle.segment_machine.proofs.Pieces.{one_index}
 use Rattle.segment_machine.proofs.SeatsLists.{map_after, front_of_front}
 use Rattle.segment_machine.proofs.SeatsDeeds.{Deeds, timeless}
+use Rattle.segment_machine.proofs.Countings.{noted_total}
 
 -- ---- entries
 
@@ -279,6 +280,16 @@ module _ (shape : Dimensions) (words : List ℕ) (anatomy : Anatomy) (shown : Is
     within = λ some_run. absurd (some_run may.runs);
     held = first.held;
     ended = All-append (λ (c : Counting). has_ended c ≡ true) a.log b.log first.ended second.ended;
+    spent = λ name.
+        let logs = ap (λ (entries : List Entry). tally_noted (a.first ++ entries) name) (map-append (λ (c : Counting). c.entry) a.log b.log) in
+        let mine_all = noted_total name a.first (map (λ (c : Counting). c.entry) a.log ++ map (λ (c : Counting). c.entry) b.log) in
+        let both = noted_total name (map (λ (c : Counting). c.entry) a.log) (map (λ (c : Counting). c.entry) b.log) in
+        let mine_now = noted_total name a.first (map (λ (c : Counting). c.entry) a.log) in
+        let theirs_now = noted_total name b.first (map (λ (c : Counting). c.entry) b.log) in
+        let costs = sum_by-append (λ (cost : Cost). if bytes_eq cost.name name then cost.units else 0) a.costs b.costs in
+        let one = first.spent name in
+        let two = second.spent name in
+        omega (arith, logs, mine_all, both, mine_now, theirs_now, costs, one, two);
     met = λ entry of there units is. ⊎_elim
         (λ old. first_met entry of (first.met entry of (Contains-append_left a.inherited (counted_of a) entry old) units is))
         (λ now. ⊎_elim

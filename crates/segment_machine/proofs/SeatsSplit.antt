@@ -101,6 +101,7 @@ module _ (anatomy : Anatomy) (cursors : List ℕ) (actors : List Actor) (later a
     within = λ some_run. absurd (some_run refl);
     held = omega arith;
     ended = All-nil (λ (c : Counting). has_ended c ≡ true);
+    spent = λ name. omega arith;
     met = λ entry of there. calls.met entry of
         (logged_counted a entry calls.ended (subst (λ (list : List Entry). Contains list entry) (append-nil (log_of a)) there));
     taking = λ e. absurd (true≢false (sym e));

@@ -30,6 +30,7 @@ module _ (anatomy : Anatomy) (a : Actor) (share made outstanding : ℕ) where
     within = calls.within;
     held = calls.held;
     ended = calls.ended;
+    spent = calls.spent;
     met = calls.met;
     taking = calls.taking;
   }

@@ -2,9 +2,9 @@
 use Rattle.std.proofs.Common.{ℕ, ◌<◌, [], inl, inr, refl, arith, Some}
 use Rattle.segment_machine.specs.declared.actor.Actor.{Actor}
 use Rattle.segment_machine.specs.declared.place.Look.{Look}
-use Rattle.segment_machine.specs.Actor.{Buckets}
+use Rattle.segment_machine.specs.Actor.{Buckets, SawSingle}
 use Rattle.segment_machine.specs.Ready.{Takes}
-use Rattle.segment_machine.specs.Note.{TookAll, TookBucket, SawSingle}
+use Rattle.segment_machine.specs.Note.{TookAll, TookBucket}
 use Rattle.segment_machine.specs.Examples.{takes_all, taking, run}
 use Rattle.segment_machine.specs.Lives.{known_a}
 use Rattle.segment_machine.proofs.Alone.{below_three}

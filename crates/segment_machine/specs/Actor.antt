@@ -91,6 +91,13 @@ pub record IsFinal (made : ℕ) (log : List Entry) (name : List ℕ) (moment : M
 abbrev pub looking : Actor → Actor
 looking a = record a { since_singles = length a.seen_singles; since_counts = length a.seen_counts }
 
+-- single words, and counts, that it saw since its delta or snapshot began
+abbrev pub SawSingle : Actor → ℕ → ℕ → Type 0
+SawSingle a at word = Contains (drop a.since_singles a.seen_singles) (record { at = at; word = word })
+
+abbrev pub SawCount : Actor → ℕ → ℕ → Type 0
+SawCount a at word = Contains (drop a.since_counts a.seen_counts) (record { at = at; word = word })
+
 -- ---- costs
 
 -- the units that costs name, of one histogram, and all of them

@@ -310,6 +310,8 @@ IsSum words actors at sum = (sum ≡ sum_of words at) ⊎ (sum ≡ sum_mark_of w
 pub record UnitsAreKept (words : List ℕ) (actors : List Actor) (chain : List ℕ) : Type 0 where
   -- what all actors may still spend, hold and have spent is what a segment has
   pub pool : sum_by units_of actors ≡ 4294967295
+  -- a counted unit is spent, or held by the call that counted it
+  pub counted : (name : List ℕ) → tally_noted (all_counted actors) name ≤ all_costs actors name
   -- each sum, and the difference of any two, is at most 2^31 times what was spent and is held for the histogram, in size
   pub sums : (name : List ℕ) (at : ℕ) (a : ℤ) → IsHistogram words chain name at → IsSum words actors at a
       → unsigned_abs a ≤ 2147483648 * all_costs actors name

@@ -32,9 +32,9 @@ use Rattle.segment_machine.specs.declared.actor.Sighting.{Sighting}
 use Rattle.segment_machine.specs.declared.actor.Taken.{Taken}
 use Rattle.segment_machine.specs.Entry.{is_counted, is_summed, has_ended, AreWithin, is_of, tally_units, tally_sum, tally_noted}
 use Rattle.segment_machine.specs.Form.{is_off, form_of, off_word, units_in}
-use Rattle.segment_machine.specs.Actor.{Buckets, Sparse, log_of, counted_of, word_seen, bucket_key, units_listed, taken_sum, all_counted, all_summed, all_noted, all_taken, all_published, all_given, cost_of, units_of}
+use Rattle.segment_machine.specs.Actor.{Buckets, Sparse, log_of, counted_of, word_seen, bucket_key, units_listed, taken_sum, all_counted, all_summed, all_noted, all_taken, all_published, all_given, cost_of, units_of, SawSingle, SawCount}
 use Rattle.segment_machine.specs.Made.{spec_fields, spec_ranges, AreNameWords, SawSample}
-use Rattle.segment_machine.specs.Note.{is_untouched, SawSingle, SawCount, SawBucket}
+use Rattle.segment_machine.specs.Note.{is_untouched, SawBucket}
 use Rattle.segment_machine.specs.Promises.{accepted_by}
 use Rattle.segment_machine.specs.Consistent.{units_taken, IsWithinCounts}
 use Rattle.segment_machine.specs.Seats.{spent}
@@ -203,7 +203,8 @@ pub record AreInOrder (running : List Counting) : Type 0 where
   pub counted_first : All (λ c. c.summed ≡ true → is_counted c ≡ true) running
   pub summed_next : All (λ c. c.noted ≡ true → is_summed c ≡ true) running
 
--- A running call holds what its entries cost, of a histogram that its actor knows; in a log all entries have ended; of each
+-- A running call holds what its entries cost, of a histogram that its actor knows; in a log all entries have ended, and for each name
+-- the units of these, and of those that were there at the opening, are spent; of each
 -- entry of a sparse histogram that has units and was counted by its actor, or before it, its actor met the sample.
 pub record CallsRight (anatomy : Anatomy) (a : Actor) : Type 0 where
   pub ordered : AreInOrder a.running
@@ -212,6 +213,7 @@ pub record CallsRight (anatomy : Anatomy) (a : Actor) : Type 0 where
       × Contains (map (λ known. known.name) a.names) name
   pub held : length a.held ≤ 1
   pub ended : All (λ c. has_ended c ≡ true) a.log
+  pub spent : (name : List ℕ) → tally_noted (log_of a) name ≤ cost_of a.costs name
   pub met : (entry : Entry) (of : ℕ) → Contains (a.inherited ++ counted_of a) entry → 0 < entry.units → IsFirst anatomy.records entry.name spec.Sparse of
       → (at : ℕ) × IsFirstOf anatomy.records of entry.key at × Contains a.seen_chain at × SawSample a of entry.key at
   pub taking : a.taking ≡ true → (a.running ≡ []) × ((before : List Taken) × (last : Taken) × (a.taken ≡ before ++ last ∷ []))

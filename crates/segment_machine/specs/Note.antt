@@ -21,7 +21,7 @@ use Rattle.bucket_ranges.specs.Spec.{buckets_of}
 use Rattle.bucket_ranges.specs.declared.spec.Spec.TheVariants as spec
 use Rattle.bucket_ranges.specs.Single.{units_packed, packed_bucket}
 use Rattle.segment_machine.specs.Form.{is_off, form_of}
-use Rattle.segment_machine.specs.Actor.{log_of, is_bound, looking, cost_total, bucket_key, has_buckets, word_seen}
+use Rattle.segment_machine.specs.Actor.{log_of, is_bound, looking, cost_total, bucket_key, has_buckets, word_seen, SawSingle, SawCount}
 use Rattle.segment_machine.specs.Made.{IsFirstNamed, IsFirstSample, SawSample, SawSpec, AreNameWords}
 use Rattle.segment_machine.specs.Next.{change_last, change_own}
 
@@ -90,13 +90,6 @@ noted a (refused added) = record (looking a) {
   costs = a.costs ++ spent_by added a;
   held = [];
 }
-
--- single words, and counts, that it saw since its delta or snapshot began
-abbrev pub SawSingle : Actor → ℕ → ℕ → Type 0
-SawSingle a at word = Contains (drop a.since_singles a.seen_singles) (record { at = at; word = word })
-
-abbrev pub SawCount : Actor → ℕ → ℕ → Type 0
-SawCount a at word = Contains (drop a.since_counts a.seen_counts) (record { at = at; word = word })
 
 -- what it saw of a bucket: packed units; or, where the word is off, the count that stands behind the counts reference, in
 -- version 2 with the units that the word keeps

@@ -22,9 +22,9 @@ use Rattle.bucket_ranges.specs.Ranges.{clamped, AreBoundaries, IsBucketOf}
 use Rattle.segment_machine.specs.declared.entry.Entry.{Entry}
 use Rattle.segment_machine.specs.Entry.{key_of, tally_units, tally_sum, tally_noted}
 use Rattle.segment_machine.specs.Form.{is_off, form_of}
-use Rattle.segment_machine.specs.Actor.{Each, has_buckets, bucket_key, log_of, all_counted, all_summed, units_listed, taken_units, taken_sum, transit_of, given_by, IsFinal}
+use Rattle.segment_machine.specs.Actor.{Each, has_buckets, bucket_key, log_of, all_counted, all_summed, units_listed, taken_units, taken_sum, transit_of, given_by, IsFinal, SawSingle}
 use Rattle.segment_machine.specs.Made.{SameSpec}
-use Rattle.segment_machine.specs.Note.{SawSingle, TookAll, SawAll}
+use Rattle.segment_machine.specs.Note.{TookAll, SawAll}
 use Rattle.segment_machine.specs.Event.{Event, link, spot}
 use Rattle.segment_machine.specs.State.{State, memory, IsStep}
 use Rattle.segment_machine.specs.Seats.{opener_of, MaySplit, parent, newcomer, MayLend, lender, borrower, MayJoin, joined, spent}

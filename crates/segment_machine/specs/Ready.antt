@@ -19,10 +19,9 @@ use Rattle.segment_machine.specs.declared.actor.Own.{Own}
 use Rattle.segment_machine.specs.declared.actor.Taken.{Taken}
 use Rattle.segment_machine.specs.Entry.{is_counted, is_summed, has_ended}
 use Rattle.segment_machine.specs.Form.{is_off, units_in, IsPacking}
-use Rattle.segment_machine.specs.Actor.{is_bound, Buckets, Sparse, bucket_key, word_seen}
+use Rattle.segment_machine.specs.Actor.{is_bound, Buckets, Sparse, bucket_key, word_seen, SawSingle}
 use Rattle.segment_machine.specs.Made.{IsPayload, IsFirstSample, SawSample}
 use Rattle.segment_machine.specs.Next.{form_seen}
-use Rattle.segment_machine.specs.Note.{SawSingle}
 use Rattle.segment_machine.specs.Event.{Event, load_flags, load_free, exchange_free, store_size, store_cookie, store_type, store_payload, set_flag, store_own_next, load_tail, link, move_tail, load_next, load_published, load_counts, add_count, add_sum, add_redundant, load_count, raise_mark, load_sum, swap_sum_mark, load_redundant, load_single, pack, mount_counts, purge_block, disable, add_moved, raise_single_mark, load_cursor, move_cursor}
 
 -- it may turn to another part of its call, or to another call
@@ -68,9 +67,10 @@ LooksOff a look known =
 abbrev pub IsBlankCounts : Own → ℕ → Type 0
 IsBlankCounts own n = (own.tag ≡ 2) × (own.next ≡ 0) × (own.payload ≡ []) × (4 + 2 * n ≤ own.size)
 
--- the units of the entry that is next are counted in this histogram
+-- a call that counts in a histogram may make room there: no delta is going on, and where an entry is next, it is of this histogram and
+-- not counted yet
 abbrev pub CountsIn : Actor → Known → Type 0
-CountsIn a known = (c : Counting) × CountsNext a c × (c.entry.name ≡ known.name)
+CountsIn a known = (a.taking ≡ false) × ((c : Counting) → IsNext a c → (is_counted c ≡ false) × (c.entry.name ≡ known.name))
 
 -- the units of the entry that is next are added to a count: of its bucket, where the single word is off, or of the first
 -- sample of its value

@@ -1,10 +1,10 @@
-use Rattle.std.proofs.Common.{◌≢◌, true, false, [], inl, refl, arith, Some, None}
+use Rattle.std.proofs.Common.{◌≡◌, ◌≢◌, true, false, List, [], ◌∷◌, inl, refl, ap, arith, Some, None}
 use Rattle.bucket_ranges.specs.declared.spec.Spec.TheVariants as spec
 use Rattle.segment_machine.specs.declared.actor.Known.{Known}
 use Rattle.segment_machine.specs.declared.actor.Own.{Own}
 use Rattle.segment_machine.specs.declared.entry.Counting.{Counting}
 use Rattle.segment_machine.specs.declared.place.Look.{Look}
-use Rattle.segment_machine.specs.Entry.{fresh}
+use Rattle.segment_machine.specs.Entry.{fresh, is_counted}
 use Rattle.segment_machine.specs.Actor.{Buckets}
 use Rattle.segment_machine.specs.Ready.{CountsIn}
 use Rattle.segment_machine.specs.Examples.{letter_a, one, mounts}
@@ -31,7 +31,13 @@ counted = record { entry = one 0; counted = true; summed = false; noted = false 
 
 -- its entry is next all along
 counts_next : CountsIn mounts known
-counts_next = (fresh (one 0), (([], refl), refl), refl)
+counts_next = (refl, λ c (rest, is). (
+    ap is_counted (first is),
+    ap (λ (c : Counting). c.entry.name) (first is),
+  ))
+  where
+    first : {c : Counting} {rest : List Counting} → fresh (one 0) ∷ [] ≡ c ∷ rest → c ≡ fresh (one 0)
+    first is = cc is
 
 not_zero : off_look.counts ≢ 0
 not_zero e = omega (arith, e)

@@ -2,8 +2,8 @@ use Rattle.std.proofs.Common.{◌≡◌, ℕ, ℤ, zero, suc, [], inl, refl, sym
 use mathlib.Core.Option.{some, some-injective, some-ne-none}
 use lib.ListN.{get_elem?}
 use Rattle.segment_machine.specs.declared.actor.Actor.{Actor}
-use Rattle.segment_machine.specs.Actor.{Buckets}
-use Rattle.segment_machine.specs.Note.{SawAll, SawBucket, SawSingle}
+use Rattle.segment_machine.specs.Actor.{Buckets, SawSingle}
+use Rattle.segment_machine.specs.Note.{SawAll, SawBucket}
 use Rattle.segment_machine.specs.Lives.{known_a, snaps, snapping, snapshot}
 use Rattle.segment_machine.specs.Examples.{run}
 use Rattle.segment_machine.proofs.laws.snapshot_owes.Goals as goal

@@ -25,20 +25,12 @@ MOST_BUCKETS = 1000
 
 @dataclasses.dataclass
 class Image:
-    """The bytes of an image, the pieces of its report, and what it holds.
-
-    `buckets` are those that are looked at, `listed` those of them that the reading has, as no bad record's are.
-    """
+    """The bytes of an image, the pieces of its report, how many buckets its reading has, and what it holds."""
 
     data: bytes
     report: Callable[[], Iterable[bytes]]
-    buckets: int
     listed: int
     holds: str
-
-    def load(self):
-        """What the time of a reading is held against."""
-        return len(self.data) // 8 + self.buckets
 
 
 class Segment:
@@ -130,7 +122,7 @@ def boolean_histograms(size, names, is_scattered=False):
         low, high = bucket, [1, 2, GREATEST][bucket]
         by_name[name] = f"{name},boolean,{low},{high},{units}\n{name},total,{units},{bucket * units}\n"
     segment.publish_all(references, is_scattered)
-    return Image(segment.bytes(), in_order(by_name), 3 * len(by_name), 3 * len(by_name), f"{len(by_name)} histograms")
+    return Image(segment.bytes(), in_order(by_name), 3 * len(by_name), f"{len(by_name):,} histograms")
 
 
 def boolean(size):
@@ -168,7 +160,7 @@ def sparse_samples(size, is_scattered):
     segment.publish_all(references, is_scattered)
     segment.store(record + 4, SPARSE, 0, 0, 0, 0, 0, 0, total % 2**64, 0, units, 1, ord("S"))
     text = "".join(line for _, line in sorted(lines)) + f"S,total,{units},{total}\n"
-    return Image(segment.bytes(), lambda: [text.encode()], 0, 0, f"{len(lines)} samples")
+    return Image(segment.bytes(), lambda: [text.encode()], 0, f"{len(lines):,} samples")
 
 
 def sparse(size):
@@ -198,8 +190,7 @@ def linear_histograms(size, spec, name_length, most_count):
         segment.publish(at)
         lines = [f"{name},linear,{boundaries[i]},{boundaries[i + 1]},{count}\n" for i, count in enumerate(counts)]
         by_name[name] = "".join(lines) + f"{name},total,{units},{total}\n"
-    buckets = n * len(by_name)
-    return Image(segment.bytes(), in_order(by_name), buckets, buckets, f"{len(by_name)} histograms")
+    return Image(segment.bytes(), in_order(by_name), n * len(by_name), f"{len(by_name):,} histograms")
 
 
 def linear(size):
@@ -257,15 +248,14 @@ def shared(size):
     units = BLOCK_COOKIE + 16
     by_name = {name: f"{name},linear,0,4,{units}\n{name},total,{units},1\n" for name in names}
     redundant = "".join(f"!redundant,{name},{LINEAR}\n" for name in sorted(names)).encode()
-    buckets = MOST_BUCKETS * len(names)
-    return Image(data, lambda: [*in_order(by_name)(), redundant], buckets, buckets, f"{len(names)} histograms")
+    return Image(data, lambda: [*in_order(by_name)(), redundant], MOST_BUCKETS * len(names), f"{len(names):,} histograms")
 
 
 def refused(size):
     """Records as those of `shared`, each bad by the mark of its last bucket, which is looked at last."""
     data, _, references = overlapping_records(size, 1)
     report = lambda: ["".join(f"!bad,{at},BadMark\n" for at in references).encode()]
-    return Image(data, report, MOST_BUCKETS * len(references), 0, f"{len(references)} bad records")
+    return Image(data, report, 0, f"{len(references):,} bad records")
 
 
 def lines(size):
@@ -289,8 +279,7 @@ def lines(size):
     text = "".join(f"@,linear,{boundaries[i]},{boundaries[i + 1]},{count}\n" for i in range(MOST_BUCKETS))
     text += f"@,total,{units},0\n"
     report = lambda: (text.replace("@", name).encode() for name in sorted(taken))
-    buckets = MOST_BUCKETS * len(taken)
-    return Image(segment.bytes(), report, buckets, buckets, f"{len(taken)} histograms")
+    return Image(segment.bytes(), report, MOST_BUCKETS * len(taken), f"{len(taken):,} histograms")
 
 
 def custom(size):
@@ -313,12 +302,11 @@ def custom(size):
         segment.store(at + 4, *head, *ranges)
         segment.publish(at)
     report = lambda: [*in_order(by_name)(), "".join(bad).encode()]
-    records = len(by_name) + len(bad)
-    return Image(segment.bytes(), report, MOST_BUCKETS * records, MOST_BUCKETS * len(by_name), f"{records} records")
+    return Image(segment.bytes(), report, MOST_BUCKETS * len(by_name), f"{len(by_name) + len(bad):,} records")
 
 
-def overlapping_blocks(size, tag, is_scattered=False):
-    """Blocks of five words that begin every four words, on one list that goes through them in order, or in none."""
+def overlapping_blocks(size, tag):
+    """Blocks of five words that begin every four words, on one list that goes through them in no order."""
     segment = Segment(size)
     references = []
     for page in range(0, size, segment.page):
@@ -326,7 +314,7 @@ def overlapping_blocks(size, tag, is_scattered=False):
         references += range(first, page + segment.page - 4, 4)
     for at in references:
         segment.store(at, 5, BLOCK_COOKIE, tag)
-    listed = segment.publish_all(references, is_scattered)
+    listed = segment.publish_all(references, is_scattered=True)
     for at in range(segment.page, size + 1, segment.page):
         if segment.words[at - 4] == 0:
             segment.words[at - 4] = 5
@@ -334,33 +322,17 @@ def overlapping_blocks(size, tag, is_scattered=False):
     return segment.bytes(), listed
 
 
-def chain(size):
-    """A list as long as fits, of blocks of another type that overlap."""
-    data, references = overlapping_blocks(size, PURGED)
-    return Image(data, lambda: [], 0, 0, f"{len(references)} blocks")
-
-
 def scattered(size):
-    """The same list in no order, so that each step of a walk has to wait for memory."""
-    data, references = overlapping_blocks(size, PURGED, is_scattered=True)
-    return Image(data, lambda: [], 0, 0, f"{len(references)} blocks")
-
-
-def faulty_records(size, is_scattered):
-    """A list as long as fits, of histogram records that overlap and are all too small."""
-    data, references = overlapping_blocks(size, HISTOGRAM, is_scattered)
-    report = lambda: ["".join(f"!bad,{at},BadKind\n" for at in references).encode()]
-    return Image(data, report, 0, 0, f"{len(references)} bad records")
-
-
-def faults(size):
-    """A list as long as fits, of histogram records that overlap and are all too small."""
-    return faulty_records(size, is_scattered=False)
+    """A list as long as fits, of blocks of another type, so that each step of a walk has to wait for memory."""
+    data, references = overlapping_blocks(size, PURGED)
+    return Image(data, lambda: [], 0, f"{len(references):,} blocks")
 
 
 def scattered_faults(size):
-    """The same list in no order."""
-    return faulty_records(size, is_scattered=True)
+    """The same of histogram records that are all too small."""
+    data, references = overlapping_blocks(size, HISTOGRAM)
+    report = lambda: ["".join(f"!bad,{at},BadKind\n" for at in references).encode()]
+    return Image(data, report, 0, f"{len(references):,} bad records")
 
 
 def scattered_samples(size):
@@ -371,20 +343,6 @@ def scattered_samples(size):
 def scattered_alike(size):
     """The histograms of `alike`, on a list that goes through them in no order."""
     return boolean_histograms(size, alike_names(size // 31), is_scattered=True)
-
-
-def one_digest_names(count):
-    """Distinct names of 32 bytes for which the reader's hash makes one number.
-
-    It multiplies the numbers of the last two eight bytes, each joined with another number. The first eight of these are
-    that other number here, so the product is 0 whatever stands behind.
-    """
-    return [f"Page.Load.006597-&s%HkfC{number:08}" for number in random.Random(10).sample(range(10**8), count)]
-
-
-def digests(size):
-    """Boolean histograms of 19 words, whose names all have one digest, on a list in no order."""
-    return boolean_histograms(size, one_digest_names(size // 19), is_scattered=True)
 
 
 def samples(size):
@@ -416,29 +374,26 @@ def samples(size):
     segment.store(record + 4, SPARSE, 0, 0, 0, 0, 0, 0, 0, 0, units, 1, ord("S"))
     text = "".join(f"S,sparse,{value},{value + 1},{BLOCK_COOKIE}\n" for value in sorted(values))
     text += f"S,total,{units},0\n"
-    return Image(segment.bytes(), lambda: [text.encode()], 0, 0, f"{number} samples")
+    return Image(segment.bytes(), lambda: [text.encode()], 0, f"{number:,} samples")
 
 
 MIB = 131_072
 LAWFUL = {
-    "boolean": (boolean, [MIB, 2 * MIB, 4 * MIB, 8 * MIB]),
-    "alike": (alike, [MIB, 2 * MIB, 4 * MIB, 8 * MIB]),
-    "sparse": (sparse, [MIB, 2 * MIB, 4 * MIB, 8 * MIB]),
-    "linear": (linear, [MIB, 2 * MIB, 4 * MIB, 8 * MIB]),
-    "largest": (largest, [MIB, 2 * MIB, 4 * MIB, 8 * MIB]),
+    "boolean": boolean,
+    "alike": alike,
+    "sparse": sparse,
+    "linear": linear,
+    "largest": largest,
 }
 FORGED = {
-    "shared": (shared, [MIB, 2 * MIB, 4 * MIB, 8 * MIB]),
-    "refused": (refused, [MIB, 2 * MIB, 4 * MIB, 8 * MIB]),
-    "lines": (lines, [MIB // 32, MIB // 16, MIB // 8, MIB // 4]),
-    "custom": (custom, [MIB, 2 * MIB, 4 * MIB, 8 * MIB]),
-    "chain": (chain, [MIB, 2 * MIB, 4 * MIB, 8 * MIB]),
-    "scattered": (scattered, [MIB, 2 * MIB, 4 * MIB, 8 * MIB]),
-    "faults": (faults, [MIB, 2 * MIB, 4 * MIB, 8 * MIB]),
-    "scattered_faults": (scattered_faults, [MIB, 2 * MIB, 4 * MIB, 8 * MIB]),
-    "scattered_samples": (scattered_samples, [MIB, 2 * MIB, 4 * MIB, 8 * MIB]),
-    "scattered_alike": (scattered_alike, [MIB, 2 * MIB, 4 * MIB, 8 * MIB]),
-    "digests": (digests, [MIB, 2 * MIB, 4 * MIB, 8 * MIB]),
-    "samples": (samples, [MIB, 2 * MIB, 4 * MIB, 8 * MIB]),
+    "shared": shared,
+    "refused": refused,
+    "custom": custom,
+    "scattered": scattered,
+    "scattered_faults": scattered_faults,
+    "scattered_samples": scattered_samples,
+    "scattered_alike": scattered_alike,
+    "samples": samples,
 }
-FAMILIES = {**LAWFUL, **FORGED}
+FAMILIES = {name: (make, [MIB, 8 * MIB]) for name, make in {**LAWFUL, **FORGED}.items()}
+FAMILIES["lines"] = (lines, [MIB // 8, MIB])

@@ -167,6 +167,6 @@ module _ (shape : Dimensions) (opened : Anatomy) (state : State) (kept : Kept sh
           own = acts.own;
           apart = acts.apart;
           calls = calls_doing new a (unlisted a d) (calls_along before pieces spare corrupt full before.tail acts.stays a fits.calls);
-          looks = looks_doing new a (unlisted a d) state.actors turns
-              (looks_along before pieces spare corrupt full before.tail acts.stays state.actors a (fits.looks records));
+          looks = looks_doing new a (unlisted a d) state.actors kept.roles.opener turns
+              (looks_along before pieces spare corrupt full before.tail acts.stays state.actors kept.roles.opener a (fits.looks records));
         })

@@ -196,6 +196,7 @@ same_role a d turns = record {
   living = living_at a d.place turns.lives ∙ sym (living_at a a.place turns.lived);
   opener = refl;
   first = refl;
+  first_noted = refl;
   made = refl;
   outstanding = refl;
   inherited = refl;
@@ -235,7 +236,7 @@ module _ (old new : List Actor) (same : SameDeeds old new) where
   pub fits_same : (shape : Dimensions) (anatomy : Anatomy) (cursors : List ℕ) (opener : Actor) (id : ℕ) (a : Actor) → get_elem? old 0 ≡ some opener
       → Fits shape anatomy cursors old opener id a → Fits shape anatomy cursors new opener id a
   fits_same shape anatomy cursors opener id a first =
-      fits_beside shape anatomy cursors old new opener opener id a first (same.opener ∙ first) refl same_sums same.stood
+      fits_beside shape anatomy cursors old new opener opener id a first (same.opener ∙ first) refl (refl, refl) same_sums same.stood
 
 -- the actor that goes on has the deltas, the snapshots and the log that it had
 moment_of_doing : (actors : List Actor) (opener : Actor) (id : ℕ) (a : Actor) (d : Doing) (m : Moment)

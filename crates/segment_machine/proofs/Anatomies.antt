@@ -105,8 +105,8 @@ module _ (anatomy : Anatomy) (pieces : List Piece) (spare : ℕ) (corrupt full :
   }
 
   -- what was seen since a delta or a snapshot began
-  pub looks_along : (actors : List Actor) (a : Actor) → LooksBack anatomy actors a → LooksBack later actors a
-  looks_along actors a looks = record {
+  pub looks_along : (actors : List Actor) (opener a : Actor) → LooksBack anatomy actors opener a → LooksBack later actors opener a
+  looks_along actors opener a looks = record {
     most = looks.most;
     packed = looks.packed;
     counted = λ known bucket count r there below has mounts saw settled.
@@ -131,7 +131,7 @@ module _ (anatomy : Anatomy) (pieces : List Piece) (spare : ℕ) (corrupt full :
     own = own_stays shape anatomy later id (λ own. others own.at (held own)) a.own fits.own;
     apart = fits.apart;
     calls = calls_along a fits.calls;
-    looks = λ recorder. looks_along actors a (fits.looks recorder);
+    looks = λ recorder. looks_along actors opener a (fits.looks recorder);
     finals = fits.finals;
     snapshots = fits.snapshots;
   }
@@ -171,8 +171,9 @@ module _ (anatomy : Anatomy) (a : Actor) (d : Doing) where
     taking = calls.taking;
   }
 
-  pub looks_doing : (actors : List Actor) → TurnsTo a d.place → LooksBack anatomy actors a → LooksBack anatomy actors (doing a (sees_no_more a d))
-  looks_doing actors turns looks = record {
+  pub looks_doing : (actors : List Actor) (opener : Actor) → TurnsTo a d.place → LooksBack anatomy actors opener a
+      → LooksBack anatomy actors opener (doing a (sees_no_more a d))
+  looks_doing actors opener turns looks = record {
     most = looks.most;
     packed = looks.packed;
     counted = looks.counted;

@@ -33,7 +33,7 @@ use Rattle.segment_machine.proofs.Anatomies.{balanced_along, list_along, records
 use Rattle.segment_machine.proofs.ListingGrowth.{reshaped, Stays}
 
 -- What has to be shown where an actor goes on to a doing: of the blocks and the words that are then there, and of the actor itself.
-pub record Goes (shape : Dimensions) (opened : Anatomy) (state : State) (old new : Anatomy) (id : ℕ) (a : Actor) (d : Doing) (words : List ℕ) : Type 0 where
+pub record Goes (shape : Dimensions) (opened : Anatomy) (state : State) (old new : Anatomy) (opener : Actor) (id : ℕ) (a : Actor) (d : Doing) (words : List ℕ) : Type 0 where
   pub shown : IsShown shape words (layout_of new)
   pub stays : Stays old.pieces new.pieces
   pub others : (other at : ℕ) (body : Body) → other ≢ id → Stands old.pieces at (some other) body → Stands new.pieces at (some other) body
@@ -52,7 +52,7 @@ pub record Goes (shape : Dimensions) (opened : Anatomy) (state : State) (old new
   pub own : All (HoldsOwn shape new.pieces id) d.own
   pub apart : (i j : ℕ) (x y : Own) → get_elem? d.own i ≡ some x → get_elem? d.own j ≡ some y → x.at ≡ y.at → i ≡ j
   pub calls : CallsRight new (doing a d)
-  pub looks : LooksBack new state.actors (doing a d)
+  pub looks : LooksBack new state.actors opener (doing a d)
 
 module _ (shape : Dimensions) (opened : Anatomy) (state : State) (kept : Kept shape opened state) (id : ℕ) (a : Actor)
     (mine : get_elem? state.actors id ≡ some a) (records : a.opener ≡ 0) where
@@ -65,7 +65,7 @@ module _ (shape : Dimensions) (opened : Anatomy) (state : State) (kept : Kept sh
       omega (arith, one, opens, records)
 
   module _ (d : Doing) (turns : TurnsTo a d.place) (pieces : List Piece) (spare : ℕ) (corrupt full : Bool) (tail : ℕ) (words : List ℕ)
-      (goes : Goes shape opened state kept.anatomy (reshaped kept.anatomy pieces spare corrupt full tail) id a d words) where
+      (goes : Goes shape opened state kept.anatomy (reshaped kept.anatomy pieces spare corrupt full tail) kept.roles.opener id a d words) where
     abbrev before : Anatomy
     before = kept.anatomy
 
@@ -145,6 +145,7 @@ module _ (shape : Dimensions) (opened : Anatomy) (state : State) (kept : Kept sh
       corrupt = goes.corrupt;
       full = goes.full;
       roles = roles_set state.actors id a (doing a d) mine (same_role a d turns) not_opener kept.roles;
+      first_noted = kept.first_noted;
       cursors = cursors_set (order_of before) state.cursors state.actors id a (doing a d) mine records refl kept.cursors;
       standing = stands_all;
       each = fits_all;

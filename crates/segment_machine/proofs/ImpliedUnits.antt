@@ -5,20 +5,24 @@ use Rattle.std.specs.Int.{w64, cast_signed}
 use Rattle.std.proofs.Math.IntN.{+ℤ_idr}
 use Rattle.std.proofs.lemmas.List.Sums.{sum_by-le-sum_by}
 use Rattle.segment_image.specs.Shape.{Dimensions}
+use Rattle.std.specs.List.{Contains}
+use Rattle.segment_machine.specs.declared.entry.Entry.{Entry}
 use Rattle.segment_machine.specs.declared.actor.Actor.{Actor}
+use Rattle.segment_machine.specs.Seats.{spent}
 use Rattle.segment_machine.specs.State.{State}
 use Rattle.segment_machine.specs.Entry.{tally_noted}
-use Rattle.segment_machine.specs.Actor.{counted_of, cost_of, all_costs}
+use Rattle.segment_machine.specs.Actor.{counted_of, noted_of, cost_of, all_costs}
 use Rattle.segment_machine.specs.Consistent.{IsHistogram, IsSum}
 use Rattle.segment_machine.specs.Body.{Record, order_of, blank}
 use Rattle.segment_machine.specs.Seen.{HasRecord}
-use Rattle.segment_machine.specs.Kept.{summed_cost, summed_costs, IsSumOf, StandsRight, Kept}
+use Rattle.segment_machine.specs.Kept.{summed_cost, summed_costs, IsSumOf, CallsRight, StandsRight, Kept}
 use Rattle.segment_machine.specs.Keeps.{KeptUnitsAreKept}
 use Rattle.segment_machine.proofs.Lists.{at_from}
 use Rattle.segment_machine.proofs.Actors.{summed_most}
 use Rattle.segment_machine.proofs.ImpliedFirsts.{first_of_name}
 use Rattle.segment_machine.proofs.ImpliedRecords.{record_word}
-use Rattle.segment_machine.proofs.Spending.{counted_spent, spent_or_not, all_spent}
+use Rattle.segment_machine.proofs.ImpliedSums.{noted_is}
+use Rattle.segment_machine.proofs.Spending.{counted_spent, noted_spent, spent_or_not, all_spent}
 
 -- what a sum has grown by was spent, or is held
 summed_is_spent : (name : List ℕ) (actors : List Actor) → summed_costs name actors ≤ all_costs actors name
@@ -52,16 +56,31 @@ module _ (shape : Dimensions) (version id : ℕ) (state : State) (kept : Kept sh
       let same = ap (λ (name : List ℕ). all_costs state.actors name) named in
       omega (arith, close, less, same)
 
+  -- what each actor did is spent or held, where a spent one did nothing
+  each_spent : (name : List ℕ) (did : Actor → List Entry) → tally_noted (did spent) name ≤ 0
+      → ((a : Actor) → CallsRight kept.anatomy a → tally_noted (did a) name ≤ cost_of a.costs name + cost_of a.held name)
+      → (a : Actor) → Contains state.actors a → tally_noted (did a) name ≤ cost_of a.costs name + cost_of a.held name
+  each_spent name did nothing lives a among =
+      let (who, there) = at_from state.actors a among in
+      ⊎_elim
+      (λ gone. subst (λ (b : Actor). tally_noted (did b) name ≤ cost_of b.costs name + cost_of b.held name)
+      (sym (subst (StandsRight shape kept.anatomy who a) gone (kept.standing who a there))) nothing)
+      (λ alive. lives a (kept.each who a there alive).calls)
+      (spent_or_not a.place)
+
 pub units_are_kept : KeptUnitsAreKept
 units_are_kept shape version id state lawful kept = record {
   pool = kept.pool;
-  counted = λ name. all_spent state.actors name (λ a among.
-      let (who, there) = at_from state.actors a among in
-      ⊎_elim
-      (λ gone. subst (λ (b : Actor). tally_noted (counted_of b) name ≤ cost_of b.costs name + cost_of b.held name)
-      (sym (subst (StandsRight shape kept.anatomy who a) gone (kept.standing who a there))) (omega arith))
-      (λ lives. counted_spent kept.anatomy a (kept.each who a there lives).calls name)
-      (spent_or_not a.place));
+  counted = λ name. all_spent counted_of state.actors name (each_spent shape version id state kept name counted_of (omega arith)
+      (λ a calls. counted_spent kept.anatomy a calls name));
+  redundant = λ name at is.
+      let (kind, r, first, (there, named, specified)) = first_of_name shape version id state kept name at is in
+      let noted = noted_is shape version id state kept name kind at r first there named in
+      let all = all_spent noted_of state.actors name (each_spent shape version id state kept name noted_of (omega arith)
+      (λ a calls. noted_spent kept.anatomy a calls name)) in
+      let word = record_word shape state.words kept.anatomy kept.shown at r 13 there (omega arith) in
+      let balance = kept.balanced.noted name in
+      omega (arith, word, noted, balance, all);
   sums = λ name at a is sum.
       let (r, there, named) = histogram_record shape version id state kept name at is in
       let h = near shape version id state kept name at r a (pos 0) there named (sum_of_record shape version id state kept at r a there sum) (inl refl) in

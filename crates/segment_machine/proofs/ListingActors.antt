@@ -48,7 +48,7 @@ saw_itself x = record {
   loaded = λ reference sum is. is;
 }
 
-module _ (shape : Dimensions) (old new : Anatomy) (added : ℕ → Body → Type 0) (grows : Grows old new added) (actors : List Actor) (x : Actor) (c : Doing) (more : SawMore x c)
+module _ (shape : Dimensions) (old new : Anatomy) (added : ℕ → Body → Type 0) (grows : Grows old new added) (actors : List Actor) (opener x : Actor) (c : Doing) (more : SawMore x c)
     (keyed : (entry : Entry) → Contains (x.inherited ++ counted_of x) entry → 0 < entry.units → HasKey old.records entry.name entry.key)
     (known_record : (known : Known) → Contains x.names known → (r : Record) × HasRecord old.pieces known.reference r)
     (loaded_record : (reference : ℕ) (sum : ℤ) → x.place ≡ SumLoaded reference sum → (r : Record) × HasRecord old.pieces reference r)
@@ -97,7 +97,7 @@ module _ (shape : Dimensions) (old new : Anatomy) (added : ℕ → Body → Type
       let (n, still) = record_stays old new added grows known.reference r there in
       subst (λ (version : ℕ). packed_bucket (form_at version r) ≢ Some bucket) grows.version (apart (record r { next = n }) still)))
 
-  looks_grow : LooksBack old actors x → LooksBack new actors (doing x c)
+  looks_grow : LooksBack old actors opener x → LooksBack new actors opener (doing x c)
   looks_grow looks = record {
     most = λ known bucket total named below saw.
         looks.most known bucket total named below (saw_before known bucket total named saw);
@@ -132,10 +132,10 @@ module _ (shape : Dimensions) (old new : Anatomy) (added : ℕ → Body → Type
   }
 
   -- all that holds of it
-  pub fits_grow : (cursors : List ℕ) (opener : Actor) (id : ℕ) → Sees new cursors (doing x c) → All (HoldsOwn shape new.pieces id) c.own
+  pub fits_grow : (cursors : List ℕ) (id : ℕ) → Sees new cursors (doing x c) → All (HoldsOwn shape new.pieces id) c.own
       → ((i j : ℕ) (y z : Own) → get_elem? c.own i ≡ some y → get_elem? c.own j ≡ some z → y.at ≡ z.at → i ≡ j)
       → Fits shape old cursors actors opener id x → Fits shape new cursors actors opener id (doing x c)
-  fits_grow cursors opener id sees own apart fits = record {
+  fits_grow cursors id sees own apart fits = record {
     shaped = fits.shaped;
     versioned = fits.versioned ∙ sym grows.version;
     numbered = fits.numbered;

@@ -99,5 +99,5 @@ module _ (shape : Dimensions) (opened : Anatomy) (state : State) (kept : Kept sh
         → Fits shape new state.cursors state.actors kept.roles.opener id (doing x d)
     fits_on id x d there lives more sees own apart =
         let fits = kept.each id x there lives in
-        fits_grow shape kept.anatomy new added grows state.actors x d more (keyed id x there lives) (known_record id x there lives)
-        (λ reference sum is. loaded_record id x reference sum there is) fits.sees.counters state.cursors kept.roles.opener id sees own apart fits
+        fits_grow shape kept.anatomy new added grows state.actors kept.roles.opener x d more (keyed id x there lives) (known_record id x there lives)
+        (λ reference sum is. loaded_record id x reference sum there is) fits.sees.counters state.cursors id sees own apart fits

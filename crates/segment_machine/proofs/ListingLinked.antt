@@ -443,6 +443,7 @@ module _ (shape : Dimensions) (opened : Anatomy) (state : State) (kept : Kept sh
       anatomy = new;
       shown = publishes.shown words' stored.shown;
       same = kept.same;
+      first_noted = kept.first_noted;
       versions = kept.versions;
       still = λ k p here.
           let (q, now, same_at) = kept.still k p here in

@@ -320,6 +320,7 @@ units = record {
   counted = λ name.
       let covered = by_name letter_a name (all_counted all) 3 (all_of_three (λ (e : Entry). e.name ≡ letter_a) (one 1) (one 1) (one 0) refl refl refl) (omega arith) in
       omega (arith, covered);
+  redundant = λ name at is. of_the_one mounted letter_a (λ n k. field_at mounted k 13 ≤ all_costs all n) refl (omega arith) name at is;
   sums = λ name at a is sum.
       let e = costs_three name at is in let f = small a (sum_there name at a is sum) in omega (arith, e, f);
   differences = λ name at a b is first second.

@@ -34,7 +34,7 @@ looks_kept shape opened state id a kept mine records (lived, recorder, runs, tak
     notes_on shape opened state kept id a mine records n lived (looks_counts a) (takes_nothing a n) (λ name key. refl) (λ known has. has)
     (λ fit. noting_fits shape kept.anatomy state.cursors _ kept.roles.opener id a n fit fit.sees.names
     (calls_by kept.anatomy a n fit.calls (looks_counts a) fit.calls.ordered fit.calls.within fit.calls.held fit.calls.ended fit.calls.spent fit.calls.taking)
-    (looks_anew kept.anatomy _ a n (fit.looks records))
+    (looks_anew kept.anatomy _ kept.roles.opener a n (fit.looks records))
     (finals_on _ kept.roles.opener id a n (omega arith) (λ name k within quiet. quiet) fit.finals)
     fit.snapshots)
 
@@ -106,6 +106,6 @@ begins_kept name cost entries shape opened state id a kept mine records (lived, 
     (calls_by kept.anatomy a n fit.calls counts (fresh_ordered entries)
     (λ some_run. (name, cost, refl, subst (AreWithin name cost) (sym (fresh_entries entries)) within, known))
     (omega arith) fit.calls.ended fit.calls.spent (λ taking. absurd (true≢false (sym taking ∙ takes))))
-    (looks_on kept.anatomy _ a n (fit.looks records))
+    (looks_on kept.anatomy _ kept.roles.opener a n (fit.looks records))
     (finals_on _ kept.roles.opener id a n (omega arith) (λ of k within quiet. begins_quiet a name of cost k entries runs quiet) fit.finals)
     fit.snapshots)

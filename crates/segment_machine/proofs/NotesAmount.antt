@@ -240,7 +240,7 @@ amounts_kept amount shape opened state id a kept mine records ((before, last, ru
     ))
     fit.calls.held fit.calls.ended fit.calls.spent
     (λ taking. absurd (not_empty before [] last (sym runs ∙ (fit.calls.taking taking).0))))
-    (looks_on kept.anatomy _ a n (fit.looks records))
+    (looks_on kept.anatomy _ kept.roles.opener a n (fit.looks records))
     (finals_on _ kept.roles.opener id a n (omega arith)
     (λ name k low quiet. amounts_quiet a amount before last runs unsummed unnoted nothing name k quiet) fit.finals)
     fit.snapshots))

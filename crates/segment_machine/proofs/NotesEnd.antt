@@ -92,14 +92,14 @@ module _ (a : Actor) (share : ℕ) (spent : List Cost) (ended : List Counting) w
         (calls_by kept.anatomy a gone fit.calls counts none_ordered (λ some_run. absurd (some_run refl)) (omega arith)
         (All-append (λ (c : Counting). has_ended c ≡ true) a.log ended fit.calls.ended done)
         (λ name.
-        let logs = ap (λ (entries : List Entry). tally_noted entries name) (log_more a ended) in
-        let both = noted_total name (log_of a) (map (λ (c : Counting). c.entry) ended) in
+        let logs = ap (λ (entries : List Entry). tally_noted entries name) (map-append (λ (c : Counting). c.entry) a.log ended) in
+        let both = noted_total name (map (λ (c : Counting). c.entry) a.log) (map (λ (c : Counting). c.entry) ended) in
         let costs = sum_by-append (λ (cost : Cost). if bytes_eq cost.name name then cost.units else 0) a.costs spent in
         let before = fit.calls.spent name in
         let now = pays kept.anatomy fit.calls name in
         omega (arith, logs, both, costs, before, now))
         (λ taking. (refl, (fit.calls.taking taking).1)))
-        (looks_anew kept.anatomy _ a gone (fit.looks records))
+        (looks_anew kept.anatomy _ kept.roles.opener a gone (fit.looks records))
         (finals_on _ kept.roles.opener id a gone (omega (arith, longer, long)) (λ of k within quiet. quiet_before a ended of k running within quiet.0) fit.finals)
         fit.snapshots)
 

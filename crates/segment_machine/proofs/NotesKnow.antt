@@ -79,6 +79,6 @@ module _ (a : Actor) (known : Known) where
             (Contains-append_left (map (λ (k : Known). k.name) a.names) (known.name ∷ []) name named),
       ))
       fit.calls.held fit.calls.ended fit.calls.spent fit.calls.taking)
-      (looks_anew kept.anatomy _ a knower (fit.looks records))
+      (looks_anew kept.anatomy _ kept.roles.opener a knower (fit.looks records))
       (finals_on _ kept.roles.opener id a knower (omega arith) (λ name k within quiet. quiet) fit.finals)
       fit.snapshots)

@@ -93,7 +93,7 @@ takes_kept name shape opened state id a kept mine records (lived, recorder, runs
     (λ fit. noting_fits shape kept.anatomy state.cursors _ kept.roles.opener id a n fit fit.sees.names
     (calls_by kept.anatomy a n fit.calls (takes_counts a name) fit.calls.ordered fit.calls.within fit.calls.held fit.calls.ended fit.calls.spent
     (λ taking. (runs, (a.taken, nothing_taken a name, refl))))
-    (looks_anew kept.anatomy _ a n (fit.looks records))
+    (looks_anew kept.anatomy _ kept.roles.opener a n (fit.looks records))
     (takes_finals a name _ kept.roles.opener id rests (kept.roles.younger id a mine lives)
     (λ none other c there alive ne. kept.roles.eldest id other a c mine (sym (set_else state.actors id other (noting a n) ne) ∙ there) lives alive (λ same. ne (sym same)) none)
     fit.finals)

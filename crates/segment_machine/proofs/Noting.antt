@@ -137,7 +137,7 @@ module _ (shape : Dimensions) (opened : Anatomy) (state : State) (kept : Kept sh
 
       -- it has the role that it had
       role : SameRole later a
-      role = record { living = refl; opener = refl; first = refl; made = refl; outstanding = refl; inherited = refl }
+      role = record { living = refl; opener = refl; first = refl; first_noted = refl; made = refl; outstanding = refl; inherited = refl }
 
       not_first : id ≢ 0
       not_first = not_opener shape opened state kept id a mine records
@@ -146,7 +146,7 @@ module _ (shape : Dimensions) (opened : Anatomy) (state : State) (kept : Kept sh
       pub beside : (k : ℕ) (c : Actor) → Fits shape kept.anatomy state.cursors state.actors kept.roles.opener k c
           → Fits shape kept.anatomy state.cursors noters kept.roles.opener k c
       beside k c = fits_beside shape kept.anatomy state.cursors state.actors noters kept.roles.opener kept.roles.opener k c kept.roles.stands
-          (set_else state.actors id 0 later (λ same. not_first (sym same)) ∙ kept.roles.stands) refl sums (stood_set state.actors id a later mine role)
+          (set_else state.actors id 0 later (λ same. not_first (sym same)) ∙ kept.roles.stands) refl (refl, refl) sums (stood_set state.actors id a later mine role)
 
       module _ (knows : (known : Known) → Contains a.names known → Contains n.names known)
           (refits : Fits shape kept.anatomy state.cursors noters kept.roles.opener id a → Fits shape kept.anatomy state.cursors noters kept.roles.opener id later) where
@@ -212,6 +212,7 @@ module _ (shape : Dimensions) (opened : Anatomy) (state : State) (kept : Kept sh
           corrupt = kept.corrupt ∙ ap (λ set. opened.corrupt || fold ◌||◌ false set) (sym (column (λ (a : Actor). a.spoiled) state.actors id a later mine refl));
           full = kept.full ∙ ap (λ set. opened.full || fold ◌||◌ false set) (sym (column (λ (a : Actor). a.filled) state.actors id a later mine refl));
           roles = roles_set state.actors id a later mine role not_first kept.roles;
+          first_noted = kept.first_noted;
           cursors = cursors_set (order_of kept.anatomy) state.cursors state.actors id a later mine records refl kept.cursors;
           standing = standing;
           each = each;

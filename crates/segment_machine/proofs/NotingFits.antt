@@ -1,5 +1,5 @@
 -- What holds of an actor beside the others holds on where it notes something.
-use Rattle.std.proofs.Common.{◌≡◌, ◌≢◌, ℕ, ◌≤◌, true, List, ◌∷◌, [], ◌++◌, map, length, drop, All, Contains, inr, ⊎_elim, refl, sym, subst, arith}
+use Rattle.std.proofs.Common.{◌≡◌, ◌≢◌, ℕ, ◌+◌, ◌≤◌, max, true, List, ◌∷◌, [], ◌++◌, map, length, drop, All, Contains, inr, ⊎_elim, refl, sym, subst, arith}
 use Rattle.std.proofs.lemmas.List.Elements.{Contains-append_left, Contains-append_right, Contains-append_cases}
 use Rattle.bucket_ranges.specs.declared.spec.Spec.TheVariants as spec
 use Rattle.segment_machine.specs.declared.actor.Taken.{Taken}
@@ -23,7 +23,7 @@ use Rattle.segment_machine.proofs.Noting.{Noting, noting, SameCounts, counted_be
 
 module _ (shape : Dimensions) (anatomy : Anatomy) (cursors : List ℕ) (actors : List Actor) (opener : Actor) (id : ℕ) (a : Actor) (n : Noting) where
   pub noting_fits : Fits shape anatomy cursors actors opener id a → All (Knows anatomy) n.names → CallsRight anatomy (noting a n)
-      → LooksBack anatomy actors (noting a n) → FinalsAreExact actors opener id (noting a n) → All (IsWithinCounts actors) n.snapshots
+      → LooksBack anatomy actors opener (noting a n) → FinalsAreExact actors opener id (noting a n) → All (IsWithinCounts actors) n.snapshots
       → Fits shape anatomy cursors actors opener id (noting a n)
   noting_fits fit names calls looks finals snapshots = record {
     shaped = fit.shaped;
@@ -58,8 +58,8 @@ looking_on a n = record n { log = a.log; names = a.names; since_singles = a.sinc
 abbrev pub looking_anew : Actor → Noting → Noting
 looking_anew a n = record n { since_singles = length a.seen_singles; since_counts = length a.seen_counts }
 
-module _ (anatomy : Anatomy) (actors : List Actor) (a : Actor) (n : Noting) where
-  pub looks_on : LooksBack anatomy actors a → LooksBack anatomy actors (noting a (looking_on a n))
+module _ (anatomy : Anatomy) (actors : List Actor) (opener a : Actor) (n : Noting) where
+  pub looks_on : LooksBack anatomy actors opener a → LooksBack anatomy actors opener (noting a (looking_on a n))
   looks_on looks = record {
     most = looks.most;
     packed = looks.packed;
@@ -76,7 +76,7 @@ module _ (anatomy : Anatomy) (actors : List Actor) (a : Actor) (n : Noting) wher
   nothing_counted : (s : Sighting) → Contains (drop (length a.seen_counts) a.seen_counts) s → ⊥
   nothing_counted s there = none_in s (subst (λ (list : List Sighting). Contains list s) (drop_all (length a.seen_counts) a.seen_counts (omega arith)) there)
 
-  pub looks_anew : LooksBack anatomy actors a → LooksBack anatomy actors (noting a (looking_anew a n))
+  pub looks_anew : LooksBack anatomy actors opener a → LooksBack anatomy actors opener (noting a (looking_anew a n))
   looks_anew looks = record {
     most = λ known bucket total has below saw. absurd (nothing_single _ saw.1);
     packed = λ known bucket word has below saw. absurd (nothing_single _ saw);
@@ -125,7 +125,8 @@ module _ (anatomy : Anatomy) (a : Actor) (n : Noting) where
       → (n.running ≢ [] → (name : List ℕ) × (cost : ℕ)
       × (n.held ≡ record { name = name; units = cost } ∷ []) × AreWithin name cost (map (λ c. c.entry) n.running)
       × Contains (map (λ known. known.name) n.names) name)
-      → length n.held ≤ 1 → All (λ c. has_ended c ≡ true) n.log → ((name : List ℕ) → tally_noted (log_of (noting a n)) name ≤ cost_of n.costs name)
+      → length n.held ≤ 1 → All (λ c. has_ended c ≡ true) n.log → ((name : List ℕ)
+      → max (tally_noted a.first name) (cost_of a.first_noted name) + tally_noted (map (λ c. c.entry) n.log) name ≤ cost_of n.costs name)
       → (n.taking ≡ true → (n.running ≡ []) × ((before : List Taken) × (last : Taken) × (n.taken ≡ before ++ last ∷ [])))
       → CallsRight anatomy (noting a n)
   calls_by calls same ordered within held ended spent taking = record {

@@ -194,6 +194,7 @@ module _ (shape : Dimensions) (version id cursors : ℕ) (lawful : IsShape shape
     corrupt = refl;
     full = refl;
     roles = roles;
+    first_noted = λ name. refl;
     cursors = cursors_kept;
     standing = each_of_one opener (λ k a. StandsRight shape opened k a a.place) tt;
     each = each_of_one opener (λ k a. a.place ≢ Spent → Fits shape opened (replicate cursors 12) actors opener k a) (λ lives. fits);

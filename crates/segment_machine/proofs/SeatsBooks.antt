@@ -14,10 +14,10 @@ use Rattle.segment_machine.specs.declared.place.Place.TheVariants.{Spent}
 use Rattle.segment_machine.specs.declared.actor.Actor.{Actor}
 use Rattle.segment_machine.specs.declared.actor.Given.{Given}
 use Rattle.segment_machine.specs.declared.actor.Taken.{Taken}
-use Rattle.segment_machine.specs.Actor.{given_by, all_counted, all_taken, all_given, all_published, units_of}
+use Rattle.segment_machine.specs.Actor.{cost_of, given_by, all_counted, all_taken, all_given, all_published, units_of}
 use Rattle.segment_machine.specs.State.{State}
 use Rattle.segment_machine.specs.Body.{Piece, Anatomy, layout_of, order_of, claims_of, listed}
-use Rattle.segment_machine.specs.Ledger.{IsBalanced}
+use Rattle.segment_machine.specs.Ledger.{noted_held, all_held, IsBalanced}
 use Rattle.segment_machine.specs.Kept.{ClaimedRight, HasKey, ListIsKept, RecordsAreKept, SumsAreNear, IsSetBy, StandStill, RolesAreKept, CursorsAreKept, StandsRight, Fits, Kept}
 use Rattle.segment_machine.proofs.Lists.{rows}
 use Rattle.segment_machine.proofs.SeatsDeeds.{Deeds, sums_of}
@@ -78,12 +78,13 @@ books_of shape opened state kept = record {
 -- with what is said of each actor, all is kept
 pub kept_by : (shape : Dimensions) (opened anatomy : Anatomy) (words cursors : List ℕ) (actors : List Actor)
     → Books shape opened anatomy words cursors actors → (roles : RolesAreKept actors)
+    → ((name : List ℕ) → cost_of roles.opener.first_noted name ≡ all_held (noted_held name) opened.pieces)
     → ((id : ℕ) (a : Actor) → get_elem? actors id ≡ some a → a.opener ≡ 0 → GivenInOrder (order_of anatomy) a.given)
     → ((id : ℕ) (a : Actor) → get_elem? actors id ≡ some a → All (λ g. Contains (order_of anatomy) g.reference) a.given)
     → ((id : ℕ) (a : Actor) → get_elem? actors id ≡ some a → StandsRight shape anatomy id a a.place)
     → ((id : ℕ) (a : Actor) → get_elem? actors id ≡ some a → a.place ≢ Spent → Fits shape anatomy cursors actors roles.opener id a)
     → Kept shape opened (record { words = words; cursors = cursors; actors = actors })
-kept_by shape opened anatomy words cursors actors books roles ordered given standing each = record {
+kept_by shape opened anatomy words cursors actors books roles first_noted ordered given standing each = record {
   anatomy = anatomy;
   shown = books.shown;
   same = books.same;
@@ -101,6 +102,7 @@ kept_by shape opened anatomy words cursors actors books roles ordered given stan
   corrupt = books.corrupt;
   full = books.full;
   roles = roles;
+  first_noted = first_noted;
   cursors = record { stand = books.stand; ordered = ordered; given = given };
   standing = standing;
   each = each;

@@ -17,7 +17,7 @@ use Rattle.segment_machine.specs.declared.actor.Moment.{Moment}
 use Rattle.segment_machine.specs.declared.actor.Own.{Own}
 use Rattle.segment_machine.specs.declared.actor.Taken.{Taken}
 use Rattle.segment_machine.specs.Entry.{is_of, tally_units, tally_sum, tally_noted}
-use Rattle.segment_machine.specs.Actor.{log_of, units_listed, taken_sum, all_counted, all_summed, all_noted, all_taken}
+use Rattle.segment_machine.specs.Actor.{log_of, cost_of, units_listed, taken_sum, all_counted, all_summed, all_noted, all_taken}
 use Rattle.segment_machine.specs.Note.{is_untouched}
 use Rattle.segment_machine.specs.Consistent.{units_taken}
 use Rattle.segment_machine.specs.Seats.{joined, shifted, shifted_taken, shifted_answers}
@@ -109,7 +109,7 @@ module _ (actors : List Actor) (opener : Actor) (other : ℕ) (a b : Actor) (may
   abbrev SeenAll : Answered → Type 0
   SeenAll s = s.moment.outstanding ≡ 0 → s.moment.before + 1 ≡ opener.made → IsQuiet both s.name s.moment.log
       → ((key : ℤ) → units_listed s.counts key ≡ tally_units (all_counted actors) s.name key)
-      × (s.sum ≡ tally_sum (all_summed actors) s.name) × (s.redundant ≡ tally_noted (all_noted actors) s.name)
+      × (s.sum ≡ tally_sum (all_summed actors) s.name) × (s.redundant ≡ cost_of opener.first_noted s.name + tally_noted (all_noted actors) s.name)
 
   -- who takes nothing has ended all that it began
   all_ended : (c : Actor) (t : Taken) → c.taking ≡ false → Contains c.taken t → Contains (ended_deltas c) t

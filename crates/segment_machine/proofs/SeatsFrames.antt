@@ -1,5 +1,5 @@
 -- What holds of actors together, and of one beside the others, holds on where others did the same together.
-use Rattle.std.proofs.Common.{set, ◌≡◌, ◌⊎◌, ℕ, ◌+◌, ◌<◌, ◌≤◌, Some, ℤ, Bool, true, false, List, ◌-◌, length, take, inl, inr, ⊎_elim, sym, refl, ap, ◌∙◌, subst, arith}
+use Rattle.std.proofs.Common.{set, ◌≡◌, ◌⊎◌, ℕ, ◌+◌, ◌<◌, ◌≤◌, Some, ℤ, Bool, true, false, List, ◌-◌, ◌++◌, map, drop, length, take, inl, inr, ⊎_elim, sym, refl, ap, ◌∙◌, subst, arith}
 use Rattle.std.specs.List.{Contains}
 use Rattle.std.specs.Prelude.{if◌then◌else◌}
 use mathlib.Core.Option.{some}
@@ -8,13 +8,16 @@ use Rattle.std.proofs.lemmas.List.Elements.{All-weaker}
 use Rattle.std.proofs.lemmas.List.Sorted.{Contains-permutation}
 use Rattle.atomic_table.proofs.Lists.{at_set}
 use Rattle.segment_image.specs.Shape.{Dimensions}
+use Rattle.segment_machine.specs.declared.entry.Entry.{Entry}
+use Rattle.segment_machine.specs.declared.entry.Counting.{Counting}
 use Rattle.segment_machine.specs.declared.place.Place.TheVariants.{SumLoaded}
 use Rattle.segment_machine.specs.declared.actor.Actor.{Actor}
 use Rattle.segment_machine.specs.declared.actor.Answered.{Answered}
+use Rattle.segment_machine.specs.declared.actor.Cost.{Cost}
 use Rattle.segment_machine.specs.declared.actor.Moment.{Moment}
 use Rattle.segment_machine.specs.declared.actor.Taken.{Taken}
-use Rattle.segment_machine.specs.Entry.{tally_units}
-use Rattle.segment_machine.specs.Actor.{bucket_key, all_counted, all_taken}
+use Rattle.segment_machine.specs.Entry.{tally_units, tally_noted}
+use Rattle.segment_machine.specs.Actor.{bucket_key, cost_of, all_counted, all_taken}
 use Rattle.segment_machine.specs.Consistent.{IsWithinCounts}
 use Rattle.segment_machine.specs.Body.{Record, Anatomy, Piece, Listed}
 use Rattle.segment_machine.specs.Ledger.{IsBalanced}
@@ -94,9 +97,10 @@ taken_keys records old new same keys t count there listed =
 
 -- ---- one beside the others
 
--- Of two openers the later one has made no fewer recorders, and the last of the earlier one's is not the last any more where it
+-- Of two openers, of one opening, the later one has made no fewer recorders, and the last of the earlier one's is not the last any more where it
 -- has made more; who lives then lived before, or was made since.
 pub record IsLater (old new : List Actor) (opener later : Actor) : Type 0 where
+  pub first : (later.first ≡ opener.first) × (later.first_noted ≡ opener.first_noted)
   pub more : opener.made ≤ later.made
   pub last : (n : ℕ) → n < opener.made → n + 1 ≡ later.made → n + 1 ≡ opener.made
   pub lives : (k : ℕ) (c : Actor) → get_elem? new k ≡ some c → is_living c ≡ true
@@ -108,9 +112,9 @@ within old new s same = All-weaker
     (λ (count : ℤ × ℕ). count.1 ≤ tally_units (all_counted new) s.name count.0)
     (λ count below. let counted = same.counted s.name count.0 in omega (arith, below, counted)) s.counts
 
-pub looks_back : (anatomy : Anatomy) (old new : List Actor) (a : Actor) → SameSums old new → (IsAlone new a → IsAlone old a)
-    → LooksBack anatomy old a → LooksBack anatomy new a
-looks_back anatomy old new a same alone looks = record {
+pub looks_back : (anatomy : Anatomy) (old new : List Actor) (opener later a : Actor) → SameSums old new → IsLater old new opener later
+    → (IsAlone new a → IsAlone old a) → LooksBack anatomy old opener a → LooksBack anatomy new later a
+looks_back anatomy old new opener later a same since alone looks = record {
   most = λ known bucket total has below saw.
       let was = looks.most known bucket total has below saw in
       let counted = same.counted known.name (bucket_key (Some known) bucket) in
@@ -120,7 +124,11 @@ looks_back anatomy old new a same alone looks = record {
       (⊎_elim (λ second. inl second) (λ rest. inr (⊎_elim (λ only. inl (alone only)) (λ other. inr other) rest)) settled);
   samples = looks.samples;
   rising = looks.rising;
-  noted = looks.noted;
+  noted = λ known count has saw.
+      let was = looks.noted known count has saw in
+      let first = ap (λ (list : List Entry). tally_noted (drop (length list) a.inherited ++ map (λ (c : Counting). c.entry) a.log) known.name) since.first.0 in
+      let noted = ap (λ (list : List Cost). cost_of list known.name) since.first.1 in
+      omega (arith, was, first, noted);
   sum = λ reference sum r stands only there. looks.sum reference sum r stands (alone only) there;
 }
 
@@ -157,7 +165,11 @@ finals old new opener later id a same since alone exact = record {
   snapshots = λ s there none youngest quiet.
       let began = exact.moments s.moment (inr (s, there, refl)) in
       let was = exact.snapshots s there none (since.last s.moment.before began.before youngest) quiet in
-      (λ key. was.0 key ∙ sym (same.counted s.name key), was.1 ∙ sym (same.summed s.name), was.2 ∙ sym (same.noted s.name));
+      (λ key. was.0 key ∙ sym (same.counted s.name key), was.1 ∙ sym (same.summed s.name), (
+      let first = ap (λ (list : List Cost). cost_of list s.name) since.first.1 in
+      let redundant = was.2 in
+      let noted = same.noted s.name in
+      omega (arith, first, redundant, noted)));
   moments = λ m of. moment old new opener later id a m since (exact.moments m of);
   swapped = λ before last taking is swapped only.
       same.taken_sums last.name ∙ exact.swapped before last taking is swapped (alone taking only) ∙ sym (same.summed last.name);
@@ -175,7 +187,7 @@ fits shape anatomy cursors old new opener later id a same since alone fit = reco
   own = fit.own;
   apart = fit.apart;
   calls = fit.calls;
-  looks = λ records. looks_back anatomy old new a same (alone (inl records)) (fit.looks records);
+  looks = λ records. looks_back anatomy old new opener later a same since (alone (inl records)) (fit.looks records);
   finals = finals old new opener later id a same since (λ taking. alone (inr taking)) fit.finals;
   snapshots = All-weaker (IsWithinCounts old) (IsWithinCounts new) (λ s. within old new s same) a.snapshots fit.snapshots;
 }

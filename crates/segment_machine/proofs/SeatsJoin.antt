@@ -116,9 +116,9 @@ module _ (shape : Dimensions) (opened : Anatomy) (old : State) (kept : Kept shap
     opens = kept.roles.opens;
     idle = kept.roles.idle;
     rests = kept.roles.rests;
-    only = each_of_two (λ k c. k ≢ 0 → (c.opener ≡ 0) × (c.first ≡ [])) old.actors 0 other later spent
+    only = each_of_two (λ k c. k ≢ 0 → (c.opener ≡ 0) × (c.first ≡ []) × (c.first_noted ≡ [])) old.actors 0 other later spent
         (λ ne. absurd (ne refl))
-        (λ ne. (refl, refl))
+        (λ ne. (refl, refl, refl))
         (λ k c past front at ne. kept.roles.only k c at ne);
     living = (
         let one : Actor → ℕ = λ c. if is_living c then 1 else 0 in
@@ -149,7 +149,7 @@ module _ (shape : Dimensions) (opened : Anatomy) (old : State) (kept : Kept shap
   -- ---- each actor
 
   beside : (k : ℕ) (c : Actor) → Fits shape kept.anatomy old.cursors old.actors opener k c → Fits shape kept.anatomy old.cursors merged later k c
-  beside k c = fits_beside shape kept.anatomy old.cursors old.actors merged opener later k c kept.roles.stands first refl (sums_of old.actors merged deeds) stood
+  beside k c = fits_beside shape kept.anatomy old.cursors old.actors merged opener later k c kept.roles.stands first refl (refl, refl) (sums_of old.actors merged deeds) stood
 
   mine : Fits shape kept.anatomy old.cursors merged later 0 opener
   mine = beside 0 opener (kept.each 0 opener kept.roles.stands opener_lives)
@@ -214,7 +214,7 @@ module _ (shape : Dimensions) (opened : Anatomy) (old : State) (kept : Kept shap
   join_kept = kept_by shape opened anatomy old.words old.cursors merged
       (books_passed other 0 kept.anatomy shape opened old.words old.cursors merged
       (books_by shape opened kept.anatomy old.words old.cursors old.actors merged deeds loaded (books_of shape opened old kept)))
-      roles ordered given standing each
+      roles kept.first_noted ordered given standing each
 
 pub joins_keep : JoinsKeep
 joins_keep shape opened old new id other kept joining =

@@ -281,15 +281,12 @@ module _ (shape : Dimensions) (words : List ℕ) (anatomy : Anatomy) (shown : Is
     held = first.held;
     ended = All-append (λ (c : Counting). has_ended c ≡ true) a.log b.log first.ended second.ended;
     spent = λ name.
-        let logs = ap (λ (entries : List Entry). tally_noted (a.first ++ entries) name) (map-append (λ (c : Counting). c.entry) a.log b.log) in
-        let mine_all = noted_total name a.first (map (λ (c : Counting). c.entry) a.log ++ map (λ (c : Counting). c.entry) b.log) in
+        let logs = ap (λ (entries : List Entry). tally_noted entries name) (map-append (λ (c : Counting). c.entry) a.log b.log) in
         let both = noted_total name (map (λ (c : Counting). c.entry) a.log) (map (λ (c : Counting). c.entry) b.log) in
-        let mine_now = noted_total name a.first (map (λ (c : Counting). c.entry) a.log) in
-        let theirs_now = noted_total name b.first (map (λ (c : Counting). c.entry) b.log) in
         let costs = sum_by-append (λ (cost : Cost). if bytes_eq cost.name name then cost.units else 0) a.costs b.costs in
         let one = first.spent name in
         let two = second.spent name in
-        omega (arith, logs, mine_all, both, mine_now, theirs_now, costs, one, two);
+        omega (arith, logs, both, costs, one, two);
     met = λ entry of there units is. ⊎_elim
         (λ old. first_met entry of (first.met entry of (Contains-append_left a.inherited (counted_of a) entry old) units is))
         (λ now. ⊎_elim

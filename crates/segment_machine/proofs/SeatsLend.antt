@@ -79,7 +79,7 @@ module _ (shape : Dimensions) (opened : Anatomy) (old : State) (kept : Kept shap
     opens = kept.roles.opens;
     idle = kept.roles.idle;
     rests = kept.roles.rests;
-    only = each_of_two (λ k c. k ≢ 0 → (c.opener ≡ 0) × (c.first ≡ [])) old.actors 0 other later (borrower b units)
+    only = each_of_two (λ k c. k ≢ 0 → (c.opener ≡ 0) × (c.first ≡ []) × (c.first_noted ≡ [])) old.actors 0 other later (borrower b units)
         (λ away. absurd (away refl))
         (λ away. kept.roles.only other b there away)
         (λ k c past front at away. kept.roles.only k c at away);
@@ -125,7 +125,7 @@ module _ (shape : Dimensions) (opened : Anatomy) (old : State) (kept : Kept shap
       (λ k c past front at. kept.standing k c at)
 
   beside : (k : ℕ) (c : Actor) → Fits shape kept.anatomy old.cursors old.actors opener k c → Fits shape kept.anatomy old.cursors lent later k c
-  beside k c = fits_beside shape kept.anatomy old.cursors old.actors lent opener later k c kept.roles.stands first refl (sums_of old.actors lent deeds) stood
+  beside k c = fits_beside shape kept.anatomy old.cursors old.actors lent opener later k c kept.roles.stands first refl (refl, refl) (sums_of old.actors lent deeds) stood
 
   each : (k : ℕ) (c : Actor) → get_elem? lent k ≡ some c → c.place ≢ Spent → Fits shape kept.anatomy old.cursors lent later k c
   each = each_of_two (λ k c. c.place ≢ Spent → Fits shape kept.anatomy old.cursors lent later k c) old.actors 0 other later (borrower b units)
@@ -145,7 +145,7 @@ module _ (shape : Dimensions) (opened : Anatomy) (old : State) (kept : Kept shap
   unfolding roles
   lent_kept = kept_by shape opened kept.anatomy old.words old.cursors lent
       (books_by shape opened kept.anatomy old.words old.cursors old.actors lent deeds loaded (books_of shape opened old kept))
-      roles ordered given standing each
+      roles kept.first_noted ordered given standing each
 
 pub lends_keep : LendsKeep
 lends_keep shape opened old new id other units kept lending =

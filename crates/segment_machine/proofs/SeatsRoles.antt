@@ -81,10 +81,12 @@ alone_before old new opener later a first last e alone =
 
 -- who fitted beside the others fits still
 pub fits_beside : (shape : Dimensions) (anatomy : Anatomy) (cursors : List ℕ) (old new : List Actor) (opener later : Actor) (id : ℕ) (a : Actor)
-    → get_elem? old 0 ≡ some opener → get_elem? new 0 ≡ some later → later.made ≡ opener.made → SameSums old new → AllStood old new
+    → get_elem? old 0 ≡ some opener → get_elem? new 0 ≡ some later → later.made ≡ opener.made
+    → (later.first ≡ opener.first) × (later.first_noted ≡ opener.first_noted) → SameSums old new → AllStood old new
     → Fits shape anatomy cursors old opener id a → Fits shape anatomy cursors new later id a
-fits_beside shape anatomy cursors old new opener later id a first last made sums stood = fits shape anatomy cursors old new opener later id a sums
+fits_beside shape anatomy cursors old new opener later id a first last made begins sums stood = fits shape anatomy cursors old new opener later id a sums
     (record {
+      first = begins;
       more = omega (arith, made);
       last = λ n below e. e ∙ made;
       lives = λ k c at lives. let s = stood k c at lives in inl (s.was, s.at, s.lives, s.made);
@@ -98,6 +100,7 @@ pub record SameRole (b c : Actor) : Type 0 where
   pub living : is_living b ≡ is_living c
   pub opener : b.opener ≡ c.opener
   pub first : b.first ≡ c.first
+  pub first_noted : b.first_noted ≡ c.first_noted
   pub made : b.made ≡ c.made
   pub outstanding : b.outstanding ≡ c.outstanding
   pub inherited : b.inherited ≡ c.inherited
@@ -126,7 +129,8 @@ module _ (actors : List Actor) (id : ℕ) (a b : Actor) (mine : get_elem? actors
     only = λ k c at away. elim (at_set actors id k b c at) [
       | inl t ↦
           let was = roles.only id a mine records in
-          subst (λ (c : Actor). (c.opener ≡ 0) × (c.first ≡ [])) t.1 (same.opener ∙ was.0, same.first ∙ was.1)
+          subst (λ (c : Actor). (c.opener ≡ 0) × (c.first ≡ []) × (c.first_noted ≡ [])) t.1
+          (same.opener ∙ was.0, same.first ∙ was.1, same.first_noted ∙ was.2)
       | inr t ↦ roles.only k c t.1 away
     ];
     living = sum_same (λ c. if is_living c then 1 else 0) actors id a b mine (ap (λ lives. if lives then 1 else 0) same.living) ∙ roles.living;

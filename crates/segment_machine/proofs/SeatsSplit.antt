@@ -107,7 +107,7 @@ module _ (anatomy : Anatomy) (cursors : List ℕ) (actors : List Actor) (later a
     taking = λ e. absurd (true≢false (sym e));
   }
 
-  fresh_looks : LooksBack anatomy actors fresh
+  fresh_looks : LooksBack anatomy actors later fresh
   fresh_looks = record {
     most = λ known bucket total has. absurd (none_in known has);
     packed = λ known bucket word has. absurd (none_in known has);
@@ -213,9 +213,9 @@ module _ (shape : Dimensions) (opened : Anatomy) (old : State) (kept : Kept shap
     opens = kept.roles.opens;
     idle = kept.roles.idle;
     rests = kept.roles.rests;
-    only = each_of_more (λ k c. k ≢ 0 → (c.opener ≡ 0) × (c.first ≡ [])) old.actors 0 later made
+    only = each_of_more (λ k c. k ≢ 0 → (c.opener ≡ 0) × (c.first ≡ []) × (c.first_noted ≡ [])) old.actors 0 later made
         (λ away. absurd (away refl))
-        (λ away. (refl, refl))
+        (λ away. (refl, refl, refl))
         (λ k c within front at away. kept.roles.only k c at away);
     living = (
         let one : Actor → ℕ = λ c. if is_living c then 1 else 0 in
@@ -261,6 +261,7 @@ module _ (shape : Dimensions) (opened : Anatomy) (old : State) (kept : Kept shap
 
   since : IsLater old.actors split opener later
   since = record {
+    first = (refl, refl);
     more = omega arith;
     last = λ n below e. absurd (omega (arith, below, e));
     lives = each_of_more
@@ -311,7 +312,7 @@ module _ (shape : Dimensions) (opened : Anatomy) (old : State) (kept : Kept shap
   unfolding roles
   split_kept = kept_by shape opened kept.anatomy old.words old.cursors split
       (books_by shape opened kept.anatomy old.words old.cursors old.actors split deeds loaded (books_of shape opened old kept))
-      roles ordered given standing each
+      roles kept.first_noted ordered given standing each
 
 pub splits_keep : SplitsKeep
 splits_keep shape opened old new id units kept splitting =

@@ -37,7 +37,7 @@ module _ (anatomy : Anatomy) (a : Actor) (share made outstanding : ℕ) where
 
 -- with another share alone, an actor fits as before
 module _ (shape : Dimensions) (anatomy : Anatomy) (cursors : List ℕ) (actors : List Actor) (opener : Actor) (id : ℕ) (a : Actor) (share : ℕ) where
-  shared_looks : LooksBack anatomy actors a → LooksBack anatomy actors (record a { share = share })
+  shared_looks : LooksBack anatomy actors opener a → LooksBack anatomy actors opener (record a { share = share })
   shared_looks looks = record {
     most = looks.most;
     packed = looks.packed;

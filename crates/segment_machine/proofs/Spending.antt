@@ -15,8 +15,8 @@ use Rattle.segment_machine.specs.declared.place.Place.{Place}
 use Rattle.segment_machine.specs.declared.place.Place.TheVariants.{Spent}
 use Rattle.segment_machine.specs.declared.actor.Actor.{Actor}
 use Rattle.segment_machine.specs.declared.actor.Cost.{Cost}
-use Rattle.segment_machine.specs.Entry.{is_counted, is_of, tally_noted, counted_among}
-use Rattle.segment_machine.specs.Actor.{log_of, counted_of, cost_of, all_counted, all_costs}
+use Rattle.segment_machine.specs.Entry.{is_counted, is_noted, is_of, tally_noted}
+use Rattle.segment_machine.specs.Actor.{counted_of, noted_of, cost_of, all_costs}
 use Rattle.segment_machine.specs.Seats.{spent}
 use Rattle.segment_machine.specs.Body.{Anatomy}
 use Rattle.segment_machine.specs.Kept.{CallsRight}
@@ -84,17 +84,28 @@ module _ (anatomy : Anatomy) (a : Actor) (calls : CallsRight anatomy a) where
           subst (λ (held : List Cost). tally_noted (map entry_of a.running) name ≤ cost_of held name) (sym holds)
           (by_name other name (map entry_of a.running) cost within.of_name within.units)
 
-  -- so what it has counted it has spent, or holds
-  pub counted_spent : (name : List ℕ) → tally_noted (counted_of a) name ≤ cost_of a.costs name + cost_of a.held name
-  counted_spent name =
+  -- so what passes a test, behind its first entries, it has spent, or holds
+  pub among_spent : (test : Counting → Bool) (name : List ℕ)
+      → tally_noted (a.first ++ map entry_of (filter test (a.log ++ a.running))) name ≤ cost_of a.costs name + cost_of a.held name
+  among_spent test name =
       let logged = calls.spent name in
       let held = held_covers name in
-      let some_counted = some_of is_counted name (a.log ++ a.running) in
-      let all = noted_total name a.first (counted_among (a.log ++ a.running)) in
-      let before = noted_total name a.first (map entry_of a.log) in
+      let some_there = some_of test name (a.log ++ a.running) in
+      let all = noted_total name a.first (map entry_of (filter test (a.log ++ a.running))) in
       let both = ap (λ (entries : List Entry). tally_noted entries name) (map-append entry_of a.log a.running)
       ∙ noted_total name (map entry_of a.log) (map entry_of a.running) in
-      omega (arith, logged, held, some_counted, all, before, both)
+      omega (arith, logged, held, some_there, all, both)
+
+  -- what it has counted
+  pub counted_spent : (name : List ℕ) → tally_noted (counted_of a) name ≤ cost_of a.costs name + cost_of a.held name
+  counted_spent name = among_spent is_counted name
+
+  -- and what it has noted
+  pub noted_spent : (name : List ℕ) → tally_noted (noted_of a) name ≤ cost_of a.costs name + cost_of a.held name
+  noted_spent name =
+      let whole = among_spent is_noted name in
+      let parts = noted_total name a.first (noted_of a) in
+      omega (arith, whole, parts)
 
 -- ---- all actors
 
@@ -102,13 +113,14 @@ pub spent_or_not : (p : Place) → (p ≡ Spent) ⊎ (p ≢ Spent)
 spent_or_not Spent = inl refl
 spent_or_not p = inr (λ is. cc is)
 
-pub all_spent : (actors : List Actor) (name : List ℕ)
-    → ((a : Actor) → Contains actors a → tally_noted (counted_of a) name ≤ cost_of a.costs name + cost_of a.held name)
-    → tally_noted (all_counted actors) name ≤ all_costs actors name
-all_spent [] name each = omega arith
-all_spent (a ∷ rest) name each =
+-- what each has spent or holds, all have
+pub all_spent : (did : Actor → List Entry) (actors : List Actor) (name : List ℕ)
+    → ((a : Actor) → Contains actors a → tally_noted (did a) name ≤ cost_of a.costs name + cost_of a.held name)
+    → tally_noted (flat_map did actors) name ≤ all_costs actors name
+all_spent did [] name each = omega arith
+all_spent did (a ∷ rest) name each =
     let first = each a (0, omega arith, refl) in
-    let others = all_spent rest name (λ b there. each b (Contains-append_right (a ∷ []) rest b there)) in
-    let counted = noted_total name (counted_of a) (all_counted rest) in
+    let others = all_spent did rest name (λ b there. each b (Contains-append_right (a ∷ []) rest b there)) in
+    let done = noted_total name (did a) (flat_map did rest) in
     let costs = sum_by-cons (λ (a : Actor). cost_of a.costs name + cost_of a.held name) a rest in
-    omega (arith, first, others, counted, costs)
+    omega (arith, first, others, done, costs)

@@ -312,6 +312,8 @@ pub record UnitsAreKept (words : List ℕ) (actors : List Actor) (chain : List �
   pub pool : sum_by units_of actors ≡ 4294967295
   -- a counted unit is spent, or held by the call that counted it
   pub counted : (name : List ℕ) → tally_noted (all_counted actors) name ≤ all_costs actors name
+  -- so is each that the redundant count has
+  pub redundant : (name : List ℕ) (at : ℕ) → IsHistogram words chain name at → field_at words at 13 ≤ all_costs actors name
   -- each sum, and the difference of any two, is at most 2^31 times what was spent and is held for the histogram, in size
   pub sums : (name : List ℕ) (at : ℕ) (a : ℤ) → IsHistogram words chain name at → IsSum words actors at a
       → unsigned_abs a ≤ 2147483648 * all_costs actors name

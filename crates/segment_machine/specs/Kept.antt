@@ -35,12 +35,12 @@ use Rattle.segment_machine.specs.Form.{is_off, form_of, off_word, units_in}
 use Rattle.segment_machine.specs.Actor.{Buckets, Sparse, log_of, counted_of, word_seen, bucket_key, units_listed, taken_sum, all_counted, all_summed, all_noted, all_taken, all_published, all_given, cost_of, units_of, SawSingle, SawCount}
 use Rattle.segment_machine.specs.Made.{spec_fields, spec_ranges, AreNameWords, SawSample}
 use Rattle.segment_machine.specs.Note.{is_untouched, SawBucket}
-use Rattle.segment_machine.specs.Promises.{accepted_by}
+use Rattle.segment_machine.specs.Promises.{accepted_by, accepted_since}
 use Rattle.segment_machine.specs.Consistent.{units_taken, IsWithinCounts}
 use Rattle.segment_machine.specs.Seats.{spent}
 use Rattle.segment_machine.specs.State.{State}
 use Rattle.segment_machine.specs.Body.{Record, Counts, Sample, Body, held, histogram, sample, other, words_of, is_claimed, Piece, extent_of, Listed, listed, Anatomy, layout_of, order_of, claims_of}
-use Rattle.segment_machine.specs.Ledger.{form_at, key_of_bucket, IsBalanced}
+use Rattle.segment_machine.specs.Ledger.{form_at, key_of_bucket, noted_held, all_held, IsBalanced}
 use Rattle.segment_machine.specs.Seen.{Stands, HasPlain, HasOwn, HasRecord, HasCounts, HasSample, IsFirst, IsFirstOf, Sees}
 
 -- ---- the list
@@ -204,8 +204,8 @@ pub record AreInOrder (running : List Counting) : Type 0 where
   pub summed_next : All (λ c. c.noted ≡ true → is_summed c ≡ true) running
 
 -- A running call holds what its entries cost, of a histogram that its actor knows; in a log all entries have ended, and for each name
--- the units of these, and of those that were there at the opening, are spent; of each
--- entry of a sparse histogram that has units and was counted by its actor, or before it, its actor met the sample.
+-- the units of these are spent, with what the opening has used, which is the units of the first entries, or the redundant count that was
+-- there where that is more; of each entry of a sparse histogram that has units and was counted by its actor, or before it, its actor met the sample.
 pub record CallsRight (anatomy : Anatomy) (a : Actor) : Type 0 where
   pub ordered : AreInOrder a.running
   pub within : a.running ≢ [] → (name : List ℕ) × (cost : ℕ)
@@ -213,7 +213,8 @@ pub record CallsRight (anatomy : Anatomy) (a : Actor) : Type 0 where
       × Contains (map (λ known. known.name) a.names) name
   pub held : length a.held ≤ 1
   pub ended : All (λ c. has_ended c ≡ true) a.log
-  pub spent : (name : List ℕ) → tally_noted (log_of a) name ≤ cost_of a.costs name
+  pub spent : (name : List ℕ)
+      → max (tally_noted a.first name) (cost_of a.first_noted name) + tally_noted (map (λ c. c.entry) a.log) name ≤ cost_of a.costs name
   pub met : (entry : Entry) (of : ℕ) → Contains (a.inherited ++ counted_of a) entry → 0 < entry.units → IsFirst anatomy.records entry.name spec.Sparse of
       → (at : ℕ) × IsFirstOf anatomy.records of entry.key at × Contains a.seen_chain at × SawSample a of entry.key at
   pub taking : a.taking ≡ true → (a.running ≡ []) × ((before : List Taken) × (last : Taken) × (a.taken ≡ before ++ last ∷ []))
@@ -266,7 +267,7 @@ pub record RolesAreKept (actors : List Actor) : Type 0 where
   pub opens : opener.opener ≡ 1
   pub idle : opener.place ≡ Idle
   pub rests : (opener.running ≡ []) × (opener.held ≡ []) × (opener.taking ≡ false) × (opener.inherited ≡ [])
-  pub only : (id : ℕ) (a : Actor) → get_elem? actors id ≡ some a → id ≢ 0 → (a.opener ≡ 0) × (a.first ≡ [])
+  pub only : (id : ℕ) (a : Actor) → get_elem? actors id ≡ some a → id ≢ 0 → (a.opener ≡ 0) × (a.first ≡ []) × (a.first_noted ≡ [])
   pub living : sum_by (λ a. if is_living a then 1 else 0) actors ≡ opener.outstanding
   pub few : opener.outstanding ≤ 256
   pub younger : (id : ℕ) (a : Actor) → get_elem? actors id ≡ some a → is_living a ≡ true → a.made < opener.made
@@ -294,7 +295,7 @@ IsSettled anatomy actors a known bucket =
 -- what had been accepted: packed units that it saw, and counts that it loaded where nothing can be in transit, with the units that
 -- a frozen word keeps. So of a sample, and of redundant counts. Counters that it saw before are no more than those that it sees
 -- now. A sum that one alone has loaded is the sum.
-pub record LooksBack (anatomy : Anatomy) (actors : List Actor) (a : Actor) : Type 0 where
+pub record LooksBack (anatomy : Anatomy) (actors : List Actor) (opener a : Actor) : Type 0 where
   pub most : (known : Known) (bucket total : ℕ) → Contains a.names known → bucket < buckets_of known.spec → SawBucket a known bucket total
       → total ≤ tally_units (all_counted actors) known.name (bucket_key (Some known) bucket)
   pub packed : (known : Known) (bucket word : ℕ) → Contains a.names known → bucket < buckets_of known.spec
@@ -309,7 +310,7 @@ pub record LooksBack (anatomy : Anatomy) (actors : List Actor) (a : Actor) : Typ
   pub rising : (s t : Sighting) → Contains (take a.since_counts a.seen_counts) s → Contains (drop a.since_counts a.seen_counts) t
       → s.at ≡ t.at → s.word ≤ t.word
   pub noted : (known : Known) (count : ℕ) → Contains a.names known → SawCount a (known.reference + 13) count
-      → tally_noted (accepted_by a) known.name ≤ count
+      → cost_of opener.first_noted known.name + tally_noted (accepted_since opener a) known.name ≤ count
   pub sum : (reference : ℕ) (sum : ℤ) (r : Record) → a.place ≡ SumLoaded reference sum → IsAlone actors a
       → HasRecord anatomy.pieces reference r → sum ≡ cast_signed w64 r.sum
 
@@ -348,7 +349,7 @@ pub record FinalsAreExact (actors : List Actor) (opener : Actor) (id : ℕ) (a :
   pub snapshots : (s : Answered) → Contains a.snapshots s → s.moment.outstanding ≡ 0 → s.moment.before + 1 ≡ opener.made
       → IsQuiet a s.name s.moment.log
       → ((key : ℤ) → units_listed s.counts key ≡ tally_units (all_counted actors) s.name key)
-      × (s.sum ≡ tally_sum (all_summed actors) s.name) × (s.redundant ≡ tally_noted (all_noted actors) s.name)
+      × (s.sum ≡ tally_sum (all_summed actors) s.name) × (s.redundant ≡ cost_of opener.first_noted s.name + tally_noted (all_noted actors) s.name)
   pub moments : (m : Moment) → IsMomentOf a m → IsMoment actors opener id a m
   pub swapped : (before : List Taken) (last : Taken) → a.taking ≡ true → a.taken ≡ before ++ last ∷ [] → last.swapped ≡ true → IsAlone actors a
       → taken_sum (all_taken actors) last.name ≡ tally_sum (all_summed actors) last.name
@@ -364,7 +365,7 @@ pub record Fits (shape : Dimensions) (anatomy : Anatomy) (cursors : List ℕ) (a
   pub own : All (HoldsOwn shape anatomy.pieces id) a.own
   pub apart : (i j : ℕ) (x y : Own) → get_elem? a.own i ≡ some x → get_elem? a.own j ≡ some y → x.at ≡ y.at → i ≡ j
   pub calls : CallsRight anatomy a
-  pub looks : a.opener ≡ 0 → LooksBack anatomy actors a
+  pub looks : a.opener ≡ 0 → LooksBack anatomy actors opener a
   pub finals : FinalsAreExact actors opener id a
   pub snapshots : All (IsWithinCounts actors) a.snapshots
 
@@ -413,6 +414,7 @@ pub record Kept (shape : Dimensions) (opened : Anatomy) (state : State) : Type 0
   pub corrupt : IsSetBy anatomy.corrupt opened.corrupt (map (λ a. a.spoiled) state.actors)
   pub full : IsSetBy anatomy.full opened.full (map (λ a. a.filled) state.actors)
   pub roles : RolesAreKept state.actors
+  pub first_noted : (name : List ℕ) → cost_of roles.opener.first_noted name ≡ all_held (noted_held name) opened.pieces
   pub cursors : CursorsAreKept (order_of anatomy) state.cursors state.actors
   pub standing : (id : ℕ) (a : Actor) → get_elem? state.actors id ≡ some a → StandsRight shape anatomy id a a.place
   pub each : (id : ℕ) (a : Actor) → get_elem? state.actors id ≡ some a → a.place ≢ Spent

@@ -1,6 +1,6 @@
 -- What the crates above will promise of every state that is reached. These are statements; docs/DEFINITIONS.md says which of
 -- them are proved.
-use Rattle.std.specs.Prelude.{◌≡◌, ◌≢◌, ◌⊎◌, true, false, ℕ, ◌+◌, ◌<◌, ◌≤◌, ◌==◌, if◌then◌else◌, ℤ, pos, List, [], ◌∷◌, ◌++◌, take, length, slice_set, replicate, slice_index, Some, None}
+use Rattle.std.specs.Prelude.{◌≡◌, ◌≢◌, ◌⊎◌, true, false, ℕ, ◌+◌, ◌<◌, ◌≤◌, ◌==◌, if◌then◌else◌, ℤ, pos, List, [], ◌∷◌, ◌++◌, map, take, drop, length, slice_set, replicate, slice_index, Some, None}
 use mathlib.Core.Option.{some}
 use lib.ListN.{get_elem?}
 use Rattle.std.specs.List.{Contains}
@@ -22,7 +22,7 @@ use Rattle.bucket_ranges.specs.Ranges.{clamped, AreBoundaries, IsBucketOf}
 use Rattle.segment_machine.specs.declared.entry.Entry.{Entry}
 use Rattle.segment_machine.specs.Entry.{key_of, tally_units, tally_sum, tally_noted}
 use Rattle.segment_machine.specs.Form.{is_off, form_of}
-use Rattle.segment_machine.specs.Actor.{Each, has_buckets, bucket_key, log_of, all_counted, all_summed, units_listed, taken_units, taken_sum, transit_of, given_by, IsFinal, SawSingle}
+use Rattle.segment_machine.specs.Actor.{Each, has_buckets, bucket_key, log_of, cost_of, all_counted, all_summed, units_listed, taken_units, taken_sum, transit_of, given_by, IsFinal, SawSingle}
 use Rattle.segment_machine.specs.Made.{SameSpec}
 use Rattle.segment_machine.specs.Note.{TookAll, SawAll}
 use Rattle.segment_machine.specs.Event.{Event, link, spot}
@@ -141,6 +141,11 @@ CursorsKeepOrder = (shape : Dimensions) (version id cursors : ℕ) (state : Stat
 abbrev pub accepted_by : Actor → List Entry
 accepted_by a = a.inherited ++ log_of a
 
+-- what had been accepted since the segment was opened, without the first entries of its opener, which stand in no redundant count
+-- that is kept here
+abbrev pub accepted_since : Actor → Actor → List Entry
+accepted_since opener a = drop (length opener.first) a.inherited ++ map (λ c. c.entry) a.log
+
 -- since its delta or snapshot began, it saw no single word of a histogram that is off
 abbrev pub SawOpen : Actor → Known → Type 0
 SawOpen a known = (word : ℕ) → SawSingle a (known.reference + 9) word → is_off word ≡ false
@@ -168,17 +173,17 @@ DeltasTakeAccepted = (shape : Dimensions) (version id cursors : ℕ) (state : St
     → tally_units (accepted_by a) known.name value ≤ units_taken state.actors known.name value)
 
 -- A snapshot has of each bucket and each value at least as much, in the same way; and its redundant count is at least the units
--- that were accepted.
+-- that were accepted since the opening, beside those that it had there.
 abbrev pub SnapshotsSeeAccepted : Type 0
-SnapshotsSeeAccepted = (shape : Dimensions) (version id cursors : ℕ) (state : State) (who : ℕ) (a : Actor) (known : Known) (answered : Answered)
-    → IsState shape version id cursors state → get_elem? state.actors who ≡ some a → Contains a.names known → SawAll a known answered
+SnapshotsSeeAccepted = (shape : Dimensions) (version id cursors : ℕ) (state : State) (who : ℕ) (opener a : Actor) (known : Known) (answered : Answered)
+    → IsState shape version id cursors state → get_elem? state.actors 0 ≡ some opener → get_elem? state.actors who ≡ some a → Contains a.names known → SawAll a known answered
     → ((i : ℕ) → has_buckets known.spec ≡ true → i < buckets_of known.spec → IsWhole version a known i
     → tally_units (accepted_by a) known.name (bucket_key (Some known) i) ≤ units_listed answered.counts (bucket_key (Some known) i))
     × ((i : ℕ) (s : Sighting) → has_buckets known.spec ≡ true → i < buckets_of known.spec → Contains (take a.since_counts a.seen_counts) s
     → field_at state.words known.reference 8 ≢ 0 → s.at ≡ field_at state.words known.reference 8 + 4 + i
     → s.word ≤ units_listed answered.counts (bucket_key (Some known) i))
     × ((value : ℤ) → known.spec ≡ spec.Sparse → tally_units (accepted_by a) known.name value ≤ units_listed answered.counts value)
-    × (tally_noted (accepted_by a) known.name ≤ answered.redundant)
+    × (cost_of opener.first_noted known.name + tally_noted (accepted_since opener a) known.name ≤ answered.redundant)
 
 -- ---- after the joins
 

@@ -19,6 +19,7 @@ idle shape version cursors free share = record {
   costs = [];
   held = [];
   first = [];
+  first_noted = [];
   inherited = [];
   log = [];
   running = [];

@@ -123,6 +123,9 @@ pub struct Actor {
 
     /// The entries that an adopted image stands for, which are counted and summed. An opener's alone.
     pub first: LinkedList<Entry>,
+    /// The units that the redundant counts of an adopted image had, by histogram: its entries stand in no redundant count that
+    /// is kept here. An opener's alone.
+    pub first_noted: LinkedList<Cost>,
     /// The entries that its opener's log had when it was made: what had been accepted before it. A recorder's alone.
     pub inherited: LinkedList<Entry>,
     /// The entries of ended calls, in order: its log.

@@ -7,7 +7,7 @@ use Rattle.segment_image.specs.Checks.{first_fault}
 use Rattle.segment_image.specs.Blocks.{field_at}
 use Rattle.bucket_ranges.specs.declared.reading.RecordFault.TheVariants.{BadSpec, BadCounts, BadSingle, BadMark, BadSum}
 use Rattle.bucket_ranges.specs.declared.reading.RecordFault.{RecordFault}
-use Rattle.image_reader.specs.Records.{units_checks, checks_behind_name}
+use Rattle.bucket_ranges.specs.Reading.{units_checks, checks_behind_name}
 use Rattle.bucket_ranges.specs.Reading.{is_block, has_counts, has_large, totals_of, total_at, record_single, record_buckets, is_bad_single, is_bad_mark, is_bad_mark_at, is_bad_spec, is_bad_counts, is_bad_sum, sum_of, sum_mark_of}
 use Rattle.image_reader.specs.declared.buckets.Buckets.{Buckets}
 use Rattle.image_reader.specs.Buckets.{AreBucketsAt}

@@ -22,7 +22,7 @@ use Rattle.bucket_ranges.proofs.Earlier.{with_earlier-push}
 use Rattle.image_reader.specs.declared.reading.BadRecord.{BadRecord}
 use Rattle.image_reader.specs.Views.{bad_view}
 use Rattle.image_reader.specs.Samples.{Entry, by_entry_value, sample_entry}
-use Rattle.image_reader.proofs.Lists.{list_any-push}
+use Rattle.image_reader.proofs.Marks.{list_any-push}
 
 -- ---- lists with one more element
 

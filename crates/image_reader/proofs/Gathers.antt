@@ -11,16 +11,17 @@ use Rattle.segment_image.specs.Blocks.{field_at}
 use Rattle.segment_image.specs.declared.head.SegmentHead.{SegmentHead}
 use Rattle.bucket_ranges.specs.declared.reading.RecordFault.{RecordFault}
 use Rattle.bucket_ranges.specs.declared.reading.RecordFault.TheVariants.{BadSample}
-use Rattle.bucket_ranges.specs.Reading.{record_fault, lawful_records, read_records, same_name, is_sparse, is_bad_sample, lawful_samples, first_samples, name_of, bad_record, with_earlier, histogram_of}
+use Rattle.bucket_ranges.specs.Reading.{is_bad_sample_by, record_fault, lawful_records, read_records, same_name, is_sparse, is_bad_sample, lawful_samples, first_samples, name_of, bad_record, with_earlier, histogram_of}
 use Rattle.image_reader.specs.declared.gathering.Gathering.{Gathering}
 use Rattle.image_reader.specs.declared.sample.Samples.{Samples}
-use Rattle.image_reader.specs.Samples.{by_entry_value, sample_entry, held, is_bad_sample_by}
-use Rattle.image_reader.specs.Gathering.{IsGathered, knows}
+use Rattle.image_reader.specs.Samples.{by_entry_value, sample_entry, held}
+use Rattle.image_reader.specs.Names.{holds}
+use Rattle.image_reader.specs.Gathering.{IsGathered}
 use Rattle.image_reader.proofs.Gathered.{unlawful-push, other-push, read-same, read-push, names-push, sparse-push, bad-none, bad-some, fault_behind-histogram, fault_behind-sample, fault_behind-other, samples-same, is_sample-other, is_sample-from, first_samples-push}
 
 -- nothing gathered
 pub IsGathered-none : (words : List ℕ) (head : SegmentHead) (g : Gathering) → g.hists.items ≡ [] → g.bad.items ≡ []
-    → ((name : List ℕ) → knows g name ≡ false) → ((r : ℕ) → get_or g.sparse.items r false ≡ false)
+    → ((name : List ℕ) → holds g.names name ≡ false) → ((r : ℕ) → get_or g.sparse.items r false ≡ false)
     → ((h : ℕ) → held g.samples h ≡ []) → IsGathered words head [] g
 IsGathered-none words head g hists bad names sparse samples = record {
   hists_are = ap (map histogram_view) hists;
@@ -39,16 +40,16 @@ three-one words r e = ap (λ t. t == 1) e
 
 -- whether a name is known is whether a lawful record before has it
 known-is : (words : List ℕ) (head : SegmentHead) (earlier : List ℕ) (g : Gathering) (r : ℕ) (name : List ℕ) (known : Bool)
-    → IsGathered words head earlier g → name ≡ name_of words r → knows g name ≡ known
+    → IsGathered words head earlier g → name ≡ name_of words r → holds g.names name ≡ known
     → list_any (λ x. same_name words x r) (lawful_records words head earlier) ≡ known
 known-is words head earlier g r name known so_far named is =
-    sym (so_far.names_are (name_of words r)) ∙ (ap (knows g) (sym named) ∙ is)
+    sym (so_far.names_are (name_of words r)) ∙ (ap (holds g.names) (sym named) ∙ is)
 
 -- the names with one more
 names-more : (words : List ℕ) (head : SegmentHead) (earlier : List ℕ) (g new : Gathering) (r : ℕ) (name : List ℕ)
     → IsGathered words head earlier g → field_at words r 2 ≡ 1 → record_fault words head r ≡ None → name ≡ name_of words r
-    → ((other : List ℕ) → knows new other ≡ (knows g other || bytes_eq other name))
-    → (other : List ℕ) → knows new other
+    → ((other : List ℕ) → holds new.names other ≡ (holds g.names other || bytes_eq other name))
+    → (other : List ℕ) → holds new.names other
     ≡ list_any (λ reference. bytes_eq other (name_of words reference)) (lawful_records words head (earlier ++ r ∷ []))
 names-more words head earlier g new r name so_far typed none named names other =
     names other
@@ -68,8 +69,8 @@ samples-stay words head earlier r samples other so_far h =
 -- a lawful record whose name is known
 pub IsGathered-known : (words : List ℕ) (head : SegmentHead) (earlier : List ℕ) (g new : Gathering) (r : ℕ) (name : List ℕ)
     → IsGathered words head earlier g → field_at words r 2 ≡ 1 → record_fault words head r ≡ None → name ≡ name_of words r
-    → ((other : List ℕ) → knows new other ≡ (knows g other || bytes_eq other name))
-    → knows g name ≡ true
+    → ((other : List ℕ) → holds new.names other ≡ (holds g.names other || bytes_eq other name))
+    → holds g.names name ≡ true
     → new.hists.items ≡ g.hists.items → new.bad.items ≡ g.bad.items → new.sparse.items ≡ g.sparse.items
     → ((h : ℕ) → held new.samples h ≡ held g.samples h)
     → IsGathered words head (earlier ++ r ∷ []) new
@@ -92,8 +93,8 @@ IsGathered-known words head earlier g new r name so_far typed none named names k
 -- one whose name is new
 pub IsGathered-new : (words : List ℕ) (head : SegmentHead) (earlier : List ℕ) (g new : Gathering) (r : ℕ) (name : List ℕ)
     → IsGathered words head earlier g → field_at words r 2 ≡ 1 → record_fault words head r ≡ None → name ≡ name_of words r
-    → ((other : List ℕ) → knows new other ≡ (knows g other || bytes_eq other name))
-    → knows g name ≡ false
+    → ((other : List ℕ) → holds new.names other ≡ (holds g.names other || bytes_eq other name))
+    → holds g.names name ≡ false
     → map histogram_view new.hists.items ≡ map histogram_view g.hists.items ++ histogram_of words [] r ∷ [] → new.bad.items ≡ g.bad.items
     → ((h : ℕ) → get_or new.sparse.items h false ≡ (get_or g.sparse.items h false || ((r == h) && is_sparse words r)))
     → ((h : ℕ) → held new.samples h ≡ held g.samples h)
@@ -121,7 +122,7 @@ stays : (words : List ℕ) (head : SegmentHead) (earlier : List ℕ) (g new : Ga
     → lawful_records words head (earlier ++ r ∷ []) ≡ lawful_records words head earlier
     → map bad_view new.bad.items ≡ filter_map (bad_record words head) (with_earlier (earlier ++ r ∷ []))
     → lawful_samples words head (earlier ++ r ∷ []) ≡ lawful_samples words head earlier
-    → new.hists.items ≡ g.hists.items → ((name : List ℕ) → knows new name ≡ knows g name)
+    → new.hists.items ≡ g.hists.items → ((name : List ℕ) → holds new.names name ≡ holds g.names name)
     → new.sparse.items ≡ g.sparse.items → ((h : ℕ) → held new.samples h ≡ held g.samples h)
     → IsGathered words head (earlier ++ r ∷ []) new
 stays words head earlier g new r so_far lawful bad none hists names sparse samples =
@@ -140,7 +141,7 @@ stays words head earlier g new r so_far lawful bad none hists names sparse sampl
 pub IsGathered-bad : (words : List ℕ) (head : SegmentHead) (earlier : List ℕ) (g new : Gathering) (r : ℕ) (fault : RecordFault)
     → IsGathered words head earlier g → field_at words r 2 ≡ 1 → record_fault words head r ≡ Some fault
     → new.bad.items ≡ g.bad.items ++ record { reference = r; fault = fault } ∷ []
-    → new.hists.items ≡ g.hists.items → ((name : List ℕ) → knows new name ≡ knows g name)
+    → new.hists.items ≡ g.hists.items → ((name : List ℕ) → holds new.names name ≡ holds g.names name)
     → new.sparse.items ≡ g.sparse.items → ((h : ℕ) → held new.samples h ≡ held g.samples h)
     → IsGathered words head (earlier ++ r ∷ []) new
 IsGathered-bad words head earlier g new r fault so_far typed found bad hists names sparse samples =
@@ -156,7 +157,7 @@ pub IsGathered-bad_sample : (words : List ℕ) (head : SegmentHead) (earlier : L
     → IsGathered words head earlier g → field_at words r 2 ≡ 3
     → is_bad_sample_by words r (get_or g.sparse.items (field_at words r 4) false) ≡ true
     → new.bad.items ≡ g.bad.items ++ record { reference = r; fault = BadSample } ∷ []
-    → new.hists.items ≡ g.hists.items → ((name : List ℕ) → knows new name ≡ knows g name)
+    → new.hists.items ≡ g.hists.items → ((name : List ℕ) → holds new.names name ≡ holds g.names name)
     → new.sparse.items ≡ g.sparse.items → ((h : ℕ) → held new.samples h ≡ held g.samples h)
     → IsGathered words head (earlier ++ r ∷ []) new
 IsGathered-bad_sample words head earlier g new r so_far typed is bad hists names sparse samples =
@@ -187,7 +188,7 @@ pub IsGathered-sample : (words : List ℕ) (head : SegmentHead) (earlier : List 
     → ((h : ℕ) → held new.samples h
     ≡ (if field_at words r 4 == h then insert_key by_entry_value (held g.samples h) (sample_entry words r) else held g.samples h))
     → new.bad.items ≡ g.bad.items → new.hists.items ≡ g.hists.items
-    → ((name : List ℕ) → knows new name ≡ knows g name) → new.sparse.items ≡ g.sparse.items
+    → ((name : List ℕ) → holds new.names name ≡ holds g.names name) → new.sparse.items ≡ g.sparse.items
     → IsGathered words head (earlier ++ r ∷ []) new
 IsGathered-sample words head earlier g new r so_far typed is samples bad hists names sparse =
     let three : (field_at words r 2 == 3) ≡ true = eq-eqb _ 3 typed in

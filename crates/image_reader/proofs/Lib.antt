@@ -1,8 +1,5 @@
 pub mod Headers
-pub mod Looks
-pub mod Lists
-pub mod Places
-pub mod Leads
+pub mod Marks
 pub mod Records
 pub mod Sound
 pub mod SampleMaps
@@ -12,4 +9,3 @@ pub mod NameLengths
 pub mod NameSets
 pub mod Gathered
 pub mod Gathers
-pub mod Prefixes

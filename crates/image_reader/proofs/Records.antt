@@ -11,11 +11,11 @@ use Rattle.segment_image.specs.Blocks.{field_at}
 use Rattle.segment_image.specs.declared.head.SegmentHead.{SegmentHead}
 use Rattle.bucket_ranges.specs.declared.reading.RecordFault.{RecordFault}
 use Rattle.bucket_ranges.specs.declared.reading.RecordFault.TheVariants.{BadKind, BadName, BadSpec, BadCounts, BadSingle, BadMark, BadSum}
-use Rattle.bucket_ranges.specs.Reading.{Histogram, Reading, record_fault, record_single, is_bad_kind, has_name, is_bad_spec, is_bad_counts, has_large, is_bad_single, is_bad_mark, is_bad_sum, sum_of, sum_mark_of}
-use Rattle.image_reader.proofs.Lists.{list_any-push}
+use Rattle.bucket_ranges.specs.Reading.{Histogram, Reading, checks_behind_name, record_fault, record_single, is_bad_kind, has_name, is_bad_spec, is_bad_counts, has_large, is_bad_single, is_bad_mark, is_bad_sum, sum_of, sum_mark_of}
+use Rattle.image_reader.proofs.Marks.{list_any-push}
 use Rattle.image_reader.specs.declared.record.Refusal.{Refusal}
 use Rattle.image_reader.specs.declared.record.Refusal.TheVariants.{Memory, Fault}
-use Rattle.image_reader.specs.Records.{IsRefusedBy, RefusedOnly, checks_behind_name}
+use Rattle.image_reader.specs.Records.{IsRefusedBy, RefusedOnly}
 
 -- where a call of one check is refused, the record is, as far as that check gives the first fault
 pub IsRefusedBy-from_only : (words : List ℕ) (head : SegmentHead) (at : ℕ) (fault : RecordFault) (cause : Type 0)

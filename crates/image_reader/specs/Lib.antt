@@ -8,11 +8,7 @@ pub use Rattle.bucket_ranges.specs.Single
 pub use Rattle.bucket_ranges.specs.Reading
 pub mod Views
 pub mod Samples
-pub mod Look
-pub mod Links
 pub mod Records
 pub mod Buckets
-pub mod Prefix
-pub mod Digest
 pub mod Names
 pub mod Gathering

@@ -1,46 +1,16 @@
 -- The samples that a reader has met.
-use Rattle.std.specs.Prelude.{◌≡◌, Bool, true, not, Option, Some, None, if◌then◌else◌, ◌||◌, ◌==◌, nat_lt, ℕ, ◌≤◌, ℤ, List, All, map}
+use Rattle.std.specs.Prelude.{◌≡◌, Bool, true, not, ◌||◌, ◌==◌, nat_lt, ℕ, ◌<◌, ◌^◌, ℤ, List, All, map}
 use Rattle.std.specs.List.{filter}
 use Rattle.std.specs.declared.cmp.Ordering.{Ordering}
 use Rattle.std.specs.Ordering.{nat_cmp, int_cmp, ordering_then}
 use Rattle.std.specs.List.Sorted.{IsStrictlySortedBy}
 use Rattle.std.specs.Map.{keys_of}
-use Rattle.segment_image.specs.Blocks.{field_at}
-use Rattle.bucket_ranges.specs.Reading.{is_i32, sample_value, first_samples, Histogram}
+use Rattle.bucket_ranges.specs.Reading.{is_i32, sample_histogram, sample_value, sample_count, sample_mark, first_samples, Histogram}
 use Rattle.bucket_ranges.specs.declared.spec.Spec.{Spec}
 use Rattle.bucket_ranges.specs.declared.spec.Spec.TheVariants.{Linear, Boolean, Custom, Sparse}
 use Rattle.image_reader.specs.declared.reading.HistReading.{HistReading}
 use Rattle.image_reader.specs.declared.sample.Sample.{Sample}
 use Rattle.image_reader.specs.declared.sample.Samples.{Samples}
-
--- whether a sample's record is bad, where `known` says whether it names a sparse histogram that is read before it
-abbrev pub is_bad_sample_by : List ℕ → ℕ → Bool → Bool
-is_bad_sample_by words at known =
-    nat_lt (field_at words at 0) 8
-    || not (is_i32 (sample_value words at))
-    || nat_lt 4294967295 (field_at words at 6)
-    || nat_lt (field_at words at 6) (field_at words at 7)
-    || not known
-
--- whether the words of a sample's record alone make it bad: the reference of a histogram has no more than 32 bits
-abbrev pub is_bad_alone : List ℕ → ℕ → Bool
-is_bad_alone words at =
-    nat_lt (field_at words at 0) 8
-    || nat_lt 4294967295 (field_at words at 4)
-    || not (is_i32 (sample_value words at))
-    || nat_lt 4294967295 (field_at words at 6)
-    || nat_lt (field_at words at 6) (field_at words at 7)
-
--- what these words say
-abbrev pub own_sample : List ℕ → ℕ → Option Sample
-own_sample words at =
-    if is_bad_alone words at then None
-    else Some (record {
-      histogram = field_at words at 4;
-      value = sample_value words at;
-      count = field_at words at 6;
-      mark = field_at words at 7;
-    })
 
 -- a histogram and a value, and their count and mark
 abbrev pub Entry : Type 0
@@ -48,7 +18,7 @@ Entry = (ℕ × ℤ) × (ℕ × ℕ)
 
 -- those of the sample's record at a reference
 abbrev pub sample_entry : List ℕ → ℕ → Entry
-sample_entry words at = ((field_at words at 4, sample_value words at), (field_at words at 6, field_at words at 7))
+sample_entry words at = ((sample_histogram words at, sample_value words at), (sample_count words at, sample_mark words at))
 
 -- those that the reader holds of a sample
 abbrev pub entry_of : Sample → Entry
@@ -83,9 +53,9 @@ abbrev pub HoldsSamples : List ℕ → List ℕ → Samples → Type 0
 HoldsSamples words samples reader =
     (histogram : ℕ) → held reader histogram ≡ map (sample_entry words) (first_samples words samples histogram)
 
--- the references of histograms, each of which is one of a segment's words
+-- the references of histograms have no more than 32 bits
 abbrev pub AreNear : List HistReading → Type 0
-AreNear hists = All (λ hist. hist.reference ≤ 1048576) hists
+AreNear hists = All (λ hist. hist.reference < 2 ^ 32) hists
 
 -- of two values the first where a spec is sparse
 abbrev pub if_sparse : {X : Type 0} → Spec → X → X → X

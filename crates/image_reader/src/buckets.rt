@@ -1,27 +1,25 @@
 //! The units of a record's buckets: their counts, the single word, and the marks of what deltas have taken.
 //!
-//! The counts stand from word 4 of their block on, and the marks behind them. The packed bucket, which is the one that
+//! The counts stand first in their block, and the marks behind them. The packed bucket, which is the one that
 //! the single word names, has its mark in the record.
 
-ghost use Rattle.std.specs.Prelude.{◌≡◌, ◌≤◌, ◌<◌, ◌+◌, ◌-◌, ◌||◌, ◌∷◌, [], ℕ, true, false, not, min, Ok, pos, map, length, slice_index, IfOk};
-ghost use Rattle.std.specs.List.{range_with_len};
+ghost use Rattle.std.specs.Prelude.{◌≡◌, ◌≤◌, ◌<◌, ◌+◌, ◌-◌, true, false, min, Ok, length, IfOk};
 ghost use Rattle.segment_image.specs.Checks.{first_fault};
 ghost use Rattle.segment_image.specs.Head.{header_of};
 ghost use Rattle.segment_image.specs.Blocks.{field_at};
 ghost use Rattle.bucket_ranges.specs.Single.{packed_bucket as packed_bucket_of, is_packed_bucket, units_packed as units_packed_of};
-ghost use Rattle.bucket_ranges.specs.Reading.{has_counts as has_counts_of, has_large as has_large_of, is_bad_single as is_bad_single_of, count_at, is_bad_mark_at, is_large_mark_at, record_buckets, total_at, mark_at};
-ghost use Rattle.image_reader.specs.Buckets.{AreBucketsAt, IsRoomFor, bucket_checks};
+ghost use Rattle.bucket_ranges.specs.Reading.{has_counts as has_counts_of, has_large as has_large_of, is_bad_single as is_bad_single_of, bucket_checks, count_at, is_bad_mark_at, is_large_mark_at, record_buckets, total_at, totals_at, mark_at, marks_at, bucket_counts_at};
+ghost use Rattle.image_reader.specs.Buckets.{AreBucketsAt, IsRoomFor};
 
+use bucket_ranges::limits::{MAX_BUCKETS, MAX_PACKED, MAX_UNITS};
 use bucket_ranges::reading::RecordFault;
 use bucket_ranges::{Ranges, SingleWord};
+use segment_image::layout::{
+    BLOCK_HEADER, HISTOGRAM_BUCKETS, HISTOGRAM_COUNTS, HISTOGRAM_LEAST, HISTOGRAM_SINGLE,
+    HISTOGRAM_SINGLE_MARK, TYPE_COUNTS,
+};
 use segment_image::{SegmentHead, block};
 use std::alloc::{AllocError, Global};
-
-const COUNTS_TAG: u64 = 2;
-
-const MAX_TOTAL: u64 = 4_294_967_295;
-
-const MAX_PACKED: u64 = 65_535;
 
 /// Where the units of a record's buckets stand, and their marks.
 #[derive(Clone, Copy, Debug)]
@@ -39,17 +37,17 @@ pub(crate) struct Buckets {
 impl Buckets {
     /// Those of the record at `at`, which names a lawful spec with buckets.
     pub(crate) fn at(words: &[u64], at: usize) -> Buckets
-        requires within { at + 16 ≤ length words.now }
-        requires buckets { record_buckets words.now at ≡ field_at words.now at 7 }
-        requires few { field_at words.now at 7 ≤ 1000 }
+        requires within { at + HISTOGRAM_LEAST ≤ length words.now }
+        requires buckets { record_buckets words.now at ≡ field_at words.now at HISTOGRAM_BUCKETS }
+        requires few { field_at words.now at HISTOGRAM_BUCKETS ≤ MAX_BUCKETS }
         ensures { AreBucketsAt words.now at result }
     {
-        let number = words[at + 7] as usize;
+        let number = words[at + HISTOGRAM_BUCKETS] as usize;
         Buckets {
             number,
-            counts: words[at + 8] as usize,
-            single: SingleWord::of(words[at + 9], number),
-            single_mark: words[at + 10],
+            counts: words[at + HISTOGRAM_COUNTS] as usize,
+            single: SingleWord::of(words[at + HISTOGRAM_SINGLE], number),
+            single_mark: words[at + HISTOGRAM_SINGLE_MARK],
         }
     }
 }
@@ -88,7 +86,8 @@ fn has_counts(words: &[u64], head: &SegmentHead, at: usize, buckets: &Buckets) -
         return true;
     }
     match block(words, head, buckets.counts as u64) {
-        Ok(found) => found.tag == COUNTS_TAG && found.size >= (4 + 2 * buckets.number) as u64,
+        Ok(found) => found.tag == TYPE_COUNTS
+            && found.size >= (BLOCK_HEADER + 2 * buckets.number) as u64,
         Err(_) => false,
     }
 }
@@ -102,7 +101,7 @@ fn count(words: &[u64], buckets: &Buckets, bucket: usize) -> u64
     if buckets.counts == 0 {
         0
     } else {
-        words[buckets.counts + (4 + bucket)]
+        words[buckets.counts + (BLOCK_HEADER + bucket)]
     }
 }
 
@@ -133,10 +132,10 @@ fn total(words: &[u64], buckets: &Buckets, bucket: usize) -> u64
 // Whether a total is above 2^32 - 1.
 fn has_large(words: &[u64], buckets: &Buckets) -> bool
     requires { IsRoomFor words.now buckets.now }
-    ensures { result ≡ has_large_of (map (total_at words.now buckets.now.counts buckets.now.single) (range_with_len 0 buckets.now.number)) }
+    ensures { result ≡ has_large_of (totals_at words.now buckets.now.counts buckets.now.single buckets.now.number) }
 {
     for bucket in 0..buckets.number {
-        if total(words, buckets, bucket) > MAX_TOTAL {
+        if total(words, buckets, bucket) > MAX_UNITS {
             return true;
         }
     }
@@ -185,7 +184,7 @@ fn mark(words: &[u64], buckets: &Buckets, bucket: usize) -> u64
     } else if buckets.counts == 0 {
         0
     } else {
-        words[buckets.counts + (4 + buckets.number + bucket)]
+        words[buckets.counts + (BLOCK_HEADER + buckets.number + bucket)]
     }
 }
 
@@ -225,8 +224,8 @@ pub(crate) fn counts_of(
 ) -> Result<Vec<(i32, u64)>, AllocError>
     requires room { IsRoomFor words.now buckets.now }
     requires ranges { length ranges.now - 1 ≡ buckets.now.number }
-    requires small { has_large_of (map (total_at words.now buckets.now.counts buckets.now.single) (range_with_len 0 buckets.now.number)) ≡ false }
-    ensures { IfOk result (λ counts. counts.items ≡ map (λ i. (pos (slice_index ranges.now i), total_at words.now buckets.now.counts buckets.now.single i)) (range_with_len 0 buckets.now.number)) }
+    requires small { has_large_of (totals_at words.now buckets.now.counts buckets.now.single buckets.now.number) ≡ false }
+    ensures { IfOk result (λ counts. counts.items ≡ bucket_counts_at ranges.now words.now buckets.now.counts buckets.now.single buckets.now.number) }
 {
     let mut counts = Vec::with_capacity(alloc, buckets.number)?;
     for bucket in 0..buckets.number {
@@ -242,7 +241,7 @@ pub(crate) fn marks_of(
     buckets: &Buckets,
 ) -> Result<Vec<u64>, AllocError>
     requires { IsRoomFor words.now buckets.now }
-    ensures { IfOk result (λ marks. marks.items ≡ map (mark_at words.now buckets.now.counts buckets.now.number buckets.now.single buckets.now.single_mark) (range_with_len 0 buckets.now.number)) }
+    ensures { IfOk result (λ marks. marks.items ≡ marks_at words.now buckets.now.counts buckets.now.number buckets.now.single buckets.now.single_mark) }
 {
     let mut marks = Vec::with_capacity(alloc, buckets.number)?;
     for bucket in 0..buckets.number {

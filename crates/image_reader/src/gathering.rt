@@ -1,25 +1,22 @@
 //! What a reader gathers along the list of records.
 
-ghost use Rattle.std.specs.Prelude.{◌≡◌, ◌+◌, ◌≤◌, ◌++◌, [], ◌∷◌, List, ℕ, Ok, None, true, length, IfOk, OnOk};
+ghost use Rattle.std.specs.Prelude.{◌≡◌, ◌+◌, ◌<◌, ◌≤◌, ◌++◌, [], ◌∷◌, List, ℕ, Ok, None, true, length, IfOk, OnOk};
 ghost use Rattle.segment_image.specs.Head.{header_of};
 ghost use Rattle.segment_image.specs.Blocks.{field_at};
-ghost use Rattle.std.specs.List.{list_all};
-ghost use Rattle.bucket_ranges.specs.Reading.{is_block, is_name_byte, name_of, record_fault};
-ghost use Rattle.image_reader.specs.Look.{look_of, name_len_of};
-ghost use Rattle.image_reader.specs.Samples.{own_sample};
+ghost use Rattle.bucket_ranges.specs.Reading.{is_block, name_of, record_fault};
 ghost use Rattle.image_reader.specs.Gathering.{IsGathered, IsReady};
 
 use crate::histogram::histogram;
-use crate::look::Look;
 use crate::names::Names;
 use crate::reading::{BadRecord, HistReading};
 use crate::record::{Refusal, check_record};
-use crate::sample::{Sample, Samples};
+use crate::sample::{Samples, sample_at};
 use bucket_ranges::reading::RecordFault;
 use segment_image::SegmentHead;
+use segment_image::layout::{
+    BLOCK_LEAST, BLOCK_SIZE, BLOCK_TYPE, HISTOGRAM_KIND, KIND_SPARSE, TYPE_HISTOGRAM, TYPE_SAMPLE,
+};
 use std::alloc::{AllocError, Global};
-
-const SPARSE: u64 = 4;
 
 /// What the records of a list say, as far as they were gathered.
 #[derive(Drop)]
@@ -55,50 +52,44 @@ impl Gathering {
         })
     }
 
-    /// Gathers what the record at a reference says, which stands behind those so far, and of which a look told `look`.
+    /// Gathers what the record at a reference says, which stands behind those so far.
     pub(crate) fn add(
         &mut self,
         alloc: Global,
         words: &[u64],
         head: &SegmentHead,
         reference: u64,
-        look: Look,
     ) -> Result<(), AllocError>
         requires header { header_of words.now ≡ Ok head.now }
         requires block { is_block words.now head.now reference ≡ true }
-        requires look { look ≡ look_of words.now reference }
         requires ready { IsReady words.now self.old }
         ensures gathered { OnOk result ((earlier : List ℕ) → IsGathered words.now head.now earlier self.old → IsGathered words.now head.now (earlier ++ reference ∷ []) self.new) }
         ensures ready { OnOk result (IsReady words.now self.new) }
     {
-        match look {
-            Look::Histogram(name_len) => {
-                self.add_histogram(alloc, words, head, reference, name_len)
-            }
-            Look::Sample(sample) => self.add_sample(words, head, reference, sample),
-            Look::Other => Ok(()),
+        match words[reference as usize + BLOCK_TYPE] {
+            TYPE_HISTOGRAM => self.add_histogram(alloc, words, head, reference),
+            TYPE_SAMPLE => self.add_sample(words, head, reference),
+            _ => Ok(()),
         }
     }
 
-    // Gathers a histogram's record, which says that its name has so many bytes.
+    // Gathers a histogram's record.
     fn add_histogram(
         &mut self,
         alloc: Global,
         words: &[u64],
         head: &SegmentHead,
         reference: u64,
-        name_len: u64,
     ) -> Result<(), AllocError>
         requires header { header_of words.now ≡ Ok head.now }
-        requires tag { field_at words.now reference 2 ≡ 1 }
-        requires name_len { name_len ≡ name_len_of words.now reference }
-        requires least { 5 ≤ field_at words.now reference 0 }
-        requires within { reference + field_at words.now reference 0 ≤ length words.now }
+        requires tag { field_at words.now reference BLOCK_TYPE ≡ TYPE_HISTOGRAM }
+        requires least { BLOCK_LEAST ≤ field_at words.now reference BLOCK_SIZE }
+        requires within { reference + field_at words.now reference BLOCK_SIZE ≤ length words.now }
         requires ready { IsReady words.now self.old }
         ensures gathered { OnOk result ((earlier : List ℕ) → IsGathered words.now head.now earlier self.old → IsGathered words.now head.now (earlier ++ reference ∷ []) self.new) }
         ensures ready { OnOk result (IsReady words.now self.new) }
     {
-        match check_record(alloc, words, head, reference as usize, name_len) {
+        match check_record(alloc, words, head, reference as usize) {
             Ok(name) => self.keep(alloc, words, head, reference, name),
             Err(Refusal::Fault(fault)) => {
                 self.bad.push(BadRecord { reference, fault })?;
@@ -118,49 +109,47 @@ impl Gathering {
         name: Vec<u8>,
     ) -> Result<(), AllocError>
         requires header { header_of words.now ≡ Ok head.now }
-        requires tag { field_at words.now reference 2 ≡ 1 }
-        requires within { reference + field_at words.now reference 0 ≤ length words.now }
+        requires tag { field_at words.now reference BLOCK_TYPE ≡ TYPE_HISTOGRAM }
+        requires within { reference + field_at words.now reference BLOCK_SIZE ≤ length words.now }
         requires lawful { record_fault words.now head.now reference ≡ None }
         requires name { name.items ≡ name_of words.now reference }
-        requires bytes { list_all is_name_byte name.items ≡ true }
+        requires bytes { 0 < length name.items }
         requires ready { IsReady words.now self.old }
         ensures gathered { OnOk result ((earlier : List ℕ) → IsGathered words.now head.now earlier self.old → IsGathered words.now head.now (earlier ++ reference ∷ []) self.new) }
         ensures ready { OnOk result (IsReady words.now self.new) }
     {
-        if !self.names.insert(alloc, &name, &self.hists)? {
+        if !self.names.insert(alloc, &name)? {
             return Ok(());
         }
         let at = reference as usize;
         self.hists.push(histogram(alloc, words, head, at, name)?)?;
-        if words[at + 4] == SPARSE {
+        if words[at + HISTOGRAM_KIND] == KIND_SPARSE {
             self.sparse[at] = true;
         }
         Ok(())
     }
 
-    // Gathers a sample's record, whose own words say this.
+    // Gathers a sample's record.
     fn add_sample(
         &mut self,
         words: &[u64],
         head: &SegmentHead,
         reference: u64,
-        sample: Option<Sample>,
     ) -> Result<(), AllocError>
         requires header { header_of words.now ≡ Ok head.now }
-        requires tag { field_at words.now reference 2 ≡ 3 }
-        requires sample { sample ≡ own_sample words.now reference }
+        requires tag { field_at words.now reference BLOCK_TYPE ≡ TYPE_SAMPLE }
+        requires least { BLOCK_LEAST ≤ field_at words.now reference BLOCK_SIZE }
+        requires within { reference + field_at words.now reference BLOCK_SIZE ≤ length words.now }
         requires ready { IsReady words.now self.old }
         ensures gathered { OnOk result ((earlier : List ℕ) → IsGathered words.now head.now earlier self.old → IsGathered words.now head.now (earlier ++ reference ∷ []) self.new) }
         ensures ready { OnOk result (IsReady words.now self.new) }
     {
-        if let Some(sample) = sample {
-            if sample.is_of(&self.sparse) {
-                self.samples.insert(&sample)?;
-                return Ok(());
-            }
-        }
-        let fault = RecordFault::BadSample;
-        self.bad.push(BadRecord { reference, fault })?;
+        let Some(sample) = sample_at(words, reference as usize, &self.sparse) else {
+            let fault = RecordFault::BadSample;
+            self.bad.push(BadRecord { reference, fault })?;
+            return Ok(());
+        };
+        self.samples.insert(&sample)?;
         Ok(())
     }
 }

@@ -1,8 +1,10 @@
 //! What a record of a histogram without a fault reads as.
 
-ghost use Rattle.std.specs.Prelude.{◌≡◌, ◌≤◌, ◌+◌, [], None, Ok, ◌≢◌, length, map, IfOk, OnOk};
+ghost use Rattle.std.specs.Prelude.{◌≡◌, ◌<◌, ◌≤◌, ◌+◌, ◌-◌, ◌^◌, [], None, Ok, ◌≢◌, length, map, IfOk, OnOk};
 ghost use Rattle.segment_image.specs.Head.{header_of};
 ghost use Rattle.segment_image.specs.Blocks.{field_at};
+ghost use Rattle.bucket_ranges.specs.Ranges.{boundaries_of};
+ghost use Rattle.bucket_ranges.specs.Spec.{spec_fault, buckets_of};
 ghost use Rattle.bucket_ranges.specs.Reading.{record_fault, histogram_of, name_of, bucket_counts, bucket_marks, spec_of};
 ghost use Rattle.image_reader.specs.Views.{histogram_view};
 ghost use Rattle.image_reader.specs.Samples.{AreNear, AreSamples, with_samples};
@@ -11,11 +13,12 @@ use crate::buckets::{Buckets, counts_of, marks_of};
 use crate::reading::HistReading;
 use crate::sample::Samples;
 use crate::spec::spec_at;
-use bucket_ranges::{Ranges, Spec};
+use bucket_ranges::{Ranges, Spec, SpecFault};
 use segment_image::SegmentHead;
+use segment_image::layout::{
+    BLOCK_SIZE, HISTOGRAM_KIND, HISTOGRAM_REDUNDANT, HISTOGRAM_SUM, HISTOGRAM_SUM_MARK, KIND_SPARSE,
+};
 use std::alloc::{AllocError, Global};
-
-const SPARSE: u64 = 4;
 
 /// The histogram of the record in a block at `at`, which has no fault, and whose name is `name`. A sparse one has no
 /// counts yet.
@@ -28,12 +31,12 @@ pub(crate) fn histogram(
 ) -> Result<HistReading, AllocError>
     requires header { header_of words.now ≡ Ok head.now }
     requires lawful { record_fault words.now head.now at ≡ None }
-    requires within { at + field_at words.now at 0 ≤ length words.now }
+    requires within { at + field_at words.now at BLOCK_SIZE ≤ length words.now }
     requires name { name.items ≡ name_of words.now at }
     ensures { IfOk result (λ hist. histogram_view hist ≡ histogram_of words.now [] at) }
 {
     let spec = spec_at(alloc, words, at)?;
-    let (counts, marks) = if words[at + 4] == SPARSE {
+    let (counts, marks) = if words[at + HISTOGRAM_KIND] == KIND_SPARSE {
         (Vec::new(alloc), Vec::new(alloc))
     } else {
         bucket_lists(alloc, words, head, at, &spec)?
@@ -44,10 +47,25 @@ pub(crate) fn histogram(
         spec,
         counts,
         marks,
-        sum: words[at + 11].cast_signed(),
-        sum_mark: words[at + 12].cast_signed(),
-        redundant: words[at + 13],
+        sum: words[at + HISTOGRAM_SUM].cast_signed(),
+        sum_mark: words[at + HISTOGRAM_SUM_MARK].cast_signed(),
+        redundant: words[at + HISTOGRAM_REDUNDANT],
     })
+}
+
+// The ranges of a lawful spec, which can only want memory.
+fn ranges_of(alloc: Global, spec: &Spec) -> Result<Ranges, AllocError>
+    requires { spec_fault spec.now ≡ None }
+    ensures value { IfOk result (λ ranges. ranges ≡ boundaries_of spec.now) }
+    ensures buckets { IfOk result (λ ranges. length ranges - 1 ≡ buckets_of spec.now) }
+{
+    match Ranges::of(alloc, spec) {
+        Ok(ranges) => Ok(ranges),
+        Err(fault) => match fault {
+            SpecFault::NoMemory => Err(AllocError),
+            _ => unreachable!(),
+        },
+    }
 }
 
 // The totals of the buckets of a record without a fault, and their marks.
@@ -60,15 +78,13 @@ fn bucket_lists(
 ) -> Result<(Vec<(i32, u64)>, Vec<u64>), AllocError>
     requires header { header_of words.now ≡ Ok head.now }
     requires lawful { record_fault words.now head.now at ≡ None }
-    requires within { at + field_at words.now at 0 ≤ length words.now }
-    requires kind { field_at words.now at 4 ≢ 4 }
+    requires within { at + field_at words.now at BLOCK_SIZE ≤ length words.now }
+    requires kind { field_at words.now at HISTOGRAM_KIND ≢ KIND_SPARSE }
     requires spec { spec.now ≡ spec_of words.now at }
     ensures { IfOk result (λ lists. (lists.0.items ≡ bucket_counts words.now at) × (lists.1.items ≡ bucket_marks words.now at)) }
 {
     let buckets = Buckets::at(words, at);
-    let Ok(ranges) = Ranges::of(alloc, spec) else {
-        return Err(AllocError);
-    };
+    let ranges = ranges_of(alloc, spec)?;
     let counts = counts_of(alloc, words, &buckets, &ranges)?;
     Ok((counts, marks_of(alloc, words, &buckets)?))
 }
@@ -76,7 +92,7 @@ fn bucket_lists(
 // Gives a sparse histogram, which has no counts yet, those of its samples.
 fn give(alloc: Global, hist: &mut HistReading, samples: &Samples) -> Result<(), AllocError>
     requires are { AreSamples samples.now }
-    requires near { hist.old.reference ≤ 1048576 }
+    requires near { hist.old.reference < 2 ^ 32 }
     ensures { OnOk result (histogram_view hist.new ≡ with_samples samples.now (histogram_view hist.old)) }
 {
     if let Spec::Sparse = hist.spec {

@@ -3,18 +3,15 @@
 //! A reading is exactly what the definition in `bucket_ranges`, `specs/Reading.antt`, gives of the words: of each
 //! name the first lawful histogram of the list, with the samples of those that are sparse, each record that has a
 //! fault, and why the list goes no further. The reader takes time that is linear in the words and in the buckets that
-//! it reads, up to a logarithm for names and samples: a list that ascends in memory is walked by its references, any
-//! other by the numbers of the image's lawful blocks, where a block that was met is marked; a sparse histogram that is
-//! read is marked in one truth value a word, names are found by numbers in an ordered set and an ordered map, and samples
-//! are kept in an ordered map. A list of buckets is made only of a record without a fault, and only of the first of its
-//! name.
+//! it reads, up to a logarithm for names and samples: a reference that was met and a sparse histogram that is read are
+//! marked in one truth value a word each, names are kept in an ordered set, and samples in an ordered map. A list of
+//! buckets is made only of a record without a fault, and only of the first of its name. Memory is wanted only where a
+//! growth was refused.
 #![tactic(auto)]
 
 mod buckets;
 mod gathering;
 mod histogram;
-mod links;
-mod look;
 mod name;
 mod names;
 mod reader;
@@ -27,6 +24,5 @@ mod tests;
 mod walk;
 
 pub use bucket_ranges::reading::RecordFault;
-pub use names::{name_digest, name_prefix};
 pub use reader::read;
 pub use reading::{BadRecord, HistReading, Reading};

@@ -1,20 +1,19 @@
 //! The samples of sparse histograms.
-//!
-//! The words of a sample's record, counted from the first of its block: 4 is the reference of its histogram's record, 5
-//! the value, 6 the count and 7 the mark.
 
-ghost use Rattle.std.specs.Prelude.{◌≡◌, ◌≤◌, ◌+◌, [], true, false, if◌then◌else◌, ◌==◌, get_or, ℕ, All, map, length, IfOk, OnOk, MatchOption};
+ghost use Rattle.std.specs.Prelude.{◌≡◌, ◌<◌, ◌≤◌, ◌+◌, ◌^◌, [], true, false, if◌then◌else◌, ◌==◌, get_or, ℕ, map, length, IfOk, OnOk, MatchOption};
 ghost use Rattle.std.specs.BTreeSet.{insert_key};
 ghost use Rattle.segment_image.specs.Blocks.{field_at};
-ghost use Rattle.bucket_ranges.specs.Reading.{is_i32};
-ghost use Rattle.image_reader.specs.Samples.{Entry, by_entry_value, own_sample, entry_of, held, AreSamples, entry_count, entry_mark};
+ghost use Rattle.bucket_ranges.specs.Reading.{is_i32, is_bad_sample_by, sample_histogram};
+ghost use Rattle.image_reader.specs.Samples.{Entry, by_entry_value, sample_entry, entry_of, held, AreSamples, entry_count, entry_mark};
 
+use segment_image::layout::{
+    BLOCK_LEAST, BLOCK_SIZE, SAMPLE_COUNT, SAMPLE_HISTOGRAM, SAMPLE_LEAST, SAMPLE_MARK,
+    SAMPLE_VALUE,
+};
 use std::alloc::{AllocError, Global};
 use std::collections::BTreeMap;
 
-const MIN_SIZE: u64 = 8;
-
-/// What the record of a sample says. It has 16 bytes, so that many of them stay in a core's cache.
+/// What the record of a sample says.
 #[derive(Clone, Copy, Debug)]
 pub(crate) struct Sample {
     /// The reference of its histogram's record.
@@ -24,38 +23,40 @@ pub(crate) struct Sample {
     mark: u32,
 }
 
-/// What the record of a sample in a block at `at` says, or nothing where its own words are not those of a sample.
-pub(crate) fn sample_at(words: &[u64], at: usize) -> Option<Sample>
-    requires least { 5 ≤ field_at words.now at 0 }
-    requires within { at + field_at words.now at 0 ≤ length words.now }
-    ensures { result ≡ own_sample words.now at }
+/// The sample of the record in a block at `at`, or nothing where the record is bad. Of each word `sparse` says whether
+/// a sparse histogram is read there.
+pub(crate) fn sample_at(words: &[u64], at: usize, sparse: &[bool]) -> Option<Sample>
+    requires least { BLOCK_LEAST ≤ field_at words.now at BLOCK_SIZE }
+    requires within { at + field_at words.now at BLOCK_SIZE ≤ length words.now }
+    requires few { length sparse.now < 2 ^ 32 }
+    ensures { MatchOption result
+        (is_bad_sample_by words.now at (get_or sparse.now (sample_histogram words.now at) false) ≡ true)
+        (λ sample. (is_bad_sample_by words.now at (get_or sparse.now (sample_histogram words.now at) false) ≡ false) × (entry_of sample ≡ sample_entry words.now at)) }
 {
-    if words[at] < MIN_SIZE {
+    if words[at + BLOCK_SIZE] < SAMPLE_LEAST as u64 {
         return None;
     }
-    let histogram = u32::try_from(words[at + 4]).ok()?;
-    let value = i32::try_from(words[at + 5].cast_signed()).ok()?;
-    let count = u32::try_from(words[at + 6]).ok()?;
-    let mark = u32::try_from(words[at + 7]).ok()?;
-    if mark > count {
+    let histogram = words[at + SAMPLE_HISTOGRAM];
+    let value = i32::try_from(words[at + SAMPLE_VALUE].cast_signed()).ok()?;
+    let count = u32::try_from(words[at + SAMPLE_COUNT]).ok()?;
+    let mark = u32::try_from(words[at + SAMPLE_MARK]).ok()?;
+    if mark > count || !is_marked(sparse, histogram) {
         return None;
     }
     Some(Sample {
-        histogram,
+        histogram: histogram as u32,
         value,
         count,
         mark,
     })
 }
 
-impl Sample {
-    /// Whether its histogram is one that is read. Of each word `sparse` says whether a sparse histogram is read there.
-    pub(crate) fn is_of(&self, sparse: &[bool]) -> bool
-        ensures { result ≡ get_or sparse.now self.now.histogram false }
-    {
-        let at = self.histogram as usize;
-        at < sparse.len() && sparse[at]
-    }
+fn is_marked(marks: &[bool], reference: u64) -> bool
+    ensures value { result ≡ get_or marks.now reference false }
+    ensures within { result ≡ true → reference < length marks.now }
+{
+    let at = reference as usize;
+    at < marks.len() && marks[at]
 }
 
 /// The samples that a reader has met, in an ordered map: the count and the mark of each value of each histogram.

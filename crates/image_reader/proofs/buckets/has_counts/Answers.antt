@@ -5,8 +5,8 @@ use Rattle.image_reader.proofs.Headers.{block_extent, is_block-from_fault}
 use Rattle.image_reader.proofs.BucketChecks.{has_counts-none}
 use Rattle.image_reader.proofs.buckets.has_counts.Goals as goal
 
-pub returns-then-found-eq-COUNTS_TAG-clause-room : goal.returns-then-found-eq-COUNTS_TAG-clause-room
-returns-then-found-eq-COUNTS_TAG-clause-room c long some =
+pub returns-then-found-eq-TYPE_COUNTS-clause-room : goal.returns-then-found-eq-TYPE_COUNTS-clause-room
+returns-then-found-eq-TYPE_COUNTS-clause-room c long some =
     let lies = block_extent c.args.words.now c.args.head.now c.args.buckets.now.counts c.in-Ok.found c.requires.header
     (sym c.block.ensures ∙ c.in-Ok.is) in
     let enough : 4 + 2 * c.args.buckets.now.number ≤ c.in-Ok.found.size = leb-true _ _ long in

@@ -3,7 +3,7 @@ use Rattle.std.proofs.Common.{◌≡◌, None, ap, ◌∙◌}
 use Rattle.bucket_ranges.specs.Reading.{spec_of}
 use Rattle.bucket_ranges.specs.Ranges.{boundaries_of}
 use Rattle.bucket_ranges.specs.Spec.{spec_fault}
-use Rattle.image_reader.proofs.Sound.{IsReadable-from_none, HasBuckets-from_none, match-none, counts-read, marks-read, room-read, small-read}
+use Rattle.image_reader.proofs.Sound.{IsReadable-from_none, HasBuckets-from_none, counts-read, marks-read, room-read, small-read}
 use Rattle.image_reader.proofs.histogram.bucket_lists.Goals as goal
 
 pub at-buckets-requires-clause-buckets : goal.at-buckets-requires-clause-buckets
@@ -27,12 +27,14 @@ marks_of-requires c =
     room-read c.args.words.now c.args.at c.at-buckets.result c.at-buckets.ensures
     (HasBuckets-from_none c.args.words.now c.args.head.now c.args.at c.requires.header c.requires.lawful c.requires.kind)
 
+pub ranges_of-requires : goal.ranges_of-requires
+ranges_of-requires c =
+    ap spec_fault c.requires.spec ∙ (IsReadable-from_none c.args.words.now c.args.head.now c.args.at c.requires.lawful).lawful
+
 pub returns : goal.returns
 returns c =
-    let none : spec_fault c.args.spec.now ≡ None =
-    ap spec_fault c.requires.spec ∙ (IsReadable-from_none c.args.words.now c.args.head.now c.args.at c.requires.lawful).lawful in
-    let ranges : c.in-Ok.ranges ≡ boundaries_of (spec_of c.args.words.now c.args.at) =
-    match-none _ _ (spec_fault c.args.spec.now) none c.in-Ok.ensures.boundaries ∙ ap boundaries_of c.requires.spec in (
-      c.in_ok-counts.ensures ∙ counts-read c.args.words.now c.args.at c.at-buckets.result c.in-Ok.ranges c.at-buckets.ensures ranges,
+    let ranges : c.in_ok-ranges.ranges ≡ boundaries_of (spec_of c.args.words.now c.args.at) =
+    c.in_ok-ranges.ensures.value ∙ ap boundaries_of c.requires.spec in (
+      c.in_ok-counts.ensures ∙ counts-read c.args.words.now c.args.at c.at-buckets.result c.in_ok-ranges.ranges c.at-buckets.ensures ranges,
       c.in_ok-marks_of.ensures ∙ marks-read c.args.words.now c.args.at c.at-buckets.result c.at-buckets.ensures,
     )

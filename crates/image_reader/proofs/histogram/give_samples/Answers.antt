@@ -1,5 +1,5 @@
 -- One more histogram has its samples.
-use Rattle.std.proofs.Common.{◌≡◌, ℕ, ◌<◌, List, ◌≤◌, ◌-◌, length, map, take, drop, get_or, set, arith, ap, sym, ◌∙◌}
+use Rattle.std.proofs.Common.{◌≡◌, ℕ, ◌^◌, ◌<◌, List, ◌≤◌, ◌-◌, length, map, take, drop, get_or, set, arith, ap, sym, ◌∙◌}
 use Rattle.std.proofs.lemmas.List.{get_or-append_right, get_or-drop, get_or-map, length-map, length-take-le, map-set}
 use Rattle.std.proofs.lemmas.List.Elements.{All-get_or}
 use Rattle.std.proofs.lemmas.List.Edits.{map_over_more}
@@ -32,7 +32,7 @@ give-requires-clause-near c =
     omega (
       arith,
       ap (λ (h : Histogram). h.reference) same,
-      All-get_or (λ (h : HistReading). h.reference ≤ 1048576) initial at hist c.loop-hist-test.true c.requires.near,
+      All-get_or (λ (h : HistReading). h.reference < 2 ^ 32) initial at hist c.loop-hist-test.true c.requires.near,
     )
 
 pub loop-hist-preserved : goal.loop-hist-preserved

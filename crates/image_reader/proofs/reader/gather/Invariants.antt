@@ -1,10 +1,10 @@
-use Rattle.std.proofs.Common.{◌≡◌, ℕ, List, ◌++◌}
+use Rattle.std.proofs.Common.{take}
 use Rattle.image_reader.specs.Gathering.{IsGathered, IsReady}
-use Rattle.image_reader.specs.Look.{AreTyped}
 use Rattle.image_reader.proofs.reader.gather.Given as goal
 
--- the records before the rest are gathered, and the types of the rest are known
-abbrev pub invariant-loop-batch : goal.invariant-loop-batch
-invariant-loop-batch l = (done : List ℕ) × (l.references ≡ done ++ l.batch-iterator.rest.now)
-    × IsGathered l.words l.head done l.gathering × IsReady l.words l.gathering
-    × AreTyped l.words l.batch-iterator.rest.now l.rest
+-- the records so far are gathered
+abbrev pub invariant-loop-reference : goal.invariant-loop-reference
+invariant-loop-reference l = record {
+  gathered : IsGathered l.words l.head (take l.reference-index l.references) l.gathering;
+  ready : IsReady l.words l.gathering;
+}

@@ -15,8 +15,8 @@ returns-in-Some c =
 
 pub returns-then-is_bad_sum : goal.returns-then-is_bad_sum
 returns-then-is_bad_sum c =
-    let sum : to_z w64 (of_z w64 c.cast_signed.result) ≡ sum_of c.args.words.now c.args.at = grind (arith, to_z-of_z) in
-    let mark : to_z w64 (of_z w64 c.cast_signed-2.result) ≡ sum_mark_of c.args.words.now c.args.at = grind (arith, to_z-of_z) in
+    let sum : to_z w64 (of_z w64 c.cast_signed-sum.result) ≡ sum_of c.args.words.now c.args.at = grind (arith, to_z-of_z) in
+    let mark : to_z w64 (of_z w64 c.cast_signed-mark.result) ≡ sum_mark_of c.args.words.now c.args.at = grind (arith, to_z-of_z) in
     sym (fault_of-sum c.args.words.now c.args.head.now c.args.at true
     (ap (λ p. is_bad_spec c.args.words.now p c.args.at) (sym c.page.ensures.value) ∙ (sym c.is_bad_spec.ensures.value ∙ c.if-is_bad_spec.false))
     (sym c.units_fault.ensures ∙ c.in_default.is)
@@ -24,8 +24,8 @@ returns-then-is_bad_sum c =
 
 pub returns : goal.returns
 returns c =
-    let sum : to_z w64 (of_z w64 c.cast_signed.result) ≡ sum_of c.args.words.now c.args.at = grind (arith, to_z-of_z) in
-    let mark : to_z w64 (of_z w64 c.cast_signed-2.result) ≡ sum_mark_of c.args.words.now c.args.at = grind (arith, to_z-of_z) in
+    let sum : to_z w64 (of_z w64 c.cast_signed-sum.result) ≡ sum_of c.args.words.now c.args.at = grind (arith, to_z-of_z) in
+    let mark : to_z w64 (of_z w64 c.cast_signed-mark.result) ≡ sum_mark_of c.args.words.now c.args.at = grind (arith, to_z-of_z) in
     sym (fault_of-sum c.args.words.now c.args.head.now c.args.at false
     (ap (λ p. is_bad_spec c.args.words.now p c.args.at) (sym c.page.ensures.value) ∙ (sym c.is_bad_spec.ensures.value ∙ c.if-is_bad_spec.false))
     (sym c.units_fault.ensures ∙ c.in_default.is)

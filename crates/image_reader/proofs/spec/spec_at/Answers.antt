@@ -10,4 +10,4 @@ small-requires c =
     subst
     (λ first. All (λ number. number ≤ 2147483647) (slice_range c.args.words.now first (first + (field_at c.args.words.now c.args.at 7 - 1))))
     (sym c.inner_from-first.ensures)
-    (IsCustomAt-from_spec c.args.words.now c.args.at c.requires.lawful c.if-kind-eq-CUSTOM.true).small
+    (IsCustomAt-from_spec c.args.words.now c.args.at c.requires.lawful c.if-kind-eq-KIND_CUSTOM.true).small

@@ -8,13 +8,12 @@ use Rattle.bucket_ranges.specs.declared.spec.Spec.{Spec}
 use Rattle.bucket_ranges.specs.declared.spec.Spec.TheVariants.{Sparse}
 use Rattle.bucket_ranges.specs.declared.single.SingleWord.{SingleWord}
 use Rattle.bucket_ranges.specs.declared.single.SingleWord.TheVariants.{Empty, Packed, Disabled}
-use Rattle.bucket_ranges.specs.Spec.{buckets_of, spec_fault}
+use Rattle.bucket_ranges.specs.Spec.{buckets_of, spec_fault, spec_ranges, SameSpec}
 use Rattle.bucket_ranges.specs.Ranges.{boundaries_of, IsAscending}
 use Rattle.bucket_ranges.specs.Single.{packed_of, disabled_of, packed_bucket, is_packed_bucket, units_packed}
 use Rattle.bucket_ranges.proofs.Ascent.{boundaries_of-split}
 use Rattle.bucket_ranges.proofs.Buckets.{ascends}
 use Rattle.segment_machine.specs.Form.{form_of, off_word, is_off, units_in}
-use Rattle.segment_machine.specs.Made.{spec_ranges, SameSpec}
 use Rattle.segment_machine.specs.Ledger.{key_of_bucket, at_bucket}
 use Rattle.segment_machine.proofs.Singled.{if_nothing}
 use Rattle.segment_machine.proofs.ImpliedSpecs.{spelled, field_named, named_by, boundaries_spelled}

@@ -12,7 +12,7 @@ use Rattle.segment_image.specs.Blocks.{field_at}
 use Rattle.alloc_core.specs.Layout.{IsShape}
 use Rattle.bucket_ranges.specs.declared.spec.Spec.{Spec}
 use Rattle.bucket_ranges.specs.declared.spec.Spec.TheVariants as spec
-use Rattle.bucket_ranges.specs.Spec.{spec_fault, distinct_values}
+use Rattle.bucket_ranges.specs.Spec.{spec_fault, distinct_values, spec_fields, spec_ranges, SameSpec}
 use Rattle.bucket_ranges.specs.Reading.{name_of, name_words, is_name, has_name, has_spec, is_kind, is_spec_named, inner_ranges, is_sparse, ascends_above}
 use Rattle.bucket_ranges.specs.Reading as reading
 use Rattle.bucket_ranges.proofs.Distinct.{Member, Ascends, ascends-from}
@@ -21,7 +21,7 @@ use Rattle.segment_machine.specs.declared.actor.Published.{Published}
 use Rattle.segment_machine.specs.declared.actor.Made.{Made}
 use Rattle.segment_machine.specs.declared.actor.Made.TheVariants as made
 use Rattle.segment_machine.specs.State.{State}
-use Rattle.segment_machine.specs.Made.{spec_fields, spec_ranges, SameSpec, AreNameWords}
+use Rattle.segment_machine.specs.Made.{AreNameWords}
 use Rattle.segment_machine.specs.Actor.{all_published}
 use Rattle.segment_machine.specs.Consistent.{HoldsMade}
 use Rattle.segment_machine.specs.Body.{Record, Listed, listed, order_of, blank}

@@ -11,12 +11,12 @@ use Rattle.segment_image.specs.Shape.{Dimensions}
 use Rattle.segment_image.specs.Words.{word_at, bytes_of_words}
 use Rattle.segment_image.specs.Blocks.{field_at}
 use Rattle.segment_image.proofs.ReadWords.{length-bytes_of_words}
+use Rattle.bucket_ranges.specs.Spec.{spec_ranges}
 use Rattle.bucket_ranges.specs.Reading.{name_words, name_of}
 use Rattle.alloc_core.specs.Layout.{IsShown}
 use Rattle.alloc_core.proofs.Layouts.{length_shown}
 use Rattle.segment_machine.specs.declared.actor.Actor.{Actor}
 use Rattle.segment_machine.specs.Actor.{all_published}
-use Rattle.segment_machine.specs.Made.{spec_ranges}
 use Rattle.segment_machine.specs.Body.{Record, Sample, histogram, Piece, words_of, record_words, Listed, listed, Anatomy, layout_of, order_of}
 use Rattle.segment_machine.specs.Seen.{HasRecord, HasSample}
 use Rattle.segment_machine.specs.Kept.{StandsAs, ListIsKept, IsLawfulRecord}

@@ -7,12 +7,11 @@ use Rattle.segment_image.specs.Shape.{Dimensions}
 use Rattle.segment_image.specs.Blocks.{field_at}
 use Rattle.bucket_ranges.specs.declared.spec.Spec.{Spec}
 use Rattle.bucket_ranges.specs.declared.spec.Spec.TheVariants.{Linear, Boolean, Custom, Sparse}
-use Rattle.bucket_ranges.specs.Spec.{distinct_values, buckets_of}
+use Rattle.bucket_ranges.specs.Spec.{distinct_values, buckets_of, spec_fields, spec_ranges, SameSpec}
 use Rattle.bucket_ranges.specs.Ranges.{boundaries_of}
 use Rattle.bucket_ranges.specs.Reading.{name_words, spec_named, spec_of, inner_ranges, record_buckets}
 use Rattle.bucket_ranges.proofs.Distinct.{distinct-ascends, distinct-member, distinct-of_ascending}
 use Rattle.alloc_core.specs.Layout.{IsShown}
-use Rattle.segment_machine.specs.Made.{spec_fields, spec_ranges, SameSpec}
 use Rattle.segment_machine.specs.Form.{form_of}
 use Rattle.segment_machine.specs.Consistent.{single_at, key_at}
 use Rattle.segment_machine.specs.Body.{Record, histogram, Anatomy, layout_of, record_words}

@@ -13,7 +13,7 @@ use Rattle.segment_image.specs.Shape.{Dimensions}
 use Rattle.segment_image.specs.Blocks.{field_at}
 use Rattle.bucket_ranges.specs.declared.spec.Spec.{Spec}
 use Rattle.bucket_ranges.specs.declared.spec.Spec.TheVariants as spec
-use Rattle.bucket_ranges.specs.Spec.{buckets_of}
+use Rattle.bucket_ranges.specs.Spec.{buckets_of, spec_fields}
 use Rattle.bucket_ranges.specs.Ranges.{boundaries_of}
 use Rattle.bucket_ranges.specs.Reading.{is_sparse, count_at}
 use Rattle.bucket_ranges.specs.Single.{packed_bucket, units_packed}
@@ -23,7 +23,6 @@ use Rattle.segment_machine.specs.declared.place.Place.{Place}
 use Rattle.segment_machine.specs.declared.place.Look.{Look}
 use Rattle.segment_machine.specs.declared.place.Place.TheVariants.{Moving}
 use Rattle.segment_machine.specs.State.{State}
-use Rattle.segment_machine.specs.Made.{spec_fields}
 use Rattle.segment_machine.specs.Form.{is_off, units_in}
 use Rattle.segment_machine.specs.Actor.{transit_at, transit_of, known_at, all_counted}
 use Rattle.segment_machine.specs.Entry.{tally_units}

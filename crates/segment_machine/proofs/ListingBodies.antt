@@ -13,12 +13,12 @@ use Rattle.bucket_ranges.specs.declared.spec.Spec.{Spec}
 use Rattle.bucket_ranges.specs.declared.spec.Spec.TheVariants.{Linear, Boolean, Custom, Sparse}
 use Rattle.bucket_ranges.specs.declared.single.SingleWord.{SingleWord}
 use Rattle.bucket_ranges.specs.declared.single.SingleWord.TheVariants.{Empty, Disabled}
-use Rattle.bucket_ranges.specs.Spec.{buckets_of, spec_fault}
+use Rattle.bucket_ranges.specs.Spec.{buckets_of, spec_fault, spec_fields, spec_ranges}
 use Rattle.bucket_ranges.specs.Reading.{is_name, is_i32}
 use Rattle.bucket_ranges.specs.Single.{packed_bucket}
 use Rattle.segment_machine.specs.declared.actor.Own.{Own}
 use Rattle.segment_machine.specs.Form.{is_off, form_of, off_word, units_in}
-use Rattle.segment_machine.specs.Made.{spec_fields, spec_ranges, AreNameWords}
+use Rattle.segment_machine.specs.Made.{AreNameWords}
 use Rattle.segment_machine.specs.Body.{Record, Counts, Sample, own_words, record_words, counts_words, sample_words, spec_field}
 use Rattle.segment_machine.specs.Ledger.{form_at}
 use Rattle.segment_machine.specs.Kept.{IsLawfulRecord, IsCountsOf, IsLawfulSample, CountsNothing}

@@ -13,6 +13,7 @@ use Rattle.segment_image.specs.Shape.{Dimensions}
 use Rattle.segment_image.specs.Words.{word_at}
 use Rattle.segment_image.proofs.ReadWords.{length-bytes_of_words}
 use Rattle.alloc_core.proofs.Layouts.{length_shown}
+use Rattle.bucket_ranges.specs.Spec.{spec_ranges}
 use Rattle.bucket_ranges.specs.declared.spec.Spec.{Spec}
 use Rattle.bucket_ranges.specs.declared.spec.Spec.TheVariants.{Linear, Boolean, Custom, Sparse}
 use Rattle.bucket_ranges.specs.Reading.{name_words}
@@ -25,7 +26,7 @@ use Rattle.segment_machine.specs.Actor.{is_bound, word_seen}
 use Rattle.segment_machine.specs.State.{State}
 use Rattle.segment_machine.specs.Event.{load_published}
 use Rattle.segment_machine.specs.Next.{next, sight}
-use Rattle.segment_machine.specs.Made.{spec_ranges, AreNameWords}
+use Rattle.segment_machine.specs.Made.{AreNameWords}
 use Rattle.segment_machine.specs.Ready.{IsFixed}
 use Rattle.segment_machine.specs.Learned.{EndsWithin}
 use Rattle.segment_machine.specs.Body.{Record, Sample, Body, histogram, sample, other, record_words, spec_field, words_of, is_claimed, Piece, Listed, Anatomy, layout_of, order_of}

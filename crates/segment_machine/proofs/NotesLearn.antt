@@ -11,6 +11,7 @@ use native.Mathlib.Decide.{ℕ_discrete}
 use lib.ListN.{get_elem?}
 use Rattle.segment_image.specs.Shape.{Dimensions}
 use Rattle.segment_image.specs.Words.{bytes_of_words}
+use Rattle.bucket_ranges.specs.Spec.{spec_fields, spec_ranges, SameSpec}
 use Rattle.bucket_ranges.specs.Reading.{name_words}
 use Rattle.bucket_ranges.specs.declared.spec.Spec.{Spec}
 use Rattle.bucket_ranges.specs.declared.spec.Spec.TheVariants.{Linear, Boolean, Custom, Sparse}
@@ -24,7 +25,7 @@ use Rattle.segment_machine.specs.State.{State}
 use Rattle.segment_machine.specs.Seats.{spent}
 use Rattle.segment_machine.proofs.Lists.{all_of, split_map}
 use Rattle.segment_machine.proofs.SeatsLists.{contains_map}
-use Rattle.segment_machine.specs.Made.{spec_fields, spec_ranges, AreNameWords, SameSpec, SawName, SawOtherName, SawSpec}
+use Rattle.segment_machine.specs.Made.{AreNameWords, SawName, SawOtherName, SawSpec}
 use Rattle.segment_machine.specs.Note.{knows, MayNote}
 use Rattle.segment_machine.specs.Body.{Record, Listed, spec_field, record_words, histogram, sample, other, Anatomy, order_of}
 use Rattle.segment_machine.specs.Seen.{HasRecord, IsNamed, Knows}

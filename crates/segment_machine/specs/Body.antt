@@ -5,13 +5,13 @@ use Rattle.std.specs.Int.{w64, cast_unsigned}
 use Rattle.std.specs.List.{filter}
 use Rattle.std.specs.Prelude as std
 use mathlib.Core.Option.{Option, none}
+use Rattle.bucket_ranges.specs.Spec.{spec_fields, spec_ranges}
 use Rattle.bucket_ranges.specs.declared.spec.Spec.{Spec}
 use Rattle.alloc_core.specs.Layout as layout
 use Rattle.segment_machine.specs.declared.actor.Claim.{Claim}
 use Rattle.segment_machine.specs.declared.actor.Made.{Made}
 use Rattle.segment_machine.specs.declared.actor.Own.{Own}
 use Rattle.segment_machine.specs.declared.actor.Published.{Published}
-use Rattle.segment_machine.specs.Made.{spec_fields, spec_ranges}
 
 -- ---- what a block is
 

@@ -12,6 +12,7 @@ use Rattle.alloc_core.specs.Laws.{Behind, Apart}
 use Rattle.list_core.specs.Chain.{stops, IsChain}
 use Rattle.list_core.specs.Laws.{IsStop}
 use Rattle.list_core.specs.Walk.{IsPrefix}
+use Rattle.bucket_ranges.specs.Spec.{SameSpec}
 use Rattle.bucket_ranges.specs.declared.single.SingleWord.{SingleWord}
 use Rattle.bucket_ranges.specs.Ranges.{boundaries_of}
 use Rattle.bucket_ranges.specs.Single.{packed_bucket}
@@ -29,7 +30,7 @@ use Rattle.segment_machine.specs.declared.actor.Taken.{Taken}
 use Rattle.segment_machine.specs.Entry.{has_ended, tally_units, tally_sum, tally_noted}
 use Rattle.segment_machine.specs.Form.{is_off, form_of, off_word, Leads}
 use Rattle.segment_machine.specs.Actor.{Each, all_counted, all_summed, all_noted, all_taken, all_published, all_given, all_costs, taken_units, taken_sum, transit_of, units_of}
-use Rattle.segment_machine.specs.Made.{SameSpec, AreNameWords}
+use Rattle.segment_machine.specs.Made.{AreNameWords}
 use Rattle.segment_machine.specs.State.{State}
 
 -- ---- the records of a chain

@@ -10,7 +10,7 @@ use Rattle.alloc_core.specs.Layout.{IsShown}
 use Rattle.alloc_core.specs.Alloc.{IsPlace}
 use Rattle.bucket_ranges.specs.declared.spec.Spec.{Spec}
 use Rattle.bucket_ranges.specs.declared.spec.Spec.TheVariants as spec
-use Rattle.bucket_ranges.specs.Spec.{buckets_of, spec_fault}
+use Rattle.bucket_ranges.specs.Spec.{buckets_of, spec_fault, spec_fields, spec_ranges}
 use Rattle.bucket_ranges.specs.Reading.{is_name, is_i32}
 use Rattle.bucket_ranges.specs.Single.{packed_bucket, units_packed}
 use Rattle.list_core.specs.Chain.{stops, IsLinked}
@@ -33,7 +33,7 @@ use Rattle.segment_machine.specs.declared.actor.Taken.{Taken}
 use Rattle.segment_machine.specs.Entry.{is_counted, is_summed, has_ended, AreWithin, is_of, tally_units, tally_sum, tally_noted}
 use Rattle.segment_machine.specs.Form.{is_off, form_of, off_word, units_in}
 use Rattle.segment_machine.specs.Actor.{Buckets, Sparse, log_of, counted_of, word_seen, bucket_key, units_listed, taken_sum, all_counted, all_summed, all_noted, all_taken, all_published, all_given, cost_of, units_of, SawSingle, SawCount}
-use Rattle.segment_machine.specs.Made.{spec_fields, spec_ranges, AreNameWords, SawSample}
+use Rattle.segment_machine.specs.Made.{AreNameWords, SawSample}
 use Rattle.segment_machine.specs.Note.{is_untouched, SawBucket}
 use Rattle.segment_machine.specs.Promises.{accepted_by, accepted_since}
 use Rattle.segment_machine.specs.Consistent.{units_taken, IsWithinCounts}

@@ -4,8 +4,8 @@ use Rattle.std.specs.Int.{w64, cast_unsigned}
 use Rattle.std.specs.List.{All}
 use Rattle.segment_image.specs.Words.{bytes_of_words}
 use Rattle.bucket_ranges.specs.declared.spec.Spec.{Spec}
-use Rattle.bucket_ranges.specs.declared.spec.Spec.TheVariants.{Linear, Boolean, Custom, Sparse}
-use Rattle.bucket_ranges.specs.Spec.{distinct_values}
+use Rattle.bucket_ranges.specs.declared.spec.Spec.TheVariants.{Sparse}
+use Rattle.bucket_ranges.specs.Spec.{spec_fields, spec_ranges}
 use Rattle.bucket_ranges.specs.Reading.{is_i32}
 use Rattle.segment_machine.specs.declared.actor.Actor.{Actor}
 use Rattle.segment_machine.specs.declared.actor.Made.{Made}
@@ -14,26 +14,6 @@ use Rattle.segment_machine.specs.Form.{off_word}
 use Rattle.segment_machine.specs.Actor.{word_seen}
 
 -- ---- in words
-
--- the kind, the minimum, the maximum and the number of buckets of a spec
-abbrev pub spec_fields : Spec → List ℕ
-spec_fields (Linear min max n) = 1 ∷ min ∷ max ∷ n ∷ []
-spec_fields Boolean = 2 ∷ 1 ∷ 2 ∷ 3 ∷ []
-spec_fields (Custom values) =
-    let inner = distinct_values values in
-    3 ∷ slice_index inner 0 ∷ slice_index inner (length inner - 1) ∷ (length inner + 1) ∷ []
-spec_fields Sparse = 4 ∷ 0 ∷ 0 ∷ 0 ∷ []
-
--- the ranges that stand behind the name
-abbrev pub spec_ranges : Spec → List ℕ
-spec_ranges (Linear min max n) = []
-spec_ranges Boolean = []
-spec_ranges (Custom values) = distinct_values values
-spec_ranges Sparse = []
-
--- two specs are the same: kind, minimum, maximum, number of buckets and, of custom ones, all ranges
-abbrev pub SameSpec : Spec → Spec → Type 0
-SameSpec a b = (spec_fields a ≡ spec_fields b) × (spec_ranges a ≡ spec_ranges b)
 
 -- words that have the bytes of a name, and zeros behind them up to a whole word
 abbrev pub AreNameWords : List ℕ → List ℕ → Type 0

@@ -15,7 +15,7 @@ use Rattle.segment_machine.specs.declared.actor.Answered.{Answered}
 use Rattle.segment_machine.specs.declared.actor.Known.{Known}
 use Rattle.segment_machine.specs.declared.actor.Sighting.{Sighting}
 use Rattle.segment_machine.specs.declared.actor.Taken.{Taken}
-use Rattle.bucket_ranges.specs.Spec.{buckets_of}
+use Rattle.bucket_ranges.specs.Spec.{buckets_of, SameSpec}
 use Rattle.bucket_ranges.specs.declared.spec.Spec.TheVariants as spec
 use Rattle.bucket_ranges.specs.Single.{packed_bucket}
 use Rattle.bucket_ranges.specs.Ranges.{clamped, AreBoundaries, IsBucketOf}
@@ -23,7 +23,6 @@ use Rattle.segment_machine.specs.declared.entry.Entry.{Entry}
 use Rattle.segment_machine.specs.Entry.{key_of, tally_units, tally_sum, tally_noted}
 use Rattle.segment_machine.specs.Form.{is_off, form_of}
 use Rattle.segment_machine.specs.Actor.{Each, has_buckets, bucket_key, log_of, cost_of, all_counted, all_summed, units_listed, taken_units, taken_sum, transit_of, given_by, IsFinal, SawSingle}
-use Rattle.segment_machine.specs.Made.{SameSpec}
 use Rattle.segment_machine.specs.Note.{TookAll, SawAll}
 use Rattle.segment_machine.specs.Event.{Event, link, spot}
 use Rattle.segment_machine.specs.State.{State, memory, IsStep}

@@ -6,7 +6,7 @@ use Rattle.std.specs.List.{All}
 use mathlib.Core.Option.{Option, some, none}
 use lib.ListN.{get_elem?}
 use Rattle.bucket_ranges.specs.declared.spec.Spec.{Spec}
-use Rattle.bucket_ranges.specs.Spec.{buckets_of}
+use Rattle.bucket_ranges.specs.Spec.{buckets_of, SameSpec}
 use Rattle.alloc_core.specs.Laws.{Behind}
 use Rattle.list_core.specs.Chain.{stops}
 use Rattle.list_core.specs.Walk.{IsPrefix}
@@ -16,7 +16,6 @@ use Rattle.segment_machine.specs.declared.actor.Made.TheVariants as made
 use Rattle.segment_machine.specs.declared.actor.Own.{Own}
 use Rattle.segment_machine.specs.declared.actor.Sighting.{Sighting}
 use Rattle.segment_machine.specs.Form.{is_off, form_of, Leads}
-use Rattle.segment_machine.specs.Made.{SameSpec}
 use Rattle.segment_machine.specs.Body.{Record, Counts, Sample, Body, plain, held, histogram, counts, sample, other, words_of, Piece, Listed, Anatomy, order_of, free_of}
 
 -- ---- blocks by their places

@@ -118,7 +118,8 @@ def main():
     whole = resource.getrusage(resource.RUSAGE_CHILDREN)
     minutes = (whole.ru_utime + whole.ru_stime) / 60
     rest = minutes - show(costs)
-    print(f"\n{minutes:.1f} minutes of processor time, {rest:.1f} of them the rest; {(time.monotonic() - start) / 60:.1f} minutes by the clock")
+    by_clock = (time.monotonic() - start) / 60
+    print(f"\n{minutes:.1f} minutes of processor time, {rest:.1f} of them the rest; {by_clock:.1f} minutes by the clock")
     return gate.returncode
 
 

@@ -2,6 +2,8 @@
 
 import os
 import pathlib
+import resource
+import signal
 import struct
 import subprocess
 import tempfile
@@ -123,6 +125,18 @@ def pipe_without_reader():
     return writing
 
 
+def answer_to_short_file(program, path, most):
+    """The answer where standard output is a file that may have so many bytes; its output is what the file then has."""
+
+    def limited():
+        signal.signal(signal.SIGXFSZ, signal.SIG_IGN)
+        resource.setrlimit(resource.RLIMIT_FSIZE, (most, most))
+
+    with open(path, "wb") as file:
+        came = answer(program, ["report", EXAMPLE], stdout=file, preexec_fn=limited)
+    return Answer(path.read_bytes(), came.error, came.status)
+
+
 def outputs(program, folder):
     """Outputs that cannot be written: what is asked for, and each is a fault of the device."""
     example = EXAMPLE.read_bytes()
@@ -134,6 +148,8 @@ def outputs(program, folder):
         os.close(output)
     closed = answer(program, ["report"], example, preexec_fn=lambda: os.close(1))
     yield "a closed standard output", difference(WRITE_FAULT, closed)
+    wanted = Answer(REPORT.output[:20], WRITE_FAULT.error, WRITE_FAULT.status)
+    yield "a file that ends in the middle", difference(wanted, answer_to_short_file(program, folder / "short", 20))
     with open("/dev/full", "wb") as full:
         for words, status in ((["report", folder], 4), ([], 2)):
             yield f"{words} with a full error stream", difference(Answer(status=status), answer(program, words, stderr=full))

@@ -77,9 +77,7 @@ module _ (anatomy : Anatomy) (pieces : List Piece) (spare : ℕ) (corrupt full :
     sampled = λ front behind at of value is.
         let (name, first, named) = records.sampled front behind at of value is in
         (name, first, λ s has. named s (stays.back at _ has));
-    later = λ at other r first has is ne.
-        let (nothing, none_counted) = records.later at other r first (stays.back at _ has) is ne in
-        (nothing, λ c counts. none_counted c (stays.back _ _ counts));
+    later = λ at other r first has. records.later at other r first (stays.back at _ has);
     later_samples = λ at other s has. records.later_samples at other s (stays.back at _ has);
   }
 

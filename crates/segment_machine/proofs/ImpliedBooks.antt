@@ -1,6 +1,6 @@
 -- What the blocks of a kept segment hold of a bucket, and of a sparse value: of the records of a name only the first counts, with its
 -- counts block and its first samples.
-use Rattle.std.proofs.Common.{◌≡◌, ◌≢◌, ◌⊎◌, Bool, true, false, if◌then◌else◌, ℕ, zero, suc, ◌+◌, ◌<◌, ℤ, List, [], ◌∷◌, ◌++◌, length, append_assoc, inl, inr, ⊎_elim, refl, sym, ap, subst, ◌∙◌, arith, Option, Some, None}
+use Rattle.std.proofs.Common.{◌≡◌, ◌≢◌, ◌⊎◌, Bool, true, false, if◌then◌else◌, ℕ, zero, suc, ◌+◌, ◌<◌, ℤ, List, [], ◌∷◌, ◌++◌, length, append_assoc, refl, sym, ap, subst, ◌∙◌, arith, Option, Some, None}
 use Rattle.std.specs.Prelude.{slice_index, ◌==◌}
 use Rattle.std.specs.List.{All, range_with_len}
 use Rattle.std.specs.Ordering.{int_eq}
@@ -23,7 +23,7 @@ use Rattle.segment_machine.specs.Seen.{HasRecord, HasCounts, HasSample, IsNamed,
 use Rattle.segment_machine.specs.Kept.{Kept, CountsNothing}
 use Rattle.segment_machine.proofs.Lists.{at_from, split_at}
 use Rattle.segment_machine.proofs.Pieces.{one_piece, one_stands}
-use Rattle.segment_machine.proofs.Singled.{sum_one, sum_pair, keyed_none}
+use Rattle.segment_machine.proofs.Singled.{sum_one, sum_pair}
 use Rattle.segment_machine.proofs.ImpliedBlocks.{claimed_piece}
 use Rattle.segment_machine.proofs.ImpliedFirsts.{name_of_first}
 use Rattle.segment_machine.proofs.ImpliedKeys.{key_test, at_no_bucket, no_units, no_packed}
@@ -70,8 +70,8 @@ keyed_one kind numbers i lawful bucketed long below =
 
 -- ---- books
 
--- what blocks hold of a name and a key: a number of a record's packed bucket, those of a counts block, and one of a sample, which are
--- all 0 where nothing is counted
+-- what blocks hold of a name and a key: a number of a record's packed bucket, those of a counts block, and one of a sample; those of a
+-- record and of a sample are 0 where nothing is counted
 pub record IsBook (version : ℕ) (name : List ℕ) (key : ℤ) (holds : Body → ℕ) (packed : Record → ℕ) (buckets : Counts → List ℕ) (valued : Sample → ℕ) : Type 0 where
   pub of_record : (r : Record) → holds (histogram r) ≡ of_name r.name name (at_bucket r.spec key (packed_bucket (form_at version r)) (packed r))
   pub of_counts : (c : Counts) → holds (counts c) ≡ of_name c.name name (keyed c.spec key (buckets c))
@@ -80,8 +80,7 @@ pub record IsBook (version : ℕ) (name : List ℕ) (key : ℤ) (holds : Body �
   pub of_plain : (words : List ℕ) → holds (plain words) ≡ 0
   pub of_held : (block : _) → holds (held block) ≡ 0
   pub of_other : (size tag next : ℕ) (payload : List ℕ) → holds (other size tag next payload) ≡ 0
-  pub no_packed : (r : Record) → CountsNothing version r → packed r ≡ 0
-  pub no_buckets : (c : Counts) → All (λ n. n ≡ 0) c.units × All (λ n. n ≡ 0) c.marks → All (λ n. n ≡ 0) (buckets c)
+  pub no_packed : (r : Record) → CountsNothing r → packed r ≡ 0
   pub no_value : (s : Sample) → (s.units ≡ 0) × (s.mark ≡ 0) → valued s ≡ 0
 
 pub units_book : (version : ℕ) (name : List ℕ) (key : ℤ) → (version ≡ 1) ⊎ (version ≡ 2)
@@ -94,8 +93,7 @@ units_book version name key versions = record {
   of_plain = λ words. refl;
   of_held = λ block. refl;
   of_other = λ size tag next payload. refl;
-  no_packed = λ r nothing. no_units version (buckets_of r.spec) r.single versions nothing.0;
-  no_buckets = λ c zeros. zeros.0;
+  no_packed = λ r nothing. no_units version (buckets_of r.spec) r.single versions nothing.1;
   no_value = λ s nothing. nothing.0;
 }
 
@@ -109,8 +107,7 @@ marks_book version name key = record {
   of_plain = λ words. refl;
   of_held = λ block. refl;
   of_other = λ size tag next payload. refl;
-  no_packed = λ r nothing. nothing.1;
-  no_buckets = λ c zeros. zeros.1;
+  no_packed = λ r nothing. nothing.2;
   no_value = λ s nothing. nothing.1;
 }
 
@@ -169,9 +166,9 @@ module _ (shape : Dimensions) (version id : ℕ) (state : State) (kept : Kept sh
 
   module _ (name : List ℕ) (kind : Spec) (at : ℕ) (r : Record) (first : IsFirst records name kind at) (has : HasRecord pieces at r) (named : r.name ≡ name)
       (specified : r.spec ≡ kind) where
-    -- a counts block of the name is that of the record, or has nothing
+    -- a counts block of the name is that of the record
     counts_of : (j : ℕ) (p : Piece) (c : Counts) → get_elem? pieces j ≡ some p → p.body ≡ counts c → c.name ≡ name
-        → (r.counts ≡ p.at) ⊎ (All (λ n. n ≡ 0) c.units × All (λ n. n ≡ 0) c.marks)
+        → r.counts ≡ p.at
     counts_of j p c there is mine =
         let here = published_at shape version id state kept j p (counts c) there is refl (λ block e. cc e) in
         let (q, stands, leads) = kept.records.named p.at c here in
@@ -182,19 +179,18 @@ module _ (shape : Dimensions) (version id : ℕ) (state : State) (kept : Kept sh
         (subst (λ (at : ℕ). HasCounts pieces at d) leads mounted) here).1 in
         let same : d ≡ c = cc same_body in
         let its_name : q.name ≡ name = sym of_it.named ∙ (ap (λ (c : Counts). c.name) same ∙ mine) in
-        by_place q stands leads its_name (subst (λ (at : ℕ). HasCounts pieces at c) (sym leads) here) (c.of == at) (eqb-true c.of at) (eqb-false c.of at)
+        by_place q stands leads its_name some_counts (c.of == at) (eqb-true c.of at) (eqb-false c.of at)
       where
-        by_place : (q : Record) → HasRecord pieces c.of q → q.counts ≡ p.at → q.name ≡ name → HasCounts pieces q.counts c
-            → (b : Bool) → (b ≡ true → c.of ≡ at) → (b ≡ false → c.of ≢ at)
-            → (r.counts ≡ p.at) ⊎ (All (λ n. n ≡ 0) c.units × All (λ n. n ≡ 0) c.marks)
-        by_place q stands leads its_name here true same apart =
+        by_place : (q : Record) → HasRecord pieces c.of q → q.counts ≡ p.at → q.name ≡ name → q.counts ≢ 0
+            → (b : Bool) → (b ≡ true → c.of ≡ at) → (b ≡ false → c.of ≢ at) → r.counts ≡ p.at
+        by_place q stands leads its_name some_counts true same apart =
             let bodies : histogram q ≡ histogram r = (one_stands shape state.words kept.anatomy kept.shown at none none (histogram q) (histogram r)
             (subst (λ (at : ℕ). HasRecord pieces at q) (same refl) stands) has).1 in
             let equal : q ≡ r = cc bodies in
-            inl (sym (ap (λ (r : Record). r.counts) equal) ∙ leads)
-        by_place q stands leads its_name here false same apart =
-            inr ((kept.records.later c.of at q kind stands (subst (λ (name : List ℕ). IsFirst records name kind at) (sym its_name) first)
-            (λ e. apart refl (sym e))).1 c here)
+            sym (ap (λ (r : Record). r.counts) equal) ∙ leads
+        by_place q stands leads its_name some_counts false same apart =
+            absurd (some_counts (kept.records.later c.of at q kind stands (subst (λ (name : List ℕ). IsFirst records name kind at) (sym its_name) first)
+            (λ e. apart refl (sym e))).0)
 
     module _ (key : ℤ) (holds : Body → ℕ) (packed : Record → ℕ) (buckets : Counts → List ℕ) (valued : Sample → ℕ)
         (book : IsBook kept.anatomy.version name key holds packed buckets valued) where
@@ -221,13 +217,11 @@ module _ (shape : Dimensions) (version id : ℕ) (state : State) (kept : Kept sh
           sum_one (λ p. holds p.body) pieces has.0 _ has.1
           (λ j p there apart. nothing_held kept.anatomy.version name key holds packed buckets valued book p.body
           (record_nothing j p there apart)
-          (λ c is mine. ⊎_elim
-          (λ its.
+          (λ c is mine.
           let here = published_at shape version id state kept j p (counts c) there is refl (λ block e. cc e) in
           let from = (claimed_piece shape state.words kept.anatomy kept.shown kept.blocks here.0 _ here.1 refl).from in
+          let its = counts_of j p c there is mine in
           absurd (omega (arith, from, its, unmounted)))
-          (λ zeros. keyed_none c.spec key (buckets c) (book.no_buckets c zeros))
-          (counts_of j p c there is mine))
           (λ s is mine _. absurd (no_sample bucketed j p there s is mine)))
           ∙ held_alone
 
@@ -239,10 +233,7 @@ module _ (shape : Dimensions) (version id : ℕ) (state : State) (kept : Kept sh
           let whole = sum_pair (λ p. holds p.body) pieces has.0 mounted.0 _ _ apart has.1 mounted.1
           (λ j p there others. nothing_held kept.anatomy.version name key holds packed buckets valued book p.body
           (record_nothing j p there others.0)
-          (λ d is mine. ⊎_elim
-          (λ its. absurd (others.1 (one_piece shape state.words kept.anatomy kept.shown j mounted.0 p _ there mounted.1 (sym its)).0))
-          (λ zeros. keyed_none d.spec key (buckets d) (book.no_buckets d zeros))
-          (counts_of j p d there is mine))
+          (λ d is mine. absurd (others.1 (one_piece shape state.words kept.anatomy kept.shown j mounted.0 p _ there mounted.1 (sym (counts_of j p d there is mine))).0))
           (λ s is mine _. absurd (no_sample bucketed j p there s is mine))) in
           let its = book.of_counts c ∙ of_mine c.name name _ (its_name ∙ named) in
           omega (arith, whole, held_alone, its)
@@ -267,13 +258,11 @@ module _ (shape : Dimensions) (version id : ℕ) (state : State) (kept : Kept sh
           by_place unmounted first_is j p there apart false same others =
               nothing_held kept.anatomy.version name key holds packed buckets valued book p.body
               (record_nothing j p there (others refl))
-              (λ c is mine. ⊎_elim
-              (λ its.
+              (λ c is mine.
               let here = published_at shape version id state kept j p (counts c) there is refl (λ block e. cc e) in
               let from = (claimed_piece shape state.words kept.anatomy kept.shown kept.blocks here.0 _ here.1 refl).from in
+              let its = counts_of j p c there is mine in
               absurd (omega (arith, from, its, unmounted)))
-              (λ zeros. keyed_none c.spec key (buckets c) (book.no_buckets c zeros))
-              (counts_of j p c there is mine))
               (λ t is mine value.
               let here = published_at shape version id state kept j p (sample t) there is refl (λ block e. cc e) in
               let its = subst (λ (name : List ℕ). IsFirst records name spec.Sparse t.of) mine (sample_first p.at t here) in

@@ -1,15 +1,14 @@
 -- What the words of a kept state's records say beside their spec: which counts are theirs, and that nobody counts in later ones.
-use Rattle.std.proofs.Common.{◌≡◌, ◌≢◌, ◌⊎◌, Bool, true, false, if◌then◌else◌, ℕ, ◌+◌, ◌-◌, ◌*◌, ◌<◌, ◌≤◌, ℤ, List, length, inl, inr, refl, sym, ap, subst, ◌∙◌, arith, Option, Some, None}
+use Rattle.std.proofs.Common.{◌≡◌, ◌≢◌, ℕ, ◌+◌, ◌-◌, ◌*◌, ◌<◌, ◌≤◌, ℤ, List, length, inl, inr, sym, ap, subst, ◌∙◌, arith, Option, Some, None}
 use Rattle.std.specs.Prelude as std
 use Rattle.std.specs.Prelude.{slice_index, ◌==◌}
 use Rattle.std.specs.List.{All, Contains}
-use Rattle.std.proofs.lemmas.Bool.{eqb-true, eqb-false, eq-eqb, ne_eqb, cases_lt}
+use Rattle.std.proofs.lemmas.Bool.{cases_lt}
 use mathlib.Core.Option.{none}
 use Rattle.segment_image.specs.Shape.{Dimensions}
 use Rattle.segment_image.specs.Words.{word_at}
 use Rattle.segment_image.specs.Head.{head_of}
 use Rattle.segment_image.specs.Blocks.{field_at}
-use Rattle.bucket_ranges.specs.Spec.{buckets_of}
 use Rattle.bucket_ranges.specs.Reading.{name_of, record_buckets, sample_value}
 use Rattle.list_core.specs.Chain.{IsChain}
 use Rattle.list_core.proofs.Chains.{linked_of, no_queue}
@@ -18,8 +17,8 @@ use Rattle.segment_machine.specs.declared.actor.Made.{Made}
 use Rattle.segment_machine.specs.declared.actor.Made.TheVariants as made
 use Rattle.segment_machine.specs.State.{State}
 use Rattle.segment_machine.specs.Promises.{new_opening}
-use Rattle.segment_machine.specs.Form.{Leads, off_word}
-use Rattle.segment_machine.specs.Consistent.{IsHistogram, IsSample, CountsNothing, counts_word}
+use Rattle.segment_machine.specs.Form.{Leads}
+use Rattle.segment_machine.specs.Consistent.{IsHistogram, IsSample, CountsNothing}
 use Rattle.segment_machine.specs.Body.{Record, record_words, Counts, Body, histogram, counts, sample, other, Listed, order_of, blank}
 use Rattle.segment_machine.specs.Seen.{Stands, HasRecord, HasCounts, IsFirst, IsFirstOf, WasSingle}
 use Rattle.segment_machine.specs.Kept.{StandsAs, Kept}
@@ -119,42 +118,25 @@ module _ (shape : Dimensions) (version id : ℕ) (state : State) (kept : Kept sh
 
   -- in a later record of a name nothing is counted
   pub later_record : (at place : ℕ) → Contains (order_of kept.anatomy) at → field_at state.words at 2 ≡ 1
-      → IsHistogram state.words (order_of kept.anatomy) (name_of state.words at) place → place ≢ at → CountsNothing version state.words at
+      → IsHistogram state.words (order_of kept.anatomy) (name_of state.words at) place → place ≢ at → CountsNothing state.words at
   later_record at place there one is apart =
       let (l, name, kind, r, among, spot, made, (has, named, specified)) = listed_record shape version id state kept at there one in
       let (first_kind, q, first, its) = first_of_name shape version id state kept (name_of state.words at) place is in
       let mine : name_of state.words at ≡ r.name = (is_named shape version id state kept at r has).1 in
-      let nothing = kept.records.later at place r first_kind has (subst (λ (name : List ℕ). IsFirst kept.anatomy.records name first_kind place) mine first) apart in (
-        subst (λ (v : ℕ). (field_at state.words at 9 ≡ 0) ⊎ (field_at state.words at 9 ≡ off_word v 0)) kept.same.0
-            (subst (λ (n : ℕ). (n ≡ 0) ⊎ (n ≡ off_word kept.anatomy.version 0)) (sym (word at r has 9 (omega arith))) nothing.0.0),
-        (λ i from below. four (λ i. field_at state.words at i ≡ 0) (word at r has 10 (omega arith) ∙ nothing.0.1) (word at r has 11 (omega arith) ∙ nothing.0.2)
-            (word at r has 12 (omega arith) ∙ nothing.0.3) (word at r has 13 (omega arith) ∙ nothing.0.4) i from below),
-        (λ i below. in_counts at r has nothing.1 (r.counts == 0) (eqb-true r.counts 0) (eqb-false r.counts 0) i
-            (subst (λ (p : ℕ × ℕ). i < (if p.0 == 0 then 0 else 2 * p.1))
-            (λ j. (counts_ref at r has j, buckets_are shape state.words kept.anatomy kept.shown kept.anatomy.version at r has (kept.records.lawful at r has) j)) below)),
-      )
+      let nothing = kept.records.later at place r first_kind has (subst (λ (name : List ℕ). IsFirst kept.anatomy.records name first_kind place) mine first) apart in
+      λ i from below. six (λ i. field_at state.words at i ≡ 0) (word at r has 8 (omega arith) ∙ nothing.0) (word at r has 9 (omega arith) ∙ nothing.1)
+          (word at r has 10 (omega arith) ∙ nothing.2) (word at r has 11 (omega arith) ∙ nothing.3) (word at r has 12 (omega arith) ∙ nothing.4)
+          (word at r has 13 (omega arith) ∙ nothing.5) i from below
     where
       word : (at : ℕ) (r : Record) → HasRecord kept.anatomy.pieces at r → (j : ℕ) → j < 15 → field_at state.words at j ≡ slice_index (record_words r) j
       word at r has j below = record_word shape state.words kept.anatomy kept.shown at r j has below
 
-      four : (holds : ℕ → Type 0) → holds 10 → holds 11 → holds 12 → holds 13 → (i : ℕ) → 10 ≤ i → i < 14 → holds i
-      four holds a b c d i from below =
-          let split : 10 + (i - 10) ≡ i = omega (arith, from) in
-          subst holds split (elim (cases_lt (i - 10) 3) [
-            | inl low ↦ below_three (λ k. holds (10 + k)) a b c (i - 10) low
-            | inr high ↦ let last : 13 ≡ 10 + (i - 10) = omega (arith, high, from, below) in subst holds last d
+      six : (holds : ℕ → Type 0) → holds 8 → holds 9 → holds 10 → holds 11 → holds 12 → holds 13 → (i : ℕ) → 8 ≤ i → i < 14 → holds i
+      six holds a b c d e f i from below =
+          let split : 8 + (i - 8) ≡ i = omega (arith, from) in
+          subst holds split (elim (cases_lt (i - 8) 3) [
+            | inl low ↦ below_three (λ k. holds (8 + k)) a b c (i - 8) low
+            | inr high ↦
+                let further : 11 + (i - 8 - 3) ≡ 8 + (i - 8) = omega (arith, high) in
+                subst holds further (below_three (λ k. holds (11 + k)) d e f (i - 8 - 3) (omega (arith, high, from, below)))
           ])
-
-      in_counts : (at : ℕ) (r : Record) → HasRecord kept.anatomy.pieces at r
-          → ((c : Counts) → HasCounts kept.anatomy.pieces r.counts c → All (λ n. n ≡ 0) c.units × All (λ n. n ≡ 0) c.marks)
-          → (b : Bool) → (b ≡ true → r.counts ≡ 0) → (b ≡ false → r.counts ≢ 0) → (i : ℕ) → i < (if r.counts == 0 then 0 else 2 * buckets_of r.spec)
-          → counts_word state.words at i ≡ 0
-      in_counts at r has zeros true none_there some_there i below =
-          let empty : (r.counts == 0) ≡ true = eq-eqb r.counts 0 (none_there refl) in
-          absurd (omega (arith, subst (λ (b : Bool). i < (if b then 0 else 2 * buckets_of r.spec)) empty below))
-      in_counts at r has zeros false none_there some_there i below =
-          let (c, mounted, of_it) = kept.records.mounted at r has (some_there refl) in
-          let full : (r.counts == 0) ≡ false = ne_eqb r.counts 0 (some_there refl) in
-          ap (λ (counts : ℕ). field_at state.words counts (4 + i)) (counts_ref at r has)
-          ∙ counts_nothing r.counts c (buckets_of r.spec) i mounted of_it.units of_it.marks (zeros c mounted).0 (zeros c mounted).1
-          (subst (λ (b : Bool). i < (if b then 0 else 2 * buckets_of r.spec)) full below)

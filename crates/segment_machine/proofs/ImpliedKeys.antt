@@ -13,7 +13,7 @@ use Rattle.bucket_ranges.specs.Ranges.{boundaries_of, IsAscending}
 use Rattle.bucket_ranges.specs.Single.{packed_of, disabled_of, packed_bucket, is_packed_bucket, units_packed}
 use Rattle.bucket_ranges.proofs.Ascent.{boundaries_of-split}
 use Rattle.bucket_ranges.proofs.Buckets.{ascends}
-use Rattle.segment_machine.specs.Form.{form_of, off_word, is_off, units_in}
+use Rattle.segment_machine.specs.Form.{form_of, is_off, units_in}
 use Rattle.segment_machine.specs.Ledger.{key_of_bucket, at_bucket}
 use Rattle.segment_machine.proofs.Singled.{if_nothing}
 use Rattle.segment_machine.proofs.ImpliedSpecs.{spelled, field_named, named_by, boundaries_spelled}
@@ -76,14 +76,12 @@ packed_within version n word i is =
     let w : ℕ = if (version == 2) && is_off word then word - 2 ^ 63 else word in
     single_by n w i (w == 0) (nat_lt w (2 ^ 63)) is
 
--- a word of a record in which nothing is counted holds no units
-pub no_units : (version n word : ℕ) → (version ≡ 1) ⊎ (version ≡ 2) → (word ≡ 0) ⊎ (word ≡ off_word version 0) → units_in (form_of version n word) ≡ 0
-no_units version n word (inl one) (inl empty) = (λ i. units_in (form_of (one i) n (empty i)))
-no_units version n word (inr two) (inl empty) = (λ i. units_in (form_of (two i) n (empty i)))
-no_units version n word (inl one) (inr off) = ap (λ (w : ℕ). units_in (form_of version n w)) off ∙ ap (λ (v : ℕ). units_in (form_of v n (off_word v 0))) one
-no_units version n word (inr two) (inr off) = ap (λ (w : ℕ). units_in (form_of version n w)) off ∙ ap (λ (v : ℕ). units_in (form_of v n (off_word v 0))) two
+-- an empty word holds no units
+pub no_units : (version n word : ℕ) → (version ≡ 1) ⊎ (version ≡ 2) → word ≡ 0 → units_in (form_of version n word) ≡ 0
+no_units version n word (inl one) empty = (λ i. units_in (form_of (one i) n (empty i)))
+no_units version n word (inr two) empty = (λ i. units_in (form_of (two i) n (empty i)))
 
--- and an empty word packs no bucket
+-- and packs no bucket
 pub no_packed : (version n word : ℕ) → (version ≡ 1) ⊎ (version ≡ 2) → word ≡ 0 → packed_bucket (form_of version n word) ≡ None
 no_packed version n word (inl one) empty = (λ i. packed_bucket (form_of (one i) n (empty i)))
 no_packed version n word (inr two) empty = (λ i. packed_bucket (form_of (two i) n (empty i)))

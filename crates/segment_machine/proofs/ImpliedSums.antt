@@ -96,11 +96,11 @@ module _ (shape : Dimensions) (version id : ℕ) (state : State) (kept : Kept sh
 
   -- another block has no record of the name that counts
   pub other_nothing : (name : List ℕ) (spec : Spec) (at : ℕ) (r : Record) → IsFirst kept.anatomy.records name spec at → (has : HasRecord kept.anatomy.pieces at r)
-      → Elsewhere kept.anatomy.pieces (λ j. j ≢ has.0) (λ p. OfRecord name p.body (CountsNothing kept.anatomy.version))
+      → Elsewhere kept.anatomy.pieces (λ j. j ≢ has.0) (λ p. OfRecord name p.body CountsNothing)
   other_nothing name spec at r first has j p there apart r' is named =
       let here = published_at j p (histogram r') there is refl (λ block e. cc e) in
-      (kept.records.later p.at at r' spec here (subst (λ (name : List ℕ). IsFirst kept.anatomy.records name spec at) (sym named) first)
-      (λ same. apart (one_piece shape state.words kept.anatomy kept.shown j has.0 p _ there has.1 (sym same)).0)).0
+      kept.records.later p.at at r' spec here (subst (λ (name : List ℕ). IsFirst kept.anatomy.records name spec at) (sym named) first)
+      (λ same. apart (one_piece shape state.words kept.anatomy kept.shown j has.0 p _ there has.1 (sym same)).0)
 
   module _ (name : List ℕ) (spec : Spec) (at : ℕ) (r : Record) (first : IsFirst kept.anatomy.records name spec at) (has : HasRecord kept.anatomy.pieces at r)
       (named : r.name ≡ name) where
@@ -108,19 +108,19 @@ module _ (shape : Dimensions) (version id : ℕ) (state : State) (kept : Kept sh
     pub sum_is : all_amounts (sum_held name) kept.anatomy.pieces ≡ cast_signed w64 r.sum
     sum_is =
         amounts_one (λ p. sum_held name p.body) kept.anatomy.pieces (pos 0) has.0 _ has.1
-        (λ j p there apart. no_sum name p.body (λ r' is same. (other_nothing name spec at r first has j p there apart r' is same).2))
+        (λ j p there apart. no_sum name p.body (λ r' is same. (other_nothing name spec at r first has j p there apart r' is same).3))
         ∙ (+ℤ_idl _ ∙ amount_of_mine r.name name _ named)
 
     pub sum_mark_is : all_amounts (sum_mark_held name) kept.anatomy.pieces ≡ cast_signed w64 r.sum_mark
     sum_mark_is =
         amounts_one (λ p. sum_mark_held name p.body) kept.anatomy.pieces (pos 0) has.0 _ has.1
-        (λ j p there apart. no_sum_mark name p.body (λ r' is same. (other_nothing name spec at r first has j p there apart r' is same).3))
+        (λ j p there apart. no_sum_mark name p.body (λ r' is same. (other_nothing name spec at r first has j p there apart r' is same).4))
         ∙ (+ℤ_idl _ ∙ amount_of_mine r.name name _ named)
 
     pub noted_is : all_held (noted_held name) kept.anatomy.pieces ≡ r.noted
     noted_is =
         sum_one (λ p. noted_held name p.body) kept.anatomy.pieces has.0 _ has.1
-        (λ j p there apart. no_noted name p.body (λ r' is same. (other_nothing name spec at r first has j p there apart r' is same).4))
+        (λ j p there apart. no_noted name p.body (λ r' is same. (other_nothing name spec at r first has j p there apart r' is same).5))
         ∙ of_mine r.name name r.noted named
 
   -- no record was there at the opening

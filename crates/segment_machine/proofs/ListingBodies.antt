@@ -1,6 +1,6 @@
 -- A block of one's own that may be published holds just the words of what it is published as: a lawful record or sample that counts
 -- nothing, and a counts block of zeros.
-use Rattle.std.proofs.Common.{◌≡◌, ◌≢◌, ◌⊎◌, ℕ, suc, ◌+◌, ◌-◌, ◌*◌, ◌≤◌, ℤ, true, List, [], ◌∷◌, ◌++◌, length, replicate, All, inl, inr, ⊎_elim, refl, sym, ap, ◌∙◌, subst, arith, length-append, append_assoc}
+use Rattle.std.proofs.Common.{◌≡◌, ◌≢◌, ◌⊎◌, ℕ, suc, ◌+◌, ◌-◌, ◌*◌, ◌≤◌, ℤ, true, List, [], ◌∷◌, ◌++◌, length, replicate, All, inl, inr, refl, sym, ap, ◌∙◌, subst, arith, length-append, append_assoc}
 use Rattle.std.specs.Prelude.{slice_index, if◌then◌else◌, Some, None, nat_le}
 use Rattle.std.specs.Prelude as std
 use Rattle.std.specs.Int.{w64, cast_unsigned}
@@ -12,12 +12,12 @@ use Rattle.segment_image.proofs.ReadWords.{length-bytes_of_words}
 use Rattle.bucket_ranges.specs.declared.spec.Spec.{Spec}
 use Rattle.bucket_ranges.specs.declared.spec.Spec.TheVariants.{Linear, Boolean, Custom, Sparse}
 use Rattle.bucket_ranges.specs.declared.single.SingleWord.{SingleWord}
-use Rattle.bucket_ranges.specs.declared.single.SingleWord.TheVariants.{Empty, Disabled}
+use Rattle.bucket_ranges.specs.declared.single.SingleWord.TheVariants.{Empty}
 use Rattle.bucket_ranges.specs.Spec.{buckets_of, spec_fault, spec_fields, spec_ranges}
 use Rattle.bucket_ranges.specs.Reading.{is_name, is_i32}
 use Rattle.bucket_ranges.specs.Single.{packed_bucket}
 use Rattle.segment_machine.specs.declared.actor.Own.{Own}
-use Rattle.segment_machine.specs.Form.{is_off, form_of, off_word, units_in}
+use Rattle.segment_machine.specs.Form.{form_of, units_in}
 use Rattle.segment_machine.specs.Made.{AreNameWords}
 use Rattle.segment_machine.specs.Body.{Record, Counts, Sample, own_words, record_words, counts_words, sample_words, spec_field}
 use Rattle.segment_machine.specs.Ledger.{form_at}
@@ -25,7 +25,7 @@ use Rattle.segment_machine.specs.Kept.{IsLawfulRecord, IsCountsOf, IsLawfulSampl
 
 -- ---- the single word of a new record
 
--- nothing is packed in it, whether it is off or not
+-- nothing is packed in it
 pub record IsBlank (form : std.Option SingleWord) : Type 0 where
   pub some_form : form ≢ None
   pub unpacked : packed_bucket form ≡ None
@@ -34,22 +34,9 @@ pub record IsBlank (form : std.Option SingleWord) : Type 0 where
 blank_empty : IsBlank (Some Empty)
 blank_empty = record { some_form = λ is. cc is; unpacked = refl; empty = refl }
 
-blank_off : IsBlank (Some (Disabled None))
-blank_off = record { some_form = λ is. cc is; unpacked = refl; empty = refl }
-
-pub blank_form : (version n single : ℕ) → (version ≡ 1) ⊎ (version ≡ 2) → (single ≡ 0) ⊎ (single ≡ off_word version 0) → IsBlank (form_of version n single)
-blank_form version n single (inl one) (inl none_yet) =
-    subst (λ (p : ℕ × ℕ). IsBlank (form_of p.0 n p.1)) (λ i. (sym one i, sym none_yet i)) blank_empty
-blank_form version n single (inr two) (inl none_yet) =
-    subst (λ (p : ℕ × ℕ). IsBlank (form_of p.0 n p.1)) (λ i. (sym two i, sym none_yet i)) blank_empty
-blank_form version n single (inl one) (inr off) =
-    subst (λ (p : ℕ × ℕ). IsBlank (form_of p.0 n p.1)) (λ i. (sym one i, sym (off ∙ ap (λ (v : ℕ). off_word v 0) one) i)) blank_off
-blank_form version n single (inr two) (inr off) =
-    subst (λ (p : ℕ × ℕ). IsBlank (form_of p.0 n p.1)) (λ i. (sym two i, sym (off ∙ ap (λ (v : ℕ). off_word v 0) two) i)) blank_empty
-
-off_is_off : (version single : ℕ) → (version ≡ 1) ⊎ (version ≡ 2) → single ≡ off_word version 0 → is_off single ≡ true
-off_is_off version single (inl one) off = ap is_off (off ∙ ap (λ (v : ℕ). off_word v 0) one)
-off_is_off version single (inr two) off = ap is_off (off ∙ ap (λ (v : ℕ). off_word v 0) two)
+pub blank_form : (version n : ℕ) → (version ≡ 1) ⊎ (version ≡ 2) → IsBlank (form_of version n 0)
+blank_form version n (inl one) = subst (λ (v : ℕ). IsBlank (form_of v n 0)) (sym one) blank_empty
+blank_form version n (inr two) = subst (λ (v : ℕ). IsBlank (form_of v n 0)) (sym two) blank_empty
 
 -- ---- a record
 
@@ -60,14 +47,14 @@ fields_are (Custom values) = refl
 fields_are Sparse = refl
 
 -- what a block with such a payload is published as
-abbrev pub record_of : Own → List ℕ → Spec → ℕ → ℕ → List ℕ → Record
-record_of own name spec counts single letters = record {
+abbrev pub record_of : Own → List ℕ → Spec → List ℕ → Record
+record_of own name spec letters = record {
   name = name;
   spec = spec;
   size = own.size;
   next = own.next;
-  counts = counts;
-  single = single;
+  counts = 0;
+  single = 0;
   mark = 0;
   sum = 0;
   sum_mark = 0;
@@ -84,15 +71,15 @@ one_letter name letters named (k, few, are) =
     let e = length-append name (replicate {A = ℕ} k 0) in
     omega (arith, least, bytes, all, e)
 
-module _ (own : Own) (name : List ℕ) (spec : Spec) (counts single : ℕ) (letters : List ℕ)
-    (payload_is : own.payload ≡ spec_fields spec ++ counts ∷ single ∷ 0 ∷ 0 ∷ 0 ∷ 0 ∷ length name ∷ (letters ++ spec_ranges spec)) where
+module _ (own : Own) (name : List ℕ) (spec : Spec) (letters : List ℕ)
+    (payload_is : own.payload ≡ spec_fields spec ++ 0 ∷ 0 ∷ 0 ∷ 0 ∷ 0 ∷ 0 ∷ length name ∷ (letters ++ spec_ranges spec)) where
   abbrev r : Record
-  r = record_of own name spec counts single letters
+  r = record_of own name spec letters
 
   -- its words are those of the block
   pub record_words_are : own.tag ≡ 1 → record_words r ≡ own_words own
   record_words_are tag =
-      let more : List ℕ = counts ∷ single ∷ 0 ∷ 0 ∷ 0 ∷ 0 ∷ length name ∷ (letters ++ spec_ranges spec) in
+      let more : List ℕ = 0 ∷ 0 ∷ 0 ∷ 0 ∷ 0 ∷ 0 ∷ length name ∷ (letters ++ spec_ranges spec) in
       let whole : own.payload ≡ spec_field spec 0 ∷ spec_field spec 1 ∷ spec_field spec 2 ∷ spec_field spec 3 ∷ more =
       payload_is ∙ ap (λ (fields : List ℕ). fields ++ more) (fields_are spec) in
       sym (λ i. own.size ∷ 0xC8799269 ∷ tag i ∷ own.next ∷ (whole i ++ replicate (own.size - 4 - length own.payload) 0))
@@ -100,30 +87,19 @@ module _ (own : Own) (name : List ℕ) (spec : Spec) (counts single : ℕ) (lett
   pub payload_long : length own.payload ≡ 11 + (length letters + length (spec_ranges spec))
   payload_long =
       let whole = ap length payload_is in
-      let e = length-append (spec_fields spec) (counts ∷ single ∷ 0 ∷ 0 ∷ 0 ∷ 0 ∷ length name ∷ (letters ++ spec_ranges spec)) in
+      let e = length-append (spec_fields spec) (0 ∷ 0 ∷ 0 ∷ 0 ∷ 0 ∷ 0 ∷ length name ∷ (letters ++ spec_ranges spec)) in
       let f : length (spec_fields spec) ≡ 4 = ap length (fields_are spec) in
       let g = length-append letters (spec_ranges spec) in
       omega (arith, whole, e, f, g)
 
-  -- the counts reference is the fifth word of the payload
-  pub counts_are : slice_index own.payload 4 ≡ counts
-  counts_are =
-      let more : List ℕ = counts ∷ single ∷ 0 ∷ 0 ∷ 0 ∷ 0 ∷ length name ∷ (letters ++ spec_ranges spec) in
-      ap (λ (l : List ℕ). slice_index l 4) (payload_is ∙ ap (λ (fields : List ℕ). fields ++ more) (fields_are spec))
-
   module _ (version page : ℕ) (versions : (version ≡ 1) ⊎ (version ≡ 2)) (room : length own.payload + 4 ≤ own.size) (named : is_name name ≡ true)
-      (lettered : AreNameWords name letters) (lawful : spec_fault spec ≡ None) (fits : 4 + 2 * buckets_of spec ≤ page)
-      (forms : ((counts ≡ 0) × (single ≡ 0)) ⊎ ((counts ≢ 0) × (spec ≢ Sparse) × (single ≡ off_word version 0))) where
+      (lettered : AreNameWords name letters) (lawful : spec_fault spec ≡ None) (fits : 4 + 2 * buckets_of spec ≤ page) where
     pub is_blank : IsBlank (form_at version r)
-    is_blank = blank_form version (buckets_of spec) single versions (⊎_elim (λ t. inl t.1) (λ t. inr t.2) forms)
+    is_blank = blank_form version (buckets_of spec) versions
 
     -- it counts nothing
-    pub record_nothing : CountsNothing version r
-    record_nothing = (⊎_elim (λ t. inl t.1) (λ t. inr t.2) forms, refl, refl, refl, refl)
-
-    -- where it names counts its single word is off
-    pub record_off : counts ≢ 0 → is_off single ≡ true
-    record_off some_counts = ⊎_elim (λ t. absurd (some_counts t.0)) (λ t. off_is_off version single versions t.2) forms
+    pub record_nothing : CountsNothing r
+    record_nothing = (refl, refl, refl, refl, refl, refl)
 
     -- it is lawful
     pub record_lawful : IsLawfulRecord version page r
@@ -141,8 +117,8 @@ module _ (own : Own) (name : List ℕ) (spec : Spec) (counts single : ℕ) (lett
           fits = fits;
           formed = is_blank.some_form;
           unpacked = λ nothing. refl;
-          off = λ off. ⊎_elim (λ t. absurd (cc (off, ap is_off t.1))) (λ t. t.0) forms;
-          sparse = λ kind. ⊎_elim (λ t. (t.0, t.1, refl)) (λ t. absurd (t.1 kind)) forms;
+          off = λ off. absurd (cc off);
+          sparse = λ kind. (refl, refl, refl);
           narrow = (omega arith, omega arith);
         }
 

@@ -1,9 +1,9 @@
 -- What a link publishes: a record without counts, a record with its counts block, or a sample.
-use Rattle.std.proofs.Common.{◌≡◌, ◌≢◌, ◌⊎◌, ℕ, ◌+◌, ◌*◌, ◌≤◌, ℤ, true, List, [], ◌∷◌, ◌++◌, length, replicate, set, Contains, inl, inr, ⊎_elim, refl, sym, ap, ◌∙◌, subst, arith}
+use Rattle.std.proofs.Common.{◌≡◌, ◌⊎◌, ℕ, ◌+◌, ◌*◌, ◌≤◌, ℤ, true, List, [], ◌∷◌, ◌++◌, length, replicate, set, Contains, inl, inr, ⊎_elim, refl, sym, ap, ◌∙◌, subst, arith}
 use Rattle.std.specs.Prelude.{slice_index, Some, None}
 use Rattle.std.specs.Int.{w64, cast_unsigned}
 use Rattle.std.proofs.lemmas.List.Elements.{All-contains, Contains-push}
-use mathlib.Core.Option.{some, none, some-injective}
+use mathlib.Core.Option.{some, none}
 use lib.ListN.{get_elem?}
 use Rattle.segment_image.specs.Shape.{Dimensions}
 use Rattle.segment_image.specs.Words.{word_at}
@@ -18,28 +18,22 @@ use Rattle.segment_machine.specs.declared.actor.Made.{Made}
 use Rattle.segment_machine.specs.declared.actor.Made.TheVariants as made
 use Rattle.segment_machine.specs.declared.actor.Own.{Own}
 use Rattle.segment_machine.specs.declared.place.Place.TheVariants.{TailLoaded}
-use Rattle.segment_machine.specs.Form.{off_word}
 use Rattle.segment_machine.specs.Made.{AreNameWords}
 use Rattle.segment_machine.specs.State.{State}
-use Rattle.segment_machine.specs.Next.{counts_named, after_link}
-use Rattle.segment_machine.specs.Body.{Record, Counts, Sample, Body, held, histogram, counts, sample, Piece, Listed, Anatomy, layout_of}
+use Rattle.segment_machine.specs.Next.{after_link}
+use Rattle.segment_machine.specs.Body.{Record, Sample, Body, held, histogram, sample, Piece, Listed, Anatomy, layout_of}
 use Rattle.segment_machine.specs.Ledger.{form_at}
-use Rattle.segment_machine.specs.Seen.{Stands, HasOwn, HasRecord, HasCounts, HasSample, IsFirst, Knows}
-use Rattle.segment_machine.specs.Kept.{StandsAs, IsListed, IsLawfulRecord, IsCountsOf, IsLawfulSample, CountsNothing, HoldsOwn, Fits, Kept}
-use Rattle.segment_machine.proofs.Lists.{all_at}
-use Rattle.segment_machine.proofs.Pieces.{piece_from, one_stands}
-use Rattle.segment_machine.proofs.ListingRecords.{AreZeros, AddedRight}
-use Rattle.segment_machine.proofs.ListingLists.{snoc_split, own_found}
-use Rattle.segment_machine.proofs.ListingBodies.{IsBlank, record_of, record_words_are, counts_are, is_blank, record_nothing, record_off, record_lawful, counts_of, counts_words_are, counts_zeros, counts_lawful, sample_of, sample_words_are, sample_lawful}
-use Rattle.segment_machine.proofs.ListingPublishes.{next_owned, record_held, counts_held, sample_held, Publishes, Only, one_published, both_published}
+use Rattle.segment_machine.specs.Seen.{HasOwn, HasRecord, HasSample, IsFirst, Knows}
+use Rattle.segment_machine.specs.Kept.{StandsAs, IsListed, IsLawfulRecord, IsLawfulSample, CountsNothing, HoldsOwn, Kept}
+use Rattle.segment_machine.proofs.Pieces.{one_stands}
+use Rattle.segment_machine.proofs.ListingLists.{snoc_split}
+use Rattle.segment_machine.proofs.ListingBodies.{IsBlank, record_of, record_words_are, is_blank, record_nothing, record_lawful, sample_of, sample_words_are, sample_lawful}
+use Rattle.segment_machine.proofs.ListingPublishes.{next_owned, record_held, sample_held, Publishes, Only, one_published}
 use Rattle.segment_machine.proofs.ListingLinked.{mine_fits, holds, stored, halfway, links_on}
 
 -- a record of a name is no other body
 same_record : (r r' : Record) → histogram r' ≡ histogram r → r' ≡ r
 same_record r r' is = cc is
-
-same_counts : (c c' : Counts) → counts c' ≡ counts c → c' ≡ c
-same_counts c c' is = cc is
 
 same_sample : (s s' : Sample) → sample s' ≡ sample s → s' ≡ s
 same_sample s s' is = cc is
@@ -86,28 +80,13 @@ module _ (shape : Dimensions) (opened : Anatomy) (state : State) (kept : Kept sh
   shown_half : IsShown shape (set state.words (tail + 3) own.at) (layout_of half)
   shown_half = (stored shape opened state kept id a mine records tail own given placed i there ended asked ends).shown
 
-  -- no counts stand at 0
-  none_at_zero : (pieces : List Piece) (c : Counts)
-      → IsShown shape (set state.words (tail + 3) own.at) (layout_of (record anatomy { pieces = pieces })) → HasCounts pieces 0 c → ⊥
-  none_at_zero pieces c shown (k, here) =
-      ⊎_elim (λ (e : 0 ≡ 12). absurd (omega (arith, e))) (λ (e : 16 ≤ 0). absurd (omega (arith, e)))
-      (piece_from shape (set state.words (tail + 3) own.at) (record anatomy { pieces = pieces }) shown k _ here)
-
   -- ---- a record
 
-  module _ (name : List ℕ) (spec : Spec) (letters : List ℕ) (place single : ℕ)
-      (asks : given ≡ made.Histogram name spec) (lettered : AreNameWords name letters)
-      (forms : ((place ≡ 0) × (single ≡ 0)) ⊎ ((place ≢ 0) × (spec ≢ Sparse) × (single ≡ off_word a.version 0)))
-      (payload_is : own.payload ≡ spec_fields spec ++ place ∷ single ∷ 0 ∷ 0 ∷ 0 ∷ 0 ∷ length name ∷ (letters ++ spec_ranges spec))
+  module _ (name : List ℕ) (spec : Spec) (letters : List ℕ) (asks : given ≡ made.Histogram name spec) (lettered : AreNameWords name letters)
+      (payload_is : own.payload ≡ spec_fields spec ++ 0 ∷ 0 ∷ 0 ∷ 0 ∷ 0 ∷ 0 ∷ length name ∷ (letters ++ spec_ranges spec))
       (tag : own.tag ≡ 1) (named : is_name name ≡ true) (lawful : spec_fault spec ≡ None) (fits : 4 + 2 * buckets_of spec ≤ a.shape.page) where
     abbrev r : Record
-    r = record_of own name spec place single letters
-
-    versioned : a.version ≡ anatomy.version
-    versioned = (mine_fits shape opened state kept id a mine records tail own given placed i there ended asked ends).versioned
-
-    forms_now : ((place ≡ 0) × (single ≡ 0)) ⊎ ((place ≢ 0) × (spec ≢ Sparse) × (single ≡ off_word anatomy.version 0))
-    forms_now = subst (λ (v : ℕ). ((place ≡ 0) × (single ≡ 0)) ⊎ ((place ≢ 0) × (spec ≢ Sparse) × (single ≡ off_word v 0))) versioned forms
+    r = record_of own name spec letters
 
     fits_now : 4 + 2 * buckets_of spec ≤ shape.page
     fits_now =
@@ -115,19 +94,19 @@ module _ (shape : Dimensions) (opened : Anatomy) (state : State) (kept : Kept sh
         (mine_fits shape opened state kept id a mine records tail own given placed i there ended asked ends).shaped fits
 
     abbrev blank_record : IsBlank (form_at anatomy.version r)
-    blank_record = is_blank own name spec place single letters payload_is anatomy.version shape.page kept.versions block_holds.room named lettered lawful fits_now forms_now
+    blank_record = is_blank own name spec letters payload_is anatomy.version shape.page kept.versions block_holds.room named lettered lawful fits_now
 
     -- the own block is published as the record
     first_published : Publishes shape id half (pieces_of (histogram r)) (Only own.at (histogram r))
     first_published = one_published shape id half own (histogram r) (owned_half own block_holds.stands)
-        (record_words_are own name spec place single letters payload_is tag) refl
+        (record_words_are own name spec letters payload_is tag) refl
         (record_held anatomy.version own r blank_record refl refl refl)
 
     is_lawful : IsLawfulRecord anatomy.version shape.page r
-    is_lawful = record_lawful own name spec place single letters payload_is anatomy.version shape.page kept.versions block_holds.room named lettered lawful fits_now forms_now
+    is_lawful = record_lawful own name spec letters payload_is anatomy.version shape.page kept.versions block_holds.room named lettered lawful fits_now
 
-    is_nothing : CountsNothing anatomy.version r
-    is_nothing = record_nothing own name spec place single letters payload_is anatomy.version shape.page kept.versions block_holds.room named lettered lawful fits_now forms_now
+    is_nothing : CountsNothing r
+    is_nothing = record_nothing own name spec letters payload_is anatomy.version shape.page kept.versions block_holds.room named lettered lawful fits_now
 
     -- it is listed, and stands as what it was given
     record_listed : Contains (anatomy.records ++ record { reference = own.at; made = Some given } ∷ []) (record { reference = own.at; made = Some (made.Histogram name spec) })
@@ -149,145 +128,25 @@ module _ (shape : Dimensions) (opened : Anatomy) (state : State) (kept : Kept sh
         absurd (cc (asks, some_given)))
         (snoc_split anatomy.records front behind (record { reference = own.at; made = Some given }) (record { reference = at; made = Some (made.Sample of value) }) is)
 
-    -- without counts
-    pub alone_linked : place ≡ 0 → Onward
-    alone_linked zero_is =
-        let pieces : List Piece = pieces_of (histogram r) in
-        let shown = first_published.shown (set state.words (tail + 3) own.at) shown_half in
-        links_on shape opened state kept id a mine records tail own given placed i there ended asked ends pieces (Only own.at (histogram r)) first_published
+    pub histogram_linked : Onward
+    histogram_linked =
+        links_on shape opened state kept id a mine records tail own given placed i there ended asked ends (pieces_of (histogram r)) (Only own.at (histogram r)) first_published
         (record {
           right = record {
             lawful = λ at r' is. subst (IsLawfulRecord anatomy.version shape.page) (sym (same_record r r' is.1)) is_lawful;
-            mounted = λ at r' is mounts. absurd (mounts (ap (λ (z : Record). z.counts) (same_record r r' is.1) ∙ zero_is));
-            nothing = λ at r' is. subst (CountsNothing anatomy.version) (sym (same_record r r' is.1)) is_nothing;
-            blank = λ at r' is c has. absurd (none_at_zero pieces c shown
-                (subst (λ (n : ℕ). HasCounts pieces n c) (ap (λ (z : Record). z.counts) (same_record r r' is.1) ∙ zero_is) has));
-            named = λ at c is. absurd (cc is.1);
-            zeros = λ at c is. absurd (cc is.1);
+            nothing = λ at r' is. subst CountsNothing (sym (same_record r r' is.1)) is_nothing;
             valued = λ at s is. absurd (cc is.1);
             unmarked = λ at s is. absurd (cc is.1);
-            sampled = record_sampled pieces;
+            sampled = record_sampled (pieces_of (histogram r));
           };
-          off = λ at c is. absurd (cc is.1);
+          bare = λ at c is. absurd (cc is.1);
           new_record = λ name' spec' is. (r, (refl, refl));
           new_sample = λ of value is. absurd (cc (asks, is));
-          stands = record_stands pieces (first_published.here own.at (histogram r) (refl, refl));
+          stands = record_stands (pieces_of (histogram r)) (first_published.here own.at (histogram r) (refl, refl));
           listed = λ at body is. subst (λ (p : ℕ × Body). IsListed (anatomy.records ++ record { reference = own.at; made = Some given } ∷ []) p.0 p.1)
               (λ j. (sym is.0 j, sym is.1 j)) record_listed;
-          spared = λ x ne ne' b is. ne is.0;
+          spared = λ x ne b is. ne is.0;
         })
-
-    -- with its counts block
-    module _ (some_counts : place ≢ 0) (block : Own) (m : ℕ) (at_m : get_elem? a.own m ≡ some block) (block_at : block.at ≡ slice_index own.payload 4)
-        (second_tag : block.tag ≡ 2) (bare : block.payload ≡ []) (room : 4 + 2 * buckets_of spec ≤ block.size) where
-      abbrev c : Counts
-      c = counts_of block own.at name spec
-
-      abbrev mine_now : Fits shape anatomy state.cursors state.actors kept.roles.opener id a
-      mine_now = mine_fits shape opened state kept id a mine records tail own given placed i there ended asked ends
-
-      other_block : block.at ≢ own.at
-      other_block same =
-          let index : m ≡ i = mine_now.apart m i block own at_m there same in
-          let one : block ≡ own = some-injective block own (sym at_m ∙ (ap (get_elem? a.own) index ∙ there)) in
-          let two = sym second_tag ∙ (ap (λ (x : Own). x.tag) one ∙ tag) in
-          omega (arith, two)
-
-      names : block.at ≡ place
-      names = block_at ∙ counts_are own name spec place single letters payload_is
-
-      owned_now : Stands (pieces_of (histogram r)) block.at (some id) (held block)
-      owned_now = first_published.mine block.at (held block) (λ b is. other_block is.0)
-          (owned_half block (all_at (HoldsOwn shape anatomy.pieces id) a.own m block mine_now.own at_m).stands)
-
-      abbrev pieces : List Piece
-      pieces = set (pieces_of (histogram r)) owned_now.0 (record { at = block.at; owner = none; body = counts c })
-
-      abbrev added : ℕ → Body → Type 0
-      added at body = Only own.at (histogram r) at body ⊎ Only block.at (counts c) at body
-
-      zeros_now : AreZeros c
-      zeros_now = counts_zeros block own.at name spec second_tag bare room
-
-      published : Publishes shape id half pieces added
-      published = both_published shape id half (pieces_of (histogram r)) pieces (Only own.at (histogram r)) (Only block.at (counts c)) first_published
-          (one_published shape id (record half { pieces = pieces_of (histogram r) }) block (counts c) owned_now
-          (counts_words_are block own.at name spec second_tag bare room) refl
-          (counts_held anatomy.version block c zeros_now))
-
-      shown : IsShown shape (set state.words (tail + 3) own.at) (layout_of (record anatomy { pieces = pieces }))
-      shown = published.shown (set state.words (tail + 3) own.at) shown_half
-
-      counts_here : HasCounts pieces block.at c
-      counts_here = published.here block.at (counts c) (inr (refl, refl))
-
-      record_here : HasRecord pieces own.at r
-      record_here = published.here own.at (histogram r) (inl (refl, refl))
-
-      -- what it names is that block
-      named_by : (r' : Record) → r' ≡ r → block.at ≡ r'.counts
-      named_by r' same = names ∙ sym (ap (λ (z : Record). z.counts) same)
-
-      added_right : AddedRight shape.page anatomy (record anatomy { pieces = pieces; records = anatomy.records ++ record { reference = own.at; made = Some given } ∷ [] }) added
-      added_right = record {
-        lawful = λ at r' is. ⊎_elim
-            (λ t. subst (IsLawfulRecord anatomy.version shape.page) (sym (same_record r r' t.1)) is_lawful)
-            (λ t. absurd (cc t.1)) is;
-        mounted = λ at r' is mounts. ⊎_elim
-            (λ t. let same = same_record r r' t.1 in (
-              c,
-              subst (λ (n : ℕ). HasCounts pieces n c) (named_by r' same) counts_here,
-              subst (λ (p : ℕ × Record). IsCountsOf anatomy.version p.0 p.1 c) (λ j. (sym t.0 j, sym same j))
-                  (counts_lawful block own.at name spec second_tag bare room anatomy.version r refl refl refl blank_record.unpacked),
-            ))
-            (λ t. absurd (cc t.1)) is;
-        nothing = λ at r' is. ⊎_elim
-            (λ t. subst (CountsNothing anatomy.version) (sym (same_record r r' t.1)) is_nothing)
-            (λ t. absurd (cc t.1)) is;
-        blank = λ at r' is c' has. ⊎_elim
-            (λ t.
-            let here = subst (λ (n : ℕ). HasCounts pieces n c') (sym (named_by r' (same_record r r' t.1))) has in
-            let one = one_stands shape (set state.words (tail + 3) own.at) (record anatomy { pieces = pieces }) shown block.at none none (counts c') (counts c) here counts_here in
-            subst AreZeros (sym (same_counts c c' one.1)) zeros_now)
-            (λ t. absurd (cc t.1)) is;
-        named = λ at c' is. ⊎_elim
-            (λ t. absurd (cc t.1))
-            (λ t. (
-              r,
-              subst (λ (z : Counts). HasRecord pieces z.of r) (sym (same_counts c c' t.1)) record_here,
-              sym names ∙ sym t.0,
-            )) is;
-        zeros = λ at c' is. ⊎_elim
-            (λ t. absurd (cc t.1))
-            (λ t. subst AreZeros (sym (same_counts c c' t.1)) zeros_now) is;
-        valued = λ at s is. ⊎_elim (λ t. absurd (cc t.1)) (λ t. absurd (cc t.1)) is;
-        unmarked = λ at s is. ⊎_elim (λ t. absurd (cc t.1)) (λ t. absurd (cc t.1)) is;
-        sampled = record_sampled pieces;
-      }
-
-      pub both_linked : Onward
-      both_linked =
-          links_on shape opened state kept id a mine records tail own given placed i there ended asked ends pieces added published
-          (record {
-            right = added_right;
-            off = λ at c' is. ⊎_elim
-                (λ t. absurd (cc t.1))
-                (λ t. (
-                  r,
-                  subst (λ (z : Counts). HasRecord pieces z.of r) (sym (same_counts c c' t.1)) record_here,
-                  record_off own name spec place single letters payload_is anatomy.version shape.page kept.versions block_holds.room named lettered lawful fits_now forms_now some_counts,
-                )) is;
-            new_record = λ name' spec' is. (r, inl (refl, refl));
-            new_sample = λ of value is. absurd (cc (asks, is));
-            stands = record_stands pieces record_here;
-            listed = λ at body is. ⊎_elim
-                (λ t. subst (λ (p : ℕ × Body). IsListed (anatomy.records ++ record { reference = own.at; made = Some given } ∷ []) p.0 p.1)
-                (λ j. (sym t.0 j, sym t.1 j)) record_listed)
-                (λ t. subst (λ (b : Body). IsListed (anatomy.records ++ record { reference = own.at; made = Some given } ∷ []) at b) (sym t.1) tt) is;
-            spared = λ x ne ne' b is. ⊎_elim
-                (λ t. ne t.0)
-                (λ t. ne' (t.0 ∙ (block_at ∙ sym (ap counts_named (own_found a.own i own mine_now.apart there))))) is;
-          })
 
   -- ---- a sample
 
@@ -343,20 +202,16 @@ module _ (shape : Dimensions) (opened : Anatomy) (state : State) (kept : Kept sh
         (record {
           right = record {
             lawful = λ at r is. absurd (cc is.1);
-            mounted = λ at r is. absurd (cc is.1);
             nothing = λ at r is. absurd (cc is.1);
-            blank = λ at r is. absurd (cc is.1);
-            named = λ at c is. absurd (cc is.1);
-            zeros = λ at c is. absurd (cc is.1);
             valued = λ at s' is. subst IsLawfulSample (sym (same_sample s s' is.1)) (sample_lawful own known.name of value k payload_is room valued);
             unmarked = λ at s' is. subst (λ (z : Sample). (z.units ≡ 0) × (z.mark ≡ 0)) (sym (same_sample s s' is.1)) (refl, refl);
             sampled = sample_sampled;
           };
-          off = λ at c is. absurd (cc is.1);
+          bare = λ at c is. absurd (cc is.1);
           new_record = λ name spec is. absurd (cc (asks, is));
           new_sample = λ of' value' is. (s, (refl, refl));
           stands = subst (λ (g : Made). StandsAs (pieces_of (sample s)) (record { reference = own.at; made = Some g }) (Some g)) (sym asks) (s, sample_here, refl, refl);
           listed = λ at body is. subst (λ (p : ℕ × Body). IsListed (anatomy.records ++ record { reference = own.at; made = Some given } ∷ []) p.0 p.1)
               (λ j. (sym is.0 j, sym is.1 j)) sample_listed;
-          spared = λ x ne ne' b is. ne is.0;
+          spared = λ x ne b is. ne is.0;
         })

@@ -19,7 +19,7 @@ use Rattle.segment_machine.specs.declared.actor.Sighting.{Sighting}
 use Rattle.segment_machine.specs.declared.actor.Made.{Made}
 use Rattle.segment_machine.specs.declared.actor.Made.TheVariants as made
 use Rattle.segment_machine.specs.declared.actor.Own.{Own}
-use Rattle.segment_machine.specs.Form.{is_off, form_of, Leads}
+use Rattle.segment_machine.specs.Form.{form_of, Leads}
 use Rattle.segment_machine.specs.Body.{Record, Counts, Sample, Body, queue, plain, held, histogram, counts, sample, other, words_of, is_claimed, Piece, Listed, Anatomy, order_of, free_of}
 use Rattle.segment_machine.specs.Ledger.{all_held, all_amounts}
 use Rattle.segment_machine.specs.Seen.{Stands, HasPlain, HasRecord, HasCounts, HasSample, IsNamed, IsFirst, IsFirstOf, IsFixedIn, IsCounterIn, WasFixed, WasCounter, WasInUse, WasSingle, IsNoLater, Knows, Sees}
@@ -174,7 +174,7 @@ pub record Grows (old new : Anatomy) (added : ℕ → Body → Type 0) : Type 0 
       → ((before : Body) × (n : ℕ) × Stands old.pieces at none before × (body ≡ with_next before n)) ⊎ added at body
   pub apart : (at other i j : ℕ) (body before : Body) → added at body → Stands old.pieces other none before → i < length (words_of body)
       → j < length (words_of before) → at + i ≢ other + j
-  pub off : (at : ℕ) (c : Counts) → added at (counts c) → (r : Record) × HasRecord new.pieces c.of r × (is_off r.single ≡ true)
+  pub bare : (at : ℕ) (c : Counts) → added at (counts c) → ⊥
   pub first_came : (name : List ℕ) (spec : Spec) (at : ℕ) → IsFirst new.records name spec at
       → IsFirst old.records name spec at ⊎ ((r : Record) × added at (histogram r) × All (λ l. ¬ (IsNamed name l)) old.records)
   pub first_of_came : (of at : ℕ) (value : ℤ) → IsFirstOf new.records of value at
@@ -191,7 +191,7 @@ grows_not anatomy pieces spare corrupt full tail stays = record {
   stays = λ at body claimed there. let (n, is) = same_next body in (n, subst (Stands pieces at none) (sym is) (stays.there at body there));
   came = λ at body claimed there. let (n, is) = same_next body in inl (body, n, stays.back at body there, sym is);
   apart = λ at place i j body before none_added. absurd none_added;
-  off = λ at c none_added. absurd none_added;
+  bare = λ at c none_added. none_added;
   first_came = λ name spec at first. inl first;
   first_of_came = λ of at value first. inl first;
 }
@@ -307,7 +307,7 @@ module _ (old new : Anatomy) (added : ℕ → Body → Type 0) (grows : Grows ol
   in_use_stays s was at i c there is from below = ⊎_elim
       (λ before. let (r, stands, off) = was at i c before is from below in
       let (n, still) = record_stays c.of r stands in (record r { next = n }, still, off))
-      (λ fresh. grows.off at c fresh)
+      (λ fresh. absurd (grows.bare at c fresh))
       (counts_came at c there)
 
   pub known_stays : (known : Known) → Knows old known → Knows new known

@@ -1,5 +1,5 @@
 -- Each event of the list keeps what holds, and its actor learns that it found the end or a record.
-use Rattle.std.proofs.Common.{◌≡◌, ℕ, ◌+◌, Bool, set, ⊎_elim, refl, sym, ◌∙◌, subst, arith, eq-eqb}
+use Rattle.std.proofs.Common.{◌≡◌, ℕ, ◌+◌, Bool, set, refl, sym, subst, arith, eq-eqb}
 use Rattle.std.specs.Prelude.{Some, if◌then◌else◌}
 use mathlib.Core.Option.{some}
 use mathlib.Core.Logic.{dite}
@@ -22,8 +22,7 @@ use Rattle.segment_machine.specs.Body.{Anatomy}
 use Rattle.segment_machine.specs.Kept.{Kept}
 use Rattle.segment_machine.proofs.Lists.{at_from}
 use Rattle.segment_machine.proofs.Goings.{happens}
-use Rattle.segment_machine.proofs.ListingBodies.{counts_are}
-use Rattle.segment_machine.proofs.ListingCases.{Onward, alone_linked, both_linked, sample_linked}
+use Rattle.segment_machine.proofs.ListingCases.{Onward, histogram_linked, sample_linked}
 use Rattle.segment_machine.proofs.ListingEvents.{Goes, tail_loaded, tail_moved_on, link_beaten, next_loaded}
 use Rattle.segment_machine.proofs.ListingLinked.{stop, turns}
 use Rattle.segment_machine.proofs.ListingOwn.{own_next_stored}
@@ -35,21 +34,11 @@ module _ (shape : Dimensions) (opened : Anatomy) (state : State) (kept : Kept sh
   -- a record is published as what it is to hold
   module _ (tail : ℕ) (own : Own) (placed : a.place ≡ TailLoaded tail) (i : ℕ) (there : get_elem? a.own i ≡ some own) (ended : own.next ≡ 12)
       (ends : word_at state.words (tail + 3) ≡ 12) where
-    links_as : (given : Made) → (asked : own.made ≡ Some given) → IsPayload a.version given own.payload → MayPublish a own given
+    links_as : (given : Made) → (asked : own.made ≡ Some given) → IsPayload given own.payload → MayPublish a own given
         → Onward shape opened state kept id a mine records tail own given placed i there ended asked ends
-    links_as (Histogram name spec) asked (letters, place, single, lettered, forms, payload_is) (tag, named, lawful, fits, blocks) =
-        dite (ℕ_discrete place 0)
-        (λ zero_is.
-        alone_linked shape opened state kept id a mine records tail own (Histogram name spec) placed i there ended asked ends
-        name spec letters place single refl lettered forms payload_is tag named lawful fits zero_is)
-        (λ some_counts. ⊎_elim
-        (λ none_named. absurd (some_counts (sym (counts_are own name spec place single letters payload_is) ∙ none_named)))
-        (λ t.
-        let (block, has, block_at, blank) = t in
-        let (m, at_m) = at_from a.own block has in
-        both_linked shape opened state kept id a mine records tail own (Histogram name spec) placed i there ended asked ends
-        name spec letters place single refl lettered forms payload_is tag named lawful fits some_counts block m at_m block_at blank.0 blank.2 blank.3)
-        blocks)
+    links_as (Histogram name spec) asked (letters, lettered, payload_is) (tag, named, lawful, fits) =
+        histogram_linked shape opened state kept id a mine records tail own (Histogram name spec) placed i there ended asked ends
+        name spec letters refl lettered payload_is tag named lawful fits
     links_as (Sample of value) asked (k, payload_is) (tag, room, valued, (known, sparse)) =
         sample_linked shape opened state kept id a mine records tail own (Sample of value) placed i there ended asked ends
         of value k known refl payload_is tag room valued sparse.0 sparse.1 sparse.2

@@ -28,11 +28,10 @@ use Rattle.segment_machine.specs.declared.actor.Published.{Published}
 use Rattle.segment_machine.specs.declared.actor.Taken.{Taken}
 use Rattle.segment_machine.specs.declared.place.Place.TheVariants.{Spent, TailLoaded, Linked}
 use Rattle.segment_machine.specs.Actor.{all_published, all_given}
-use Rattle.segment_machine.specs.Form.{is_off}
 use Rattle.segment_machine.specs.State.{State}
-use Rattle.segment_machine.specs.Next.{without, own_at, published_as, counts_named, left_behind}
+use Rattle.segment_machine.specs.Next.{without, own_at, published_as}
 use Rattle.segment_machine.specs.Body.{Record, Counts, Sample, Body, queue, plain, held, histogram, counts, sample, other, words_of, is_claimed, Piece, extent_of, Listed, listed, Anatomy, layout_of, order_of, free_of, claims_of}
-use Rattle.segment_machine.specs.Seen.{Stands, HasRecord, Sees, IsNamed}
+use Rattle.segment_machine.specs.Seen.{Stands, Sees, IsNamed}
 use Rattle.segment_machine.specs.Kept.{StandsAs, IsListed, ListIsKept, StandsRight, HoldsOwn, Fits, CursorsAreKept, IsSetBy, ClaimedRight, Kept}
 use Rattle.segment_machine.proofs.Lists.{rows, rows_more, column, at_from, below_length, index_at, all_at}
 use Rattle.segment_machine.proofs.Pieces.{piece_word, first_piece, some_first, one_index, one_piece, with_piece, piece_stored, free_with, queue_piece, queue_stored, claims_same}
@@ -153,14 +152,14 @@ module _ (shape : Dimensions) (opened : Anatomy) (state : State) (kept : Kept sh
 
 -- ---- what is to be shown of what is published
 
-pub record Adds (page : ℕ) (a : Actor) (own : Own) (given : Made) (old new : Anatomy) (added : ℕ → Body → Type 0) : Type 0 where
+pub record Adds (page : ℕ) (own : Own) (given : Made) (old new : Anatomy) (added : ℕ → Body → Type 0) : Type 0 where
   pub right : AddedRight page old new added
-  pub off : (at : ℕ) (c : Counts) → added at (counts c) → (r : Record) × HasRecord new.pieces c.of r × (is_off r.single ≡ true)
+  pub bare : (at : ℕ) (c : Counts) → added at (counts c) → ⊥
   pub new_record : (name : List ℕ) (spec : Spec) → given ≡ made.Histogram name spec → (r : Record) × added own.at (histogram r)
   pub new_sample : (of : ℕ) (value : ℤ) → given ≡ made.Sample of value → (s : Sample) × added own.at (sample s)
   pub stands : StandsAs new.pieces (record { reference = own.at; made = Some given }) (Some given)
   pub listed : (at : ℕ) (body : Body) → added at body → IsListed new.records at body
-  pub spared : (x : Own) → x.at ≢ own.at → x.at ≢ counts_named (own_at a.own own.at) → (b : Body) → added x.at b → ⊥
+  pub spared : (x : Own) → x.at ≢ own.at → (b : Body) → added x.at b → ⊥
 
 -- ---- the list
 
@@ -273,11 +272,11 @@ module _ (shape : Dimensions) (opened : Anatomy) (state : State) (kept : Kept sh
   d = record (doing_of a) {
     place = Linked own.at tail;
     published = a.published ++ published_as (own_at a.own own.at) own.at;
-    own = left_behind own.at a.own;
+    own = without own.at a.own;
   }
 
   module _ (pieces : List Piece) (added : ℕ → Body → Type 0) (publishes : Publishes shape id halfway pieces added)
-      (adds : Adds shape.page a own given anatomy (record anatomy { pieces = pieces; records = anatomy.records ++ l ∷ [] }) added) where
+      (adds : Adds shape.page own given anatomy (record anatomy { pieces = pieces; records = anatomy.records ++ l ∷ [] }) added) where
     abbrev new : Anatomy
     new = record anatomy { pieces = pieces; records = anatomy.records ++ l ∷ [] }
 
@@ -304,7 +303,7 @@ module _ (shape : Dimensions) (opened : Anatomy) (state : State) (kept : Kept sh
           stored.claimed stored.kind id at (held block) was in
           let index = one_index shape state.words anatomy kept.shown stood.0 stands.0 _ _ j k stood.1 stands.1 (omega (arith, lt, long)) below same in
           some-ne-none id (ap (λ (p : Piece). p.owner) (some-injective _ _ (sym stood.1 ∙ (ap (get_elem? anatomy.pieces) index ∙ stands.1))));
-      off = adds.off;
+      bare = adds.bare;
       first_came = λ name spec at first.
           let (front, behind, is, others) = first in
           ⊎_elim
@@ -388,21 +387,20 @@ module _ (shape : Dimensions) (opened : Anatomy) (state : State) (kept : Kept sh
     own_now : All (HoldsOwn shape pieces id) d.own
     own_now =
         let first = all_without (HoldsOwn shape anatomy.pieces id) own.at a.own mine_fits.own in
-        let second = all_without (λ (x : Own). HoldsOwn shape anatomy.pieces id x × (x.at ≢ own.at)) (counts_named (own_at a.own own.at)) (without own.at a.own) first in
-        All-weaker (λ (x : Own). (HoldsOwn shape anatomy.pieces id x × (x.at ≢ own.at)) × (x.at ≢ counts_named (own_at a.own own.at))) (HoldsOwn shape pieces id)
+        All-weaker (λ (x : Own). HoldsOwn shape anatomy.pieces id x × (x.at ≢ own.at)) (HoldsOwn shape pieces id)
         (λ x t. record {
-          stands = publishes.mine x.at (held x) (adds.spared x t.0.1 t.1)
+          stands = publishes.mine x.at (held x) (adds.spared x t.1)
               (next_owned anatomy.pieces stored.index stored.piece stored.turned stored.there stored.free stored.still_free stored.place own.at
-              stored.claimed stored.kind id x.at (held x) t.0.0.stands);
-          placed = t.0.0.placed;
-          room = t.0.0.room;
-          tagged = t.0.0.tagged;
-          ends = t.0.0.ends;
+              stored.claimed stored.kind id x.at (held x) t.0.stands);
+          placed = t.0.placed;
+          room = t.0.room;
+          tagged = t.0.tagged;
+          ends = t.0.ends;
         })
-        d.own second
+        d.own first
 
     apart_now : (j k : ℕ) (x y : Own) → get_elem? d.own j ≡ some x → get_elem? d.own k ≡ some y → x.at ≡ y.at → j ≡ k
-    apart_now = distinct_filter _ (without own.at a.own) (distinct_filter _ a.own mine_fits.apart)
+    apart_now = distinct_filter _ a.own mine_fits.apart
 
     sees_now : (b : Actor) → Sees anatomy state.cursors b → Sees new state.cursors b
     sees_now b sees = sees_grow anatomy new added grows state.cursors b (subst (Behind b.seen_free) (sym free_is) sees.free)
@@ -470,7 +468,7 @@ module _ (shape : Dimensions) (opened : Anatomy) (state : State) (kept : Kept sh
       sums = sums_near pieces state.actors actors' (same_sums state.actors actors' same) same.loaded
           (sums_grow anatomy new added grows state.actors
           (λ who b reference sum here is. loaded_record shape opened state kept who b reference sum here is)
-          (λ at r new_one. let nothing = adds.right.nothing at r new_one in (nothing.2, nothing.3)) kept.sums);
+          (λ at r new_one. let nothing = adds.right.nothing at r new_one in (nothing.3, nothing.4)) kept.sums);
       pool = same.units ∙ kept.pool;
       corrupt = subst (IsSetBy anatomy.corrupt opened.corrupt) (sym (column (λ (b : Actor). b.spoiled) state.actors id a (doing a d) mine refl)) kept.corrupt;
       full = subst (IsSetBy anatomy.full opened.full) (sym (column (λ (b : Actor). b.filled) state.actors id a (doing a d) mine refl)) kept.full;

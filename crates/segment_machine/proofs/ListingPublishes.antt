@@ -217,33 +217,3 @@ module _ (shape : Dimensions) (id : ℕ) (old : Anatomy) (block : Own) (body : B
     shown = λ words shown. relabelled shape words old k p q shown stands.1 (not_first shape words old shown k p id stands.1 refl) (omega arith) same_words refl;
     holdings = holdings_set old.version old.pieces k p q stands.1 same_held;
   }
-
--- some and then others
-module _ (shape : Dimensions) (id : ℕ) (old : Anatomy) (pieces pieces' : List Piece) (f g : ℕ → Body → Type 0)
-    (one : Publishes shape id old pieces f) (two : Publishes shape id (record old { pieces = pieces }) pieces' g) where
-  pub both_published : Publishes shape id old pieces' (λ at body. f at body ⊎ g at body)
-  both_published = record {
-    stays = λ at body there. two.stays at body (one.stays at body there);
-    came = λ at body there. ⊎_elim
-        (λ before. ⊎_elim (λ first. inl first) (λ new_one. inr (inl new_one)) (one.came at body before))
-        (λ new_one. inr (inr new_one))
-        (two.came at body there);
-    here = λ at body is. ⊎_elim (λ first. two.stays at body (one.here at body first)) (λ second. two.here at body second) is;
-    was = λ at body is. ⊎_elim
-        (λ first. one.was at body first)
-        (λ second. let (block, there, long) = two.was at body second in (block, one.owned id at (held block) there, long))
-        is;
-    others = λ who at body ne there. two.others who at body ne (one.others who at body ne there);
-    mine = λ at body none_added there.
-        two.mine at body (λ b is. none_added b (inr is)) (one.mine at body (λ b is. none_added b (inl is)) there);
-    owned = λ who at body there. one.owned who at body (two.owned who at body there);
-    still = λ k p there.
-        let (q, here, same) = one.still k p there in
-        let (r, now, same') = two.still k q here in
-        (r, now, same' ∙ same);
-    blocks = λ all. two.blocks (one.blocks all);
-    claims = two.claims ∙ one.claims;
-    free = two.free ∙ one.free;
-    shown = λ words shown. two.shown words (one.shown words shown);
-    holdings = holdings_both old.version old.pieces pieces pieces' one.holdings two.holdings;
-  }

@@ -11,7 +11,7 @@ use Rattle.segment_machine.specs.declared.actor.Actor.{Actor}
 use Rattle.segment_machine.specs.declared.actor.Made.TheVariants as made
 use Rattle.segment_machine.specs.declared.place.Place.TheVariants.{SumLoaded}
 use Rattle.segment_machine.specs.Form.{units_in}
-use Rattle.segment_machine.specs.Body.{Record, Counts, Sample, Body, histogram, counts, sample, Listed, Anatomy}
+use Rattle.segment_machine.specs.Body.{Record, Counts, Sample, Body, histogram, sample, Listed, Anatomy}
 use Rattle.segment_machine.specs.Ledger.{form_at}
 use Rattle.segment_machine.specs.Seen.{Stands, HasRecord, HasCounts, HasSample, IsNamed, IsFirst, IsFirstOf}
 use Rattle.segment_machine.specs.Kept.{StandsAs, IsListed, IsLawfulRecord, IsCountsOf, IsLawfulSample, CountsNothing, RecordsAreKept, HasKey, SumsAreNear, IsSumOf, summed_costs}
@@ -50,19 +50,10 @@ counts_next version at n r c is = record {
 
 -- ---- what was added
 
--- all counts and marks of a counts block are 0
-abbrev pub AreZeros : Counts → Type 0
-AreZeros c = All (λ n. n ≡ 0) c.units × All (λ n. n ≡ 0) c.marks
-
 -- What was added is lawful and counts nothing.
 pub record AddedRight (page : ℕ) (old new : Anatomy) (added : ℕ → Body → Type 0) : Type 0 where
   pub lawful : (at : ℕ) (r : Record) → added at (histogram r) → IsLawfulRecord new.version page r
-  pub mounted : (at : ℕ) (r : Record) → added at (histogram r) → r.counts ≢ 0
-      → (c : Counts) × HasCounts new.pieces r.counts c × IsCountsOf new.version at r c
-  pub nothing : (at : ℕ) (r : Record) → added at (histogram r) → CountsNothing new.version r
-  pub blank : (at : ℕ) (r : Record) → added at (histogram r) → (c : Counts) → HasCounts new.pieces r.counts c → AreZeros c
-  pub named : (at : ℕ) (c : Counts) → added at (counts c) → (r : Record) × HasRecord new.pieces c.of r × (r.counts ≡ at)
-  pub zeros : (at : ℕ) (c : Counts) → added at (counts c) → AreZeros c
+  pub nothing : (at : ℕ) (r : Record) → added at (histogram r) → CountsNothing r
   pub valued : (at : ℕ) (s : Sample) → added at (sample s) → IsLawfulSample s
   pub unmarked : (at : ℕ) (s : Sample) → added at (sample s) → (s.units ≡ 0) × (s.mark ≡ 0)
   pub sampled : (front behind : List Listed) (at of : ℕ) (value : ℤ)
@@ -74,11 +65,7 @@ pub record AddedRight (page : ℕ) (old new : Anatomy) (added : ℕ → Body →
 pub nothing_added : (page : ℕ) (old new : Anatomy) → new.records ≡ old.records → AddedRight page old new (λ at body. ⊥)
 nothing_added page old new same = record {
   lawful = λ at r none_added. absurd none_added;
-  mounted = λ at r none_added. absurd none_added;
   nothing = λ at r none_added. absurd none_added;
-  blank = λ at r none_added. absurd none_added;
-  named = λ at c none_added. absurd none_added;
-  zeros = λ at c none_added. absurd none_added;
   valued = λ at s none_added. absurd none_added;
   unmarked = λ at s none_added. absurd none_added;
   sampled = λ front behind at of value is. inl (behind, sym same ∙ is);
@@ -97,17 +84,15 @@ module _ (page : ℕ) (old new : Anatomy) (added : ℕ → Body → Type 0) (gro
 
   later_record : RecordsAreKept page old → (at who : ℕ) (r : Record) (first : Spec) → HasRecord new.pieces at r
       → IsFirst new.records r.name first who → who ≢ at
-      → CountsNothing new.version r × ((c : Counts) → HasCounts new.pieces r.counts c → AreZeros c)
+      → CountsNothing r
   later_record kept at who r first there is ne = ⊎_elim
       (λ t. let (r0, n, before, same) = t in
-      subst (λ (z : ℕ × Record). CountsNothing z.0 z.1 × ((c : Counts) → HasCounts new.pieces z.1.counts c → AreZeros c))
-      (λ i. (sym grows.version i, sym same i))
+      subst CountsNothing (sym same)
       (⊎_elim
-      (λ old_first. let h = kept.later at who r0 first before old_first ne in
-      (h.0, λ c counts. ⊎_elim (λ stood. h.1 c stood) (λ fresh. right.zeros r0.counts c fresh) (counts_came old new added grows r0.counts c counts)))
+      (λ old_first. kept.later at who r0 first before old_first ne)
       (λ new_one. absurd (All-contains (λ l. ¬ (IsNamed r0.name l)) old.records _ new_one.2 (alone at (histogram r0) before) (r0.spec, refl)))
       (grows.first_came r0.name first who (subst (λ (z : Record). IsFirst new.records z.name first who) same is))))
-      (λ new_one. (right.nothing at r new_one, right.blank at r new_one))
+      (λ new_one. right.nothing at r new_one)
       (record_came old new added grows at r there)
 
   later_sample : RecordsAreKept page old → (at who : ℕ) (s : Sample) → HasSample new.pieces at s → IsFirstOf new.records s.of s.value who → who ≢ at
@@ -151,18 +136,18 @@ module _ (page : ℕ) (old new : Anatomy) (added : ℕ → Body → Type 0) (gro
         (λ i. (sym grows.version i, sym same i))
         (λ mounts. let (c, stands, is) = kept.mounted at r0 before mounts in
         (c, counts_stay old new added grows r0.counts c stands, counts_next old.version at n r0 c is)))
-        (λ new_one. right.mounted at r new_one)
+        (λ new_one mounts. absurd (mounts (right.nothing at r new_one).0))
         (record_came old new added grows at r there);
     named = λ at c there. ⊎_elim
         (λ before. let (r, stands, is) = kept.named at c before in
         let (n, still) = record_stays old new added grows c.of r stands in (record r { next = n }, still, is))
-        (λ new_one. right.named at c new_one)
+        (λ new_one. absurd (grows.bare at c new_one))
         (counts_came old new added grows at c there);
     packed = λ at r there. ⊎_elim
         (λ t. let (r0, n, before, same) = t in
         subst (λ (z : ℕ × Record). z.1.counts ≡ 0 → z.1.mark ≤ units_in (form_at z.0 z.1)) (λ i. (sym grows.version i, sym same i))
         (kept.packed at r0 before))
-        (λ new_one none_named. let unmarked = (right.nothing at r new_one).1 in omega (arith, unmarked))
+        (λ new_one none_named. let unmarked = (right.nothing at r new_one).2 in omega (arith, unmarked))
         (record_came old new added grows at r there);
     valued = λ at s there. ⊎_elim
         (λ t. let (s0, n, before, same) = t in let is = kept.valued at s0 before in

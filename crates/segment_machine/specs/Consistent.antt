@@ -28,7 +28,7 @@ use Rattle.segment_machine.specs.declared.actor.Published.{Published}
 use Rattle.segment_machine.specs.declared.actor.Sighting.{Sighting}
 use Rattle.segment_machine.specs.declared.actor.Taken.{Taken}
 use Rattle.segment_machine.specs.Entry.{has_ended, tally_units, tally_sum, tally_noted}
-use Rattle.segment_machine.specs.Form.{is_off, form_of, off_word, Leads}
+use Rattle.segment_machine.specs.Form.{is_off, form_of, Leads}
 use Rattle.segment_machine.specs.Actor.{Each, all_counted, all_summed, all_noted, all_taken, all_published, all_given, all_costs, taken_units, taken_sum, transit_of, units_of}
 use Rattle.segment_machine.specs.Made.{AreNameWords}
 use Rattle.segment_machine.specs.State.{State}
@@ -176,11 +176,9 @@ counts_word words at i = field_at words (field_at words at 8) (4 + i)
 abbrev pub counts_words : List ℕ → ℕ → ℕ
 counts_words words at = if field_at words at 8 == 0 then 0 else 2 * record_buckets words at
 
--- a record that was published and that nobody counts in: nothing is packed, counted, taken or summed
-abbrev pub CountsNothing : ℕ → List ℕ → ℕ → Type 0
-CountsNothing version words at =
-    ((field_at words at 9 ≡ 0) ⊎ (field_at words at 9 ≡ off_word version 0))
-    × ((i : ℕ) → 10 ≤ i → i < 14 → field_at words at i ≡ 0) × ((i : ℕ) → i < counts_words words at → counts_word words at i ≡ 0)
+-- a record that was published and that nobody counts in: it has no counts, and nothing is packed, taken, summed or noted
+abbrev pub CountsNothing : List ℕ → ℕ → Type 0
+CountsNothing words at = (i : ℕ) → 8 ≤ i → i < 14 → field_at words at i ≡ 0
 
 -- a record of an adopted image that nobody counts in: all is as it was
 abbrev pub CountsStill : List ℕ → List ℕ → ℕ → Type 0
@@ -205,7 +203,7 @@ pub record RecordsHold (opened : List ℕ) (first : List Claim) (words : List �
   pub later : (at other : ℕ) → Contains chain at → field_at words at 2 ≡ 1
       → IsHistogram words chain (name_of words at) other → other ≢ at
       → (nat_lt at (word_at opened 7) ≡ true → CountsStill opened words at)
-      × (nat_lt at (word_at opened 7) ≡ false → CountsNothing (word_at opened 1) words at)
+      × (nat_lt at (word_at opened 7) ≡ false → CountsNothing words at)
   pub later_samples : (at other : ℕ) → Contains chain at → field_at words at 2 ≡ 3
       → IsSample words chain (field_at words at 4) (sample_value words at) other → other ≢ at
       → (field_at words at 6 ≡ 0) × (field_at words at 7 ≡ 0)

@@ -31,8 +31,8 @@ use Rattle.segment_machine.specs.declared.actor.Own.{Own}
 use Rattle.segment_machine.specs.declared.actor.Sighting.{Sighting}
 use Rattle.segment_machine.specs.declared.actor.Taken.{Taken}
 use Rattle.segment_machine.specs.Entry.{is_counted, is_summed, has_ended, AreWithin, is_of, tally_units, tally_sum, tally_noted}
-use Rattle.segment_machine.specs.Form.{is_off, form_of, off_word, units_in}
-use Rattle.segment_machine.specs.Actor.{Buckets, Sparse, log_of, counted_of, word_seen, bucket_key, units_listed, taken_sum, all_counted, all_summed, all_noted, all_taken, all_published, all_given, cost_of, units_of, SawSingle, SawCount}
+use Rattle.segment_machine.specs.Form.{is_off, form_of, units_in}
+use Rattle.segment_machine.specs.Actor.{Buckets, Sparse, log_of, counted_of, bucket_key, units_listed, taken_sum, all_counted, all_summed, all_noted, all_taken, all_published, all_given, cost_of, units_of, SawSingle, SawCount}
 use Rattle.segment_machine.specs.Made.{AreNameWords, SawSample}
 use Rattle.segment_machine.specs.Note.{is_untouched, SawBucket}
 use Rattle.segment_machine.specs.Promises.{accepted_by, accepted_since}
@@ -112,10 +112,9 @@ pub record IsLawfulSample (s : Sample) : Type 0 where
   pub valued : is_i32 s.value ≡ true
   pub taken : s.mark ≤ s.units
 
--- in a record that is not the first of its name nothing is counted, nor in its counts
-abbrev pub CountsNothing : ℕ → Record → Type 0
-CountsNothing version r =
-    ((r.single ≡ 0) ⊎ (r.single ≡ off_word version 0)) × (r.mark ≡ 0) × (r.sum ≡ 0) × (r.sum_mark ≡ 0) × (r.noted ≡ 0)
+-- in a record that is not the first of its name nothing is counted
+abbrev pub CountsNothing : Record → Type 0
+CountsNothing r = (r.counts ≡ 0) × (r.single ≡ 0) × (r.mark ≡ 0) × (r.sum ≡ 0) × (r.sum_mark ≡ 0) × (r.noted ≡ 0)
 
 -- Records are lawful; each counts reference leads to the record's own counts block and back, so no two records name one; while a
 -- record names none its single mark is at most its packed units; a sample names a sparse record before it, the first of its name;
@@ -131,7 +130,7 @@ pub record RecordsAreKept (page : ℕ) (anatomy : Anatomy) : Type 0 where
       → anatomy.records ≡ front ++ record { reference = at; made = Some (made.Sample of value) } ∷ behind
       → (name : List ℕ) × IsFirst front name spec.Sparse of × ((s : Sample) → HasSample anatomy.pieces at s → s.name ≡ name)
   pub later : (at other : ℕ) (r : Record) (first : Spec) → HasRecord anatomy.pieces at r → IsFirst anatomy.records r.name first other → other ≢ at
-      → CountsNothing anatomy.version r × ((c : Counts) → HasCounts anatomy.pieces r.counts c → All (λ n. n ≡ 0) c.units × All (λ n. n ≡ 0) c.marks)
+      → CountsNothing r
   pub later_samples : (at other : ℕ) (s : Sample) → HasSample anatomy.pieces at s → IsFirstOf anatomy.records s.of s.value other → other ≢ at
       → (s.units ≡ 0) × (s.mark ≡ 0)
 

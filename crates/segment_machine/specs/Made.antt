@@ -1,16 +1,14 @@
 -- What a record holds that was given to its maker, in the words of a payload and in what an actor has seen of it.
-use Rattle.std.specs.Prelude.{◌≡◌, ◌≢◌, ◌⊎◌, true, ℕ, ◌+◌, ◌-◌, ◌<◌, ℤ, List, [], ◌∷◌, ◌++◌, length, replicate, slice_index, Some}
+use Rattle.std.specs.Prelude.{◌≡◌, ◌≢◌, ◌⊎◌, true, ℕ, ◌+◌, ◌<◌, ℤ, List, [], ◌∷◌, ◌++◌, length, replicate, slice_index, Some}
 use Rattle.std.specs.Int.{w64, cast_unsigned}
 use Rattle.std.specs.List.{All}
 use Rattle.segment_image.specs.Words.{bytes_of_words}
 use Rattle.bucket_ranges.specs.declared.spec.Spec.{Spec}
-use Rattle.bucket_ranges.specs.declared.spec.Spec.TheVariants.{Sparse}
 use Rattle.bucket_ranges.specs.Spec.{spec_fields, spec_ranges}
 use Rattle.bucket_ranges.specs.Reading.{is_i32}
 use Rattle.segment_machine.specs.declared.actor.Actor.{Actor}
 use Rattle.segment_machine.specs.declared.actor.Made.{Made}
 use Rattle.segment_machine.specs.declared.actor.Made.TheVariants.{Histogram, Sample}
-use Rattle.segment_machine.specs.Form.{off_word}
 use Rattle.segment_machine.specs.Actor.{word_seen}
 
 -- ---- in words
@@ -19,14 +17,13 @@ use Rattle.segment_machine.specs.Actor.{word_seen}
 abbrev pub AreNameWords : List ℕ → List ℕ → Type 0
 AreNameWords name words = (k : ℕ) × (k < 8) × (bytes_of_words words ≡ name ++ replicate k 0)
 
--- the front of a payload with which a record is published. That of a histogram has no counts and an empty single word, or
--- it names a counts block and its single word is off from the start; its marks, sums and redundant count are 0
-abbrev pub IsPayload : ℕ → Made → List ℕ → Type 0
-IsPayload version (Histogram name spec) payload =
-    (letters : List ℕ) × (counts single : ℕ) × AreNameWords name letters
-    × (((counts ≡ 0) × (single ≡ 0)) ⊎ ((counts ≢ 0) × (spec ≢ Sparse) × (single ≡ off_word version 0)))
-    × (payload ≡ spec_fields spec ++ counts ∷ single ∷ 0 ∷ 0 ∷ 0 ∷ 0 ∷ length name ∷ (letters ++ spec_ranges spec))
-IsPayload version (Sample histogram value) payload =
+-- The front of a payload with which a record is published. That of a histogram has no counts yet, an empty single word, and marks, sums
+-- and a redundant count of 0.
+abbrev pub IsPayload : Made → List ℕ → Type 0
+IsPayload (Histogram name spec) payload =
+    (letters : List ℕ) × AreNameWords name letters
+    × (payload ≡ spec_fields spec ++ 0 ∷ 0 ∷ 0 ∷ 0 ∷ 0 ∷ 0 ∷ length name ∷ (letters ++ spec_ranges spec))
+IsPayload (Sample histogram value) payload =
     (k : ℕ) × (payload ++ replicate k 0 ≡ histogram ∷ cast_unsigned w64 value ∷ [])
 
 -- ---- in what an actor has seen

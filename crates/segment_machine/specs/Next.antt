@@ -88,15 +88,6 @@ published_as (Some own) at = published_made own.made at
     published_made None at = []
     published_made (Some made) at = record { reference = at; made = made } ∷ []
 
--- the counts block that a record of its own names, 0 where it names none: payload word 4
-abbrev pub counts_named : Option Own → ℕ
-counts_named None = 0
-counts_named (Some own) = slice_index own.payload 4
-
--- the blocks that are left when a record is published: neither it nor the counts block that it names
-abbrev pub left_behind : ℕ → List Own → List Own
-left_behind at list = without (counts_named (own_at list at)) (without at list)
-
 -- ---- what it has seen
 
 abbrev pub sight : ℕ → ℕ → List Sighting
@@ -194,7 +185,7 @@ abbrev pub after_link : Bool → Actor → ℕ → ℕ → ℕ → Actor
 after_link true a tail at found = record a {
   place = Linked at tail;
   published = a.published ++ published_as (own_at a.own at) at;
-  own = left_behind at a.own;
+  own = without at a.own;
 }
 after_link false a tail at found = record a { place = Beaten tail found }
 

@@ -1,6 +1,6 @@
 -- When an actor may do an event. What it loads is bound to no order, but what it stores is bound to what it has loaded and
 -- stored before: so the events of each call that change a word come in the order that the format gives them.
-use Rattle.std.specs.Prelude.{◌≡◌, ◌≢◌, ◌⊎◌, Bool, true, false, not, ℕ, ◌+◌, ◌-◌, ◌*◌, ◌<◌, ◌≤◌, ℤ, List, [], ◌∷◌, ◌++◌, length, slice_index, Some, None}
+use Rattle.std.specs.Prelude.{◌≡◌, ◌≢◌, ◌⊎◌, Bool, true, false, not, ℕ, ◌+◌, ◌-◌, ◌*◌, ◌<◌, ◌≤◌, ℤ, List, [], ◌∷◌, ◌++◌, length, Some, None}
 use Rattle.std.specs.List.{filter, Contains}
 use Rattle.alloc_core.specs.Planned.{is_pointer}
 use Rattle.alloc_core.specs.Alloc.{IsRise}
@@ -142,13 +142,10 @@ IsFixed a at index =
     ⊎ ((word_seen a.seen_words (at + 2) ≡ Some 3) × (4 ≤ index) × (index < 6))
 
 -- A block of its own may be published as what it is to hold. A histogram has a lawful name and a lawful spec, whose counts fit in a
--- page; the counts block that it names, if it names one, is a blank one of its own. A sample has a value of an `i32`, and names
--- a known sparse histogram.
+-- page. A sample has a value of an `i32`, and names a known sparse histogram.
 abbrev pub MayPublish : Actor → Own → Made → Type 0
 MayPublish a own (Histogram name spec) =
     (own.tag ≡ 1) × (is_name name ≡ true) × (spec_fault spec ≡ None) × (4 + 2 * buckets_of spec ≤ a.shape.page)
-    × ((slice_index own.payload 4 ≡ 0)
-    ⊎ ((block : Own) × Contains a.own block × (block.at ≡ slice_index own.payload 4) × IsBlankCounts block (buckets_of spec)))
 MayPublish a own (Sample histogram value) =
     (own.tag ≡ 3) × (8 ≤ own.size) × (is_i32 value ≡ true) × ((known : Known) × Sparse a histogram known)
 
@@ -172,7 +169,7 @@ Ready a (store_own_next at) = (own : Own) × Fills a own × (own.at ≡ at)
 Ready a load_tail = MayTurn a × ((own : Own) × Waits a own)
 Ready a (link tail at) =
     (own : Own) × (made : Made) × (a.place ≡ TailLoaded tail) × Waits a own × (own.at ≡ at) × (own.made ≡ Some made)
-    × IsPayload a.version made own.payload × MayPublish a own made
+    × IsPayload made own.payload × MayPublish a own made
 Ready a (move_tail old new) = (a.place ≡ Linked new old) ⊎ (a.place ≡ Beaten old new)
 Ready a (load_next at) = MayTurn a × MayFollow a at
 Ready a (load_published at index) = MayTurn a × Contains a.seen_chain at × IsFixed a at index

@@ -5,7 +5,8 @@ use Rattle.csv.specs.Reading.{records, default_config, strip_bom}
 use Rattle.persist_report_core.specs.declared.script.draft.Draft.{Draft}
 use Rattle.persist_report_core.specs.declared.script.fault.ScriptFault.{ScriptFault}
 use Rattle.persist_report_core.specs.declared.script.fault.ScriptFault.TheVariants.{Read, TooLong, NoMemory, BadLine, ZeroCount, NoUnits}
-use Rattle.persist_report_core.specs.Request.{request_in}
+use Rattle.persist_report_core.specs.Request.{Request, request_in}
+use Rattle.persist_report_core.proofs.Requests.{script_along-one}
 use Rattle.persist_report_core.specs.Script.{IsScriptFault, faults_of, hist_view, later_fault, opening_fault, script_along, script_from, script_of, script_view}
 use Rattle.persist_report_core.specs.Draft.{IsDraft, IsExtended, IsOpened, Tells, extended}
 use Rattle.persist_report_core.proofs.Rows.{fault_of-later, faultless-more, length-hists, script_along-more, script_from-fault, script_from-lawful}
@@ -20,34 +21,36 @@ pub record IsRead (pool : ℕ) (rows : List (List (List ℕ))) (draft : Draft) (
   pub pool_is : draft.pool ≡ pool
 
 -- the first record
-pub read-first : (pool : ℕ) (fields : List (List ℕ)) (draft : Draft) → IsOpened pool fields draft → IsRead pool (fields ∷ []) draft 1
-read-first pool fields draft opened = record {
+pub read-first : (pool : ℕ) (fields : List (List ℕ)) (request : Option Request) (draft : Draft) → request ≡ request_in fields → IsOpened pool request draft
+    → IsRead pool (fields ∷ []) draft 1
+read-first pool fields request draft is opened = record {
   some = omega arith;
   numbered = refl;
-  faultless = faultless-more pool [] fields refl opened.lawful;
-  script_is = opened.script_is;
+  faultless = faultless-more pool [] fields refl (ap opening_fault (sym is) ∙ opened.lawful);
+  script_is = opened.script_is ∙ sym (script_along-one fields request is opened.lawful);
   keeps = opened.keeps;
   pool_is = opened.pool_is;
 }
 
 -- the fault of the next record, by the draft and by the records
-next_fault : (pool : ℕ) (rows : List (List (List ℕ))) (draft : Draft) (number : ℕ) (fields : List (List ℕ)) → IsRead pool rows draft number
-    → later_fault draft.pool (number + 1) (script_view draft.script) (request_in fields) ≡ later_fault pool (length rows + 1) (script_along rows) (request_in fields)
-next_fault pool rows draft number fields read =
-    λ i. later_fault (read.pool_is i) (read.numbered i + 1) (read.script_is i) (request_in fields)
+next_fault : (pool : ℕ) (rows : List (List (List ℕ))) (draft : Draft) (number : ℕ) (fields : List (List ℕ)) (request : Option Request) → IsRead pool rows draft number
+    → request ≡ request_in fields
+    → later_fault draft.pool (number + 1) (script_view draft.script) request ≡ later_fault pool (length rows + 1) (script_along rows) (request_in fields)
+next_fault pool rows draft number fields request read is =
+    λ i. later_fault (read.pool_is i) (read.numbered i + 1) (read.script_is i) (is i)
 
 -- one record more
-pub read-more : (pool : ℕ) (rows : List (List (List ℕ))) (old new : Draft) (number : ℕ) (fields : List (List ℕ)) → IsRead pool rows old number
-    → IsExtended old new (number + 1) (request_in fields) → IsRead pool (rows ++ fields ∷ []) new (number + 1)
-read-more pool rows old new number fields read more =
-    let fine : later_fault pool (length rows + 1) (script_along rows) (request_in fields) ≡ None = sym (next_fault pool rows old number fields read) ∙ more.lawful in
+pub read-more : (pool : ℕ) (rows : List (List (List ℕ))) (old new : Draft) (number : ℕ) (fields : List (List ℕ)) (request : Option Request)
+    → IsRead pool rows old number → request ≡ request_in fields → IsExtended old new (number + 1) request → IsRead pool (rows ++ fields ∷ []) new (number + 1)
+read-more pool rows old new number fields request read is more =
+    let fine : later_fault pool (length rows + 1) (script_along rows) (request_in fields) ≡ None = sym (next_fault pool rows old number fields request read is) ∙ more.lawful in
     let longer = length-append rows (fields ∷ []) in record {
       some = omega arith;
       numbered = omega (arith, read.numbered);
       faultless = faultless-more pool rows fields read.faultless (fault_of-later pool rows fields read.some ∙ fine);
       script_is =
           more.script_is
-          ∙ ((λ i. extended (read.numbered i + 1) (read.script_is i) (request_in fields))
+          ∙ ((λ i. extended (read.numbered i + 1) (read.script_is i) (is i))
           ∙ sym (script_along-more pool rows fields read.some fine));
       keeps = more.keeps;
       pool_is = more.pool_is ∙ read.pool_is;
@@ -73,18 +76,20 @@ script_of-read pool bytes rows draft number all read =
     ap (script_from pool) all ∙ (script_from-lawful pool rows read.some read.faultless ∙ ap Ok (sym read.script_is))
 
 -- the first record has a fault
-pub script_of-first : (pool : ℕ) (bytes : List ℕ) (fields : List (List ℕ)) (more : List (List (List ℕ))) (fault : ScriptFault)
-    → records default_config (strip_bom bytes) ≡ (fields ∷ []) ++ more → opening_fault (request_in fields) ≡ Some fault → script_of pool bytes ≡ Err fault
-script_of-first pool bytes fields more fault all is = ap (script_from pool) all ∙ script_from-fault pool [] fields more fault refl is
+pub script_of-first : (pool : ℕ) (bytes : List ℕ) (fields : List (List ℕ)) (request : Option Request) (more : List (List (List ℕ))) (fault : ScriptFault)
+    → records default_config (strip_bom bytes) ≡ (fields ∷ []) ++ more → request ≡ request_in fields → opening_fault request ≡ Some fault → script_of pool bytes ≡ Err fault
+script_of-first pool bytes fields request more fault all asked is =
+    ap (script_from pool) all ∙ script_from-fault pool [] fields more fault refl (ap opening_fault (sym asked) ∙ is)
 
 -- a later record has a fault
-pub script_of-later : (pool : ℕ) (bytes : List ℕ) (rows : List (List (List ℕ))) (draft : Draft) (number : ℕ) (fields : List (List ℕ)) (more : List (List (List ℕ))) (fault : ScriptFault)
-    → IsRead pool rows draft number → records default_config (strip_bom bytes) ≡ (rows ++ fields ∷ []) ++ more
-    → later_fault draft.pool (number + 1) (script_view draft.script) (request_in fields) ≡ Some fault → script_of pool bytes ≡ Err fault
-script_of-later pool bytes rows draft number fields more fault read all is =
+pub script_of-later : (pool : ℕ) (bytes : List ℕ) (rows : List (List (List ℕ))) (draft : Draft) (number : ℕ) (fields : List (List ℕ)) (request : Option Request)
+    (more : List (List (List ℕ))) (fault : ScriptFault)
+    → IsRead pool rows draft number → records default_config (strip_bom bytes) ≡ (rows ++ fields ∷ []) ++ more → request ≡ request_in fields
+    → later_fault draft.pool (number + 1) (script_view draft.script) request ≡ Some fault → script_of pool bytes ≡ Err fault
+script_of-later pool bytes rows draft number fields request more fault read all asked is =
     ap (script_from pool) (all ∙ append_assoc rows (fields ∷ []) more)
     ∙ script_from-fault pool rows fields more fault read.faultless
-    (fault_of-later pool rows fields read.some ∙ (sym (next_fault pool rows draft number fields read) ∙ is))
+    (fault_of-later pool rows fields read.some ∙ (sym (next_fault pool rows draft number fields request read asked) ∙ is))
 
 -- a fault that is told is that of the script
 pub fault_told : (pool : ℕ) (bytes : List ℕ) (expected : Option ScriptFault) (fault : ScriptFault) → length bytes ≤ 16777216

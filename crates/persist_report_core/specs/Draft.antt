@@ -7,8 +7,8 @@ use Rattle.std.specs.Str.{bytes_eq}
 use Rattle.persist_report_core.specs.declared.script.draft.Draft.{Draft}
 use Rattle.persist_report_core.specs.declared.script.fault.ScriptFault.{ScriptFault}
 use Rattle.persist_report_core.specs.declared.script.fault.ScriptFault.TheVariants.{Read, TooLong, NoMemory, BadLine, ZeroCount, NoUnits}
-use Rattle.persist_report_core.specs.Request.{Request, request_in}
-use Rattle.persist_report_core.specs.Script.{Script, HistRecord, is_known, place_of, units_of, hist_from, call_from, opening_fault, later_fault, script_along, script_view}
+use Rattle.persist_report_core.specs.Request.{Request}
+use Rattle.persist_report_core.specs.Script.{Script, HistRecord, is_known, place_of, units_of, hist_from, call_from, opening_of, opening_fault, later_fault, script_view}
 
 -- the place of a name
 abbrev pub found : {X S : Type 0} → HashMap (Vec ℕ Global) X S → List ℕ → Option X
@@ -30,6 +30,10 @@ pub record IsDraft (draft : Draft) : Type 0 where
   pub taken : draft.taken ≡ units_of draft.script.calls.items
   pub within : draft.taken ≤ draft.pool
 
+-- the script of a first record alone
+abbrev pub opened_script : Option Request → Script
+opened_script request = record { shape = (opening_of request).0; id = (opening_of request).1; hists = []; calls = [] }
+
 -- a script with one record more
 abbrev pub extended : ℕ → Script → Option Request → Script
 extended number script request = record script {
@@ -46,16 +50,16 @@ Tells fault (BadLine number) = fault ≡ Some (BadLine number)
 Tells fault (ZeroCount number) = fault ≡ Some (ZeroCount number)
 Tells fault (NoUnits number) = fault ≡ Some (NoUnits number)
 
--- a draft of one record without a fault
-pub record IsOpened (pool : ℕ) (fields : List (List ℕ)) (draft : Draft) : Type 0 where
-  pub lawful : opening_fault (request_in fields) ≡ None
-  pub script_is : script_view draft.script ≡ script_along (fields ∷ [])
+-- a draft of one record without a fault, by what it asks for
+pub record IsOpened (pool : ℕ) (request : Option Request) (draft : Draft) : Type 0 where
+  pub lawful : opening_fault request ≡ None
+  pub script_is : script_view draft.script ≡ opened_script request
   pub keeps : IsDraft draft
   pub pool_is : draft.pool ≡ pool
 
 -- the first record opens a draft, or its fault is told
-abbrev pub Opens : ℕ → List (List ℕ) → Result Draft ScriptFault → Type 0
-Opens pool fields result = MatchResult result (IsOpened pool fields) (Tells (opening_fault (request_in fields)))
+abbrev pub Opens : ℕ → Option Request → Result Draft ScriptFault → Type 0
+Opens pool request result = MatchResult result (IsOpened pool request) (Tells (opening_fault request))
 
 -- a draft with one more record, which has no fault
 pub record IsExtended (old new : Draft) (number : ℕ) (request : Option Request) : Type 0 where

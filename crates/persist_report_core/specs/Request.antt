@@ -1,13 +1,11 @@
 -- What a record of a script asks for, by its fields alone.
 use Rattle.std.specs.Prelude.{if◌then◌else◌, ℕ, ℤ, List, [], ◌∷◌, codes, Option, Some, None, option_map}
 use Rattle.std.specs.Str.{bytes_eq}
-use Rattle.std.specs.Borrow.{Bor}
 use Rattle.bucket_ranges.specs.declared.spec.Spec.{Spec}
 use Rattle.bucket_ranges.specs.declared.spec.Spec.TheVariants.{Linear, Boolean, Custom, Sparse}
 use Rattle.persist_report_core.specs.Number.{unsigned_number, long_number, signed_number}
-use Rattle.persist_report_core.specs.declared.script.request.Opening.{Opening}
-use Rattle.persist_report_core.specs.declared.script.request.NewHist.{NewHist}
-use Rattle.persist_report_core.specs.declared.script.request.Added.{Added}
+use Rattle.persist_report_core.specs.declared.script.request.Request as code
+use Rattle.persist_report_core.specs.declared.script.request.Request.TheVariants as variants
 
 -- a segment of a shape and an id; a histogram; units of a value for the histogram of a name; its delta
 pub data Request : Type 0 where
@@ -76,25 +74,23 @@ abbrev pub hist_in : List (List ℕ) → Option Request
 hist_in (name ∷ kind ∷ behind) = option_map (Hist name) (spec_in kind behind)
 hist_in _ = None
 
--- what a record asks for, or nothing where it has no lawful form
-abbrev pub request_in : List (List ℕ) → Option Request
-request_in [] = None
-request_in (word ∷ behind) =
+-- what a word and the fields behind it ask for
+abbrev pub request_behind : List ℕ → List (List ℕ) → Option Request
+request_behind word behind =
     if bytes_eq word (codes "add") then add_in behind
     else (if bytes_eq word (codes "delta") then delta_in behind
     else (if bytes_eq word (codes "hist") then hist_in behind
     else (if bytes_eq word (codes "segment") then segment_in behind else None)))
 
+-- what a record asks for, or nothing where it has no lawful form
+abbrev pub request_in : List (List ℕ) → Option Request
+request_in [] = None
+request_in (word ∷ behind) = request_behind word behind
+
 -- ---- the program's values
 
-abbrev pub opening_view : Opening → Request
-opening_view opening = Segment opening.size opening.page opening.id
-
-abbrev pub new_hist_view : NewHist → Request
-new_hist_view hist = Hist hist.name.now hist.spec
-
-abbrev pub added_view : Added → Request
-added_view added = Add added.name.now added.value added.count
-
-abbrev pub delta_view : Bor (List ℕ) → Request
-delta_view name = Delta name.now
+abbrev pub request_view : code.Request → Request
+request_view (variants.Segment size page id) = Segment size page id
+request_view (variants.Hist name spec) = Hist name.now spec
+request_view (variants.Add name value count) = Add name.now value count
+request_view (variants.Delta name) = Delta name.now

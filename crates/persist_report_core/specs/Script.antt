@@ -47,6 +47,15 @@ units_in kind.Delta = 0
 abbrev pub units_of : List ScriptCall → ℕ
 units_of calls = sum_by (λ call. units_in call.kind) calls
 
+-- the number of a fault
+abbrev pub script_fault_number : ScriptFault → ℕ
+script_fault_number Read = 1
+script_fault_number TooLong = 2
+script_fault_number NoMemory = 3
+script_fault_number (BadLine number) = 4
+script_fault_number (ZeroCount number) = 5
+script_fault_number (NoUnits number) = 6
+
 -- ---- the script that records make
 
 -- the `hist` record that a record is, if it is one

@@ -3,7 +3,7 @@
 ghost use Rattle.std.specs.Prelude.{◌≡◌, ◌≢◌, ◌↔◌, ℕ, List, true, false, OnOk, IfOk, IfErr, IfSome, IsErrOf, is_err};
 ghost use Rattle.std.specs.Io.KnownBytes.{Appends};
 ghost use Rattle.segment_image.specs.Words.{bytes_of_words};
-ghost use Rattle.segment_image.specs.Watched.{has_failed, watched_inner};
+ghost use Rattle.segment_image.specs.Watched.{has_failed, is_flushed, watched_inner};
 ghost use Rattle.persist_report_core.specs.Report.{IsReportOf, IsCausedBy};
 
 use crate::fault::CliFault;
@@ -31,6 +31,7 @@ fn write_out<W: Write>(writer: &mut Watched<W>, text: &[u8]) -> Result<(), CliFa
     ensures ok { OnOk result (Appends (W.contents (watched_inner writer.old)) (W.contents (watched_inner writer.new)) text.now) }
     ensures err { IfErr result (λ fault. fault ≡ CliFault.Write) }
     ensures failed { has_failed writer.new ≡ is_err result }
+    ensures flushed { OnOk result (is_flushed writer.new ≡ true) }
 {
     writer.write_all(text).map_err(|_| CliFault::Write)?;
     writer.flush().map_err(|_| CliFault::Write)
@@ -38,10 +39,11 @@ fn write_out<W: Write>(writer: &mut Watched<W>, text: &[u8]) -> Result<(), CliFa
 
 /// Writes the report of the image that the reader has left.
 ///
-/// `Read` where a read fails; `TooLong` where more than 8,388,608 bytes come; `NotWords` where their number is no
-/// multiple of eight; `Image` with the first fault of the image's header; `NoMemory` where there is none. After
-/// each of these nothing was written. `Write` where a write or the flush fails. Records that are no lawful
-/// histograms, and a list of records that is broken, are no faults: they are lines of the report.
+/// On `Ok`, exactly the report of the image was written, and then flushed. Records that are no lawful histograms, and a
+/// list of records that is broken, are no faults: they are lines of the report. `Read` where a read fails; `TooLong`
+/// where more than 8,388,608 bytes come; `NotWords` where their number is no multiple of eight; `Image` with the first
+/// fault of the image's header; `NoMemory` where there is none. After each of these nothing was written. `Write` where
+/// the write or the flush fails.
 pub fn report<R: Read, W: Write>(
     alloc: Global,
     reader: &mut Watched<R>,
@@ -53,6 +55,7 @@ pub fn report<R: Read, W: Write>(
     ensures cause { IfErr result (λ fault. IfSome (R.remaining (watched_inner reader.old)) (λ bytes. IsCausedBy bytes fault)) }
     ensures read { IsErrOf result CliFault.Read ↔ (has_failed reader.new ≡ true) }
     ensures write { IsErrOf result CliFault.Write ↔ (has_failed writer.new ≡ true) }
+    ensures flushed { OnOk result (is_flushed writer.new ≡ true) }
     ensures untouched { IfErr result (λ fault. fault ≢ CliFault.Write → writer.new ≡ writer.old) }
 {
     let words = read_words(alloc, reader, MAX_WORDS)?;

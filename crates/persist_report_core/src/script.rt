@@ -13,7 +13,7 @@ pub use reading::read_script;
 use segment_image::Shape;
 
 /// What a script asks for.
-#[derive(Debug, Drop, PartialEq, Eq)]
+#[derive(Debug, Drop)]
 pub struct Script {
     /// The words of the segment and of its pages.
     pub shape: Shape,
@@ -26,7 +26,7 @@ pub struct Script {
 }
 
 /// A `hist` record: a histogram that is to be there before anything is recorded.
-#[derive(Debug, Drop, PartialEq, Eq)]
+#[derive(Debug, Drop)]
 pub struct ScriptHist {
     /// The bytes of its name, lawful or not.
     pub name: Vec<u8>,

@@ -27,6 +27,25 @@ pub enum ScriptFault {
     NoUnits(u64),
 }
 
+impl ScriptFault {
+    ghost use Rattle.std.specs.Prelude.{◌≡◌};
+    ghost use Rattle.persist_report_core.specs.Script.{script_fault_number};
+
+    /// The fault's number, from 1; not that of a record.
+    pub fn number(&self) -> u32
+        ensures { result ≡ script_fault_number self.now }
+    {
+        match self {
+            ScriptFault::Read => 1,
+            ScriptFault::TooLong => 2,
+            ScriptFault::NoMemory => 3,
+            ScriptFault::BadLine(_) => 4,
+            ScriptFault::ZeroCount(_) => 5,
+            ScriptFault::NoUnits(_) => 6,
+        }
+    }
+}
+
 impl From<AllocError> for ScriptFault {
     ghost use Rattle.std.specs.Prelude.{◌≡◌};
     ghost use Rattle.persist_report_core.specs.declared.script.fault.ScriptFault.TheVariants.{NoMemory};

@@ -10,6 +10,7 @@ ghost use Rattle.persist_report_core.specs.Rows.{IsBehind, IsNext};
 ghost use Rattle.persist_report_core.specs.Script.{IsScriptFault, script_of, script_view};
 
 use crate::script::draft::open_draft;
+use crate::script::request::read_request;
 use crate::script::{Script, ScriptFault};
 use csv::{ByteRecord, ErrorKind, Reader, ReaderBuilder};
 use segment_image::{ReadFault, Watched, read_bytes};
@@ -52,11 +53,11 @@ fn script_in(alloc: Global, bytes: &[u8], pool: u64) -> Result<Script, ScriptFau
     if !next_fields(&mut reader, &mut fields)? {
         return Err(ScriptFault::BadLine(1));
     }
-    let mut draft = open_draft(alloc, &fields, pool)?;
+    let mut draft = open_draft(alloc, read_request(alloc, &fields)?, pool)?;
     let mut number = 1;
     'records: while next_fields(&mut reader, &mut fields)? {
         number += 1;
-        draft.put(alloc, number, &fields)?;
+        draft.put(alloc, number, read_request(alloc, &fields)?)?;
     }
     Ok(draft.script)
 }
@@ -81,11 +82,11 @@ fn bytes_of<R: Read>(alloc: Global, reader: &mut Watched<R>) -> Result<Vec<u8>, 
 
 /// The script that the reader has left. Its `add` records may take as many units as the pool has.
 ///
-/// The reader is one that has not failed before, and all its bytes are read before any is looked at: `Read` where a
-/// read fails; `TooLong` where more than 16,777,216 bytes come, of which one more than these is taken at most. Then
-/// the first record that has a fault is told by its number: `BadLine` where it has no lawful form, a number out of its
-/// type, an unlawful shape or an unknown name, or stands out of order; otherwise `ZeroCount` where an `add` record
-/// adds no unit, and `NoUnits` where it passes the pool. A script without records is `BadLine` of record 1.
+/// On `Ok`, exactly the script of the bytes was read, to their end. They are read whole before any record is looked at:
+/// `Read` where a read fails; `TooLong` where more than 16,777,216 bytes come, of which one more than these is taken at
+/// most. Otherwise the first record with a fault is told by its number: `BadLine` where it has no lawful form, a number
+/// out of its type, an unlawful shape or an unknown name, or stands out of order; otherwise `ZeroCount` where an `add`
+/// record adds no unit, and `NoUnits` where it passes the pool. A script without records is `BadLine` of record 1.
 /// `NoMemory` where there is none. Names and specs of `hist` records are taken as they are, lawful or not.
 pub fn read_script<R: Read>(
     alloc: Global,

@@ -2,34 +2,37 @@
 
 ghost use Rattle.std.specs.Prelude.{◌≡◌, ◌≢◌, ◌≤◌, [], ◌∷◌, IfOk, IfSome, IfNone, option_map, drop, length};
 ghost use Rattle.csv.specs.Records.{fields_of};
-ghost use Rattle.persist_report_core.specs.Request.{segment_in, add_in, delta_in, hist_in, spec_in, linear_in, custom_in, numbers_in, alone as alone_in, opening_view, added_view, new_hist_view, delta_view};
+ghost use Rattle.persist_report_core.specs.Request.{segment_in, add_in, delta_in, hist_in, spec_in, linear_in, custom_in, numbers_in, alone as alone_in, request_behind, request_in, request_view};
 
 use crate::script::number::{long_number, signed_number, unsigned_number};
 use bucket_ranges::{CustomValues, Spec};
 use csv::ByteRecord;
 use std::alloc::{AllocError, Global};
 
-/// What a `segment` record asks for.
-#[derive(Clone, Copy)]
-pub(crate) struct Opening {
-    pub(crate) size: u32,
-    pub(crate) page: u32,
-    pub(crate) id: u64,
-}
-
-/// What a `hist` record asks for.
+/// What a record asks for.
 #[derive(Drop)]
-pub(crate) struct NewHist<'a> {
-    pub(crate) name: &'a [u8],
-    pub(crate) spec: Spec,
-}
-
-/// What an `add` record asks for.
-#[derive(Clone, Copy)]
-pub(crate) struct Added<'a> {
-    pub(crate) name: &'a [u8],
-    pub(crate) value: i32,
-    pub(crate) count: u32,
+pub(crate) enum Request<'a> {
+    /// A segment of a size and a page in words, and of an id.
+    Segment {
+        size: u32,
+        page: u32,
+        id: u64,
+    },
+    /// A histogram.
+    Hist {
+        name: &'a [u8],
+        spec: Spec,
+    },
+    /// Units of a value, for the histogram of a name.
+    Add {
+        name: &'a [u8],
+        value: i32,
+        count: u32,
+    },
+    /// A delta of the histogram of a name.
+    Delta {
+        name: &'a [u8],
+    },
 }
 
 // The fields from one on, where there are three.
@@ -47,35 +50,36 @@ fn three_from(fields: &ByteRecord, start: usize) -> Option<(&[u8], &[u8], &[u8])
     Some((first, second, third))
 }
 
-/// The fields behind the word `segment`.
-pub(crate) fn read_opening(fields: &ByteRecord) -> Option<Opening>
-    ensures { option_map opening_view result ≡ segment_in (drop 1 (fields_of fields.now)) }
+// The fields behind the word `segment`.
+fn read_segment(fields: &ByteRecord) -> Option<Request<'_>>
+    ensures { option_map request_view result ≡ segment_in (drop 1 (fields_of fields.now)) }
 {
     let (size, page, id) = three_from(fields, 1)?;
     let size = unsigned_number(size)?;
     let page = unsigned_number(page)?;
     let id = long_number(id)?;
-    Some(Opening { size, page, id })
+    Some(Request::Segment { size, page, id })
 }
 
-/// The fields behind the word `add`.
-pub(crate) fn read_added(fields: &ByteRecord) -> Option<Added<'_>>
-    ensures { option_map added_view result ≡ add_in (drop 1 (fields_of fields.now)) }
+// The fields behind the word `add`.
+fn read_add(fields: &ByteRecord) -> Option<Request<'_>>
+    ensures { option_map request_view result ≡ add_in (drop 1 (fields_of fields.now)) }
 {
     let (name, value, count) = three_from(fields, 1)?;
     let value = signed_number(value)?;
     let count = unsigned_number(count)?;
-    Some(Added { name, value, count })
+    Some(Request::Add { name, value, count })
 }
 
-/// The name behind the word `delta`.
-pub(crate) fn read_delta(fields: &ByteRecord) -> Option<&[u8]>
-    ensures { option_map delta_view result ≡ delta_in (drop 1 (fields_of fields.now)) }
+// The name behind the word `delta`.
+fn read_delta(fields: &ByteRecord) -> Option<Request<'_>>
+    ensures { option_map request_view result ≡ delta_in (drop 1 (fields_of fields.now)) }
 {
     if fields.len() != 2 {
         return None;
     }
-    fields.get(1)
+    let name = fields.get(1)?;
+    Some(Request::Delta { name })
 }
 
 // A linear spec of the fields behind its kind.
@@ -145,12 +149,9 @@ fn read_spec(alloc: Global, kind: &[u8], fields: &ByteRecord) -> Result<Option<S
     }
 }
 
-/// The fields behind the word `hist`.
-pub(crate) fn read_hist(
-    alloc: Global,
-    fields: &ByteRecord,
-) -> Result<Option<NewHist<'_>>, AllocError>
-    ensures { IfOk result (λ hist. option_map new_hist_view hist ≡ hist_in (drop 1 (fields_of fields.now))) }
+// The fields behind the word `hist`.
+fn read_hist(alloc: Global, fields: &ByteRecord) -> Result<Option<Request<'_>>, AllocError>
+    ensures { IfOk result (λ request. option_map request_view request ≡ hist_in (drop 1 (fields_of fields.now))) }
 {
     let Some(name) = fields.get(1) else {
         return Ok(None);
@@ -159,7 +160,41 @@ pub(crate) fn read_hist(
         return Ok(None);
     };
     match read_spec(alloc, kind, fields)? {
-        Some(spec) => Ok(Some(NewHist { name, spec })),
+        Some(spec) => Ok(Some(Request::Hist { name, spec })),
+        None => Ok(None),
+    }
+}
+
+// What the fields behind a word ask for.
+fn read_behind<'a>(
+    alloc: Global,
+    word: &[u8],
+    fields: &'a ByteRecord,
+) -> Result<Option<Request<'a>>, AllocError>
+    ensures { IfOk result (λ request. option_map request_view request ≡ request_behind word.now (drop 1 (fields_of fields.now))) }
+{
+    if word == b"add".as_slice() {
+        Ok(read_add(fields))
+    } else if word == b"delta".as_slice() {
+        Ok(read_delta(fields))
+    } else if word == b"hist".as_slice() {
+        read_hist(alloc, fields)
+    } else if word == b"segment".as_slice() {
+        Ok(read_segment(fields))
+    } else {
+        Ok(None)
+    }
+}
+
+/// What a record asks for, or nothing where it has no lawful form.
+pub(crate) fn read_request(
+    alloc: Global,
+    fields: &ByteRecord,
+) -> Result<Option<Request<'_>>, AllocError>
+    ensures { IfOk result (λ request. option_map request_view request ≡ request_in (fields_of fields.now)) }
+{
+    match fields.get(0) {
+        Some(word) => read_behind(alloc, word, fields),
         None => Ok(None),
     }
 }

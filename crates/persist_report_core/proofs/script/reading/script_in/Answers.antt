@@ -1,10 +1,10 @@
-use Rattle.std.proofs.Common.{◌≡◌, ◌+◌, ◌++◌, ◌∷◌, [], ℕ, List, Bool, true, false, Some, Result, Ok, Err, IsErrAnd, MatchResult, Bor, refl, rules, sym, subst, arith}
+use Rattle.std.proofs.Common.{◌≡◌, ◌+◌, ◌++◌, ◌∷◌, [], ℕ, List, Bool, true, false, Some, option_map, Result, Ok, Err, IsErrAnd, MatchResult, Bor, refl, rules, sym, subst, arith}
 use Rattle.csv.specs.Reading.{Reached, default_config, reader_config, reader_state, reader_trim, strip_bom}
 use Rattle.csv.specs.Records.{fields_of}
 use Rattle.csv.specs.declared.parser.State.TheVariants as state
 use Rattle.csv.specs.declared.reader.Reader.{Reader}
 use Rattle.csv.specs.declared.reader.Trim.TheVariants as trim
-use Rattle.persist_report_core.specs.Request.{request_in}
+use Rattle.persist_report_core.specs.Request.{request_view}
 use Rattle.persist_report_core.specs.Rows.{IsBehind, IsNext, left_of}
 use Rattle.persist_report_core.specs.Script.{IsScriptFault, later_fault, opening_fault, script_view}
 use Rattle.persist_report_core.proofs.Records.{length-strip_bom, records-behind}
@@ -48,9 +48,10 @@ returns-in_err-draft-clause-answer c =
     let fields = fields_of c.next_fields.new.fields in
     let behind = (found_is (strip_bom c.args.bytes.now) [] c.from_reader-reader.result c.next_fields.new.reader _ true fields c.if-not-branch.false next).0 in
     let (more, all) = records-behind (strip_bom c.args.bytes.now) (fields ∷ []) c.next_fields.new.reader behind in
+    let request = option_map request_view c.in_ok-read_request.field-0 in
     passed_on c.from_residual-in_err-draft.result _ (IsScriptFault c.args.pool c.args.bytes.now) c.in_err-draft.field-0.0 c.from_residual-in_err-draft.ensures.1
-    (fault_told c.args.pool c.args.bytes.now (opening_fault (request_in fields)) c.in_err-draft.field-0.0 c.requires
-    (λ fault is. script_of-first c.args.pool c.args.bytes.now fields more fault all is) c.in_err-draft.ensures)
+    (fault_told c.args.pool c.args.bytes.now (opening_fault request) c.in_err-draft.field-0.0 c.requires
+    (λ fault is. script_of-first c.args.pool c.args.bytes.now fields request more fault all c.in_ok-read_request.ensures is) c.in_err-draft.ensures)
 
 pub records-init : goal.records-init
 records-init c =
@@ -60,7 +61,7 @@ records-init c =
     let behind = (found_is (strip_bom c.args.bytes.now) [] c.from_reader-reader.result c.next_fields.new.reader _ true fields c.if-not-branch.false next).0 in record {
       flexible = c.in_ok-next_fields.ensures.flexible;
       ready = c.in_ok-next_fields.ensures.ready c.if-not-branch.false;
-      read = (fields ∷ [], behind, read-first c.args.pool fields c.in_ok-draft.draft c.in_ok-draft.ensures);
+      read = (fields ∷ [], behind, read-first c.args.pool fields _ c.in_ok-draft.draft c.in_ok-read_request.ensures c.in_ok-draft.ensures);
     }
 
 pub overflow_add-number : goal.overflow_add-number
@@ -87,7 +88,7 @@ records-preserved c =
     let more = (found_is (strip_bom c.args.bytes.now) rows c.records.reader c.next_fields-in-records.new.reader _ true fields c.if-branch.true next).0 in record {
       flexible = c.in_ok-next_fields-2.ensures.flexible;
       ready = c.in_ok-next_fields-2.ensures.ready c.if-branch.true;
-      read = (rows ++ fields ∷ [], more, read-more c.args.pool rows c.records.draft c.put.new.self c.records.number fields read c.in_ok-put.ensures);
+      read = (rows ++ fields ∷ [], more, read-more c.args.pool rows c.records.draft c.put.new.self c.records.number fields _ read c.in_ok-read_request-2.ensures c.in_ok-put.ensures);
     }
 
 pub returns-in_err-put-clause-answer : goal.returns-in_err-put-clause-answer
@@ -97,10 +98,11 @@ returns-in_err-put-clause-answer c =
     let next = c.in_ok-next_fields-2.ensures.next (strip_bom c.args.bytes.now) rows behind in
     let further = (found_is (strip_bom c.args.bytes.now) rows c.records.reader c.next_fields-in-records.new.reader _ true fields c.if-branch.true next).0 in
     let (more, all) = records-behind (strip_bom c.args.bytes.now) (rows ++ fields ∷ []) c.next_fields-in-records.new.reader further in
-    let expected = later_fault c.records.draft.pool (c.records.number + 1) (script_view c.records.draft.script) (request_in fields) in
+    let request = option_map request_view c.in_ok-read_request-2.field-0 in
+    let expected = later_fault c.records.draft.pool (c.records.number + 1) (script_view c.records.draft.script) request in
     passed_on c.from_residual-in_err-put.result _ (IsScriptFault c.args.pool c.args.bytes.now) c.in_err-put.field-0.0 c.from_residual-in_err-put.ensures.1
     (fault_told c.args.pool c.args.bytes.now expected c.in_err-put.field-0.0 c.requires
-    (λ fault is. script_of-later c.args.pool c.args.bytes.now rows c.records.draft c.records.number fields more fault read all is) c.in_err-put.ensures)
+    (λ fault is. script_of-later c.args.pool c.args.bytes.now rows c.records.draft c.records.number fields request more fault read all c.in_ok-read_request-2.ensures is) c.in_err-put.ensures)
 
 pub returns-clause-answer : goal.returns-clause-answer
 returns-clause-answer c =

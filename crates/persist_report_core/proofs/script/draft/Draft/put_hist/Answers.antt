@@ -1,11 +1,9 @@
-use Rattle.std.proofs.Common.{◌≡◌, ◌∙◌, ◌==◌, ◌++◌, ◌∷◌, [], true, length, drop, map, option_map, if◌then◌else◌, Some, None, ap, refl, sym, subst}
+use Rattle.std.proofs.Common.{◌≡◌, ◌∙◌, ◌==◌, ◌++◌, ◌∷◌, [], true, length, map, if◌then◌else◌, Some, None, ap, refl, sym}
 use Rattle.std.proofs.lemmas.List.{map-append, length-map}
 use Rattle.std.specs.Option.{option_or}
 use Rattle.std.specs.Str.{bytes_eq}
-use Rattle.csv.specs.Records.{fields_of}
-use Rattle.persist_report_core.specs.Request.{Hist, hist_in, new_hist_view}
 use Rattle.persist_report_core.specs.Script.{HistRecord, hist_view, script_view}
-use Rattle.persist_report_core.specs.Draft.{IsExtended, known_place}
+use Rattle.persist_report_core.specs.Draft.{known_place}
 use Rattle.persist_report_core.proofs.DraftLemmas.{lawful_hist, extended-hist, known_place-push}
 use Rattle.persist_report_core.proofs.script.draft.Draft.put_hist.Goals as goal
 use Rattle.persist_report_core.proofs.script.draft.Draft.put_hist.Goals.{in-Ok, in-Err}
@@ -14,14 +12,13 @@ pub returns : goal.returns
 returns c = elim c.match-push.branch [
   | in-Ok w ↦
       let script = script_view c.args.self.now.script in
-      let one : HistRecord = record { name = c.in-Some.hist.name.now; spec = c.in-Some.hist.spec; number = c.args.number } in
-      let asked : Some (Hist one.name one.spec) ≡ hist_in (drop 1 (fields_of c.args.fields.now)) = ap (option_map new_hist_view) (sym c.in-Some.is) ∙ c.in_ok-hist.ensures in
+      let one : HistRecord = record { name = c.args.name.now; spec = c.args.spec; number = c.args.number } in
       let none : (length script.calls == 0) ≡ true = ap (λ count. count == 0) (sym c.args.self.now.script.calls.ok.0) ∙ (sym c.is_empty.ensures ∙ c.if-not-is_empty.false) in
       let all : map hist_view c.push.new.self.items ≡ script.hists ++ one ∷ [] =
       ap (map hist_view) w.in-Ok.ensures.items
       ∙ (map-append hist_view c.args.self.now.script.hists.items _
       ∙ ap (λ name. script.hists ++ (record { name = name; spec = one.spec; number = one.number }) ∷ []) c.in_ok-name.ensures.items) in
-      rw w.result-is (subst (IsExtended c.args.self.now _ c.args.number) asked (record {
+      rw w.result-is (record {
         lawful = lawful_hist c.args.self.now.pool c.args.number script one.name one.spec none;
         script_is = extended-hist script.shape script.id script.hists (map hist_view c.push.new.self.items) script.calls c.args.number one.name one.spec all;
         keeps = record {
@@ -36,6 +33,6 @@ returns c = elim c.match-push.branch [
           within = c.requires.draft.within;
         };
         pool_is = refl;
-      }))
+      })
   | in-Err w ↦ rw w.result-is tt
 ]

@@ -1,8 +1,9 @@
 //! The buckets of histograms, and what the words of a segment read as.
 //!
 //! A spec says how a histogram splits the values from 0 to 2,147,483,646 into buckets; the ranges of a spec are
-//! computed once, in whole numbers. The module `reading` has what a record of a segment can be refused for, and
-//! its definitions, `specs/Reading.antt`, are what every reader and every writer of segments is held to.
+//! computed once, in whole numbers, and [`Spec::is_same`] says whether two specs have the same. The module `limits`
+//! names the limits of histograms. The module `reading` has what a record of a segment can be refused for, and its
+//! definitions, `specs/Reading.antt`, are what every reader and every writer of segments is held to.
 #![tactic(auto)]
 
 mod custom;

@@ -84,7 +84,17 @@ impl Ranges {
         ensures found { IsBucketOf self.now (clamped value) result }
         ensures only { (other : ℕ) → IsBucketOf self.now (clamped value) other → other ≡ result }
     {
-        let value = clamp(value);
+        self.bucket_of_clamped(clamp(value))
+    }
+
+    // The bucket of a value that is not above the greatest: of so many buckets from `low` on one has it, and that many
+    // are halved until it is one.
+    fn bucket_of_clamped(&self, value: u32) -> usize
+        requires buckets { 1 < length self.now }
+        requires value { value < LAST_BOUNDARY }
+        ensures found { IsBucketOf self.now value result }
+        ensures only { (other : ℕ) → IsBucketOf self.now value other → other ≡ result }
+    {
         let mut low = 0;
         let mut count = self.len();
         while count > 1 {
@@ -131,7 +141,8 @@ fn half_where_reached(half: usize, boundary: u32, value: u32) -> usize
 
 // A value as it is counted.
 pub(crate) fn clamp(value: i32) -> u32
-    ensures { result ≡ clamped value }
+    ensures value { result ≡ clamped value }
+    ensures small { result ≤ MAX_VALUE }
 {
     u32::try_from(value).unwrap_or(0).min(MAX_VALUE)
 }

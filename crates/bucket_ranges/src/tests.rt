@@ -1,113 +1,87 @@
-//! Ranges, single words and faults whose values are known.
-
-mod customs;
-mod tallies;
+//! Ranges, single words and same specs whose values are known from elsewhere, the texts of faults, and each call that
+//! takes memory at its full size.
 
 use crate::reading::RecordFault;
-use crate::{Ranges, SingleWord, Spec, SpecFault};
-use std::alloc::Global;
-use std::process::Abort;
+use crate::{CustomValues, Ranges, SingleWord, Spec, SpecFault, tally};
+use std::alloc::{AllocError, Global};
 use std::test::Fail;
 
 const LAST: i32 = 2_147_483_647;
 
-// That the buckets of a spec begin and end at these boundaries.
-fn expect_ranges(
-    rt: &impl Abort,
-    alloc: Global,
-    spec: &Spec,
-    boundaries: &[i32],
-) -> Result<(), Fail> {
+// The custom spec of these values.
+fn custom_of(alloc: Global, values: &[u32]) -> Result<Spec, AllocError> {
+    Ok(Spec::Custom(CustomValues::from(values.to_vec(alloc)?)))
+}
+
+fn linear(min: u32, max: u32, n: u32) -> Spec {
+    Spec::Linear { min, max, n }
+}
+
+// The boundaries of a spec; a sparse one has none.
+fn boundaries(alloc: Global, spec: &Spec) -> Result<Vec<i32>, Fail> {
     let ranges = Ranges::of(alloc, spec)?;
-    assert_eq!(rt; ranges.len() + 1, boundaries.len(), "{spec:?}");
+    let mut boundaries = Vec::new(alloc);
     for i in 0..ranges.len() {
-        assert_eq!(rt; ranges.low(i), boundaries[i], "low {i} of {spec:?}");
-        assert_eq!(rt; ranges.high(i), boundaries[i + 1], "high {i} of {spec:?}");
+        if i == 0 {
+            boundaries.push(ranges.low(0))?;
+        }
+        boundaries.push(ranges.high(i))?;
     }
-    Ok(())
+    Ok(boundaries)
 }
 
 #[test]
 fn ranges_of_specs(rt: HostRuntime) -> Result<(), Fail> {
-    let wide = Spec::Linear {
-        min: 1,
-        max: 10,
-        n: 5,
-    };
-    expect_ranges(&rt, rt.alloc(), &wide, &[0, 1, 4, 7, 10, LAST])?;
-    let full = Spec::Linear {
-        min: 1,
-        max: 4,
-        n: 4,
-    };
-    expect_ranges(&rt, rt.alloc(), &full, &[0, 1, 3, 4, LAST])?;
-    expect_ranges(&rt, rt.alloc(), &Spec::Boolean, &[0, 1, 2, LAST])
-}
-
-// The bucket of a value, found from the first bucket on.
-fn slow_bucket(ranges: &Ranges, value: i32) -> Option<usize> {
-    let value = value.max(0).min(LAST - 1);
-    (0..ranges.len()).find(|i| ranges.low(*i) <= value && value < ranges.high(*i))
-}
-
-// That each of these values lies in the bucket of that number, in both searches.
-fn expect_buckets(
-    rt: &impl Abort,
-    alloc: Global,
-    spec: &Spec,
-    values: &[(i32, usize)],
-) -> Result<(), Fail> {
-    let ranges = Ranges::of(alloc, spec)?;
-    assert!(rt; ranges.len() > 0);
-    for (value, bucket) in values {
-        assert_eq!(rt; ranges.bucket(*value), *bucket, "{value} in {spec:?}");
-        assert_eq!(rt;
-            slow_bucket(&ranges, *value),
-            Some(*bucket),
-            "{value} in {spec:?}"
-        );
+    let alloc = rt.alloc();
+    for (spec, expected) in [
+        (linear(1, 10, 5), [0, 1, 4, 7, 10, LAST].as_slice()),
+        (linear(1, 4, 4), [0, 1, 3, 4, LAST].as_slice()),
+        (Spec::Boolean, [0, 1, 2, LAST].as_slice()),
+        (
+            custom_of(alloc, &[10, 0, 3, 10])?,
+            [0, 3, 10, LAST].as_slice(),
+        ),
+        (Spec::Sparse, [].as_slice()),
+    ] {
+        assert_eq!(rt; boundaries(alloc, &spec)?.as_slice(), expected, "{spec:?}");
     }
     Ok(())
 }
 
 #[test]
-fn buckets_of_values(rt: HostRuntime) -> Result<(), Fail> {
-    let values = [(-3, 0), (0, 0), (1, 1), (5, 2), (LAST, 2)];
-    expect_buckets(&rt, rt.alloc(), &Spec::Boolean, &values)?;
-    let wide = Spec::Linear {
-        min: 1,
-        max: 10,
-        n: 5,
-    };
-    let values = [
-        (i32::MIN, 0),
-        (0, 0),
-        (1, 1),
-        (3, 1),
-        (4, 2),
-        (6, 2),
-        (7, 3),
-        (9, 3),
-        (10, 4),
-        (LAST - 1, 4),
-        (LAST, 4),
-    ];
-    expect_buckets(&rt, rt.alloc(), &wide, &values)
+fn most_buckets(rt: HostRuntime) -> Result<(), Fail> {
+    let ranges = Ranges::of(rt.alloc(), &linear(1, 2_147_483_646, 1000))?;
+    assert_eq!(rt; ranges.len(), 1000);
+    let values = (1..1000).collect::<Vec<u32>>(rt.alloc())?;
+    let ranges = Ranges::of(rt.alloc(), &Spec::Custom(CustomValues::from(values)))?;
+    assert_eq!(rt; ranges.len(), 1000);
+    let plain = tally(rt.alloc(), &ranges, &[(-3, 1), (5, 2), (LAST, 4)])?;
+    assert_eq!(rt; (plain.units, plain.sum), (7, 8_589_934_594));
+    Ok(())
+}
+
+#[test]
+fn same_specs(rt: HostRuntime) -> Result<(), Fail> {
+    let alloc = rt.alloc();
+    let custom = custom_of(alloc, &[10, 0, 3, 10])?;
+    assert!(rt; custom.is_same(&custom_of(alloc, &[3, 10])?));
+    assert!(rt; !custom.is_same(&custom_of(alloc, &[3, 10, 11])?));
+    assert!(rt; !linear(1, 2, 3).is_same(&Spec::Boolean));
+    Ok(())
 }
 
 #[test]
 fn unlawful_specs(rt: HostRuntime) {
-    for (min, max, n, want) in [
-        (0, 10, 5, Some(SpecFault::BadMin)),
-        (5, 5, 3, Some(SpecFault::BadMax)),
-        (1, 2_147_483_647, 5, Some(SpecFault::BadMax)),
-        (1, 10, 2, Some(SpecFault::TooFew)),
-        (1, 4, 6, Some(SpecFault::TooMany)),
-        (1, 2_147_483_646, 1001, Some(SpecFault::TooMany)),
-        (1, 2_147_483_646, 1000, None),
+    for (min, max, n, fault) in [
+        (0, 10, 5, SpecFault::BadMin),
+        (5, 5, 3, SpecFault::BadMax),
+        (1, 2_147_483_647, 5, SpecFault::BadMax),
+        (1, 10, 2, SpecFault::TooFew),
+        (1, 4, 6, SpecFault::TooMany),
+        (1, 2_147_483_646, 1001, SpecFault::TooMany),
     ] {
-        let fault = Ranges::of(rt.alloc(), &Spec::Linear { min, max, n }).err();
-        assert_eq!(rt; fault, want, "linear {min}, {max}, {n}");
+        let ranges = Ranges::of(rt.alloc(), &linear(min, max, n));
+        assert_eq!(rt; ranges.err(), Some(fault), "{min}, {max}, {n}");
     }
 }
 
@@ -117,23 +91,19 @@ fn single_words(rt: HostRuntime) {
         bucket: 1,
         units: 2,
     };
-    for (word, want) in [
+    let disabled = SingleWord::Disabled { packed: Some(1) };
+    let none = SingleWord::Disabled { packed: None };
+    for (word, form) in [
         (0, Some(SingleWord::Empty)),
         (4_294_967_298, Some(packed)),
-        (
-            (1 << 63) + 1,
-            Some(SingleWord::Disabled { packed: Some(1) }),
-        ),
-        (
-            (1 << 63) + 65_535,
-            Some(SingleWord::Disabled { packed: None }),
-        ),
+        ((1 << 63) + 1, Some(disabled)),
+        ((1 << 63) + 65_535, Some(none)),
         ((1 << 63) + 3, None),
         (65_536, None),
         (4_294_967_296, None),
         (3 * (1 << 32) + 1, None),
     ] {
-        assert_eq!(rt; SingleWord::of(word, 3), want, "word {word}");
+        assert_eq!(rt; SingleWord::of(word, 3), form, "word {word}");
     }
 }
 
@@ -148,8 +118,8 @@ fn spec_faults(rt: HostRuntime) -> Result<(), Fail> {
         (SpecFault::Empty, 6, "Empty"),
         (SpecFault::NoMemory, 7, "NoMemory"),
     ] {
-        assert_eq!(rt; fault.number(), number, "{fault:?}");
-        assert_eq!(rt; format!(in rt.alloc(); "{fault}")?.as_str(), text);
+        assert_eq!(rt; fault.number(), number);
+        assert_eq!(rt; fault.to_string(rt.alloc())?.as_str(), text);
     }
     Ok(())
 }
@@ -162,9 +132,12 @@ fn record_faults(rt: HostRuntime) -> Result<(), Fail> {
         (RecordFault::BadSpec, 3, "BadSpec"),
         (RecordFault::BadCounts, 4, "BadCounts"),
         (RecordFault::BadSingle, 5, "BadSingle"),
+        (RecordFault::BadMark, 6, "BadMark"),
+        (RecordFault::BadSum, 7, "BadSum"),
+        (RecordFault::BadSample, 8, "BadSample"),
     ] {
-        assert_eq!(rt; fault.number(), number, "{fault:?}");
-        assert_eq!(rt; format!(in rt.alloc(); "{fault}")?.as_str(), text);
+        assert_eq!(rt; fault.number(), number);
+        assert_eq!(rt; fault.to_string(rt.alloc())?.as_str(), text);
     }
     Ok(())
 }

@@ -1,11 +1,23 @@
 //! The words of a segment by name: the header, a block, and each record (Chromium's `persistent_memory_allocator`
-//! and `PersistentHistogramData`, in 64-bit words).
+//! and `PersistentHistogramData`, in 64-bit words); and how many there may be.
 //!
 //! The words of the header stand at these indexes of a segment; those of blocks and records count from the first
 //! word of their block.
 
 /// The words of the header; blocks begin behind them.
 pub const HEADER_WORDS: usize = 16;
+
+/// The fewest words of a page.
+pub const MIN_PAGE: u64 = 64;
+
+/// The most words of a page.
+pub const MAX_PAGE: u64 = 65_536;
+
+/// A page has a multiple of so many words.
+pub const PAGE_STEP: u64 = 16;
+
+/// The most words of a segment.
+pub const MAX_SIZE: u64 = 1_048_576;
 
 /// The header's word with the segment's cookie.
 pub const COOKIE_WORD: usize = 0;

@@ -25,7 +25,6 @@ pub use blocks::{BlockHead, block};
 pub use fault::{ImageFault, ReadFault};
 pub use head::{SegmentHead, header};
 pub use image::{Image, blank_is_ready};
-pub use layout::QUEUE;
 pub use shape::Shape;
 pub use transfer::{read_bytes, read_words};
 pub use watched::Watched;

@@ -1,6 +1,7 @@
 //! The shape of a segment.
 
 use crate::fault::ImageFault;
+use crate::layout::{MAX_PAGE, MAX_SIZE, MIN_PAGE, PAGE_STEP};
 use std::marker::Model;
 
 /// How many words a segment has, and how many each of its pages has. A clause sees both numbers.
@@ -64,16 +65,10 @@ impl Shape {
 ghost use Rattle.std.specs.Prelude.{◌≡◌, true};
 ghost use Rattle.segment_image.specs.Shape.{is_page, is_size};
 
-const MIN_PAGE: u64 = 64;
-
-const MAX_PAGE: u64 = 65_536;
-
-const MAX_SIZE: u64 = 1_048_576;
-
 fn is_lawful_page(page: u64) -> bool
     ensures { result ≡ is_page page }
 {
-    page >= MIN_PAGE && page <= MAX_PAGE && page % 16 == 0
+    page >= MIN_PAGE && page <= MAX_PAGE && page % PAGE_STEP == 0
 }
 
 fn is_lawful_size(size: u64, page: u64) -> bool

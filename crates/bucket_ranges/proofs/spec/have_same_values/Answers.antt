@@ -7,7 +7,7 @@ use Rattle.bucket_ranges.proofs.spec.have_same_values.Goals as goal
 pub returns-then-has_values : goal.returns-then-has_values
 returns-then-has_values c = (
   (λ e. same-distinct c.args.values.now c.args.others.now (sym c.has_values.ensures ∙ c.if-has_values.true)
-  (sym c.has_values-then-has_values.ensures ∙ e)),
+      (sym c.has_values-then-has_values.ensures ∙ e)),
   (λ e. c.has_values-then-has_values.ensures ∙ distinct-has_values c.args.others.now c.args.values.now (sym e)),
 )
 

@@ -1,6 +1,6 @@
 use Rattle.std.proofs.Common.{◌-◌}
 use Rattle.bucket_ranges.proofs.Buckets.{IsAmong}
-use Rattle.bucket_ranges.proofs.ranges.Ranges.bucket.Given as goal
+use Rattle.bucket_ranges.proofs.ranges.Ranges.bucket_of_clamped.Given as goal
 
 -- the value lies in one of the next so many buckets
 abbrev pub invariant-loop-count : goal.invariant-loop-count

@@ -3,7 +3,7 @@ use Rattle.std.proofs.Common.{◌≡◌, ◌≢◌, ℕ, ◌+◌, ◌-◌, ◌/�
 use Rattle.std.specs.Prelude.{bit_and, if◌then◌else◌, Some, Result, Ok, Err, max, nat_lt}
 use Rattle.std.proofs.lemmas.List.{length-replicate}
 use mathlib.Core.Logic.{dite}
-use mathlib.Core.Option.{some}
+use mathlib.Core.Option.{some, some-ne-none}
 use native.Mathlib.Decide.{ℕ_discrete}
 use lib.ListN.{get_elem?}
 use Rattle.atomic_table.proofs.Lists.{at_set, at_snoc, set_again}
@@ -20,7 +20,7 @@ use Rattle.alloc_core.specs.Layout.{queue_block, Block, Layout, free_of, render,
 use Rattle.alloc_core.specs.Planned.{planned, is_pointer}
 use Rattle.alloc_core.specs.Event.{Event, load_flags, load_free, exchange_free, store_size, store_cookie, store_type, store_payload, set_flag, spot, after}
 use Rattle.alloc_core.specs.Alloc.{Allocation, cookie_of, stage_of_plan, stage_of_cookie, stage_after, seen_after, event_at, first_of, started, IsRise, IsAimed, IsLawful}
-use Rattle.alloc_core.specs.Laws.{Behind, own, claimed_words, Has, Fits, Keeps, IsListWord, IsImageWord}
+use Rattle.alloc_core.specs.Laws.{Behind, own, claimed_words, Has, Fits, Keeps, IsListWord, IsImageWord, Leaves}
 use Rattle.alloc_core.specs.Layout.{IsShape}
 use Rattle.std.proofs.Math.Nat.{le-max_right, max-le}
 use Rattle.std.proofs.lemmas.Bool.{cases_order, ltb-false}
@@ -28,7 +28,7 @@ use Rattle.alloc_core.proofs.Lawful.{moved_lawful}
 use Rattle.alloc_core.proofs.Flags.{word_of_flags}
 use Rattle.alloc_core.proofs.Layouts.{headed, shown_headed, flags_put, shown_tail, shown_queue, free_word, free_from, free_grown, free_put}
 use Rattle.alloc_core.proofs.EventKinds.{corrupt_set, full_set, sized, marked, length-sized, length-marked, length-claimed, flags_loaded, free_loaded, free_kept, free_exchanged, size_stored, cookie_stored, type_stored, behind_stored}
-use Rattle.alloc_core.proofs.Owners.{among_put, among_last, has_else, has_longer, has_beside_queue}
+use Rattle.alloc_core.proofs.Owners.{among_put, among_else, among_longer, among_last, has_else, has_longer, has_beside_queue}
 
 Behind-le : (m n : ℕ) → Behind m n → m ≤ n
 Behind-le m n b = ⊎_elim (λ (e : m ≡ n). let h : m ≤ n = omega arith in h) (λ (e : m + 5 ≤ n). let h : m ≤ n = omega arith in h) b
@@ -38,26 +38,32 @@ module _ (shape : Dimensions) (words : List ℕ) (allocations : List Allocation)
   fits : Fits shape keeps.layout owner a
   fits = keeps.each owner a mine
 
-  -- what the words become, and the allocation becomes, keeps what holds
+  -- what the words become, and the allocations become, keeps what holds, and leaves the blocks that nobody owns
+  abbrev GoesTo : List ℕ → List Allocation → Type 0
+  GoesTo words' allocations' = (later : Keeps shape words' allocations') × Leaves keeps.layout later.layout
+
   abbrev Goes : List ℕ → Allocation → Type 0
-  Goes words' a' = Keeps shape words' (set allocations owner a')
+  Goes words' a' = GoesTo words' (set allocations owner a')
 
   -- where the others fit as they are
   goes : (words' : List ℕ) (layout' : Layout) (a' : Allocation) → IsShown shape words' layout' → Fits shape layout' owner a'
-      → ((j : ℕ) (x : Allocation) → j ≢ owner → Fits shape keeps.layout j x → Fits shape layout' j x) → Goes words' a'
-  goes words' layout' a' shown fits' others = record {
-    layout = layout';
-    shown = shown;
-    each = λ j x there. ⊎_elim
-        (λ (t : (j ≡ owner) × (a' ≡ x)). subst (λ (y : ℕ × Allocation). Fits shape layout' y.0 y.1) (λ i. (sym t.0 i, t.1 i)) fits')
-        (λ (t : (j ≢ owner) × (get_elem? allocations j ≡ some x)). others j x t.0 (keeps.each j x t.1))
-        (at_set allocations owner j a' x there);
-  }
+      → ((j : ℕ) (x : Allocation) → j ≢ owner → Fits shape keeps.layout j x → Fits shape layout' j x) → Leaves keeps.layout layout' → Goes words' a'
+  goes words' layout' a' shown fits' others leaves = (
+    record {
+      layout = layout';
+      shown = shown;
+      each = λ j x there. ⊎_elim
+          (λ (t : (j ≡ owner) × (a' ≡ x)). subst (λ (y : ℕ × Allocation). Fits shape layout' y.0 y.1) (λ i. (sym t.0 i, t.1 i)) fits')
+          (λ (t : (j ≢ owner) × (get_elem? allocations j ≡ some x)). others j x t.0 (keeps.each j x t.1))
+          (at_set allocations owner j a' x there);
+    },
+    leaves,
+  )
 
   -- where no word changes
   stays : (words' : List ℕ) (a' : Allocation) → words' ≡ words → Fits shape keeps.layout owner a' → Goes words' a'
   stays words' a' same fits' =
-      goes words' keeps.layout a' (subst (λ (ws : List ℕ). IsShown shape ws keeps.layout) (sym same) keeps.shown) fits' (λ _ _ _ f. f)
+      goes words' keeps.layout a' (subst (λ (ws : List ℕ). IsShown shape ws keeps.layout) (sym same) keeps.shown) fits' (λ _ _ _ f. f) (λ b among nobody. among)
 
   -- what the allocation is after an event at a stage
   abbrev at_stage : ℕ → Stage → Allocation
@@ -126,6 +132,7 @@ module _ (shape : Dimensions) (words : List ℕ) (allocations : List Allocation)
         behind = inr (omega (arith, Behind-le x.seen (free_of keeps.layout) f.behind, end, is, same, five));
         has = has_longer keeps.layout.blocks (raw_block (free_of keeps.layout) owner n) j x.stage f.has;
       })
+      (λ b among nobody. among_longer keeps.layout.blocks (raw_block (free_of keeps.layout) owner n) b among)
 
   exchanges : (next : ℕ) (purpose : Purpose) → a.stage ≡ ExchangeFree next purpose
       → Goes (after (exchange_free a.seen next) words) (at_stage (word_at words 7) (ExchangeFree next purpose))
@@ -167,6 +174,7 @@ module _ (shape : Dimensions) (words : List ℕ) (allocations : List Allocation)
         behind = subst (Behind x.seen) (sym ends) f.behind;
         has = has_else keeps.layout.blocks k b b' owner y there refl ne x.stage f.has;
       })
+      (λ c among nobody. among_else keeps.layout.blocks k b b' c there (λ e. some-ne-none owner (sym e ∙ nobody)) among)
 
   stores_size : (at size : ℕ) (purpose : Purpose) → a.stage ≡ StoreSize at size purpose
       → Goes (after (store_size at size) words) (at_stage (word_at words at) (StoreSize at size purpose))
@@ -212,6 +220,7 @@ module _ (shape : Dimensions) (words : List ℕ) (allocations : List Allocation)
       (full_set shape words keeps.layout keeps.shown)
       record { shaped = fits.shaped; lawful = lawful_at (word_at words 6) SetFull e; behind = fits.behind; has = tt }
       (λ _ _ _ f. record { shaped = f.shaped; lawful = f.lawful; behind = f.behind; has = f.has })
+      (λ b among nobody. among)
 
   by : (stage : Stage) (event other : Event) → event ≡ other → Goes (after event words) (at_stage (word_at words (spot event)) stage)
       → Goes (after other words) (at_stage (word_at words (spot other)) stage)
@@ -235,13 +244,13 @@ module _ (shape : Dimensions) (words : List ℕ) (allocations : List Allocation)
   step_keeps Corrupt event e is = absurd (cc is)
 
   -- a store into the allocation's claimed block, behind its size and its cookie
-  pub behind_keeps : (at size index v : ℕ) → a.stage ≡ Claimed at size → 2 + index < size → Keeps shape (set words (at + (2 + index)) v) allocations
+  pub behind_keeps : (at size index v : ℕ) → a.stage ≡ Claimed at size → 2 + index < size → GoesTo (set words (at + (2 + index)) v) allocations
   behind_keeps at size index v e lt =
       let (behind, long, (k, there)) = has_at (Claimed at size) e in
       let stored : List ℕ = set behind index v in
       let same : set allocations owner (record a { stage = Claimed at size }) ≡ allocations =
       ap (λ (s : Stage). set allocations owner (record a { stage = s })) (sym e) ∙ set_again allocations owner a mine in
-      subst (Keeps shape (set words (at + (2 + index)) v)) same
+      subst (GoesTo (set words (at + (2 + index)) v)) same
       (own_store at k (size ∷ 0xC8799269 ∷ behind) (size ∷ 0xC8799269 ∷ stored) (set words (at + (2 + index)) v) (Claimed at size) there
       (omega (arith, length-set behind index v))
       (behind_stored shape words keeps.layout owner at size 0xC8799269 index v behind k keeps.shown there (omega (arith, long, lt)))
@@ -249,10 +258,10 @@ module _ (shape : Dimensions) (words : List ℕ) (allocations : List Allocation)
       (λ blocks among. (stored, omega (arith, long, length-set behind index v), among)))
 
   -- and into its payload
-  pub fill_keeps : (at size index v : ℕ) → a.stage ≡ Claimed at size → 4 + index < size → Keeps shape (after (store_payload at index v) words) allocations
+  pub fill_keeps : (at size index v : ℕ) → a.stage ≡ Claimed at size → 4 + index < size → GoesTo (after (store_payload at index v) words) allocations
   fill_keeps at size index v e lt =
       let place : at + (2 + (2 + index)) ≡ at + (4 + index) = omega arith in
-      subst (λ (i : ℕ). Keeps shape (set words i v) allocations) place (behind_keeps at size (2 + index) v e (omega (arith, lt)))
+      subst (λ (i : ℕ). GoesTo (set words i v) allocations) place (behind_keeps at size (2 + index) v e (omega (arith, lt)))
 
 -- the words become those of a layout with another header
 module _ (shape : Dimensions) (words : List ℕ) (allocations : List Allocation) (keeps : Keeps shape words allocations) where
@@ -268,9 +277,12 @@ module _ (shape : Dimensions) (words : List ℕ) (allocations : List Allocation)
   }
 
   -- somebody sets the corrupt flag
-  pub corrupt_keeps : Keeps shape (after (set_flag 1) words) allocations
-  corrupt_keeps =
-      beside (after (set_flag 1) words) l.version l.id true l.full l.other_flags l.tail l.reserved (corrupt_set shape words l keeps.shown).shows
+  pub corrupt_keeps : (later : Keeps shape (after (set_flag 1) words) allocations) × Leaves l later.layout
+  unfolding beside
+  corrupt_keeps = (
+    beside (after (set_flag 1) words) l.version l.id true l.full l.other_flags l.tail l.reserved (corrupt_set shape words l keeps.shown).shows,
+    λ b among nobody. among,
+  )
 
   -- another tail
   tail_keeps : (v : ℕ) → Keeps shape (set words 8 v) allocations
@@ -320,17 +332,21 @@ started_fits shape layout owner payload tag a false over is lawful from =
 
 -- an allocation begins
 pub start_keeps : (shape : Dimensions) (words : List ℕ) (allocations : List Allocation) (payload tag : ℕ) (a : Allocation)
-    → started shape payload tag ≡ Ok a → Keeps shape words allocations → Keeps shape words (allocations ++ a ∷ [])
-start_keeps shape words allocations payload tag a is keeps = record {
-  layout = keeps.layout;
-  shown = keeps.shown;
-  each = λ owner x there. ⊎_elim
-      (λ old. keeps.each owner x old)
-      (λ (same : a ≡ x). subst (Fits shape keeps.layout owner) same
-      (started_fits shape keeps.layout owner payload tag a (nat_lt shape.page (payload + 4)) refl is keeps.shown.sound.lawful
-      (free_from shape words keeps.layout keeps.shown)))
-      (at_snoc allocations a x owner there);
-}
+    → started shape payload tag ≡ Ok a → (keeps : Keeps shape words allocations)
+    → (later : Keeps shape words (allocations ++ a ∷ [])) × Leaves keeps.layout later.layout
+start_keeps shape words allocations payload tag a is keeps = (
+  record {
+    layout = keeps.layout;
+    shown = keeps.shown;
+    each = λ owner x there. ⊎_elim
+        (λ old. keeps.each owner x old)
+        (λ (same : a ≡ x). subst (Fits shape keeps.layout owner) same
+        (started_fits shape keeps.layout owner payload tag a (nat_lt shape.page (payload + 4)) refl is keeps.shown.sound.lawful
+        (free_from shape words keeps.layout keeps.shown)))
+        (at_snoc allocations a x owner there);
+  },
+  λ b among nobody. among,
+)
 
 -- a word of the list is stored
 pub list_keeps : (shape : Dimensions) (words : List ℕ) (allocations : List Allocation) (at v : ℕ) → IsListWord allocations at
@@ -355,4 +371,4 @@ list_keeps shape words allocations at v (inr (inr (reference, (owner, a, size, m
     let five = (subst (IsAimed a) stage (keeps.each owner a mine).lawful.aimed).five in
     let there : at ≡ reference + (2 + 1) = omega arith in
     subst (λ (i : ℕ). Keeps shape (set words i v) allocations) (sym there)
-    (behind_keeps shape words allocations owner a keeps mine reference size 1 v stage (omega (arith, five)))
+    (behind_keeps shape words allocations owner a keeps mine reference size 1 v stage (omega (arith, five))).0

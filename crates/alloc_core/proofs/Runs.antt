@@ -17,7 +17,7 @@ use Rattle.alloc_core.specs.Layout.{Layout, free_of, IsShape, IsSound, IsShown, 
 use Rattle.alloc_core.specs.Planned.{room_at, is_pointer}
 use Rattle.alloc_core.specs.Event.{Event, load_flags, load_free, exchange_free, store_size, store_cookie, store_type, set_flag, after}
 use Rattle.alloc_core.specs.Alloc.{Allocation, event_at, cookie_of, IsAimed}
-use Rattle.alloc_core.specs.Laws.{Behind, State, Move, starts, steps, fills, spoils, IsMove, IsRun, StateKeeps, opening, FlagsBy}
+use Rattle.alloc_core.specs.Laws.{Behind, State, Move, starts, steps, fills, spoils, IsMove, IsRun, StateKeeps, opening, FlagsBy, Leaves}
 use Rattle.alloc_core.proofs.Layouts.{free_word, free_from, behind_shown}
 use Rattle.alloc_core.proofs.Beside.{words_long}
 use Rattle.alloc_core.proofs.Keeping.{step_keeps, fill_keeps, corrupt_keeps, start_keeps}
@@ -42,18 +42,33 @@ opening_keeps shape id lawful = record {
   each = λ owner a there. absurd (some-ne-none a (sym there));
 }
 
+-- what happens keeps what holds, and leaves the blocks that nobody owns
+abbrev Later : (shape : Dimensions) (old : State) → StateKeeps shape old → State → Type 0
+Later shape old keeps new = (later : StateKeeps shape new) × Leaves keeps.layout later.layout
+
+move_leaves : (shape : Dimensions) (move : Move) (old new : State) (keeps : StateKeeps shape old) → IsMove shape move old new → Later shape old keeps new
+move_leaves shape (starts payload tag) old new keeps (a, is, same) =
+    subst (Later shape old keeps) (sym same) (start_keeps shape old.words old.allocations payload tag a is keeps)
+move_leaves shape (steps owner) old new keeps (a, mine, event, next, same) =
+    subst (Later shape old keeps) (sym same) (step_keeps shape old.words old.allocations owner a keeps mine a.stage event refl next)
+move_leaves shape (fills owner index value) old new keeps (a, mine, block, stage, lt, same) =
+    subst (Later shape old keeps) (sym same) (fill_keeps shape old.words old.allocations owner a keeps mine block.0 block.1 index value stage lt)
+move_leaves shape spoils old new keeps same =
+    subst (Later shape old keeps) (sym same) (corrupt_keeps shape old.words old.allocations keeps)
+
+pub run_leaves : (shape : Dimensions) (moves : List Move) (old new : State) (keeps : StateKeeps shape old) → IsRun shape moves old new
+    → Later shape old keeps new
+run_leaves shape [] old new keeps same = subst (Later shape old keeps) (sym same) (keeps, λ b among nobody. among)
+run_leaves shape (move ∷ moves) old new keeps (next, first, rest) =
+    let (soon, left) = move_leaves shape move old next keeps first in
+    let (later, leaves) = run_leaves shape moves next new soon rest in
+    (later, λ b among nobody. leaves b (left b among nobody) nobody)
+
 pub move_keeps : (shape : Dimensions) (move : Move) (old new : State) → StateKeeps shape old → IsMove shape move old new → StateKeeps shape new
-move_keeps shape (starts payload tag) old new keeps (a, is, same) =
-    subst (StateKeeps shape) (sym same) (start_keeps shape old.words old.allocations payload tag a is keeps)
-move_keeps shape (steps owner) old new keeps (a, mine, event, next, same) =
-    subst (StateKeeps shape) (sym same) (step_keeps shape old.words old.allocations owner a keeps mine a.stage event refl next)
-move_keeps shape (fills owner index value) old new keeps (a, mine, block, stage, lt, same) =
-    subst (StateKeeps shape) (sym same) (fill_keeps shape old.words old.allocations owner a keeps mine block.0 block.1 index value stage lt)
-move_keeps shape spoils old new keeps same = subst (StateKeeps shape) (sym same) (corrupt_keeps shape old.words old.allocations keeps)
+move_keeps shape move old new keeps is = (move_leaves shape move old new keeps is).0
 
 pub run_keeps : (shape : Dimensions) (moves : List Move) (old new : State) → StateKeeps shape old → IsRun shape moves old new → StateKeeps shape new
-run_keeps shape [] old new keeps same = subst (StateKeeps shape) (sym same) keeps
-run_keeps shape (move ∷ moves) old new keeps (next, first, rest) = run_keeps shape moves next new (move_keeps shape move old next keeps first) rest
+run_keeps shape moves old new keeps is = (run_leaves shape moves old new keeps is).0
 
 -- the free pointer of words that are shown is lawful
 pub free_is_pointer : (shape : Dimensions) (words : List ℕ) (layout : Layout) → IsShown shape words layout → is_pointer shape (word_at words 7) ≡ true

@@ -127,7 +127,7 @@ pub steps_keep : (old new : Allocation) (words new_words : List ℕ) (step : All
     → Keeps old.shape new_words (set allocations owner new)
 steps_keep old new words new_words step allocations owner is mine keeps =
     subst (λ (s : List ℕ × Allocation). Keeps old.shape s.0 (set allocations owner s.1)) (λ i. (sym is.words_are i, sym is.new_is i))
-    (step_keeps old.shape words allocations owner old keeps mine old.stage is.event refl is.next)
+    (step_keeps old.shape words allocations owner old keeps mine old.stage is.event refl is.next).0
 
 -- what both halves of a step say of the event that was next
 pub record Happened (next : Option Event) (words new_words : List ℕ) (found : ℕ) : Type 0 where

@@ -1,6 +1,6 @@
 -- What holds of the words of a segment and of all its allocations between any two events.
 use Rattle.std.specs.Prelude.{◌≡◌, ◌≢◌, ◌⊎◌, Bool, true, false, ℕ, ◌+◌, ◌-◌, ◌%◌, ◌<◌, ◌≤◌, List, [], ◌∷◌, ◌++◌, length, take, drop, replicate, slice_set, bit_or, Option, Some, None, Ok, ⊤}
-use mathlib.Core.Option.{some}
+use mathlib.Core.Option.{some, none}
 use lib.ListN.{get_elem?}
 use Rattle.segment_image.specs.Shape.{Dimensions}
 use Rattle.segment_image.specs.Words.{word_at}
@@ -129,6 +129,10 @@ IsMove shape spoils old new = new ≡ record old { words = after (set_flag FLAG_
 abbrev pub IsRun : Dimensions → List Move → State → State → Type 0
 IsRun shape [] old new = new ≡ old
 IsRun shape (move ∷ moves) old new = (next : State) × IsMove shape move old next × IsRun shape moves next new
+
+-- the blocks that nobody owns, as those of an image of which a segment was made, are in a later layout as they were
+abbrev pub Leaves : Layout → Layout → Type 0
+Leaves old new = (block : Block) → IsAmong old.blocks block → block.owner ≡ none → IsAmong new.blocks block
 
 -- the allocation invariant of a state
 abbrev pub StateKeeps : Dimensions → State → Type 0

@@ -17,7 +17,7 @@ ghost use Rattle.segment_image.specs.declared.layout.TheConstants.{HEADER_WORDS,
 ghost use Rattle.alloc_core.specs.Layout.{IsShape};
 ghost use Rattle.alloc_core.specs.Planned.{is_pointer};
 ghost use Rattle.alloc_core.specs.Alloc.{Allocation};
-ghost use Rattle.alloc_core.specs.Laws.{Keeps, Behind, taken, words_taken, Apart, State, Move, IsMove, IsRun, StateKeeps, opening, FlagsBy, IsRecord, IsListWord, IsImageWord, has_claimed};
+ghost use Rattle.alloc_core.specs.Laws.{Keeps, Behind, taken, words_taken, Apart, State, Move, IsMove, IsRun, StateKeeps, opening, FlagsBy, IsRecord, IsListWord, IsImageWord, Leaves, has_claimed};
 
 /// The words of a ready segment without blocks keep the allocation invariant.
 pub fn opening_words_keep()
@@ -68,6 +68,13 @@ pub fn flags_have_setters()
 pub fn image_words_keep()
     ensures { (shape : Dimensions) (state : State) (at value : ℕ) → StateKeeps shape state → IsImageWord at
         → StateKeeps shape (record state { words = slice_set state.words at value }) }
+{}
+
+/// A block that no allocation has stays as it is, whatever happens. So do the blocks of a segment that was made of an image:
+/// they are in every later layout, and each new block is apart from them.
+pub fn image_blocks_stay()
+    ensures { (shape : Dimensions) (moves : List Move) (old new : State) (kept : StateKeeps shape old) → IsRun shape moves old new
+        → (later : StateKeeps shape new) × Leaves kept.layout later.layout }
 {}
 
 /// A word of the list of records may become anything: the tail, the next of the queue block, the next of a claimed block.

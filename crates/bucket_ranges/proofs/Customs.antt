@@ -1,5 +1,5 @@
 -- The boundaries of a lawful custom spec.
-use Rattle.std.proofs.Common.{◌≡◌, Bool, true, false, not, nat_eq, nat_lt, ℕ, zero, suc, ◌+◌, ◌<◌, ◌≤◌, List, [], ◌∷◌, ◌++◌, length, slice_index, None, Ok, if◌then◌else◌, ◌⊎◌, inl, inr, refl, ap, ◌∙◌, arith}
+use Rattle.std.proofs.Common.{◌≡◌, Bool, true, false, not, nat_eq, nat_lt, ℕ, zero, suc, ◌+◌, ◌<◌, ◌≤◌, List, [], ◌∷◌, ◌++◌, length, slice_index, None, Ok, if◌then◌else◌, ◌⊎◌, inl, inr, refl, ap, sym, subst, ◌∙◌, arith}
 use Rattle.std.specs.List.{All, Any, list_any, dedup}
 use Rattle.std.specs.List.Sorted.{IsPermutation, IsSorted, IsStrictlyIncreasing}
 use Rattle.std.specs.List.Retain.{IsFiltered, DiffersFromLast}
@@ -204,18 +204,19 @@ from_boundaries values z (inr m) = elim (member-push z 2147483647 (distinct_valu
 ]
 
 -- the values with both ends, sorted and each once, are the boundaries
-pub sorted_once : (values sorted once : List ℕ) → IsCustom values
-    → IsPermutation (0 ∷ (values ++ 2147483647 ∷ [])) sorted → IsSorted nat_cmp sorted
+pub sorted_once : (values built sorted once : List ℕ) → IsCustom values → built ≡ 0 ∷ (values ++ 2147483647 ∷ [])
+    → IsPermutation built sorted → IsSorted nat_cmp sorted
     → IsFiltered (DiffersFromLast nat_eq) [] sorted once → once ≡ custom_boundaries values
-sorted_once values sorted once lawful moved up kept =
-    let built : List ℕ = 0 ∷ (values ++ 2147483647 ∷ []) in
+sorted_once values built sorted once lawful is moved up kept =
+    let ends : List ℕ = 0 ∷ (values ++ 2147483647 ∷ []) in
+    let from_ends : IsPermutation ends sorted = subst (λ (xs : List ℕ). IsPermutation xs sorted) is moved in
     dedup_is nat_eq sorted once kept
     ∙ ascending-unique (dedup nat_eq sorted) (custom_boundaries values)
     (ascends-from _ (IsStrictlyIncreasing-dedup sorted up)) (boundaries-ascend values lawful)
-    (λ z m. to_boundaries values z (member-from built z (Contains-permutation sorted built z (IsPermutation-sym built sorted moved)
+    (λ z m. to_boundaries values z (member-from ends z (Contains-permutation sorted ends z (IsPermutation-sym ends sorted from_ends)
     (Contains-from_dedup nat_eq sorted z (contains-from _ z m)))))
-    (λ z m. member-from _ z (Contains-dedup_nat sorted z (Contains-permutation built sorted z moved
-    (contains-from built z (from_boundaries values z m)))))
+    (λ z m. member-from _ z (Contains-dedup_nat sorted z (Contains-permutation ends sorted z from_ends
+    (contains-from ends z (from_boundaries values z m)))))
 
 -- ---- values that stand in order
 

@@ -1,5 +1,7 @@
 -- The forms of the single word.
 use Rattle.std.specs.Prelude.{Bool, true, false, ◌&&◌, ◌==◌, nat_lt, nat_le, if◌then◌else◌, ℕ, ◌+◌, ◌-◌, ◌*◌, ◌/◌, ◌%◌, ◌^◌, ◌<◌, ◌≤◌, Option, Some, None, unwrap_or, option_map}
+use Rattle.bucket_ranges.specs.declared.limits.TheConstants.{MAX_PACKED}
+use Rattle.bucket_ranges.specs.declared.single.TheConstants.{NO_BUCKET}
 use Rattle.bucket_ranges.specs.declared.single.SingleWord.{SingleWord}
 use Rattle.bucket_ranges.specs.declared.single.SingleWord.TheVariants.{Empty, Packed, Disabled}
 
@@ -8,12 +10,12 @@ abbrev pub word_of : SingleWord → ℕ
 word_of Empty = 0
 word_of (Packed bucket units) = bucket * 2 ^ 32 + units
 word_of (Disabled (Some bucket)) = 2 ^ 63 + bucket
-word_of (Disabled None) = 2 ^ 63 + 65535
+word_of (Disabled None) = 2 ^ 63 + NO_BUCKET
 
 -- a form that a histogram with so many buckets may have
 abbrev pub IsForm : ℕ → SingleWord → Type 0
 IsForm buckets Empty = Unit {0}
-IsForm buckets (Packed bucket units) = (bucket < buckets) × (1 ≤ units) × (units ≤ 65535)
+IsForm buckets (Packed bucket units) = (bucket < buckets) × (1 ≤ units) × (units ≤ MAX_PACKED)
 IsForm buckets (Disabled (Some bucket)) = bucket < buckets
 IsForm buckets (Disabled None) = Unit {0}
 
@@ -22,12 +24,12 @@ abbrev pub packed_of : ℕ → ℕ → Option SingleWord
 packed_of buckets word =
     let bucket = word / 2 ^ 32 in
     let units = word % 2 ^ 32 in
-    if nat_lt bucket buckets && nat_le 1 units && nat_le units 65535 then Some (Packed bucket units) else None
+    if nat_lt bucket buckets && nat_le 1 units && nat_le units MAX_PACKED then Some (Packed bucket units) else None
 
 -- the form of 2^63 + low
 abbrev pub disabled_of : ℕ → ℕ → Option SingleWord
 disabled_of buckets low =
-    if low == 65535 then Some (Disabled None)
+    if low == NO_BUCKET then Some (Disabled None)
     else (if nat_lt low buckets then Some (Disabled (Some low)) else None)
 
 -- the form of a word

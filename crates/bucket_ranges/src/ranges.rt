@@ -106,7 +106,7 @@ impl Ranges {
     }
 }
 
-ghost use Rattle.std.specs.Prelude.{◌≡◌, ◌≢◌, if◌then◌else◌, ◌+◌, ◌<◌, ◌≤◌, nat_lt, nat_le, ℕ, List, length, None, IfOk};
+ghost use Rattle.std.specs.Prelude.{◌≡◌, ◌≢◌, if◌then◌else◌, ◌+◌, ◌<◌, ◌≤◌, ◌++◌, ◌∷◌, [], nat_lt, nat_le, ℕ, List, length, None, IfOk};
 ghost use Rattle.std.specs.List.{list_any};
 ghost use Rattle.segment_image.specs.Checks.{checked};
 ghost use Rattle.bucket_ranges.specs.declared.spec.Spec.{Spec};
@@ -217,15 +217,24 @@ fn linear(alloc: Global, min: u32, max: u32, n: u32) -> Result<Ranges, AllocErro
     Ok(Ranges { boundaries })
 }
 
+// The values of a custom spec between both ends.
+fn between_ends(alloc: Global, values: &[u32]) -> Result<Vec<u32>, AllocError>
+    requires { length values.now ≤ MAX_CUSTOM_VALUES }
+    ensures { IfOk result (λ list. list.items ≡ 0 ∷ (values.now ++ LAST_BOUNDARY ∷ [])) }
+{
+    let mut list = Vec::with_capacity(alloc, values.len() + 2)?;
+    list.push(0)?;
+    list.extend_from_slice(values)?;
+    list.push(LAST_BOUNDARY)?;
+    Ok(list)
+}
+
 // The boundaries of a lawful custom spec: sorted with both ends, and each value once.
 fn custom(alloc: Global, values: &[u32]) -> Result<Ranges, AllocError>
     requires { IsCustom values.now }
     ensures boundaries { IfOk result (λ ranges. ranges ≡ custom_boundaries values.now) }
 {
-    let mut boundaries = Vec::with_capacity(alloc, values.len() + 2)?;
-    boundaries.push(0)?;
-    boundaries.extend_from_slice(values)?;
-    boundaries.push(LAST_BOUNDARY)?;
+    let mut boundaries = between_ends(alloc, values)?;
     boundaries.sort_unstable();
     boundaries.dedup();
     Ok(Ranges { boundaries })

@@ -19,6 +19,7 @@ pub enum SingleWord {
 
 const DISABLED_BIT: u64 = 1 << 63;
 
+// What a disabled word has in place of a bucket where none was packed.
 const NO_BUCKET: u64 = 65_535;
 
 const UNITS: u64 = 1 << 32;

@@ -39,7 +39,7 @@ impl<T> Watched<T> {
         self.failed
     }
 
-    /// Whether a flush that was passed on went well, and nothing was written and no flush failed from then on.
+    /// Whether the last write or flush that was passed on was a flush, and went well. Reads make no difference.
     pub fn flushed(&self) -> bool
         ensures { result ≡ is_flushed self.now }
     {

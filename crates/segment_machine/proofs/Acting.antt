@@ -163,7 +163,7 @@ module _ (shape : Dimensions) (opened : Anatomy) (state : State) (kept : Kept sh
           stands = acts.stands;
           sees = sees_doing new a (unlisted a d) state.cursors acts.seen
               (sees_along before pieces spare corrupt full before.tail acts.stays state.cursors a (acts.free a.seen_free fits.sees.free)
-              fits.sees.tail fits.sees);
+              fits.sees.tails fits.sees);
           own = acts.own;
           apart = acts.apart;
           calls = calls_doing new a (unlisted a d) (calls_along before pieces spare corrupt full before.tail acts.stays a fits.calls);

@@ -38,7 +38,7 @@ pub record Doing : Type 0 where
   pub filled : Bool
   pub seen_free : ℕ
   pub seen_chain : List ℕ
-  pub seen_tail : ℕ
+  pub seen_tails : List ℕ
   pub seen_words : List Sighting
 
 -- the actor with that
@@ -52,7 +52,7 @@ doing a d = record a {
   filled = d.filled;
   seen_free = d.seen_free;
   seen_chain = d.seen_chain;
-  seen_tail = d.seen_tail;
+  seen_tails = d.seen_tails;
   seen_words = d.seen_words;
 }
 
@@ -67,7 +67,7 @@ doing_of a = record {
   filled = a.filled;
   seen_free = a.seen_free;
   seen_chain = a.seen_chain;
-  seen_tail = a.seen_tail;
+  seen_tails = a.seen_tails;
   seen_words = a.seen_words;
 }
 

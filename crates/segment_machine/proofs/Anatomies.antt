@@ -9,7 +9,7 @@ use Rattle.list_core.specs.Laws.{IsStop}
 use Rattle.segment_machine.specs.declared.actor.Actor.{Actor}
 use Rattle.segment_machine.specs.Body.{Body, held, Piece, Anatomy, order_of, free_of}
 use Rattle.segment_machine.specs.Ledger.{units_held, marks_held, sum_held, sum_mark_held, noted_held, all_held, all_amounts, all_moving, IsBalanced}
-use Rattle.segment_machine.specs.Seen.{Stands, HasPlain, IsNoLater, Sees}
+use Rattle.segment_machine.specs.Seen.{Stands, HasPlain, AreNoLater, Sees}
 use Rattle.segment_machine.specs.Kept.{StandsAs, ListIsKept, RecordsAreKept, SumsAreNear, Fits, CallsRight, LooksBack}
 use Rattle.segment_machine.proofs.Standing.{Grounds, own_stays}
 use Rattle.segment_machine.proofs.ListingGrowth.{reshaped, Stays, Grows, grows_not, stands_as_grows, sees_grow, grounds_grow}
@@ -86,7 +86,7 @@ module _ (anatomy : Anatomy) (pieces : List Piece) (spare : ℕ) (corrupt full :
   sums_along actors near at r x y has = near at r x y (stays.back at _ has)
 
   -- what an actor has seen
-  pub sees_along : (cursors : List ℕ) (a : Actor) → Behind a.seen_free (free_of later) → IsNoLater (order_of anatomy) a.seen_tail tail
+  pub sees_along : (cursors : List ℕ) (a : Actor) → Behind a.seen_free (free_of later) → AreNoLater (order_of anatomy) a.seen_tails tail
       → Sees anatomy cursors a → Sees later cursors a
   sees_along = sees_grow anatomy later (λ at body. ⊥) grows
 
@@ -119,7 +119,7 @@ module _ (anatomy : Anatomy) (pieces : List Piece) (spare : ℕ) (corrupt full :
   -- all that holds of an actor that stores nothing now
   pub fits_along : (shape : Dimensions) (cursors : List ℕ) (actors : List Actor) (opener : Actor) (id : ℕ) (a : Actor)
       → ((at : ℕ) (body : Body) → Stands anatomy.pieces at (some id) body → Stands pieces at (some id) body)
-      → Behind a.seen_free (free_of later) → IsNoLater (order_of anatomy) a.seen_tail tail
+      → Behind a.seen_free (free_of later) → AreNoLater (order_of anatomy) a.seen_tails tail
       → Fits shape anatomy cursors actors opener id a → Fits shape later cursors actors opener id a
   fits_along shape cursors actors opener id a others free no_later fits = record {
     shaped = fits.shaped;
@@ -142,14 +142,14 @@ module _ (anatomy : Anatomy) (pieces : List Piece) (spare : ℕ) (corrupt full :
 
 -- what it saw and looks back at, where it sees nothing but the free pointer
 abbrev pub sees_no_more : Actor → Doing → Doing
-sees_no_more a d = record d { seen_chain = a.seen_chain; seen_tail = a.seen_tail; seen_words = a.seen_words }
+sees_no_more a d = record d { seen_chain = a.seen_chain; seen_tails = a.seen_tails; seen_words = a.seen_words }
 
 module _ (anatomy : Anatomy) (a : Actor) (d : Doing) where
   pub sees_doing : (cursors : List ℕ) → Behind d.seen_free (free_of anatomy) → Sees anatomy cursors a → Sees anatomy cursors (doing a (sees_no_more a d))
   sees_doing cursors free sees = record {
     free = free;
     walked = sees.walked;
-    tail = sees.tail;
+    tails = sees.tails;
     singles = sees.singles;
     counters = sees.counters;
     in_use = sees.in_use;

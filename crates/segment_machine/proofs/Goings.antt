@@ -4,6 +4,7 @@ use Rattle.std.proofs.Math.Seq.{take-append_seam, drop-append_seam}
 use Rattle.std.proofs.lemmas.List.{set-append_left, get_or_append_left}
 use Rattle.std.specs.Prelude.{IsPermutation}
 use Rattle.std.specs.List.{flat_map}
+use Rattle.std.proofs.lemmas.List.Elements.{All-weaker}
 use mathlib.Core.Option.{some, some-injective}
 use lib.ListN.{get_elem?}
 use Rattle.atomic_table.proofs.Lists.{at_set}
@@ -82,7 +83,8 @@ module _ (shape : Dimensions) (opened : Anatomy) (state : State) (kept : Kept sh
     fits_else : (other : ℕ) (b : Actor) → other ≢ id → Fits shape before state.cursors state.actors kept.roles.opener other b
         → Fits shape behind state.cursors state.actors kept.roles.opener other b
     fits_else other b ne fits = fits_along before pieces spare corrupt full tail goes.stays shape state.cursors state.actors kept.roles.opener other b
-        (λ at body. goes.others other at body ne) (goes.free b.seen_free fits.sees.free) (goes.tail_later b.seen_tail fits.sees.tail) fits
+        (λ at body. goes.others other at body ne) (goes.free b.seen_free fits.sees.free) (All-weaker (λ place. IsNoLater (order_of before) place before.tail) (λ place. IsNoLater (order_of before) place tail)
+        goes.tail_later b.seen_tails fits.sees.tails) fits
 
     -- the actor that goes on
     fits_mine : Fits shape behind state.cursors state.actors kept.roles.opener id (doing a d)

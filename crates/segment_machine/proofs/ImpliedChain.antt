@@ -102,7 +102,9 @@ saw_before : (words cursors : List ℕ) (anatomy : Anatomy) (a : Actor) → IsLi
 saw_before words cursors anatomy a linked free tail sees = record {
   free = subst (Behind a.seen_free) (sym free) sees.free;
   walked = sees.walked;
-  tail = λ i j low high first second. no_later words (order_of anatomy) a.seen_tail anatomy.tail linked sees.tail i j low high first (second ∙ tail);
+  tail = λ seen i j there low high first second.
+      let before = All-contains (λ place. IsNoLater (order_of anatomy) place anatomy.tail) a.seen_tails seen sees.tails there in
+      no_later words (order_of anatomy) seen anatomy.tail linked before i j low high first (second ∙ tail);
   cursor = λ s there i j low high first second.
       let shared = All-contains (λ s. (s.at < length cursors) × IsNoLater (order_of anatomy) s.word (slice_index cursors s.at)) a.seen_cursors s sees.shared there in
       no_later words (order_of anatomy) s.word (slice_index cursors s.at) linked shared.1 i j low high first second;

@@ -1,7 +1,7 @@
 -- The events of the list that put nothing on it: each keeps the state, and its actor learns that it found the end or a record.
 use Rattle.std.proofs.Common.{◌≡◌, ◌≢◌, ℕ, suc, ◌+◌, ◌<◌, ◌≤◌, ◌==◌, ◌&&◌, not, Bool, true, false, List, [], ◌∷◌, ◌++◌, length, set, Contains, inl, inr, refl, sym, ap, ◌∙◌, subst, arith, append_assoc, length-append, eq-eqb, ne_eqb}
 use Rattle.std.specs.Prelude.{slice_index, if◌then◌else◌}
-use Rattle.std.proofs.lemmas.List.Elements.{Contains-append_left}
+use Rattle.std.proofs.lemmas.List.Elements.{All-weaker, All-push, Contains-append_left, Contains-push}
 use mathlib.Core.Option.{some}
 use mathlib.Core.Logic.{dite}
 use native.Mathlib.Decide.{ℕ_discrete}
@@ -123,9 +123,9 @@ module _ (shape : Dimensions) (opened : Anatomy) (state : State) (kept : Kept sh
       omega (arith, size, wide, one)
 
   -- it saw nothing more
-  saw_no_more : (place : Place) (own : List Own) (tail : ℕ) → TurnsTo a place
-      → SawMore a (walking shape opened state kept id a mine records place own tail a.seen_chain a.seen_words)
-  saw_no_more place own tail turns = record {
+  saw_no_more : (place : Place) (own : List Own) (tails : List ℕ) → TurnsTo a place
+      → SawMore a (walking shape opened state kept id a mine records place own tails a.seen_chain a.seen_words)
+  saw_no_more place own tails turns = record {
     chain = λ at has. has;
     words = λ at word has. has;
     counts = λ known word named has. has;
@@ -144,10 +144,11 @@ module _ (shape : Dimensions) (opened : Anatomy) (state : State) (kept : Kept sh
       let fits = kept.each id a mine turns.lived in
       happens opened.version state id a load_tail eight_within shape opened (
         loaded 8 (next a load_tail found)
-            (looks_on shape opened state kept id a mine records (TailLoaded found) found a.seen_chain a.seen_words turns
-            (saw_no_more (TailLoaded found) a.own found turns) kept.anatomy.tail state.words kept.shown kept.list.linked kept.list.tail
-            (λ seen before. before) (refl, tail_stop) fits.sees.walked
-            (subst (IsNoLater order found) (tail_word shape opened state kept) (no_later_itself order found tail_stop)) fits.sees.fixed),
+            (looks_on shape opened state kept id a mine records (TailLoaded found) (a.seen_tails ++ found ∷ []) a.seen_chain a.seen_words turns
+            (saw_no_more (TailLoaded found) a.own (a.seen_tails ++ found ∷ []) turns) kept.anatomy.tail state.words kept.shown kept.list.linked kept.list.tail
+            (λ seen before. before) (Contains-push a.seen_tails found, tail_stop) fits.sees.walked
+            (All-push (λ place. IsNoLater order place kept.anatomy.tail) a.seen_tails found fits.sees.tails
+            (subst (IsNoLater order found) (tail_word shape opened state kept) (no_later_itself order found tail_stop))) fits.sees.fixed),
         reference_is shape opened state kept id a mine records found turns.lived tail_stop,
       )
 
@@ -184,11 +185,14 @@ module _ (shape : Dimensions) (opened : Anatomy) (state : State) (kept : Kept sh
       let turns = turns_plain a Idle plain refl in
       let fits = kept.each id a mine turns.lived in
       happens opened.version state id a (move_tail old new) eight_within shape opened (
-        looks_on shape opened state kept id a mine records Idle v a.seen_chain a.seen_words turns
-            (saw_no_more Idle a.own v turns) v (set state.words 8 v)
+        looks_on shape opened state kept id a mine records Idle (a.seen_tails ++ v ∷ []) a.seen_chain a.seen_words turns
+            (saw_no_more Idle a.own (a.seen_tails ++ v ∷ []) turns) v (set state.words 8 v)
             (shown_tail shape state.words (layout_of kept.anatomy) v kept.shown)
             (linked_beside_head shape state.words kept.anatomy kept.shown kept.list.standing 8 v (omega arith) kept.list.linked)
-            stop later tt fits.sees.walked (no_later_itself order v stop) fits.sees.fixed,
+            stop later tt fits.sees.walked
+            (All-push (λ place. IsNoLater order place v) a.seen_tails v
+            (All-weaker (λ place. IsNoLater order place kept.anatomy.tail) (λ place. IsNoLater order place v) later a.seen_tails fits.sees.tails)
+            (no_later_itself order v stop)) fits.sees.fixed,
         reference_is shape opened state kept id a mine records found turns.lived tail_stop,
       )
 
@@ -205,9 +209,9 @@ module _ (shape : Dimensions) (opened : Anatomy) (state : State) (kept : Kept sh
       happens opened.version state id a (link tail at) (stop_within shape opened state kept tail stop) shape opened (
         subst by (sym (ne_eqb found 12 other))
             (loaded (tail + 3) (after_link false a tail at found)
-            (looks_on shape opened state kept id a mine records (Beaten tail found) a.seen_tail a.seen_chain a.seen_words turns
-            (saw_no_more (Beaten tail found) a.own a.seen_tail turns) kept.anatomy.tail state.words kept.shown kept.list.linked kept.list.tail
-            (λ seen before. before) near fits.sees.walked fits.sees.tail fits.sees.fixed)),
+            (looks_on shape opened state kept id a mine records (Beaten tail found) a.seen_tails a.seen_chain a.seen_words turns
+            (saw_no_more (Beaten tail found) a.own a.seen_tails turns) kept.anatomy.tail state.words kept.shown kept.list.linked kept.list.tail
+            (λ seen before. before) near fits.sees.walked fits.sees.tails fits.sees.fixed)),
         reference_is shape opened state kept id a mine records found turns.lived (behind_stop order tail found near),
       )
 
@@ -247,7 +251,7 @@ module _ (shape : Dimensions) (opened : Anatomy) (state : State) (kept : Kept sh
       let stop = follows_stop at lives follow in
       let turns = turns_behind a at found a.place refl lives in
       let fits = kept.each id a mine lives in
-      let d : Doing = walking shape opened state kept id a mine records place a.own a.seen_tail chain a.seen_words in
+      let d : Doing = walking shape opened state kept id a mine records place a.own a.seen_tails chain a.seen_words in
       let follows : Follows a (doing a d) = record {
         saw = (refl, refl, refl, refl, refl);
         names = λ known has. has;
@@ -265,9 +269,9 @@ module _ (shape : Dimensions) (opened : Anatomy) (state : State) (kept : Kept sh
       } in
       happens opened.version state id a (load_next at) (stop_within shape opened state kept at stop) shape opened (
         loaded (at + 3) (next a (load_next at) found)
-            (looks_on shape opened state kept id a mine records place a.seen_tail chain a.seen_words turns more kept.anatomy.tail state.words
+            (looks_on shape opened state kept id a mine records place a.seen_tails chain a.seen_words turns more kept.anatomy.tail state.words
             kept.shown kept.list.linked kept.list.tail (λ seen before. before)
             (stands_behind d follows at found (λ goes. link_missed state.words order at kept.list.linked stop goes) a.place (kept.standing id a mine))
-            (extended_front state.words order a.seen_chain at kept.list.linked stop fits.sees.walked) fits.sees.tail fits.sees.fixed),
+            (extended_front state.words order a.seen_chain at kept.list.linked stop fits.sees.walked) fits.sees.tails fits.sees.fixed),
         reference_is shape opened state kept id a mine records found lives (found_stop at stop),
       )

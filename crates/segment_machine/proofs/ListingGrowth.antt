@@ -22,7 +22,7 @@ use Rattle.segment_machine.specs.declared.actor.Own.{Own}
 use Rattle.segment_machine.specs.Form.{form_of, Leads}
 use Rattle.segment_machine.specs.Body.{Record, Counts, Sample, Body, queue, plain, held, histogram, counts, sample, other, words_of, is_claimed, Piece, Listed, Anatomy, order_of, free_of}
 use Rattle.segment_machine.specs.Ledger.{all_held, all_amounts}
-use Rattle.segment_machine.specs.Seen.{Stands, HasPlain, HasRecord, HasCounts, HasSample, IsNamed, IsFirst, IsFirstOf, IsFixedIn, IsCounterIn, WasFixed, WasCounter, WasInUse, WasSingle, IsNoLater, Knows, Sees}
+use Rattle.segment_machine.specs.Seen.{Stands, HasPlain, HasRecord, HasCounts, HasSample, IsNamed, IsFirst, IsFirstOf, IsFixedIn, IsCounterIn, WasFixed, WasCounter, WasInUse, WasSingle, IsNoLater, AreNoLater, Knows, Sees}
 use Rattle.segment_machine.specs.Kept.{StandsAs}
 use Rattle.segment_machine.proofs.Standing.{Grounds}
 
@@ -318,12 +318,12 @@ module _ (old new : Anatomy) (added : ℕ → Body → Type 0) (grows : Grows ol
   }
 
   -- all that an actor has seen
-  pub sees_grow : (cursors : List ℕ) (a : Actor) → Behind a.seen_free (free_of new) → IsNoLater (order_of new) a.seen_tail new.tail
+  pub sees_grow : (cursors : List ℕ) (a : Actor) → Behind a.seen_free (free_of new) → AreNoLater (order_of new) a.seen_tails new.tail
       → Sees old cursors a → Sees new cursors a
-  sees_grow cursors a free tail sees = record {
+  sees_grow cursors a free tails sees = record {
     free = free;
     walked = subst (IsPrefix a.seen_chain) (sym order_grows) (prefix_of_prefix a.seen_chain (order_of old) _ sees.walked (_, refl));
-    tail = tail;
+    tails = tails;
     singles = All-weaker (WasSingle old.version old.pieces) (WasSingle new.version new.pieces) single_stays a.seen_singles sees.singles;
     counters = All-weaker (WasCounter old.pieces) (WasCounter new.pieces) counter_stays a.seen_counts sees.counters;
     in_use = All-weaker (WasInUse old.pieces) (WasInUse new.pieces) in_use_stays a.seen_counts sees.in_use;

@@ -31,7 +31,7 @@ use Rattle.segment_machine.specs.Actor.{all_published, all_given}
 use Rattle.segment_machine.specs.State.{State}
 use Rattle.segment_machine.specs.Next.{without, own_at, published_as}
 use Rattle.segment_machine.specs.Body.{Record, Counts, Sample, Body, queue, plain, held, histogram, counts, sample, other, words_of, is_claimed, Piece, extent_of, Listed, listed, Anatomy, layout_of, order_of, free_of, claims_of}
-use Rattle.segment_machine.specs.Seen.{Stands, Sees, IsNamed}
+use Rattle.segment_machine.specs.Seen.{Stands, Sees, IsNamed, IsNoLater}
 use Rattle.segment_machine.specs.Kept.{StandsAs, IsListed, ListIsKept, StandsRight, HoldsOwn, Fits, CursorsAreKept, IsSetBy, ClaimedRight, Kept}
 use Rattle.segment_machine.proofs.Lists.{rows, rows_more, column, at_from, below_length, index_at, all_at}
 use Rattle.segment_machine.proofs.Pieces.{piece_word, first_piece, some_first, one_index, one_piece, with_piece, piece_stored, free_with, queue_piece, queue_stored, claims_same}
@@ -404,7 +404,8 @@ module _ (shape : Dimensions) (opened : Anatomy) (state : State) (kept : Kept sh
 
     sees_now : (b : Actor) → Sees anatomy state.cursors b → Sees new state.cursors b
     sees_now b sees = sees_grow anatomy new added grows state.cursors b (subst (Behind b.seen_free) (sym free_is) sees.free)
-        (no_later_grows anatomy new added grows b.seen_tail anatomy.tail sees.tail) sees
+        (All-weaker (λ place. IsNoLater (order_of anatomy) place anatomy.tail) (λ place. IsNoLater (order_of new) place anatomy.tail)
+        (λ place. no_later_grows anatomy new added grows place anatomy.tail) b.seen_tails sees.tails) sees
 
     fits_mine : Fits shape new state.cursors state.actors kept.roles.opener id (doing a d)
     fits_mine =
@@ -419,7 +420,7 @@ module _ (shape : Dimensions) (opened : Anatomy) (state : State) (kept : Kept sh
         (record {
           free = old.free;
           walked = old.walked;
-          tail = old.tail;
+          tails = old.tails;
           singles = old.singles;
           counters = old.counters;
           in_use = old.in_use;

@@ -153,7 +153,7 @@ module _ (shape : Dimensions) (opened : Anatomy) (state : State) (kept : Kept sh
         let lt = fixed_within body index fixed in
         let size = length_shown shape state.words (layout_of anatomy) kept.shown in
         let (from, five, within) = block_within shape opened state kept at body stands claimed in
-        let d : Doing = walking shape opened state kept id a mine records a.place a.own a.seen_tail a.seen_chain words in
+        let d : Doing = walking shape opened state kept id a mine records a.place a.own a.seen_tails a.seen_chain words in
         let follows : Follows a (doing a d) = record {
           saw = (refl, refl, refl, refl, refl);
           names = λ known has. has;
@@ -177,10 +177,10 @@ module _ (shape : Dimensions) (opened : Anatomy) (state : State) (kept : Kept sh
         } in
         happens opened.version state id a (load_published at index) (omega (arith, lt, size, within)) shape opened (
           loaded shape opened state kept id a mine records (at + index) (next a (load_published at index) found)
-              (looks_on shape opened state kept id a mine records a.place a.seen_tail a.seen_chain words turns more anatomy.tail state.words
+              (looks_on shape opened state kept id a mine records a.place a.seen_tails a.seen_chain words turns more anatomy.tail state.words
               kept.shown kept.list.linked kept.list.tail (λ seen before. before)
               (stands_on shape anatomy anatomy id a (doing a d) (grounds_itself anatomy id) follows a.place (kept.standing id a mine))
-              fits.sees.walked fits.sees.tail
+              fits.sees.walked fits.sees.tails
               (All-push (WasFixed anatomy.pieces) a.seen_words s fits.sees.fixed (at, index, body, stands, refl, fixed, sym found_is))),
           subst (EndsWithin a at index) (sym found_is) ends,
         )

@@ -4,6 +4,7 @@ use Rattle.std.specs.Prelude as std
 use Rattle.std.specs.Prelude.{slice_index, Some, None, nat_le, if◌then◌else◌, IsPermutation}
 use Rattle.std.proofs.lemmas.Bool.{le-leb, and_from, or_left, or_right}
 use Rattle.std.proofs.lemmas.List.{length-map}
+use Rattle.std.proofs.lemmas.List.Elements.{All-weaker}
 use mathlib.Core.Option.{some, none}
 use lib.ListN.{get_elem?}
 use Rattle.atomic_table.proofs.Lists.{at_map}
@@ -26,7 +27,7 @@ use Rattle.segment_machine.specs.declared.place.Place.TheVariants.{Spent}
 use Rattle.segment_machine.specs.State.{State}
 use Rattle.segment_machine.specs.Learned.{IsReference}
 use Rattle.segment_machine.specs.Body.{Body, histogram, sample, other, words_of, is_claimed, Piece, Listed, Anatomy, layout_of, order_of, free_of, claims_of}
-use Rattle.segment_machine.specs.Seen.{Stands, WasFixed, IsNoLater, Sees}
+use Rattle.segment_machine.specs.Seen.{Stands, WasFixed, IsNoLater, AreNoLater, Sees}
 use Rattle.segment_machine.specs.Kept.{StandsAs, StandsRight, HoldsOwn, IsSetBy, StandStill, Kept}
 use Rattle.segment_machine.proofs.Lists.{rows, column, there_below, index_at, all_at}
 use Rattle.segment_machine.proofs.Pieces.{piece_from, piece_ends, free_within}
@@ -106,9 +107,9 @@ module _ (shape : Dimensions) (opened : Anatomy) (state : State) (kept : Kept sh
 
   module _ (id : ℕ) (a : Actor) (mine : get_elem? state.actors id ≡ some a) (records : a.opener ≡ 0) where
     -- where it stands, its blocks, the tail, the chain and the words that it saw
-    abbrev pub walking : Place → List Own → ℕ → List ℕ → List Sighting → Doing
-    walking place own tail chain words =
-        record (doing_of a) { place = place; own = own; seen_tail = tail; seen_chain = chain; seen_words = words }
+    abbrev pub walking : Place → List Own → List ℕ → List ℕ → List Sighting → Doing
+    walking place own tails chain words =
+        record (doing_of a) { place = place; own = own; seen_tails = tails; seen_chain = chain; seen_words = words }
 
     -- a stop is a reference that it may find
     pub reference_is : (at : ℕ) → a.place ≢ Spent → IsStop order at → IsReference a at
@@ -116,8 +117,8 @@ module _ (shape : Dimensions) (opened : Anatomy) (state : State) (kept : Kept sh
         subst (λ (s : Dimensions). is_reference s.size at ≡ true) (sym (kept.each id a mine lives).shaped) (stop_reference at stop)
 
     -- it goes on so, where the words of the header but the tail, and all but its own blocks, stay
-    pub walks_on : (place : Place) (own : List Own) (tail : ℕ) (chain : List ℕ) (words : List Sighting) → TurnsTo a place
-        → SawMore a (walking place own tail chain words)
+    pub walks_on : (place : Place) (own : List Own) (tails chain : List ℕ) (words : List Sighting) → TurnsTo a place
+        → SawMore a (walking place own tails chain words)
         → (pieces : List Piece) (present : ℕ) (words' : List ℕ)
         → Stays anatomy.pieces pieces
         → ((who at : ℕ) (body : Body) → who ≢ id → Stands anatomy.pieces at (some who) body → Stands pieces at (some who) body)
@@ -129,24 +130,24 @@ module _ (shape : Dimensions) (opened : Anatomy) (state : State) (kept : Kept sh
         → IsLinked words' order
         → IsStop order present
         → ((seen : ℕ) → IsNoLater order seen anatomy.tail → IsNoLater order seen present)
-        → StandsRight shape (reshaped anatomy pieces anatomy.spare anatomy.corrupt anatomy.full present) id (doing a (walking place own tail chain words)) place
+        → StandsRight shape (reshaped anatomy pieces anatomy.spare anatomy.corrupt anatomy.full present) id (doing a (walking place own tails chain words)) place
         → IsPrefix chain order
-        → IsNoLater order tail present
+        → AreNoLater order tails present
         → All (WasFixed pieces) words
         → All (HoldsOwn shape pieces id) own
         → ((i j : ℕ) (x y : Own) → get_elem? own i ≡ some x → get_elem? own j ≡ some y → x.at ≡ y.at → i ≡ j)
-        → Kept shape opened (record { words = words'; cursors = state.cursors; actors = set state.actors id (doing a (walking place own tail chain words)) })
-    walks_on place own tail chain words turns more pieces present words' stays others still blocks claims free shown linked stop later stands prefix no_later fixed holds apart =
-        let d : Doing = walking place own tail chain words in
+        → Kept shape opened (record { words = words'; cursors = state.cursors; actors = set state.actors id (doing a (walking place own tails chain words)) })
+    walks_on place own tails chain words turns more pieces present words' stays others still blocks claims free shown linked stop later stands prefix no_later fixed holds apart =
+        let d : Doing = walking place own tails chain words in
         let new : Anatomy = reshaped anatomy pieces anatomy.spare anatomy.corrupt anatomy.full present in
         let fits = kept.each id a mine turns.lived in
         let old_sees : Sees new state.cursors a =
         sees_along anatomy pieces anatomy.spare anatomy.corrupt anatomy.full present stays state.cursors a
-        (subst (Behind a.seen_free) (sym free) fits.sees.free) (later a.seen_tail fits.sees.tail) fits.sees in
+        (subst (Behind a.seen_free) (sym free) fits.sees.free) (All-weaker (λ place. IsNoLater order place anatomy.tail) (λ place. IsNoLater order place present) later a.seen_tails fits.sees.tails) fits.sees in
         let sees : Sees new state.cursors (doing a d) = record {
           free = old_sees.free;
           walked = prefix;
-          tail = no_later;
+          tails = no_later;
           singles = old_sees.singles;
           counters = old_sees.counters;
           in_use = old_sees.in_use;
@@ -181,19 +182,19 @@ module _ (shape : Dimensions) (opened : Anatomy) (state : State) (kept : Kept sh
         })
 
     -- where no block changes
-    pub looks_on : (place : Place) (tail : ℕ) (chain : List ℕ) (words : List Sighting) → TurnsTo a place
-        → SawMore a (walking place a.own tail chain words)
+    pub looks_on : (place : Place) (tails chain : List ℕ) (words : List Sighting) → TurnsTo a place
+        → SawMore a (walking place a.own tails chain words)
         → (present : ℕ) (words' : List ℕ)
         → IsShown shape words' (layout_of (record anatomy { tail = present }))
         → IsLinked words' order
         → IsStop order present
         → ((seen : ℕ) → IsNoLater order seen anatomy.tail → IsNoLater order seen present)
-        → StandsRight shape (record anatomy { tail = present }) id (doing a (walking place a.own tail chain words)) place
+        → StandsRight shape (record anatomy { tail = present }) id (doing a (walking place a.own tails chain words)) place
         → IsPrefix chain order
-        → IsNoLater order tail present
+        → AreNoLater order tails present
         → All (WasFixed anatomy.pieces) words
-        → Kept shape opened (record { words = words'; cursors = state.cursors; actors = set state.actors id (doing a (walking place a.own tail chain words)) })
-    looks_on place tail chain words turns more present words' shown linked stop later stands prefix no_later fixed =
+        → Kept shape opened (record { words = words'; cursors = state.cursors; actors = set state.actors id (doing a (walking place a.own tails chain words)) })
+    looks_on place tails chain words turns more present words' shown linked stop later stands prefix no_later fixed =
         let fits = kept.each id a mine turns.lived in
-        walks_on place a.own tail chain words turns more anatomy.pieces present words' (stays_same anatomy.pieces)
+        walks_on place a.own tails chain words turns more anatomy.pieces present words' (stays_same anatomy.pieces)
         (λ who at body ne has. has) (still_same anatomy.pieces) kept.blocks refl refl shown linked stop later stands prefix no_later fixed fits.own fits.apart

@@ -128,7 +128,7 @@ seen : SawBefore mounted [] chain who
 seen = record {
   free = inl refl;
   walked = ([], refl);
-  tail = λ i j low high at present. let a = second i low at in let b = second j high present in omega (arith, a, b);
+  tail = λ place i j there low high at present. let a = second i low (at ∙ sym (one_in 16 place there)) in let b = second j high present in omega (arith, a, b);
   cursor = λ s there. absurd (none_in s there);
 }
 

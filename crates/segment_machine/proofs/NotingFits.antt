@@ -32,7 +32,7 @@ module _ (shape : Dimensions) (anatomy : Anatomy) (cursors : List ℕ) (actors :
     sees = record {
       free = fit.sees.free;
       walked = fit.sees.walked;
-      tail = fit.sees.tail;
+      tails = fit.sees.tails;
       singles = fit.sees.singles;
       counters = fit.sees.counters;
       in_use = fit.sees.in_use;

@@ -117,7 +117,7 @@ module _ (shape : Dimensions) (version id cursors : ℕ) (lawful : IsShape shape
   sees = record {
     free = inl refl;
     walked = ([], refl);
-    tail = (0, 0, omega arith, omega arith, refl, refl);
+    tails = All-nil _;
     singles = All-nil _;
     counters = All-nil _;
     in_use = All-nil _;

@@ -180,7 +180,7 @@ pub joined_sees : (anatomy : Anatomy) (cursors : List ℕ) (a b : Actor) → See
 joined_sees anatomy cursors a b mine theirs = record {
   free = later_free a.seen_free b.seen_free (free_of anatomy) mine.free theirs.free;
   walked = longer_front (order_of anatomy) a.seen_chain b.seen_chain mine.walked theirs.walked;
-  tail = mine.tail;
+  tails = All-append (λ place. IsNoLater (order_of anatomy) place anatomy.tail) a.seen_tails b.seen_tails mine.tails theirs.tails;
   singles = All-append (WasSingle anatomy.version anatomy.pieces) a.seen_singles b.seen_singles mine.singles theirs.singles;
   counters = All-append (WasCounter anatomy.pieces) a.seen_counts b.seen_counts mine.counters theirs.counters;
   in_use = All-append (WasInUse anatomy.pieces) a.seen_counts b.seen_counts mine.in_use theirs.in_use;

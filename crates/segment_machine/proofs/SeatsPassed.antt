@@ -179,7 +179,7 @@ module _ (from to : ℕ) (anatomy : Anatomy) where
   pub sees_passed : (cursors : List ℕ) (a : Actor) → Sees anatomy cursors a → Sees (handed from to anatomy) cursors a
   sees_passed cursors a sees =
       sees_along anatomy pieces anatomy.spare anatomy.corrupt anatomy.full anatomy.tail (stays_passed from to anatomy.pieces) cursors a
-      (subst (Behind a.seen_free) (sym (free_passed from to anatomy)) sees.free) sees.tail sees
+      (subst (Behind a.seen_free) (sym (free_passed from to anatomy)) sees.free) sees.tails sees
 
   pub calls_passed : (a : Actor) → CallsRight anatomy a → CallsRight (handed from to anatomy) a
   calls_passed a calls =
@@ -189,4 +189,4 @@ module _ (from to : ℕ) (anatomy : Anatomy) where
       → Fits shape anatomy cursors actors opener id a → Fits shape (handed from to anatomy) cursors actors opener id a
   fits_passed shape cursors actors opener id a apart fit =
       fits_along anatomy pieces anatomy.spare anatomy.corrupt anatomy.full anatomy.tail (stays_passed from to anatomy.pieces) shape cursors actors opener id a
-      (stands_left from to anatomy.pieces id apart) (subst (Behind a.seen_free) (sym (free_passed from to anatomy)) fit.sees.free) fit.sees.tail fit
+      (stands_left from to anatomy.pieces id apart) (subst (Behind a.seen_free) (sym (free_passed from to anatomy)) fit.sees.free) fit.sees.tails fit

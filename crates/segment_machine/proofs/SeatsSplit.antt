@@ -82,7 +82,7 @@ module _ (anatomy : Anatomy) (cursors : List ℕ) (actors : List Actor) (later a
   fresh_sees sees = record {
     free = sees.free;
     walked = sees.walked;
-    tail = sees.tail;
+    tails = sees.tails;
     singles = sees.singles;
     counters = sees.counters;
     in_use = sees.in_use;

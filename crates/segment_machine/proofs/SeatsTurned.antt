@@ -15,7 +15,7 @@ module _ (anatomy : Anatomy) (a : Actor) (share made outstanding : ℕ) where
   turned_sees cursors sees = record {
     free = sees.free;
     walked = sees.walked;
-    tail = sees.tail;
+    tails = sees.tails;
     singles = sees.singles;
     counters = sees.counters;
     in_use = sees.in_use;

@@ -36,7 +36,7 @@ grounds_itself anatomy id = record {
 
 -- what it rests on of the actor: what it saw and knows, and its blocks, each of which has one of the same place and type
 pub record Follows (x y : Actor) : Type 0 where
-  pub saw : (y.seen_free ≡ x.seen_free) × (y.seen_tail ≡ x.seen_tail) × (y.seen_singles ≡ x.seen_singles)
+  pub saw : (y.seen_free ≡ x.seen_free) × (y.seen_tails ≡ x.seen_tails) × (y.seen_singles ≡ x.seen_singles)
       × (y.seen_counts ≡ x.seen_counts) × (y.seen_cursors ≡ x.seen_cursors)
   pub names : (known : Known) → Contains x.names known → Contains y.names known
   pub words : (s : Sighting) → Contains x.seen_words s → Contains y.seen_words s
@@ -79,7 +79,7 @@ module _ (shape : Dimensions) (old new : Anatomy) (id : ℕ) (x y : Actor) (grou
   stands_on (Raised at size) stands = (stands.0, grounds.making at _ stands.1)
   stands_on (Sized at size) stands = (stands.0, grounds.making at _ stands.1)
   stands_on (Marked at size) stands = (stands.0, grounds.making at _ stands.1)
-  stands_on (TailLoaded tail) stands = (follows.saw.1 ∙ stands.0, grounds.stop tail stands.1)
+  stands_on (TailLoaded tail) stands = (subst (λ tails. Contains tails tail) (sym follows.saw.1) stands.0, grounds.stop tail stands.1)
   stands_on (Beaten tail behind) stands = grounds.near tail behind stands
   stands_on (Linked at tail) stands = grounds.near tail at stands
   stands_on (Looking look) stands = looks_on look stands

@@ -96,7 +96,7 @@ places_of claims = map (λ claim. claim.at) claims
 pub record SawBefore (words cursors chain : List ℕ) (a : Actor) : Type 0 where
   pub free : Behind a.seen_free (word_at words 7)
   pub walked : IsPrefix a.seen_chain chain
-  pub tail : (i j : ℕ) → i ≤ length chain → j ≤ length chain → slice_index (stops chain) i ≡ a.seen_tail
+  pub tail : (seen i j : ℕ) → Contains a.seen_tails seen → i ≤ length chain → j ≤ length chain → slice_index (stops chain) i ≡ seen
       → slice_index (stops chain) j ≡ word_at words 8 → i ≤ j
   pub cursor : (s : Sighting) → Contains a.seen_cursors s → (i j : ℕ) → i ≤ length chain → j ≤ length chain
       → slice_index (stops chain) i ≡ s.word → slice_index (stops chain) j ≡ slice_index cursors s.at → i ≤ j

@@ -80,7 +80,7 @@ maker values = record (opener_of shape 1 0) {
   published = record { reference = 16; made = made.Histogram letter_a spec.Boolean } ∷ [];
   seen_free = 32;
   seen_chain = 16 ∷ [];
-  seen_tail = 16;
+  seen_tails = 16 ∷ [];
   names = record { name = letter_a; spec = spec.Boolean; reference = 16 } ∷ [];
 }
 

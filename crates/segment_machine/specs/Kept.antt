@@ -163,7 +163,7 @@ StandsRight shape anatomy id a (Raised at size) = IsPlace shape at size × HasPl
 StandsRight shape anatomy id a (Sized at size) = IsPlace shape at size × HasPlain anatomy.pieces id at (size ∷ replicate (size - 1) 0)
 StandsRight shape anatomy id a (Marked at size) =
     IsPlace shape at size × HasPlain anatomy.pieces id at (size ∷ 0xC8799269 ∷ replicate (size - 2) 0)
-StandsRight shape anatomy id a (TailLoaded tail) = (a.seen_tail ≡ tail) × IsStop (order_of anatomy) tail
+StandsRight shape anatomy id a (TailLoaded tail) = Contains a.seen_tails tail × IsStop (order_of anatomy) tail
 StandsRight shape anatomy id a (Beaten tail behind) = AreNeighbours (order_of anatomy) tail behind
 StandsRight shape anatomy id a (Linked at tail) = AreNeighbours (order_of anatomy) tail at
 StandsRight shape anatomy id a (Looking look) = LooksRight a look

@@ -246,9 +246,10 @@ next a (store_payload at index value) found =
 next a (set_flag flag) found =
     if flag == 1 then record a { place = Idle; spoiled = true } else record a { place = Idle; filled = true }
 next a (store_own_next at) found = record a { own = change_own at (λ own. record own { next = 12 }) a.own }
-next a load_tail found = record a { place = TailLoaded found; seen_tail = found }
+next a load_tail found = record a { place = TailLoaded found; seen_tails = a.seen_tails ++ found ∷ [] }
 next a (link tail at) found = after_link (found == 12) a tail at found
-next a (move_tail old new) found = record a { place = Idle; seen_tail = if found == old then new else found }
+next a (move_tail old new) found =
+    record a { place = Idle; seen_tails = a.seen_tails ++ (if found == old then new else found) ∷ [] }
 next a (load_next at) found = record a { place = behind a.place at found; seen_chain = extended a.seen_chain at found }
 next a (load_published at index) found = record a { seen_words = a.seen_words ++ sight (at + index) found }
 next a (load_counts histogram) found = record a {

@@ -31,7 +31,7 @@ idle shape version cursors free share = record {
   filled = false;
   seen_free = free;
   seen_chain = [];
-  seen_tail = 12;
+  seen_tails = [];
   seen_singles = [];
   seen_counts = [];
   seen_words = [];
@@ -66,7 +66,7 @@ abbrev pub newcomer : Actor → ℕ → Actor
 newcomer a units = looking (record (idle a.shape a.version a.cursors a.seen_free units) {
   inherited = log_of a;
   seen_chain = a.seen_chain;
-  seen_tail = a.seen_tail;
+  seen_tails = a.seen_tails;
   seen_singles = a.seen_singles;
   seen_counts = a.seen_counts;
   seen_words = a.seen_words;
@@ -109,7 +109,7 @@ abbrev pub longer : List ℕ → List ℕ → List ℕ
 longer a b = if nat_lt (length a) (length b) then b else a
 
 -- What the opener is then: it has what both had, the recorder's log, deltas, snapshots and answers behind its own, and the
--- rest of the recorder's share. Of two tails it has its own, which is no later than the present one.
+-- rest of the recorder's share.
 abbrev pub joined : Actor → Actor → Actor
 joined a b = record a {
   share = a.share + b.share;
@@ -122,6 +122,7 @@ joined a b = record a {
   filled = a.filled || b.filled;
   seen_free = max a.seen_free b.seen_free;
   seen_chain = longer a.seen_chain b.seen_chain;
+  seen_tails = a.seen_tails ++ b.seen_tails;
   seen_singles = a.seen_singles ++ b.seen_singles;
   seen_counts = a.seen_counts ++ b.seen_counts;
   seen_words = a.seen_words ++ b.seen_words;

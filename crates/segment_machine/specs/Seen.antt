@@ -105,6 +105,10 @@ abbrev pub IsNoLater : List ℕ → ℕ → ℕ → Type 0
 IsNoLater chain seen present =
     (i j : ℕ) × (i ≤ j) × (j ≤ length chain) × (slice_index (stops chain) i ≡ seen) × (slice_index (stops chain) j ≡ present)
 
+-- so are some places
+abbrev pub AreNoLater : List ℕ → List ℕ → ℕ → Type 0
+AreNoLater chain seen present = All (λ place. IsNoLater chain place present) seen
+
 -- what an actor knows of a histogram
 pub record Knows (anatomy : Anatomy) (known : Known) : Type 0 where
   pub first_spec : Spec
@@ -115,7 +119,7 @@ pub record Knows (anatomy : Anatomy) (known : Known) : Type 0 where
 pub record Sees (anatomy : Anatomy) (cursors : List ℕ) (a : Actor) : Type 0 where
   pub free : Behind a.seen_free (free_of anatomy)
   pub walked : IsPrefix a.seen_chain (order_of anatomy)
-  pub tail : IsNoLater (order_of anatomy) a.seen_tail anatomy.tail
+  pub tails : AreNoLater (order_of anatomy) a.seen_tails anatomy.tail
   pub singles : All (WasSingle anatomy.version anatomy.pieces) a.seen_singles
   pub counters : All (WasCounter anatomy.pieces) a.seen_counts
   pub in_use : All (WasInUse anatomy.pieces) a.seen_counts

@@ -157,8 +157,8 @@ pub struct Actor {
     pub seen_free: u64,
     /// The chain, so far as it has walked along it.
     pub seen_chain: LinkedList<u64>,
-    /// The tail that it saw last.
-    pub seen_tail: u64,
+    /// The tails that it saw.
+    pub seen_tails: LinkedList<u64>,
     /// The single words that it saw, by where they stand.
     pub seen_singles: LinkedList<Sighting>,
     /// The counts, marks and redundant counts that it saw.

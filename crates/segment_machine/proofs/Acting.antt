@@ -131,7 +131,7 @@ pub record Acts (shape : Dimensions) (opened : Anatomy) (state : State) (old new
 
 -- such a doing: it sees nothing of the list, and publishes nothing
 abbrev pub unlisted : Actor → Doing → Doing
-unlisted a d = sees_no_more a (record d { published = a.published })
+unlisted a d = sees_no_more a (record d { published = a.published; owed = a.owed })
 
 module _ (shape : Dimensions) (opened : Anatomy) (state : State) (kept : Kept shape opened state) (id : ℕ) (a : Actor)
     (mine : get_elem? state.actors id ≡ some a) (records : a.opener ≡ 0) where
@@ -154,6 +154,7 @@ module _ (shape : Dimensions) (opened : Anatomy) (state : State) (kept : Kept sh
           blocks = acts.blocks;
           linked = acts.linked;
           published = refl;
+          owed = refl;
           claims = acts.claims;
           free = acts.free;
           tail = kept.list.tail;

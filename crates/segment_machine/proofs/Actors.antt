@@ -6,6 +6,7 @@ use mathlib.Core.Option.{some}
 use lib.ListN.{get_elem?}
 use Rattle.atomic_table.proofs.Lists.{set_else}
 use Rattle.segment_image.specs.Shape.{Dimensions}
+use Rattle.segment_machine.specs.declared.actor.Known.{Known}
 use Rattle.segment_machine.specs.declared.actor.Actor.{Actor}
 use Rattle.segment_machine.specs.declared.actor.Claim.{Claim}
 use Rattle.segment_machine.specs.declared.actor.Moment.{Moment}
@@ -34,6 +35,7 @@ pub record Doing : Type 0 where
   pub own : List Own
   pub claimed : List Claim
   pub published : List Published
+  pub owed : List Known
   pub spoiled : Bool
   pub filled : Bool
   pub seen_free : ℕ
@@ -48,6 +50,7 @@ doing a d = record a {
   own = d.own;
   claimed = d.claimed;
   published = d.published;
+  owed = d.owed;
   spoiled = d.spoiled;
   filled = d.filled;
   seen_free = d.seen_free;
@@ -63,6 +66,7 @@ doing_of a = record {
   own = a.own;
   claimed = a.claimed;
   published = a.published;
+  owed = a.owed;
   spoiled = a.spoiled;
   filled = a.filled;
   seen_free = a.seen_free;

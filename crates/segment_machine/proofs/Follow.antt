@@ -16,7 +16,7 @@ use Rattle.segment_machine.specs.declared.actor.Actor.{Actor}
 use Rattle.segment_machine.specs.declared.place.Place.TheVariants.{Idle}
 use Rattle.segment_machine.specs.Event.{Event, load_flags, load_free, exchange_free, store_size, store_cookie, store_type, store_payload, set_flag, store_own_next, load_tail, link, move_tail, load_next, load_published, load_counts, add_count, add_sum, add_redundant, load_count, raise_mark, load_sum, swap_sum_mark, load_redundant, load_single, pack, mount_counts, purge_block, disable, add_moved, raise_single_mark, load_cursor, move_cursor, spot, change, after}
 use Rattle.segment_machine.specs.Next.{next, after_free, after_link, after_pack, after_mount, after_disable, after_cursor}
-use Rattle.segment_machine.specs.Note.{Note, Notes, noted, begins, amounts, asks, knows, takes, has_taken, looks, answers, ends, refused}
+use Rattle.segment_machine.specs.Note.{Note, Notes, noted, begins, amounts, asks, knows, takes, has_taken, looks, answers, ends, refused, declines}
 use Rattle.segment_machine.specs.State.{State, memory}
 use Rattle.segment_machine.specs.Body.{Anatomy, layout_of}
 use Rattle.segment_machine.specs.Kept.{Kept}
@@ -31,6 +31,7 @@ still_records a (begins name cost entries) = refl
 still_records a (amounts amount) = refl
 still_records a (asks at made) = refl
 still_records a (knows known) = refl
+still_records a (declines mine) = refl
 still_records a (takes name) = refl
 still_records a has_taken = refl
 still_records a looks = refl

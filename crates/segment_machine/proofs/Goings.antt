@@ -14,6 +14,7 @@ use Rattle.alloc_core.specs.Layout.{IsShown}
 use Rattle.alloc_core.specs.Laws.{Behind}
 use Rattle.list_core.specs.Chain.{IsLinked}
 use Rattle.list_core.specs.Laws.{IsStop}
+use Rattle.segment_machine.proofs.Owing.{answered_set}
 use Rattle.segment_machine.specs.declared.actor.Actor.{Actor}
 use Rattle.segment_machine.specs.declared.actor.Own.{Own}
 use Rattle.segment_machine.specs.declared.place.Place.TheVariants.{Spent}
@@ -42,6 +43,7 @@ pub record Goes (shape : Dimensions) (opened : Anatomy) (state : State) (old new
   pub blocks : (k : ℕ) (piece : Piece) → get_elem? new.pieces k ≡ some piece → ClaimedRight piece
   pub linked : IsLinked words (order_of old)
   pub published : d.published ≡ a.published
+  pub owed : d.owed ≡ a.owed
   pub claims : IsPermutation (claims_of new.pieces) (claims_of opened.pieces ++ flat_map (λ a. a.claimed) (set state.actors id (doing a d)))
   pub free : (seen : ℕ) → Behind seen (free_of old) → Behind seen (free_of new)
   pub tail : IsStop (order_of old) new.tail
@@ -148,6 +150,7 @@ module _ (shape : Dimensions) (opened : Anatomy) (state : State) (kept : Kept sh
       full = goes.full;
       roles = roles_set state.actors id a (doing a d) mine (same_role a d turns) not_opener kept.roles;
       first_noted = kept.first_noted;
+      answered = answered_set opened.records before.records state.actors id a (doing a d) mine refl goes.owed kept.answered;
       cursors = cursors_set (order_of before) state.cursors state.actors id a (doing a d) mine records refl kept.cursors;
       standing = stands_all;
       each = fits_all;

@@ -21,7 +21,7 @@ use Rattle.segment_machine.specs.Body.{Record, Counts, Sample, Body, queue, plai
 use Rattle.segment_machine.specs.Ledger.{form_at, of_name, at_bucket, keyed, key_of_bucket, units_held, marks_held, all_held}
 use Rattle.segment_machine.specs.Seen.{HasRecord, HasCounts, HasSample, IsNamed, IsFirst, IsFirstOf}
 use Rattle.segment_machine.specs.Kept.{Kept, CountsNothing}
-use Rattle.segment_machine.proofs.Lists.{at_from, split_at}
+use Rattle.segment_machine.proofs.Lists.{at_from, split_at, first_unique}
 use Rattle.segment_machine.proofs.Pieces.{one_piece, one_stands}
 use Rattle.segment_machine.proofs.Singled.{sum_one, sum_pair}
 use Rattle.segment_machine.proofs.ImpliedBlocks.{claimed_piece}
@@ -30,18 +30,6 @@ use Rattle.segment_machine.proofs.ImpliedKeys.{key_test, at_no_bucket, no_units,
 use Rattle.segment_machine.proofs.ImpliedSums.{of_mine, nothing_of, published_at, other_nothing}
 
 -- ---- lists
-
--- the first element of which something is told is one
-first_unique : {X : Type 0} (P : X → Type 0) (xs ys : List X) (x y : X) (rest more : List X) → xs ++ x ∷ rest ≡ ys ++ y ∷ more
-    → All (λ z. ¬ (P z)) xs → All (λ z. ¬ (P z)) ys → P x → P y → x ≡ y
-first_unique P [] [] x y rest more e none_before others here there = cc e
-first_unique P [] (z ∷ ys) x y rest more e none_before others here there =
-    let same : x ≡ z = cc e in absurd (All-head (λ z. ¬ (P z)) z ys others (subst P same here))
-first_unique P (z ∷ xs) [] x y rest more e none_before others here there =
-    let same : z ≡ y = cc e in absurd (All-head (λ z. ¬ (P z)) z xs none_before (subst P (sym same) there))
-first_unique P (z ∷ xs) (w ∷ ys) x y rest more e none_before others here there =
-    let behind : xs ++ x ∷ rest ≡ ys ++ y ∷ more = cc e in
-    first_unique P xs ys x y rest more behind (All-tail (λ z. ¬ (P z)) z xs none_before) (All-tail (λ z. ¬ (P z)) w ys others) here there
 
 -- the numbers of a range
 range_at : (a n j y : ℕ) → get_elem? (range_with_len a n) j ≡ some y → (y ≡ a + j) × (j < n)

@@ -125,8 +125,8 @@ module _ (shape : Dimensions) (version id : ℕ) (state : State) (kept : Kept sh
       let mine : name_of state.words at ≡ r.name = (is_named shape version id state kept at r has).1 in
       let nothing = kept.records.later at place r first_kind has (subst (λ (name : List ℕ). IsFirst kept.anatomy.records name first_kind place) mine first) apart in
       λ i from below. six (λ i. field_at state.words at i ≡ 0) (word at r has 8 (omega arith) ∙ nothing.0) (word at r has 9 (omega arith) ∙ nothing.1)
-          (word at r has 10 (omega arith) ∙ nothing.2) (word at r has 11 (omega arith) ∙ nothing.3) (word at r has 12 (omega arith) ∙ nothing.4)
-          (word at r has 13 (omega arith) ∙ nothing.5) i from below
+      (word at r has 10 (omega arith) ∙ nothing.2) (word at r has 11 (omega arith) ∙ nothing.3) (word at r has 12 (omega arith) ∙ nothing.4)
+      (word at r has 13 (omega arith) ∙ nothing.5) i from below
     where
       word : (at : ℕ) (r : Record) → HasRecord kept.anatomy.pieces at r → (j : ℕ) → j < 15 → field_at state.words at j ≡ slice_index (record_words r) j
       word at r has j below = record_word shape state.words kept.anatomy kept.shown at r j has below

@@ -57,6 +57,7 @@ pub mod Noting
 pub mod NotingFits
 pub mod Opening
 pub mod Openings
+pub mod Owing
 pub mod Pairs
 pub mod Pieces
 pub mod SeatsBooks

@@ -3,7 +3,7 @@
 use Rattle.std.proofs.Common.{◌≡◌, ◌≢◌, ℕ, suc, ◌+◌, ◌≤◌, ℤ, Bool, true, false, List, [], ◌∷◌, ◌++◌, map, length, set, All, Contains, IsPermutation, inl, inr, ⊎_elim, refl, sym, ap, ◌∙◌, subst, arith, append_assoc}
 use Rattle.std.specs.Prelude.{Some}
 use Rattle.std.proofs.lemmas.List.{map-append, take-append-le}
-use Rattle.std.proofs.lemmas.List.Elements.{All-weaker, All-push, Contains-append_left}
+use Rattle.std.proofs.lemmas.List.Elements.{All-weaker, All-push, Contains-append_left, Contains-append_right}
 use Rattle.std.proofs.lemmas.List.Sorted.{IsPermutation-refl, IsPermutation-sym, IsPermutation-trans, IsPermutation-append, IsPermutation-map}
 use mathlib.Core.Option.{some, none, some-injective, some-ne-none}
 use lib.ListN.{get_elem?}
@@ -17,6 +17,9 @@ use Rattle.list_core.specs.Chain.{IsLinked}
 use Rattle.list_core.specs.Laws.{IsStop, AreNeighbours}
 use Rattle.list_core.proofs.Chains.{one_place}
 use Rattle.list_core.proofs.EventKinds.{link_through}
+use Rattle.alloc_core.proofs.Owners.{set_at}
+use Rattle.segment_machine.proofs.Owing.{answered_more, owed_is}
+use Rattle.segment_machine.specs.declared.actor.Known.{Known}
 use Rattle.segment_machine.specs.declared.entry.Entry.{Entry}
 use Rattle.segment_machine.specs.declared.actor.Actor.{Actor}
 use Rattle.segment_machine.specs.declared.actor.Claim.{Claim}
@@ -27,13 +30,13 @@ use Rattle.segment_machine.specs.declared.actor.Own.{Own}
 use Rattle.segment_machine.specs.declared.actor.Published.{Published}
 use Rattle.segment_machine.specs.declared.actor.Taken.{Taken}
 use Rattle.segment_machine.specs.declared.place.Place.TheVariants.{Spent, TailLoaded, Linked}
-use Rattle.segment_machine.specs.Actor.{all_published, all_given}
+use Rattle.segment_machine.specs.Actor.{all_published, all_given, all_owed}
 use Rattle.segment_machine.specs.State.{State}
-use Rattle.segment_machine.specs.Next.{without, own_at, published_as}
+use Rattle.segment_machine.specs.Next.{without, own_at, published_as, owed_for}
 use Rattle.segment_machine.specs.Body.{Record, Counts, Sample, Body, queue, plain, held, histogram, counts, sample, other, words_of, is_claimed, Piece, extent_of, Listed, listed, Anatomy, layout_of, order_of, free_of, claims_of}
 use Rattle.segment_machine.specs.Seen.{Stands, Sees, IsNamed, IsNoLater}
-use Rattle.segment_machine.specs.Kept.{StandsAs, IsListed, ListIsKept, StandsRight, HoldsOwn, Fits, CursorsAreKept, IsSetBy, ClaimedRight, Kept}
-use Rattle.segment_machine.proofs.Lists.{rows, rows_more, column, at_from, below_length, index_at, all_at}
+use Rattle.segment_machine.specs.Kept.{StandsAs, IsListed, ListIsKept, StandsRight, HoldsOwn, Fits, CursorsAreKept, IsSetBy, ClaimedRight, Kept, AreAnswered}
+use Rattle.segment_machine.proofs.Lists.{rows, rows_more, column, at_from, below_length, index_at, all_at, row_in}
 use Rattle.segment_machine.proofs.Pieces.{piece_word, first_piece, some_first, one_index, one_piece, with_piece, piece_stored, free_with, queue_piece, queue_stored, claims_same}
 use Rattle.segment_machine.proofs.Stops.{stop_open}
 use Rattle.segment_machine.proofs.Actors.{Doing, doing, doing_of, TurnsTo, turns_plain, is_plain, SameDeeds, same_deeds, same_role, same_sums, fits_same}
@@ -272,6 +275,7 @@ module _ (shape : Dimensions) (opened : Anatomy) (state : State) (kept : Kept sh
   d = record (doing_of a) {
     place = Linked own.at tail;
     published = a.published ++ published_as (own_at a.own own.at) own.at;
+    owed = a.owed ++ owed_for (own_at a.own own.at) own.at;
     own = without own.at a.own;
   }
 
@@ -378,6 +382,21 @@ module _ (shape : Dimensions) (opened : Anatomy) (state : State) (kept : Kept sh
           tail = stop_grows anatomy new added grows anatomy.tail kept.list.tail;
         }
 
+    -- the record is the first of its name and its maker owes the answer, or the first one stays
+    answered_now : AreAnswered opened.records new.records actors'
+    answered_now name kind at (front, behind, is, others) = ⊎_elim
+        (λ t. answered_more opened.records anatomy.records state.actors id a (doing a d) mine refl
+        (λ known has. Contains-append_left a.owed (owed_for (own_at a.own own.at) own.at) known has) kept.answered name kind at (front, t.0, t.1, others))
+        (λ t.
+        let asked_for : given ≡ made.Histogram name kind = cc (ap (λ (z : Listed). z.made) t.0) in
+        let owes = owed_is (own_at a.own own.at) own name kind own.at (own_found a.own i own mine_fits.apart there) (asked ∙ ap (λ (g : Made). Some g) asked_for) in
+        let entry : Known = record { name = name; spec = kind; reference = own.at } in
+        inr (inr (subst (λ (n : ℕ). Contains (all_owed actors') (record { name = name; spec = kind; reference = n })) (ap (λ (z : Listed). z.reference) t.0)
+        (row_in (λ (b : Actor). b.owed) actors' id (doing a d) entry (set_at state.actors id a (doing a d) mine)
+        (Contains-append_right a.owed (owed_for (own_at a.own own.at) own.at) entry
+        (subst (λ (list : List Known). Contains list entry) (sym owes) (0, omega arith, refl)))))))
+        (snoc_split anatomy.records front behind l (record { reference = at; made = Some (made.Histogram name kind) }) is)
+
     others_stay : (who at : ℕ) (body : Body) → who ≢ id → Stands anatomy.pieces at (some who) body → Stands pieces at (some who) body
     others_stay who at body ne stands = publishes.others who at body ne
         (next_owned anatomy.pieces stored.index stored.piece stored.turned stored.there stored.free stored.still_free stored.place own.at
@@ -443,6 +462,7 @@ module _ (shape : Dimensions) (opened : Anatomy) (state : State) (kept : Kept sh
       shown = publishes.shown words' stored.shown;
       same = kept.same;
       first_noted = kept.first_noted;
+      answered = answered_now;
       versions = kept.versions;
       still = λ k p here.
           let (q, now, same_at) = kept.still k p here in

@@ -166,6 +166,7 @@ module _ (shape : Dimensions) (opened : Anatomy) (state : State) (kept : Kept sh
           blocks = blocks;
           linked = linked;
           published = refl;
+          owed = refl;
           claims = subst (λ (p : List Claim × List Claim). IsPermutation p.0 (claims_of opened.pieces ++ p.1))
               (λ i. (sym claims i, sym (rows (λ (b : Actor). b.claimed) state.actors id a (doing a d) mine refl) i)) kept.claims;
           free = λ seen behind_it. subst (Behind seen) (sym free) behind_it;

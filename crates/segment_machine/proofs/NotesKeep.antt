@@ -1,10 +1,10 @@
 -- Each note by which no delta and no snapshot is answered keeps what holds.
-use Rattle.segment_machine.specs.Note.{begins, amounts, asks, knows, takes, looks, ends, refused}
+use Rattle.segment_machine.specs.Note.{begins, amounts, asks, knows, takes, looks, ends, refused, declines}
 use Rattle.segment_machine.specs.Follows.{NotesKeep}
 use Rattle.segment_machine.proofs.Asking.{asks_kept}
 use Rattle.segment_machine.proofs.Notes.{looks_kept, begins_kept}
 use Rattle.segment_machine.proofs.NotesEnd.{ends_kept, refused_kept}
-use Rattle.segment_machine.proofs.NotesLearn.{knows_kept}
+use Rattle.segment_machine.proofs.NotesLearn.{knows_kept, declines_kept}
 use Rattle.segment_machine.proofs.NotesTake.{takes_kept}
 use Rattle.segment_machine.proofs.NotesAmount.{amounts_kept}
 
@@ -13,6 +13,7 @@ notes_keep (begins name cost entries) is = begins_kept name cost entries
 notes_keep (amounts amount) is = amounts_kept amount
 notes_keep (asks at made) is = asks_kept at made
 notes_keep (knows known) is = knows_kept known
+notes_keep (declines mine) is = declines_kept mine
 notes_keep (takes name) is = takes_kept name
 notes_keep looks is = looks_kept
 notes_keep ends is = ends_kept

@@ -1,5 +1,5 @@
 -- An actor may note that a `hist` was answered, where that is a histogram of the segment: what holds is kept.
-use Rattle.std.proofs.Common.{⊎_elim, ◌≡◌, ◌≢◌, ℕ, ◌==◌, ℤ, Bool, List, [], ◌∷◌, ◌++◌, map, length, set, Contains, refl, sym, ap, ◌∙◌, subst, eq-eqb, arith}
+use Rattle.std.proofs.Common.{⊎_elim, ◌≡◌, ◌≢◌, ℕ, ◌==◌, ℤ, Bool, not, List, [], ◌∷◌, ◌++◌, map, length, set, Contains, refl, sym, ap, ◌∙◌, subst, eq-eqb, arith}
 use Rattle.std.specs.Prelude.{if◌then◌else◌, Option, Some}
 use Rattle.std.proofs.lemmas.List.{map-append}
 use Rattle.std.proofs.lemmas.List.Elements.{All-push, Contains-append_left}
@@ -9,6 +9,9 @@ use mathlib.Core.Option.{some}
 use native.Mathlib.Decide.{ℕ_discrete}
 use lib.ListN.{get_elem?}
 use Rattle.segment_image.specs.Shape.{Dimensions}
+use Rattle.std.specs.Str.{bytes_eq}
+use Rattle.std.specs.List.{filter}
+use Rattle.segment_machine.proofs.Owing.{answered_knows}
 use Rattle.segment_machine.specs.declared.place.Place.{Place}
 use Rattle.segment_machine.specs.declared.place.Place.TheVariants.{Spent}
 use Rattle.segment_machine.specs.declared.actor.Actor.{Actor}
@@ -42,6 +45,7 @@ module _ (a : Actor) (known : Known) where
     since_singles = length a.seen_singles;
     since_counts = length a.seen_counts;
     names = a.names ++ known ∷ [];
+    owed = filter (λ (mine : Known). not (bytes_eq mine.name known.name)) a.owed;
   }
 
   -- so its units on their way are those of the key that they were of
@@ -66,6 +70,7 @@ module _ (a : Actor) (known : Known) where
       notes_on shape opened state kept id a mine records knower lived knows_counts (takes_nothing a knower)
       (λ name key. moves_still shape kept.anatomy id name key a.place (kept.standing id a mine))
       (λ k has. Contains-append_left a.names (known ∷ []) k has)
+      (answered_knows opened.records kept.anatomy.records state.actors id a (noting a knower) mine known refl refl)
       (λ fit. noting_fits shape kept.anatomy state.cursors _ kept.roles.opener id a knower fit
       (All-push (Knows kept.anatomy) a.names known fit.sees.names right)
       (calls_by kept.anatomy a knower fit.calls knows_counts fit.calls.ordered

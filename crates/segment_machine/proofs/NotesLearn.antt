@@ -1,6 +1,6 @@
 -- An actor may note what a `hist` was answered: the first record that it saw of a name is the histogram of that name, and what holds is
 -- kept.
-use Rattle.std.proofs.Common.{◌≡◌, ◌≢◌, ℕ, zero, suc, ◌+◌, ◌-◌, ◌<◌, List, [], ◌∷◌, ◌++◌, length, All, Contains, inl, inr, refl, sym, ap, ◌∙◌, subst, append_assoc, arith, get_or-drop, length-append}
+use Rattle.std.proofs.Common.{◌≡◌, ◌≢◌, ℕ, zero, suc, ◌+◌, ◌-◌, ◌<◌, List, [], ◌∷◌, ◌++◌, length, All, Contains, inl, inr, refl, sym, ap, ◌∙◌, subst, append_assoc, arith, get_or-drop, length-append, not, ◌&&◌, ◌==◌}
 use Rattle.std.specs.Prelude.{slice_index, Option, Some, None}
 use Rattle.std.proofs.lemmas.Grind.{same_number_lists}
 use Rattle.std.proofs.lemmas.List.{get_or_append_left, get_or-append-add}
@@ -15,6 +15,12 @@ use Rattle.bucket_ranges.specs.Spec.{spec_fields, spec_ranges, SameSpec}
 use Rattle.bucket_ranges.specs.Reading.{name_words}
 use Rattle.bucket_ranges.specs.declared.spec.Spec.{Spec}
 use Rattle.bucket_ranges.specs.declared.spec.Spec.TheVariants.{Linear, Boolean, Custom, Sparse}
+use Rattle.std.specs.Str.{bytes_eq}
+use Rattle.std.specs.List.{filter}
+use Rattle.segment_machine.proofs.Owing.{answered_declines}
+use Rattle.segment_machine.proofs.Notes.{takes_nothing}
+use Rattle.segment_machine.proofs.NotingFits.{noting_fits, looks_on, finals_on, calls_by}
+use Rattle.segment_machine.proofs.Noting.{Noting, noting, noting_of, SameCounts, notes_on}
 use Rattle.segment_machine.specs.declared.place.Place.TheVariants.{Spent}
 use Rattle.segment_machine.specs.declared.actor.Actor.{Actor}
 use Rattle.segment_machine.specs.declared.actor.Known.{Known}
@@ -25,10 +31,10 @@ use Rattle.segment_machine.specs.State.{State}
 use Rattle.segment_machine.specs.Seats.{spent}
 use Rattle.segment_machine.proofs.Lists.{all_of, split_map}
 use Rattle.segment_machine.proofs.SeatsLists.{contains_map}
-use Rattle.segment_machine.specs.Made.{AreNameWords, SawName, SawOtherName, SawSpec}
-use Rattle.segment_machine.specs.Note.{knows, MayNote}
+use Rattle.segment_machine.specs.Made.{AreNameWords, SawName, SawOtherName, SawSpec, IsFirstNamed}
+use Rattle.segment_machine.specs.Note.{knows, MayNote, declines}
 use Rattle.segment_machine.specs.Body.{Record, Listed, spec_field, record_words, histogram, sample, other, Anatomy, order_of}
-use Rattle.segment_machine.specs.Seen.{HasRecord, IsNamed, Knows}
+use Rattle.segment_machine.specs.Seen.{HasRecord, IsNamed, Knows, IsFirst}
 use Rattle.segment_machine.specs.Kept.{StandsAs, StandsRight, Kept}
 use Rattle.segment_machine.specs.Follows.{NoteKeeps}
 use Rattle.segment_machine.proofs.ListingReads.{letters_long, record_long, ranges_long, sighted}
@@ -141,20 +147,21 @@ module _ (shape : Dimensions) (opened : Anatomy) (state : State) (kept : Kept sh
       ne (ap (λ w. bytes_of_words (w ∷ [])) (sym found) ∙ word_bytes r.letters letters i many (omega (arith, many, below)) (bytes_same name r.letters letters lettered are))
 
   -- the first record that it saw of a name is the first of that name on the list
-  known_right : (known : Known) → MayNote a (knows known) → Knows kept.anatomy known
-  known_right known ((front, behind, chain_is, others, saw), (letters, are, spec_saw)) =
+  pub first_right : (name : List ℕ) (at : ℕ) → IsFirstNamed a name at
+      → (kind : Spec) × (r : Record) × HasRecord kept.anatomy.pieces at r × (r.name ≡ name) × (r.spec ≡ kind) × IsFirst kept.anatomy.records name kind at
+  first_right name at (front, behind, chain_is, others, saw) =
       let fits = kept.each id a mine lives in
       let (rest, whole) = fits.sees.walked in
-      let order : order_of kept.anatomy ≡ front ++ known.reference ∷ (behind ++ rest) =
-      whole ∙ (ap (λ (chain : List ℕ). chain ++ rest) chain_is ∙ append_assoc front (known.reference ∷ behind) rest) in
-      let (before, after, l, records_are, fronts, place) = split_map (λ (l : Listed). l.reference) kept.anatomy.records front (behind ++ rest) known.reference order in
-      by_given before l after l.made refl
+      let order : order_of kept.anatomy ≡ front ++ at ∷ (behind ++ rest) =
+      whole ∙ (ap (λ (chain : List ℕ). chain ++ rest) chain_is ∙ append_assoc front (at ∷ behind) rest) in
+      let (before, after, l, records_are, fronts, place) = split_map (λ (l : Listed). l.reference) kept.anatomy.records front (behind ++ rest) at order in
+      by_given name at before l after l.made refl
       (stands before l after records_are l (Contains-append_right before (l ∷ after) l (0, omega arith, refl)))
-      place saw letters are spec_saw records_are
-      (all_of (λ x. ¬ (IsNamed known.name x)) before (λ x has (kind, named).
+      place saw records_are
+      (all_of (λ x. ¬ (IsNamed name x)) before (λ x has (kind, named).
       let there : Contains front x.reference = subst (λ (list : List ℕ). Contains list x.reference) fronts (contains_map (λ (l : Listed). l.reference) before x has) in
       let (r, is, name_is, same) = subst (StandsAs kept.anatomy.pieces x) named (stands before l after records_are x (Contains-append_left before (l ∷ after) x has)) in
-      other_seen known.name x.reference r is name_is (All-contains (SawOtherName a known.name) front x.reference others there)))
+      other_seen name x.reference r is name_is (All-contains (SawOtherName a name) front x.reference others there)))
     where
       stands : (before : List Listed) (l : Listed) (after : List Listed) → kept.anatomy.records ≡ before ++ l ∷ after
           → (x : Listed) → Contains (before ++ l ∷ after) x → StandsAs kept.anatomy.pieces x x.made
@@ -162,38 +169,66 @@ module _ (shape : Dimensions) (opened : Anatomy) (state : State) (kept : Kept sh
           All-contains (λ (l : Listed). StandsAs kept.anatomy.pieces l l.made) kept.anatomy.records x kept.list.standing
           (subst (λ (list : List Listed). Contains list x) (sym records_are) has)
 
-      by_given : (before : List Listed) (l : Listed) (after : List Listed) (given : Option Made) → l.made ≡ given → StandsAs kept.anatomy.pieces l given
-          → l.reference ≡ known.reference → SawName a known.name known.reference
-          → (letters : List ℕ) → AreNameWords known.name letters → SawSpec a known.spec (length letters) known.reference
-          → kept.anatomy.records ≡ before ++ l ∷ after → All (λ x. ¬ (IsNamed known.name x)) before → Knows kept.anatomy known
-      by_given before l after (Some (made.Histogram name kind)) given_is (r, is, named, same) place saw letters are spec_saw records_are absent =
-          let has : HasRecord kept.anatomy.pieces known.reference r = subst (λ at. HasRecord kept.anatomy.pieces at r) place is in
-          let name_is = name_seen known.name known.reference r has saw in
-          let lawful = kept.records.lawful known.reference r has in
-          let many : length letters ≡ length r.letters =
-          sym (letters_long known.name letters are) ∙ (ap (λ (n : List ℕ). name_words (length n)) (sym name_is) ∙ letters_long r.name r.letters lawful.lettered) in
-          let listed : l ≡ record { reference = known.reference; made = Some (made.Histogram known.name kind) } =
+      by_given : (name : List ℕ) (at : ℕ) (before : List Listed) (l : Listed) (after : List Listed) (given : Option Made) → l.made ≡ given
+          → StandsAs kept.anatomy.pieces l given → l.reference ≡ at → SawName a name at → kept.anatomy.records ≡ before ++ l ∷ after
+          → All (λ x. ¬ (IsNamed name x)) before
+          → (kind : Spec) × (r : Record) × HasRecord kept.anatomy.pieces at r × (r.name ≡ name) × (r.spec ≡ kind) × IsFirst kept.anatomy.records name kind at
+      by_given name at before l after (Some (made.Histogram called kind)) given_is (r, is, named, same) place saw records_are absent =
+          let has : HasRecord kept.anatomy.pieces at r = subst (λ at. HasRecord kept.anatomy.pieces at r) place is in
+          let name_is = name_seen name at r has saw in
+          let listed : l ≡ record { reference = at; made = Some (made.Histogram name kind) } =
           (λ i. record { reference = place i; made = (given_is ∙ ap (λ (n : List ℕ). Some (made.Histogram n kind)) (sym named ∙ name_is)) i }) in
-          record {
-            first_spec = kind;
-            first = (before, after, records_are ∙ ap (λ (l : Listed). before ++ l ∷ after) listed, absent);
-            same = subst (λ (s : Spec). SameSpec s known.spec) same
-                (spec_seen known.spec known.reference r has (subst (λ n. SawSpec a known.spec n known.reference) many spec_saw));
-          }
-      by_given before l after (Some (made.Sample of value)) given_is (s, is, of_is, value_is) place saw letters are spec_saw records_are absent =
+          (kind, r, has, name_is, same, (before, after, records_are ∙ ap (λ (l : Listed). before ++ l ∷ after) listed, absent))
+      by_given name at before l after (Some (made.Sample of value)) given_is (s, is, of_is, value_is) place saw records_are absent =
           let three : 3 ≡ 1 = sighted shape opened state kept id a mine lives l.reference 2 1 (sample s) is (omega arith)
           (subst (λ at. word_seen a.seen_words (at + 2) ≡ Some 1) (sym place) saw.0) in
           absurd (omega (arith, three))
-      by_given before l after None given_is (size, tag, next, payload, is, first, third, long) place saw letters are spec_saw records_are absent =
+      by_given name at before l after None given_is (size, tag, next, payload, is, first, third, long) place saw records_are absent =
           absurd (first (sighted shape opened state kept id a mine lives l.reference 2 1 (other size tag next payload) is (omega arith)
           (subst (λ at. word_seen a.seen_words (at + 2) ≡ Some 1) (sym place) saw.0)))
 
+  -- so is a histogram that a `hist` is answered with
+  known_right : (known : Known) → MayNote a (knows known) → Knows kept.anatomy known
+  known_right known (named, (letters, are, spec_saw)) =
+      let (kind, r, has, name_is, same, first) = first_right known.name known.reference named in
+      let lawful = kept.records.lawful known.reference r has in
+      let many : length letters ≡ length r.letters =
+      sym (letters_long known.name letters are) ∙ (ap (λ (n : List ℕ). name_words (length n)) (sym name_is) ∙ letters_long r.name r.letters lawful.lettered) in
+      record {
+        first_spec = kind;
+        first = first;
+        same = subst (λ (s : Spec). SameSpec s known.spec) same
+            (spec_seen known.spec known.reference r has (subst (λ n. SawSpec a known.spec n known.reference) many spec_saw));
+      }
+
+-- who saw the chain is not spent
+saw_lives : (shape : Dimensions) (opened : Anatomy) (state : State) (id : ℕ) (a : Actor) (kept : Kept shape opened state)
+    → get_elem? state.actors id ≡ some a → (name : List ℕ) (at : ℕ) → IsFirstNamed a name at → a.place ≢ Spent
+saw_lives shape opened state id a kept mine name at named is_spent =
+    let nobody : a ≡ spent = subst (StandsRight shape kept.anatomy id a) is_spent (kept.standing id a mine) in
+    let none : named.0 ++ at ∷ named.1 ≡ [] = sym named.2 ∙ ap (λ (a : Actor). a.seen_chain) nobody in
+    let long = ap length none in
+    let sum = length-append named.0 (at ∷ named.1) in
+    omega (arith, long, sum)
+
 pub knows_kept : (known : Known) → NoteKeeps (knows known)
 knows_kept known shape opened state id a kept mine records may =
-    let lived : a.place ≢ Spent = λ is_spent.
-    let nobody : a ≡ spent = subst (StandsRight shape kept.anatomy id a) is_spent (kept.standing id a mine) in
-    let none : may.0.0 ++ known.reference ∷ may.0.1 ≡ [] = sym may.0.2 ∙ ap (λ (a : Actor). a.seen_chain) nobody in
-    let long = ap length none in
-    let sum = length-append may.0.0 (known.reference ∷ may.0.1) in
-    omega (arith, long, sum) in
+    let lived = saw_lives shape opened state id a kept mine known.name known.reference may.0 in
     knows_one_more a known shape opened state id kept mine records lived (known_right shape opened state kept id a mine lived known may)
+
+pub declines_kept : (owes : Known) → NoteKeeps (declines owes)
+declines_kept owes shape opened state id a kept mine records (there, (at, letters, named, apart, are, unlike)) =
+    let lived = saw_lives shape opened state id a kept mine owes.name at named in
+    let (kind, r, has, name_is, same, first) = first_right shape opened state kept id a mine lived owes.name at named in
+    let n : Noting = record (noting_of a) {
+      owed = filter (λ (debt : Known). not (bytes_eq debt.name owes.name && (debt.reference == owes.reference))) a.owed;
+    } in
+    let counts : SameCounts a (noting a n) =
+    record { counted = λ name key. refl; summed = λ name. refl; noted = λ name. refl; costs = λ name. omega arith; units = refl } in
+    notes_on shape opened state kept id a mine records n lived counts (takes_nothing a n) (λ name key. refl) (λ known has. has)
+    (answered_declines opened.records kept.anatomy.records state.actors id a (noting a n) mine owes kind at first apart refl refl)
+    (λ fit. noting_fits shape kept.anatomy state.cursors _ kept.roles.opener id a n fit fit.sees.names
+    (calls_by kept.anatomy a n fit.calls counts fit.calls.ordered fit.calls.within fit.calls.held fit.calls.ended fit.calls.spent fit.calls.taking)
+    (looks_on kept.anatomy _ kept.roles.opener a n (fit.looks records))
+    (finals_on _ kept.roles.opener id a n (omega arith) (λ name k within quiet. quiet) fit.finals)
+    fit.snapshots)

@@ -22,7 +22,7 @@ use Rattle.segment_machine.specs.Actor.{counted_of, summed_of, noted_of, units_o
 use Rattle.segment_machine.specs.State.{State}
 use Rattle.segment_machine.specs.Body.{Anatomy, order_of, claims_of}
 use Rattle.segment_machine.specs.Ledger.{moving_at}
-use Rattle.segment_machine.specs.Kept.{summed_cost, StandsRight, Fits, HasKey, Kept}
+use Rattle.segment_machine.specs.Kept.{summed_cost, StandsRight, Fits, HasKey, Kept, AreAnswered}
 use Rattle.segment_machine.proofs.Lists.{none_in, rows_total, rows, row_in, row_from, column, sum_same, sum_beside}
 use Rattle.segment_machine.proofs.Countings.{units_total, sum_total, noted_total}
 use Rattle.segment_machine.proofs.Totals.{HasUnits, tally_from, tally_at}
@@ -43,6 +43,7 @@ pub record Noting : Type 0 where
   pub log : List Counting
   pub running : List Counting
   pub names : List Known
+  pub owed : List Known
   pub taken : List Taken
   pub taking : Bool
   pub since_singles : ℕ
@@ -58,6 +59,7 @@ noting a n = record a {
   log = n.log;
   running = n.running;
   names = n.names;
+  owed = n.owed;
   taken = n.taken;
   taking = n.taking;
   since_singles = n.since_singles;
@@ -74,6 +76,7 @@ noting_of a = record {
   log = a.log;
   running = a.running;
   names = a.names;
+  owed = a.owed;
   taken = a.taken;
   taking = a.taking;
   since_singles = a.since_singles;
@@ -149,6 +152,7 @@ module _ (shape : Dimensions) (opened : Anatomy) (state : State) (kept : Kept sh
           (set_else state.actors id 0 later (λ same. not_first (sym same)) ∙ kept.roles.stands) refl (refl, refl) sums (stood_set state.actors id a later mine role)
 
       module _ (knows : (known : Known) → Contains a.names known → Contains n.names known)
+          (answers : AreAnswered opened.records kept.anatomy.records state.actors → AreAnswered opened.records kept.anatomy.records noters)
           (refits : Fits shape kept.anatomy state.cursors noters kept.roles.opener id a → Fits shape kept.anatomy state.cursors noters kept.roles.opener id later) where
         each : (k : ℕ) (c : Actor) → get_elem? noters k ≡ some c → c.place ≢ Spent → Fits shape kept.anatomy state.cursors noters kept.roles.opener k c
         each k c at live = elim (at_set state.actors id k later c at) [
@@ -213,6 +217,7 @@ module _ (shape : Dimensions) (opened : Anatomy) (state : State) (kept : Kept sh
           full = kept.full ∙ ap (λ set. opened.full || fold ◌||◌ false set) (sym (column (λ (a : Actor). a.filled) state.actors id a later mine refl));
           roles = roles_set state.actors id a later mine role not_first kept.roles;
           first_noted = kept.first_noted;
+          answered = answers kept.answered;
           cursors = cursors_set (order_of kept.anatomy) state.cursors state.actors id a later mine records refl kept.cursors;
           standing = standing;
           each = each;

@@ -94,7 +94,7 @@ module _ (shape : Dimensions) (version id cursors : ℕ) (lawful : IsShape shape
     stands = refl;
     opens = refl;
     idle = refl;
-    rests = (refl, refl, refl, refl);
+    rests = (refl, refl, refl, refl, refl);
     only = each_of_one opener (λ k a. k ≢ 0 → _) (λ apart. absurd (apart refl));
     living = refl;
     few = omega arith;
@@ -195,6 +195,7 @@ module _ (shape : Dimensions) (version id cursors : ℕ) (lawful : IsShape shape
     full = refl;
     roles = roles;
     first_noted = λ name. refl;
+    answered = λ name kind at first. absurd (not_empty first.0 first.1 _ (sym first.2));
     cursors = cursors_kept;
     standing = each_of_one opener (λ k a. StandsRight shape opened k a a.place) tt;
     each = each_of_one opener (λ k a. a.place ≢ Spent → Fits shape opened (replicate cursors 12) actors opener k a) (λ lives. fits);

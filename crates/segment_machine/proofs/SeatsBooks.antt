@@ -9,16 +9,17 @@ use Rattle.atomic_table.proofs.Lists.{at_set}
 use Rattle.segment_image.specs.Shape.{Dimensions}
 use Rattle.alloc_core.specs.Layout.{IsShown}
 use Rattle.list_core.specs.Chain.{stops}
+use Rattle.segment_machine.proofs.Owing.{answered_by}
 use Rattle.segment_machine.specs.declared.entry.Entry.{Entry}
 use Rattle.segment_machine.specs.declared.place.Place.TheVariants.{Spent}
 use Rattle.segment_machine.specs.declared.actor.Actor.{Actor}
 use Rattle.segment_machine.specs.declared.actor.Given.{Given}
 use Rattle.segment_machine.specs.declared.actor.Taken.{Taken}
-use Rattle.segment_machine.specs.Actor.{cost_of, given_by, all_counted, all_taken, all_given, all_published, units_of}
+use Rattle.segment_machine.specs.Actor.{cost_of, given_by, all_counted, all_taken, all_given, all_published, units_of, all_names, all_owed}
 use Rattle.segment_machine.specs.State.{State}
 use Rattle.segment_machine.specs.Body.{Piece, Anatomy, layout_of, order_of, claims_of, listed}
 use Rattle.segment_machine.specs.Ledger.{noted_held, all_held, IsBalanced}
-use Rattle.segment_machine.specs.Kept.{ClaimedRight, HasKey, ListIsKept, RecordsAreKept, SumsAreNear, IsSetBy, StandStill, RolesAreKept, CursorsAreKept, StandsRight, Fits, Kept}
+use Rattle.segment_machine.specs.Kept.{ClaimedRight, HasKey, ListIsKept, RecordsAreKept, SumsAreNear, IsSetBy, StandStill, RolesAreKept, CursorsAreKept, StandsRight, Fits, Kept, AreAnswered}
 use Rattle.segment_machine.proofs.Lists.{rows}
 use Rattle.segment_machine.proofs.SeatsDeeds.{Deeds, sums_of}
 use Rattle.segment_machine.proofs.SeatsFrames.{LoadedBefore, balanced, sums_near, taken_keys}
@@ -52,6 +53,7 @@ pub record Books (shape : Dimensions) (opened anatomy : Anatomy) (words cursors 
   pub pool : sum_by units_of actors ≡ 4294967295
   pub corrupt : IsSetBy anatomy.corrupt opened.corrupt (map (λ a. a.spoiled) actors)
   pub full : IsSetBy anatomy.full opened.full (map (λ a. a.filled) actors)
+  pub answered : AreAnswered opened.records anatomy.records actors
   pub stand : CursorsStand (order_of anatomy) cursors actors
 
 pub books_of : (shape : Dimensions) (opened : Anatomy) (state : State) (kept : Kept shape opened state)
@@ -72,6 +74,7 @@ books_of shape opened state kept = record {
   pool = kept.pool;
   corrupt = kept.corrupt;
   full = kept.full;
+  answered = kept.answered;
   stand = kept.cursors.stand;
 }
 
@@ -103,6 +106,7 @@ kept_by shape opened anatomy words cursors actors books roles first_noted ordere
   full = books.full;
   roles = roles;
   first_noted = first_noted;
+  answered = books.answered;
   cursors = record { stand = books.stand; ordered = ordered; given = given };
   standing = standing;
   each = each;
@@ -174,6 +178,9 @@ books_by shape opened anatomy words cursors old new same loaded books = record {
   pool = same.units ∙ books.pool;
   corrupt = books.corrupt ∙ ap (λ (b : Bool). opened.corrupt || b) (sym same.spoiled);
   full = books.full ∙ ap (λ (b : Bool). opened.full || b) (sym same.filled);
+  answered = answered_by opened.records anatomy.records old new
+      (λ known has. Contains-permutation (all_names old) (all_names new) known (IsPermutation-sym _ _ same.names) has)
+      (λ mine has. Contains-permutation (all_owed old) (all_owed new) mine (IsPermutation-sym _ _ same.owed) has) books.answered;
   stand = λ k below.
       let stood = books.stand k below in
       (stood.0, stood.1, stood.2, IsPermutation-trans _ _ _ (same.given k) stood.3);

@@ -13,7 +13,7 @@ use Rattle.segment_machine.specs.declared.entry.Entry.{Entry}
 use Rattle.segment_machine.specs.declared.actor.Actor.{Actor}
 use Rattle.segment_machine.specs.declared.actor.Taken.{Taken}
 use Rattle.segment_machine.specs.Entry.{is_of, tally_units, tally_sum, tally_noted}
-use Rattle.segment_machine.specs.Actor.{counted_of, summed_of, noted_of, given_by, units_listed, taken_units, taken_sum, units_of, all_counted, all_summed, all_noted, all_taken, all_published, all_given}
+use Rattle.segment_machine.specs.Actor.{counted_of, summed_of, noted_of, given_by, units_listed, taken_units, taken_sum, units_of, all_counted, all_summed, all_noted, all_taken, all_published, all_given, all_names, all_owed}
 use Rattle.segment_machine.specs.Ledger.{all_moving, moving_at}
 use Rattle.segment_machine.specs.Kept.{summed_cost, summed_costs}
 use Rattle.segment_machine.proofs.Lists.{split_at}
@@ -33,6 +33,8 @@ pub record Deeds (old new : List Actor) : Type 0 where
   pub noted : IsPermutation (all_noted new) (all_noted old)
   pub claimed : IsPermutation (flat_map (λ a. a.claimed) new) (flat_map (λ a. a.claimed) old)
   pub published : IsPermutation (all_published new) (all_published old)
+  pub names : IsPermutation (all_names new) (all_names old)
+  pub owed : IsPermutation (all_owed new) (all_owed old)
   pub given : (k : ℕ) → IsPermutation (all_given new k) (all_given old k)
   pub taken : IsPermutation (flat_map took new) (flat_map took old)
   pub taken_sums : (name : List ℕ) → taken_sum (all_taken new) name ≡ taken_sum (all_taken old) name
@@ -76,6 +78,8 @@ deeds_exchanged a b a' b' mid behind same = record {
   noted = exchanged _ _ all_noted lists (flat_map-append noted_of) a b a' b' mid behind same.noted;
   claimed = exchanged _ _ (flat_map (λ a. a.claimed)) lists (flat_map-append (λ a. a.claimed)) a b a' b' mid behind same.claimed;
   published = exchanged _ _ all_published lists (flat_map-append (λ a. a.published)) a b a' b' mid behind same.published;
+  names = exchanged _ _ all_names lists (flat_map-append (λ a. a.names)) a b a' b' mid behind same.names;
+  owed = exchanged _ _ all_owed lists (flat_map-append (λ a. a.owed)) a b a' b' mid behind same.owed;
   given = λ k. exchanged _ _ (λ actors. all_given actors k) lists (flat_map-append (λ a. given_by k a.given)) a b a' b' mid behind (same.given k);
   taken = exchanged _ _ (flat_map took) lists (flat_map-append took) a b a' b' mid behind same.taken;
   taken_sums = λ name. exchanged _ _ (taken_sum_of name) amounts (taken_sum_total name) a b a' b' mid behind (same.taken_sums name);
@@ -93,6 +97,8 @@ deeds_added a a' n rest same = record {
   noted = added _ _ all_noted lists (flat_map-append noted_of) a a' n rest same.noted;
   claimed = added _ _ (flat_map (λ a. a.claimed)) lists (flat_map-append (λ a. a.claimed)) a a' n rest same.claimed;
   published = added _ _ all_published lists (flat_map-append (λ a. a.published)) a a' n rest same.published;
+  names = added _ _ all_names lists (flat_map-append (λ a. a.names)) a a' n rest same.names;
+  owed = added _ _ all_owed lists (flat_map-append (λ a. a.owed)) a a' n rest same.owed;
   given = λ k. added _ _ (λ actors. all_given actors k) lists (flat_map-append (λ a. given_by k a.given)) a a' n rest (same.given k);
   taken = added _ _ (flat_map took) lists (flat_map-append took) a a' n rest same.taken;
   taken_sums = λ name. added _ _ (taken_sum_of name) amounts (taken_sum_total name) a a' n rest (same.taken_sums name);

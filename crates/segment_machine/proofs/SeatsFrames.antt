@@ -164,12 +164,15 @@ finals old new opener later id a same since alone exact = record {
       );
   snapshots = λ s there none youngest quiet.
       let began = exact.moments s.moment (inr (s, there, refl)) in
-      let was = exact.snapshots s there none (since.last s.moment.before began.before youngest) quiet in
-      (λ key. was.0 key ∙ sym (same.counted s.name key), was.1 ∙ sym (same.summed s.name), (
-      let first = ap (λ (list : List Cost). cost_of list s.name) since.first.1 in
-      let redundant = was.2 in
-      let noted = same.noted s.name in
-      omega (arith, first, redundant, noted)));
+      let was = exact.snapshots s there none (since.last s.moment.before began.before youngest) quiet in (
+        λ key. was.0 key ∙ sym (same.counted s.name key),
+        was.1 ∙ sym (same.summed s.name),
+        (
+            let first = ap (λ (list : List Cost). cost_of list s.name) since.first.1 in
+            let redundant = was.2 in
+            let noted = same.noted s.name in
+            omega (arith, first, redundant, noted)),
+      );
   moments = λ m of. moment old new opener later id a m since (exact.moments m of);
   swapped = λ before last taking is swapped only.
       same.taken_sums last.name ∙ exact.swapped before last taking is swapped (alone taking only) ∙ sym (same.summed last.name);

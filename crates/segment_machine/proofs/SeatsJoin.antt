@@ -68,6 +68,7 @@ module _ (shape : Dimensions) (opened : Anatomy) (old : State) (kept : Kept shap
     rests = may.6;
     holds = may.5;
     begins = (kept.roles.only other b there away).1;
+    owes = may.8;
   }
 
   deeds : Deeds old.actors merged

@@ -11,6 +11,7 @@ use Rattle.std.proofs.lemmas.List.Sorted.{IsPermutation-refl}
 use native.Mathlib.Decide.{dec_le}
 use Rattle.alloc_core.specs.Laws.{Behind}
 use Rattle.list_core.specs.Walk.{IsPrefix}
+use Rattle.segment_machine.specs.declared.actor.Known.{Known}
 use Rattle.segment_machine.specs.declared.entry.Entry.{Entry}
 use Rattle.segment_machine.specs.declared.entry.Counting.{Counting}
 use Rattle.segment_machine.specs.declared.place.Place.TheVariants.{Idle}
@@ -92,6 +93,7 @@ pub record Joins (a b : Actor) : Type 0 where
   pub rests : b.running ≡ []
   pub holds : b.held ≡ []
   pub begins : b.first ≡ []
+  pub owes : b.owed ≡ []
 
 module _ (a b : Actor) (may : Joins a b) where
   joined_counted : counted_of (joined a b) ≡ counted_of a ++ counted_of b
@@ -114,6 +116,8 @@ module _ (a b : Actor) (may : Joins a b) where
     noted = rows_permuted _ _ _ (entries_joined is_noted [] [] a.log b.log a.running b.running may.runs may.rests refl);
     claimed = rows_permuted _ _ _ refl;
     published = rows_permuted _ _ _ refl;
+    names = rows_permuted _ _ _ refl;
+    owed = rows_permuted _ _ _ (sym (ap (λ (more : List Known). a.owed ++ more) may.owes ∙ append-nil a.owed));
     given = λ k. rows_permuted _ _ _ (given_joined k a.given b.given);
     taken = rows_permuted _ _ _ (taken_joined (length (log_of a)) timeless (λ t. refl) a.taken b.taken);
     taken_sums = λ name.

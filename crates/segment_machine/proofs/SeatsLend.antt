@@ -9,7 +9,7 @@ use Rattle.atomic_table.proofs.Lists.{set_else, set_here}
 use Rattle.segment_image.specs.Shape.{Dimensions}
 use Rattle.segment_machine.specs.declared.place.Place.TheVariants.{Spent, SumLoaded}
 use Rattle.segment_machine.specs.declared.actor.Actor.{Actor}
-use Rattle.segment_machine.specs.Actor.{all_counted, all_noted, all_published, all_given}
+use Rattle.segment_machine.specs.Actor.{all_counted, all_noted, all_published, all_given, all_names, all_owed}
 use Rattle.segment_machine.specs.State.{State}
 use Rattle.segment_machine.specs.Seats.{MayLend, lender, borrower}
 use Rattle.segment_machine.specs.Keeps.{LendsKeep}
@@ -33,6 +33,8 @@ lent_deeds a b units enough = record {
   noted = IsPermutation-refl (all_noted (a ∷ b ∷ []));
   claimed = IsPermutation-refl (flat_map (λ (c : Actor). c.claimed) (a ∷ b ∷ []));
   published = IsPermutation-refl (all_published (a ∷ b ∷ []));
+  names = IsPermutation-refl (all_names (a ∷ b ∷ []));
+  owed = IsPermutation-refl (all_owed (a ∷ b ∷ []));
   given = λ k. IsPermutation-refl (all_given (a ∷ b ∷ []) k);
   taken = IsPermutation-refl (flat_map took (a ∷ b ∷ []));
   taken_sums = λ name. refl;

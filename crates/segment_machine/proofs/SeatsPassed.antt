@@ -173,6 +173,7 @@ module _ (from to : ℕ) (anatomy : Anatomy) where
     pool = books.pool;
     corrupt = books.corrupt;
     full = books.full;
+    answered = books.answered;
     stand = books.stand;
   }
 

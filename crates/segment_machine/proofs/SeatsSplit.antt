@@ -19,7 +19,7 @@ use Rattle.segment_machine.specs.declared.actor.Actor.{Actor}
 use Rattle.segment_machine.specs.declared.actor.Given.{Given}
 use Rattle.segment_machine.specs.declared.actor.Sighting.{Sighting}
 use Rattle.segment_machine.specs.Entry.{is_counted, is_summed, is_noted, has_ended, counted_among}
-use Rattle.segment_machine.specs.Actor.{log_of, counted_of, all_counted, all_noted, all_published, all_given}
+use Rattle.segment_machine.specs.Actor.{log_of, counted_of, all_counted, all_noted, all_published, all_given, all_names, all_owed}
 use Rattle.segment_machine.specs.Consistent.{IsWithinCounts}
 use Rattle.segment_machine.specs.State.{State}
 use Rattle.segment_machine.specs.Seats.{MaySplit, parent, newcomer}
@@ -45,6 +45,8 @@ split_deeds a units enough = record {
   noted = IsPermutation-refl (all_noted (a ∷ []));
   claimed = IsPermutation-refl (flat_map (λ (c : Actor). c.claimed) (a ∷ []));
   published = IsPermutation-refl (all_published (a ∷ []));
+  names = IsPermutation-refl (all_names (a ∷ []));
+  owed = IsPermutation-refl (all_owed (a ∷ []));
   given = λ k. IsPermutation-refl (all_given (a ∷ []) k);
   taken = IsPermutation-refl (flat_map took (a ∷ []));
   taken_sums = λ name. refl;

@@ -169,6 +169,12 @@ all_taken actors = flat_map (λ a. a.taken) actors
 abbrev pub all_published : List Actor → List Published
 all_published actors = flat_map (λ a. a.published) actors
 
+abbrev pub all_names : List Actor → List Known
+all_names actors = flat_map (λ a. a.names) actors
+
+abbrev pub all_owed : List Actor → List Known
+all_owed actors = flat_map (λ a. a.owed) actors
+
 -- the records that a cursor gave
 abbrev pub given_by : ℕ → List Given → List ℕ
 given_by cursor list = map (λ g. g.reference) (filter (λ g. g.cursor == cursor) list)

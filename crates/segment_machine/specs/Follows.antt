@@ -10,7 +10,7 @@ use Rattle.segment_machine.specs.declared.actor.Actor.{Actor}
 use Rattle.segment_machine.specs.Event.{Event, spot, change}
 use Rattle.segment_machine.specs.Next.{next}
 use Rattle.segment_machine.specs.Ready.{Ready}
-use Rattle.segment_machine.specs.Note.{Note, begins, amounts, asks, knows, takes, looks, ends, refused, MayNote, noted}
+use Rattle.segment_machine.specs.Note.{Note, begins, amounts, asks, knows, takes, looks, ends, refused, MayNote, noted, declines}
 use Rattle.segment_machine.specs.State.{State, memory, IsStep}
 use Rattle.segment_machine.specs.Body.{Anatomy}
 use Rattle.segment_machine.specs.Learned.{Learned}
@@ -26,12 +26,13 @@ NoteKeeps note = (shape : Dimensions) (opened : Anatomy) (state : State) (id : �
     → Kept shape opened (record state { actors = slice_set state.actors id (noted a note) })
 
 -- the notes by which no delta and no snapshot is answered: calls that count begin and end, deltas and snapshots begin, blocks get what
--- they are to hold, and a `hist` is answered
+-- they are to hold, and a `hist` is answered, or refused once its record is linked
 abbrev pub IsPlainNote : Note → Type 0
 IsPlainNote (begins name cost entries) = ⊤
 IsPlainNote (amounts amount) = ⊤
 IsPlainNote (asks at made) = ⊤
 IsPlainNote (knows known) = ⊤
+IsPlainNote (declines mine) = ⊤
 IsPlainNote (takes name) = ⊤
 IsPlainNote looks = ⊤
 IsPlainNote ends = ⊤

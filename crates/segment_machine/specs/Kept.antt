@@ -32,7 +32,7 @@ use Rattle.segment_machine.specs.declared.actor.Sighting.{Sighting}
 use Rattle.segment_machine.specs.declared.actor.Taken.{Taken}
 use Rattle.segment_machine.specs.Entry.{is_counted, is_summed, has_ended, AreWithin, is_of, tally_units, tally_sum, tally_noted}
 use Rattle.segment_machine.specs.Form.{is_off, form_of, units_in}
-use Rattle.segment_machine.specs.Actor.{Buckets, Sparse, log_of, counted_of, bucket_key, units_listed, taken_sum, all_counted, all_summed, all_noted, all_taken, all_published, all_given, cost_of, units_of, SawSingle, SawCount}
+use Rattle.segment_machine.specs.Actor.{Buckets, Sparse, log_of, counted_of, bucket_key, units_listed, taken_sum, all_counted, all_summed, all_noted, all_taken, all_published, all_given, cost_of, units_of, SawSingle, SawCount, all_names, all_owed}
 use Rattle.segment_machine.specs.Made.{AreNameWords, SawSample}
 use Rattle.segment_machine.specs.Note.{is_untouched, SawBucket}
 use Rattle.segment_machine.specs.Promises.{accepted_by, accepted_since}
@@ -265,7 +265,7 @@ pub record RolesAreKept (actors : List Actor) : Type 0 where
   pub stands : get_elem? actors 0 ≡ some opener
   pub opens : opener.opener ≡ 1
   pub idle : opener.place ≡ Idle
-  pub rests : (opener.running ≡ []) × (opener.held ≡ []) × (opener.taking ≡ false) × (opener.inherited ≡ [])
+  pub rests : (opener.running ≡ []) × (opener.held ≡ []) × (opener.taking ≡ false) × (opener.inherited ≡ []) × (opener.owed ≡ [])
   pub only : (id : ℕ) (a : Actor) → get_elem? actors id ≡ some a → id ≢ 0 → (a.opener ≡ 0) × (a.first ≡ []) × (a.first_noted ≡ [])
   pub living : sum_by (λ a. if is_living a then 1 else 0) actors ≡ opener.outstanding
   pub few : opener.outstanding ≤ 256
@@ -280,6 +280,18 @@ pub record RolesAreKept (actors : List Actor) : Type 0 where
 -- a recorder that is alone: none was outstanding when it was made, and none was made after it
 abbrev pub IsAlone : List Actor → Actor → Type 0
 IsAlone actors a = (opener : Actor) × (get_elem? actors 0 ≡ some opener) × (a.outstanding ≡ 0) × (a.made + 1 ≡ opener.made)
+
+-- ---- names
+
+-- the first record of a name was there at the opening, or a `hist` was answered with it, or its maker owes the answer
+abbrev pub IsAnswered : List Listed → List Actor → List ℕ → Spec → ℕ → Type 0
+IsAnswered opened actors name kind at =
+    IsFirst opened name kind at
+    ⊎ ((known : Known) × Contains (all_names actors) known × (known.name ≡ name))
+    ⊎ Contains (all_owed actors) (record { name = name; spec = kind; reference = at })
+
+abbrev pub AreAnswered : (opened records : List Listed) → List Actor → Type 0
+AreAnswered opened records actors = (name : List ℕ) (kind : Spec) (at : ℕ) → IsFirst records name kind at → IsAnswered opened actors name kind at
 
 -- ---- deltas and snapshots
 
@@ -414,6 +426,7 @@ pub record Kept (shape : Dimensions) (opened : Anatomy) (state : State) : Type 0
   pub full : IsSetBy anatomy.full opened.full (map (λ a. a.filled) state.actors)
   pub roles : RolesAreKept state.actors
   pub first_noted : (name : List ℕ) → cost_of roles.opener.first_noted name ≡ all_held (noted_held name) opened.pieces
+  pub answered : AreAnswered opened.records anatomy.records state.actors
   pub cursors : CursorsAreKept (order_of anatomy) state.cursors state.actors
   pub standing : (id : ℕ) (a : Actor) → get_elem? state.actors id ≡ some a → StandsRight shape anatomy id a a.place
   pub each : (id : ℕ) (a : Actor) → get_elem? state.actors id ≡ some a → a.place ≢ Spent

@@ -50,6 +50,13 @@ SawSpec a spec letters at =
     × ((i : ℕ) → i < length (spec_ranges spec)
     → word_seen a.seen_words (at + 15 + letters + i) ≡ Some (slice_index (spec_ranges spec) i))
 
+-- it saw that the spec of a record whose name has so many words is another one: a field differs, or a range does
+abbrev pub SawOtherSpec : Actor → Spec → ℕ → ℕ → Type 0
+SawOtherSpec a spec letters at =
+    ((i word : ℕ) × (i < 4) × (word_seen a.seen_words (at + 4 + i) ≡ Some word) × (word ≢ slice_index (spec_fields spec) i))
+    ⊎ ((i word : ℕ) × (i < length (spec_ranges spec)) × (word_seen a.seen_words (at + 15 + letters + i) ≡ Some word)
+    × (word ≢ slice_index (spec_ranges spec) i))
+
 -- the first record of a name on the chain, as far as the actor walked along it
 abbrev pub IsFirstNamed : Actor → List ℕ → ℕ → Type 0
 IsFirstNamed a name at =

@@ -5,6 +5,8 @@ use Rattle.std.specs.List.{filter}
 use Rattle.bucket_ranges.specs.Single.{packed_bucket}
 use Rattle.bucket_ranges.specs.declared.single.SingleWord.{SingleWord}
 use Rattle.list_core.specs.Chain.{stops}
+use Rattle.segment_machine.specs.declared.actor.Known.{Known}
+use Rattle.segment_machine.specs.declared.actor.Made.TheVariants.{Histogram, Sample}
 use Rattle.segment_machine.specs.declared.entry.Counting.{Counting}
 use Rattle.segment_machine.specs.declared.place.Look.{Look}
 use Rattle.segment_machine.specs.declared.place.Place.{Place}
@@ -87,6 +89,16 @@ published_as (Some own) at = published_made own.made at
     published_made : Option Made → ℕ → List Published
     published_made None at = []
     published_made (Some made) at = record { reference = at; made = made } ∷ []
+
+-- what a `hist` owes once it has linked its record: an answer
+abbrev pub owed_for : Option Own → ℕ → List Known
+owed_for None at = []
+owed_for (Some own) at = owed_made own.made at
+  where
+    owed_made : Option Made → ℕ → List Known
+    owed_made (Some (Histogram name spec)) at = record { name = name; spec = spec; reference = at } ∷ []
+    owed_made (Some (Sample histogram value)) at = []
+    owed_made None at = []
 
 -- ---- what it has seen
 
@@ -185,6 +197,7 @@ abbrev pub after_link : Bool → Actor → ℕ → ℕ → ℕ → Actor
 after_link true a tail at found = record a {
   place = Linked at tail;
   published = a.published ++ published_as (own_at a.own at) at;
+  owed = a.owed ++ owed_for (own_at a.own at) at;
   own = without at a.own;
 }
 after_link false a tail at found = record a { place = Beaten tail found }

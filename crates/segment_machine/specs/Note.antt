@@ -1,9 +1,10 @@
 -- What an actor notes in its own record, beside an event. A note changes no word; it comes at one of its actor's events, before
 -- or behind what that event makes of it. So a step still changes one word and one actor at most.
-use Rattle.std.specs.Prelude.{◌≡◌, ◌≢◌, Bool, true, false, not, ◌&&◌, ℕ, ◌+◌, ◌-◌, ◌*◌, ◌<◌, ◌≤◌, ℤ, pos, unsigned_abs, ◌⊎◌, List, [], ◌∷◌, ◌++◌, map, take, drop, length, Some, None}
+use Rattle.std.specs.Prelude.{◌≡◌, ◌≢◌, Bool, true, false, not, ◌&&◌, ◌==◌, ℕ, ◌+◌, ◌-◌, ◌*◌, ◌<◌, ◌≤◌, ℤ, pos, unsigned_abs, ◌⊎◌, List, [], ◌∷◌, ◌++◌, map, take, drop, length, Some, None}
 use mathlib.Core.Option.{some}
 use lib.ListN.{get_elem?}
-use Rattle.std.specs.List.{range_with_len, Contains, All}
+use Rattle.std.specs.List.{range_with_len, Contains, All, filter}
+use Rattle.std.specs.Str.{bytes_eq}
 use Rattle.segment_machine.specs.declared.entry.Entry.{Entry}
 use Rattle.segment_machine.specs.declared.entry.Counting.{Counting}
 use Rattle.segment_machine.specs.declared.place.Place.TheVariants.{Spent, SumLoaded}
@@ -22,7 +23,7 @@ use Rattle.bucket_ranges.specs.declared.spec.Spec.TheVariants as spec
 use Rattle.bucket_ranges.specs.Single.{units_packed, packed_bucket}
 use Rattle.segment_machine.specs.Form.{is_off, form_of}
 use Rattle.segment_machine.specs.Actor.{log_of, is_bound, looking, cost_total, bucket_key, has_buckets, word_seen, SawSingle, SawCount}
-use Rattle.segment_machine.specs.Made.{IsFirstNamed, IsFirstSample, SawSample, SawSpec, AreNameWords}
+use Rattle.segment_machine.specs.Made.{IsFirstNamed, IsFirstSample, SawSample, SawSpec, AreNameWords, SawOtherSpec}
 use Rattle.segment_machine.specs.Next.{change_last, change_own}
 
 pub data Note : Type 0 where
@@ -34,6 +35,8 @@ pub data Note : Type 0 where
   asks : (at : ℕ) (made : Made) → Note
   -- a `hist` is answered Ok with this. What the actor saw before may be of this histogram, so it looks anew
   knows : (known : Known) → Note
+  -- a `hist` that has linked its record is refused: an earlier record of the name has another spec
+  declines : (mine : Known) → Note
   -- a delta of a histogram begins, and ends
   takes : (name : List ℕ) → Note
   has_taken : Note
@@ -77,7 +80,13 @@ noted a (amounts amount) = record a {
   running = change_last (λ c. let entry = c.entry in record c { entry = record entry { amount = amount } }) a.running;
 }
 noted a (asks at made) = record a { own = change_own at (λ own. record own { made = Some made }) a.own }
-noted a (knows known) = record (looking a) { names = a.names ++ known ∷ [] }
+noted a (knows known) = record (looking a) {
+  names = a.names ++ known ∷ [];
+  owed = filter (λ (mine : Known). not (bytes_eq mine.name known.name)) a.owed;
+}
+noted a (declines mine) = record a {
+  owed = filter (λ (other : Known). not (bytes_eq other.name mine.name && (other.reference == mine.reference))) a.owed;
+}
 noted a (takes name) = record (looking a) { taking = true; taken = a.taken ++ nothing_taken a name ∷ [] }
 noted a has_taken = record a { taking = false }
 noted a looks = looking a
@@ -154,6 +163,10 @@ MayNote a (asks at made) = (own : Own) × Contains a.own own × (own.at ≡ at) 
 MayNote a (knows known) =
     IsFirstNamed a known.name known.reference
     × ((letters : List ℕ) × AreNameWords known.name letters × SawSpec a known.spec (length letters) known.reference)
+MayNote a (declines mine) =
+    Contains a.owed mine
+    × ((at : ℕ) × (letters : List ℕ) × IsFirstNamed a mine.name at × (at ≢ mine.reference) × AreNameWords mine.name letters
+    × SawOtherSpec a mine.spec (length letters) at)
 MayNote a (takes name) =
     (a.place ≢ Spent) × (a.opener ≡ 0) × (a.running ≡ []) × (a.taking ≡ false) × Contains (map (λ known. known.name) a.names) name
 MayNote a has_taken = (a.taking ≡ true) × ((known : Known) × Contains a.names known × TookAll a known)

@@ -37,6 +37,7 @@ idle shape version cursors free share = record {
   seen_words = [];
   seen_cursors = [];
   names = [];
+  owed = [];
   taken = [];
   taking = false;
   since_singles = 0;
@@ -92,7 +93,7 @@ borrower b units = record b { share = b.share + units }
 
 abbrev pub MayJoin : Actor → Actor → Type 0
 MayJoin a b = (a.place ≡ Idle) × (a.opener ≡ 1) × (1 ≤ a.outstanding) × (is_bound b.place ≡ false)
-    × (b.opener ≡ 0) × (b.held ≡ []) × (b.running ≡ []) × (b.taking ≡ false)
+    × (b.opener ≡ 0) × (b.held ≡ []) × (b.running ≡ []) × (b.taking ≡ false) × (b.owed ≡ [])
 
 -- a moment of a recorder whose log comes behind another
 abbrev pub shifted : ℕ → Moment → Moment

@@ -173,6 +173,8 @@ pub struct Actor {
 
     /// The histograms that its `hist` was answered Ok with.
     pub names: LinkedList<Known>,
+    /// The histograms whose records it linked and whose `hist` is not answered yet.
+    pub owed: LinkedList<Known>,
     /// What its deltas took, in order.
     pub taken: LinkedList<Taken>,
     /// Whether the last of these is still going on.

@@ -31,10 +31,13 @@ counted = record { entry = one 0; counted = true; summed = false; noted = false 
 
 -- its entry is next all along
 counts_next : CountsIn mounts known
-counts_next = (refl, λ c (rest, is). (
+counts_next = (
+  refl,
+  λ c (rest, is). (
     ap is_counted (first is),
     ap (λ (c : Counting). c.entry.name) (first is),
-  ))
+  ),
+)
   where
     first : {c : Counting} {rest : List Counting} → fresh (one 0) ∷ [] ≡ c ∷ rest → c ≡ fresh (one 0)
     first is = cc is

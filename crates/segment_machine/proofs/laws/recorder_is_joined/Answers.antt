@@ -73,7 +73,7 @@ looks = record {
 }
 
 joins : IsJoin looked 0 1 lives.joined_state
-joins = (opener, lives.looked, apart 0 refl, refl, refl, (refl, refl, omega arith, refl, refl, refl, refl, refl), refl)
+joins = (opener, lives.looked, apart 0 refl, refl, refl, (refl, refl, omega arith, refl, refl, refl, refl, refl, refl), refl)
 
 reached : IsReached 1 lives.opened lives.joined_state
 reached =

@@ -8,6 +8,7 @@ use mathlib.Core.Option.{Option, none}
 use Rattle.bucket_ranges.specs.Spec.{spec_fields, spec_ranges}
 use Rattle.bucket_ranges.specs.declared.spec.Spec.{Spec}
 use Rattle.alloc_core.specs.Layout as layout
+use Rattle.segment_image.specs.declared.layout.TheConstants.{BLOCK_HEADER, CLAIMED_COOKIE, HEADER_WORDS, QUEUE, QUEUE_COOKIE, QUEUE_SIZE, TYPE_COUNTS, TYPE_HISTOGRAM, TYPE_PURGED, TYPE_SAMPLE}
 use Rattle.segment_machine.specs.declared.actor.Claim.{Claim}
 use Rattle.segment_machine.specs.declared.actor.Made.{Made}
 use Rattle.segment_machine.specs.declared.actor.Own.{Own}
@@ -70,7 +71,7 @@ pub data Body : Type 0 where
 
 abbrev pub own_words : Own → List ℕ
 own_words own =
-    own.size ∷ 0xC8799269 ∷ own.tag ∷ own.next ∷ (own.payload ++ replicate (own.size - 4 - length own.payload) 0)
+    own.size ∷ CLAIMED_COOKIE ∷ own.tag ∷ own.next ∷ (own.payload ++ replicate (own.size - BLOCK_HEADER - length own.payload) 0)
 
 -- a number of a spec: its kind, minimum, maximum or number of buckets
 abbrev pub spec_field : Spec → ℕ → ℕ
@@ -78,23 +79,23 @@ spec_field spec i = slice_index (spec_fields spec) i
 
 abbrev pub record_words : Record → List ℕ
 record_words r =
-    r.size ∷ 0xC8799269 ∷ 1 ∷ r.next ∷ spec_field r.spec 0 ∷ spec_field r.spec 1 ∷ spec_field r.spec 2 ∷ spec_field r.spec 3
+    r.size ∷ CLAIMED_COOKIE ∷ TYPE_HISTOGRAM ∷ r.next ∷ spec_field r.spec 0 ∷ spec_field r.spec 1 ∷ spec_field r.spec 2 ∷ spec_field r.spec 3
     ∷ r.counts ∷ r.single ∷ r.mark ∷ r.sum ∷ r.sum_mark ∷ r.noted ∷ length r.name ∷ (r.letters ++ spec_ranges r.spec ++ r.rest)
 
 abbrev pub counts_words : Counts → List ℕ
-counts_words c = c.size ∷ 0xC8799269 ∷ 2 ∷ c.next ∷ (c.units ++ c.marks ++ c.rest)
+counts_words c = c.size ∷ CLAIMED_COOKIE ∷ TYPE_COUNTS ∷ c.next ∷ (c.units ++ c.marks ++ c.rest)
 
 abbrev pub sample_words : Sample → List ℕ
-sample_words s = s.size ∷ 0xC8799269 ∷ 3 ∷ s.next ∷ s.of ∷ cast_unsigned w64 s.value ∷ s.units ∷ s.mark ∷ s.rest
+sample_words s = s.size ∷ CLAIMED_COOKIE ∷ TYPE_SAMPLE ∷ s.next ∷ s.of ∷ cast_unsigned w64 s.value ∷ s.units ∷ s.mark ∷ s.rest
 
 abbrev pub words_of : Body → List ℕ
-words_of (queue next) = 4 ∷ 1 ∷ 0 ∷ next ∷ []
+words_of (queue next) = QUEUE_SIZE ∷ QUEUE_COOKIE ∷ TYPE_PURGED ∷ next ∷ []
 words_of (plain words) = words
 words_of (held block) = own_words block
 words_of (histogram r) = record_words r
 words_of (counts c) = counts_words c
 words_of (sample s) = sample_words s
-words_of (other size tag next payload) = size ∷ 0xC8799269 ∷ tag ∷ next ∷ payload
+words_of (other size tag next payload) = size ∷ CLAIMED_COOKIE ∷ tag ∷ next ∷ payload
 
 -- whether somebody has claimed it
 abbrev pub is_claimed : Body → Bool
@@ -178,9 +179,9 @@ blank version id size = record {
   corrupt = false;
   full = false;
   other_flags = 0;
-  tail = 12;
+  tail = QUEUE;
   reserved = (0, 0, 0);
-  pieces = record { at = 12; owner = none; body = queue 12 } ∷ [];
-  spare = size - 16;
+  pieces = record { at = QUEUE; owner = none; body = queue QUEUE } ∷ [];
+  spare = size - HEADER_WORDS;
   records = [];
 }

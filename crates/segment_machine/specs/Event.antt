@@ -1,6 +1,7 @@
 -- The atomic events: one constructor for each kind, with its operands, and what each does to a word.
 use Rattle.std.specs.Prelude.{ℕ, ◌+◌, ◌%◌, ◌^◌, max, ℤ, List, slice_set}
 use Rattle.std.specs.Int.{w64, cast_unsigned}
+use Rattle.segment_image.specs.declared.layout.TheConstants.{BLOCK_HEADER, BLOCK_NEXT, BLOCK_TYPE, HISTOGRAM_COUNTS, HISTOGRAM_REDUNDANT, HISTOGRAM_SINGLE, HISTOGRAM_SINGLE_MARK, HISTOGRAM_SUM, HISTOGRAM_SUM_MARK, TYPE_PURGED}
 use Rattle.segment_image.specs.Words.{word_at}
 use Rattle.alloc_core.specs.Event as atomic
 use Rattle.list_core.specs.Publish as publishing
@@ -83,24 +84,24 @@ operation size version (store_own_next at) = single (publishing.store_own_next a
 operation size version load_tail = single publishing.load_tail
 operation size version (link tail at) = single (publishing.link tail at)
 operation size version (move_tail old new) = single (publishing.move_tail old new)
-operation size version (load_next at) = single (atomic.load (at + 3))
+operation size version (load_next at) = single (atomic.load (at + BLOCK_NEXT))
 operation size version (load_published at index) = single (atomic.load (at + index))
-operation size version (load_counts histogram) = single (atomic.load (histogram + 8))
+operation size version (load_counts histogram) = single (atomic.load (histogram + HISTOGRAM_COUNTS))
 operation size version (add_count at units) = add at units
-operation size version (add_sum histogram amount) = add (histogram + 11) (cast_unsigned w64 amount)
-operation size version (add_redundant histogram units) = add (histogram + 13) units
+operation size version (add_sum histogram amount) = add (histogram + HISTOGRAM_SUM) (cast_unsigned w64 amount)
+operation size version (add_redundant histogram units) = add (histogram + HISTOGRAM_REDUNDANT) units
 operation size version (load_count at) = single (atomic.load at)
 operation size version (raise_mark at least) = raise at least
-operation size version (load_sum histogram) = single (atomic.load (histogram + 11))
-operation size version (swap_sum_mark histogram sum) = swap (histogram + 12) (cast_unsigned w64 sum)
-operation size version (load_redundant histogram) = single (atomic.load (histogram + 13))
-operation size version (load_single histogram) = single (atomic.load (histogram + 9))
-operation size version (pack histogram old new) = single (atomic.exchange (histogram + 9) old new)
-operation size version (mount_counts histogram at) = single (atomic.exchange (histogram + 8) 0 at)
-operation size version (purge_block at) = single (atomic.store (at + 2) 0)
-operation size version (disable histogram old) = single (atomic.exchange (histogram + 9) old (off_word version old))
-operation size version (add_moved counts bucket units) = add (counts + 4 + bucket) units
-operation size version (raise_single_mark histogram least) = raise (histogram + 10) least
+operation size version (load_sum histogram) = single (atomic.load (histogram + HISTOGRAM_SUM))
+operation size version (swap_sum_mark histogram sum) = swap (histogram + HISTOGRAM_SUM_MARK) (cast_unsigned w64 sum)
+operation size version (load_redundant histogram) = single (atomic.load (histogram + HISTOGRAM_REDUNDANT))
+operation size version (load_single histogram) = single (atomic.load (histogram + HISTOGRAM_SINGLE))
+operation size version (pack histogram old new) = single (atomic.exchange (histogram + HISTOGRAM_SINGLE) old new)
+operation size version (mount_counts histogram at) = single (atomic.exchange (histogram + HISTOGRAM_COUNTS) 0 at)
+operation size version (purge_block at) = single (atomic.store (at + BLOCK_TYPE) TYPE_PURGED)
+operation size version (disable histogram old) = single (atomic.exchange (histogram + HISTOGRAM_SINGLE) old (off_word version old))
+operation size version (add_moved counts bucket units) = add (counts + BLOCK_HEADER + bucket) units
+operation size version (raise_single_mark histogram least) = raise (histogram + HISTOGRAM_SINGLE_MARK) least
 operation size version (load_cursor cursor) = single (atomic.load (size + cursor))
 operation size version (move_cursor cursor old new) = single (atomic.exchange (size + cursor) old new)
 

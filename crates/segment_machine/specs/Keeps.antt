@@ -3,6 +3,7 @@
 use Rattle.std.specs.Prelude.{◌≡◌, ◌⊎◌, ℕ, zero, suc, [], take, drop, length, slice_set, ⊤}
 use mathlib.Core.Option.{some}
 use lib.ListN.{get_elem?}
+use Rattle.segment_image.specs.declared.layout.TheConstants.{VERSION_WORD}
 use Rattle.segment_image.specs.Shape.{Dimensions}
 use Rattle.segment_image.specs.Words.{word_at}
 use Rattle.alloc_core.specs.Layout.{IsShape}
@@ -112,12 +113,12 @@ KeptUnitsAreKept = (shape : Dimensions) (version id : ℕ) (state : State) → I
 -- its units in transit are local
 abbrev pub KeptTransitIsLocal : Type 0
 KeptTransitIsLocal = (shape : Dimensions) (version id : ℕ) (state : State) → IsShape shape → (kept : Kept shape (blank version id shape.size) state)
-    → TransitIsLocal (word_at (new_opening shape version id).words 1) state.words state.actors
+    → TransitIsLocal (word_at (new_opening shape version id).words VERSION_WORD) state.words state.actors
 
 -- its marks are what was taken
 abbrev pub KeptMarksAreTaken : Type 0
 KeptMarksAreTaken = (shape : Dimensions) (version id : ℕ) (state : State) → IsShape shape → (kept : Kept shape (blank version id shape.size) state)
-    → MarksAreTaken (word_at (new_opening shape version id).words 1) state.words state.actors (order_of kept.anatomy)
+    → MarksAreTaken (word_at (new_opening shape version id).words VERSION_WORD) state.words state.actors (order_of kept.anatomy)
 
 -- its sums are the amounts
 abbrev pub KeptSumsAreAmounts : Type 0
@@ -132,7 +133,7 @@ KeptRecordsHold = (shape : Dimensions) (version id : ℕ) (state : State) → Is
 -- its totals are what was counted
 abbrev pub KeptTotalsAreCounted : Type 0
 KeptTotalsAreCounted = (shape : Dimensions) (version id : ℕ) (state : State) → IsShape shape → (kept : Kept shape (blank version id shape.size) state)
-    → TotalsAreCounted (word_at (new_opening shape version id).words 1) state.words state.actors (order_of kept.anatomy)
+    → TotalsAreCounted (word_at (new_opening shape version id).words VERSION_WORD) state.words state.actors (order_of kept.anatomy)
 
 -- a kept state is consistent, in all its parts
 abbrev pub KeptIsConsistent : Type 0

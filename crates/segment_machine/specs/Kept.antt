@@ -5,6 +5,7 @@ use Rattle.std.specs.Int.{w64, cast_signed}
 use Rattle.std.specs.List.{filter, Contains, All, flat_map}
 use mathlib.Core.Option.{some, none}
 use lib.ListN.{get_elem?}
+use Rattle.segment_image.specs.declared.layout.TheConstants.{BLOCK_HEADER, BLOCK_LEAST, BLOCK_SIZE, CLAIMED_COOKIE, HISTOGRAM_COUNTS, HISTOGRAM_LEAST, HISTOGRAM_NAME, HISTOGRAM_REDUNDANT, HISTOGRAM_SINGLE, QUEUE, SAMPLE_COUNT, SAMPLE_LEAST, TYPE_COUNTS, TYPE_HISTOGRAM, TYPE_SAMPLE}
 use Rattle.segment_image.specs.Shape.{Dimensions}
 use Rattle.alloc_core.specs.Layout.{IsShown}
 use Rattle.alloc_core.specs.Alloc.{IsPlace}
@@ -54,7 +55,7 @@ StandsAs pieces l (Some (made.Sample of value)) =
     (s : Sample) × HasSample pieces l.reference s × (s.of ≡ of) × (s.value ≡ value)
 StandsAs pieces l None =
     (size tag next : ℕ) × (payload : List ℕ) × Stands pieces l.reference none (other size tag next payload)
-    × (tag ≢ 1) × (tag ≢ 3) × (1 ≤ length payload)
+    × (tag ≢ TYPE_HISTOGRAM) × (tag ≢ TYPE_SAMPLE) × (1 ≤ length payload)
 
 -- a published block is on the list
 abbrev pub IsListed : List Listed → ℕ → Body → Type 0
@@ -78,13 +79,13 @@ pub record ListIsKept (words : List ℕ) (opened anatomy : Anatomy) (actors : Li
 -- the words of a record fit in its block, its name and spec are lawful, its counts fit in a page, and its single word has a form.
 -- While no bucket is or was packed the single mark is 0; a sparse record has neither single word nor counts
 pub record IsLawfulRecord (version page : ℕ) (r : Record) : Type 0 where
-  pub sized : r.size ≡ 15 + (length r.letters + (length (spec_ranges r.spec) + length r.rest))
-  pub least : 16 ≤ r.size
+  pub sized : r.size ≡ HISTOGRAM_NAME + (length r.letters + (length (spec_ranges r.spec) + length r.rest))
+  pub least : HISTOGRAM_LEAST ≤ r.size
   pub named : is_name r.name ≡ true
   pub lettered : AreNameWords r.name r.letters
   pub lawful : spec_fault r.spec ≡ None
   pub fields : length (spec_fields r.spec) ≡ 4
-  pub fits : 4 + 2 * buckets_of r.spec ≤ page
+  pub fits : BLOCK_HEADER + 2 * buckets_of r.spec ≤ page
   pub formed : form_at version r ≢ None
   pub unpacked : packed_bucket (form_at version r) ≡ None → r.mark ≡ 0
   pub off : is_off r.single ≡ true → r.counts ≢ 0
@@ -100,7 +101,7 @@ pub record IsCountsOf (version : ℕ) (at : ℕ) (r : Record) (c : Counts) : Typ
   pub same : c.spec ≡ r.spec
   pub units : length c.units ≡ buckets_of r.spec
   pub marks : length c.marks ≡ buckets_of r.spec
-  pub sized : c.size ≡ 4 + (length c.units + (length c.marks + length c.rest))
+  pub sized : c.size ≡ BLOCK_HEADER + (length c.units + (length c.marks + length c.rest))
   pub packed : (i : ℕ) → packed_bucket (form_at version r) ≡ Some i → slice_index c.marks i ≡ 0
   pub unused : is_off r.single ≡ false → All (λ n. n ≡ 0) c.units × All (λ n. n ≡ 0) c.marks
   pub mark : version ≡ 1 → (i : ℕ) → packed_bucket (form_at version r) ≡ Some i
@@ -108,7 +109,7 @@ pub record IsCountsOf (version : ℕ) (at : ℕ) (r : Record) (c : Counts) : Typ
 
 -- the words of a sample fit in its block, and its value is one
 pub record IsLawfulSample (s : Sample) : Type 0 where
-  pub sized : s.size ≡ 8 + length s.rest
+  pub sized : s.size ≡ SAMPLE_LEAST + length s.rest
   pub valued : is_i32 s.value ≡ true
   pub taken : s.mark ≤ s.units
 
@@ -140,8 +141,8 @@ pub record RecordsAreKept (page : ℕ) (anatomy : Anatomy) : Type 0 where
 pub record LooksRight (a : Actor) (look : Look) : Type 0 where
   pub known : Known
   pub knows : Buckets a look.histogram known
-  pub single : (word : ℕ) → look.single ≡ Some word → Contains a.seen_singles (record { at = look.histogram + 9; word = word })
-  pub counts : look.counts ≢ 0 → Contains a.seen_words (record { at = look.histogram + 8; word = look.counts })
+  pub single : (word : ℕ) → look.single ≡ Some word → Contains a.seen_singles (record { at = look.histogram + HISTOGRAM_SINGLE; word = word })
+  pub counts : look.counts ≢ 0 → Contains a.seen_words (record { at = look.histogram + HISTOGRAM_COUNTS; word = look.counts })
 
 -- it has loaded a single word that is off, and the counts
 abbrev pub LooksOff : Actor → Look → Type 0
@@ -162,22 +163,22 @@ StandsRight shape anatomy id a (FreeLoaded free) = a.seen_free ≡ free
 StandsRight shape anatomy id a (Raised at size) = IsPlace shape at size × HasPlain anatomy.pieces id at (replicate size 0)
 StandsRight shape anatomy id a (Sized at size) = IsPlace shape at size × HasPlain anatomy.pieces id at (size ∷ replicate (size - 1) 0)
 StandsRight shape anatomy id a (Marked at size) =
-    IsPlace shape at size × HasPlain anatomy.pieces id at (size ∷ 0xC8799269 ∷ replicate (size - 2) 0)
+    IsPlace shape at size × HasPlain anatomy.pieces id at (size ∷ CLAIMED_COOKIE ∷ replicate (size - 2) 0)
 StandsRight shape anatomy id a (TailLoaded tail) = Contains a.seen_tails tail × IsStop (order_of anatomy) tail
 StandsRight shape anatomy id a (Beaten tail behind) = AreNeighbours (order_of anatomy) tail behind
 StandsRight shape anatomy id a (Linked at tail) = AreNeighbours (order_of anatomy) tail at
 StandsRight shape anatomy id a (Looking look) = LooksRight a look
 StandsRight shape anatomy id a (Losing look at) =
-    LooksRight a look × (look.counts ≢ 0) × (look.counts ≢ at) × ((own : Own) × Contains a.own own × (own.at ≡ at) × (own.tag ≡ 2))
+    LooksRight a look × (look.counts ≢ 0) × (look.counts ≢ at) × ((own : Own) × Contains a.own own × (own.at ≡ at) × (own.tag ≡ TYPE_COUNTS))
 StandsRight shape anatomy id a (Moving look bucket units) =
     LooksRight a look × (anatomy.version ≡ 1) × (look.counts ≢ 0) × (1 ≤ units) × (units ≤ 65535)
     × ((r : Record) × HasRecord anatomy.pieces look.histogram r × (packed_bucket (form_at 1 r) ≡ Some bucket) × (is_off r.single ≡ true))
-    × All (λ s. s.at ≢ look.counts + 4 + bucket) a.seen_counts
+    × All (λ s. s.at ≢ look.counts + BLOCK_HEADER + bucket) a.seen_counts
 StandsRight shape anatomy id a (CountLoaded look bucket count) =
     (off : LooksOff a look) × (bucket < buckets_of off.0.known.spec)
-    × Contains a.seen_counts (record { at = look.counts + 4 + bucket; word = count })
+    × Contains a.seen_counts (record { at = look.counts + BLOCK_HEADER + bucket; word = count })
 StandsRight shape anatomy id a (SampleLoaded reference count) =
-    MetSample a reference × Contains a.seen_counts (record { at = reference + 6; word = count })
+    MetSample a reference × Contains a.seen_counts (record { at = reference + SAMPLE_COUNT; word = count })
 StandsRight shape anatomy id a (SumLoaded reference sum) = (known : Known) × Contains a.names known × (known.reference ≡ reference)
 StandsRight shape anatomy id a (CursorLoaded cursor at) =
     IsStop (order_of anatomy) at × Contains a.seen_cursors (record { at = cursor; word = at })
@@ -188,9 +189,9 @@ StandsRight shape anatomy id a (BehindCursor cursor at next) =
 pub record HoldsOwn (shape : Dimensions) (pieces : List Piece) (id : ℕ) (own : Own) : Type 0 where
   pub stands : HasOwn pieces id own
   pub placed : IsPlace shape own.at own.size
-  pub room : length own.payload + 4 ≤ own.size
-  pub tagged : own.tag ≤ 3
-  pub ends : (own.next ≡ 0) ⊎ (own.next ≡ 12)
+  pub room : length own.payload + BLOCK_HEADER ≤ own.size
+  pub tagged : own.tag ≤ TYPE_SAMPLE
+  pub ends : (own.next ≡ 0) ⊎ (own.next ≡ QUEUE)
 
 -- ---- running calls
 
@@ -310,17 +311,17 @@ pub record LooksBack (anatomy : Anatomy) (actors : List Actor) (opener a : Actor
   pub most : (known : Known) (bucket total : ℕ) → Contains a.names known → bucket < buckets_of known.spec → SawBucket a known bucket total
       → total ≤ tally_units (all_counted actors) known.name (bucket_key (Some known) bucket)
   pub packed : (known : Known) (bucket word : ℕ) → Contains a.names known → bucket < buckets_of known.spec
-      → SawSingle a (known.reference + 9) word → is_off word ≡ false
+      → SawSingle a (known.reference + HISTOGRAM_SINGLE) word → is_off word ≡ false
       → tally_units (accepted_by a) known.name (bucket_key (Some known) bucket) ≤ units_packed (form_of anatomy.version (buckets_of known.spec) word) bucket
   pub counted : (known : Known) (bucket count : ℕ) (r : Record) → Contains a.names known → bucket < buckets_of known.spec
-      → HasRecord anatomy.pieces known.reference r → r.counts ≢ 0 → SawCount a (r.counts + 4 + bucket) count
+      → HasRecord anatomy.pieces known.reference r → r.counts ≢ 0 → SawCount a (r.counts + BLOCK_HEADER + bucket) count
       → IsSettled anatomy actors a known bucket
       → tally_units (accepted_by a) known.name (bucket_key (Some known) bucket) ≤ count + units_packed (form_at anatomy.version r) bucket
   pub samples : (known : Known) (value : ℤ) (at count : ℕ) → Contains a.names known → IsFirstOf anatomy.records known.reference value at
-      → SawCount a (at + 6) count → tally_units (accepted_by a) known.name value ≤ count
+      → SawCount a (at + SAMPLE_COUNT) count → tally_units (accepted_by a) known.name value ≤ count
   pub rising : (s t : Sighting) → Contains (take a.since_counts a.seen_counts) s → Contains (drop a.since_counts a.seen_counts) t
       → s.at ≡ t.at → s.word ≤ t.word
-  pub noted : (known : Known) (count : ℕ) → Contains a.names known → SawCount a (known.reference + 13) count
+  pub noted : (known : Known) (count : ℕ) → Contains a.names known → SawCount a (known.reference + HISTOGRAM_REDUNDANT) count
       → cost_of opener.first_noted known.name + tally_noted (accepted_since opener a) known.name ≤ count
   pub sum : (reference : ℕ) (sum : ℤ) (r : Record) → a.place ≡ SumLoaded reference sum → IsAlone actors a
       → HasRecord anatomy.pieces reference r → sum ≡ cast_signed w64 r.sum
@@ -397,7 +398,7 @@ IsSetBy now opened set = now ≡ (opened || fold ◌||◌ false set)
 -- a claimed block says its size, which is five words at least; it is its claimer's own, or nobody's any more
 abbrev pub ClaimedRight : Piece → Type 0
 ClaimedRight piece = is_claimed piece.body ≡ true
-    → (slice_index (words_of piece.body) 0 ≡ extent_of piece) × (5 ≤ extent_of piece)
+    → (slice_index (words_of piece.body) BLOCK_SIZE ≡ extent_of piece) × (BLOCK_LEAST ≤ extent_of piece)
     × ((piece.owner ≡ none) ⊎ ((block : Own) × (piece.body ≡ held block)))
 
 -- the blocks of the opening stand where they stood

@@ -7,6 +7,7 @@ use Rattle.alloc_core.specs.Laws.{Behind}
 use Rattle.bucket_ranges.specs.Spec.{buckets_of}
 use Rattle.bucket_ranges.specs.Reading.{name_words}
 use Rattle.list_core.specs.Chain.{is_reference}
+use Rattle.segment_image.specs.declared.layout.TheConstants.{BLOCK_HEADER, BLOCK_TYPE, HISTOGRAM_BUCKETS, HISTOGRAM_KIND, HISTOGRAM_NAME, HISTOGRAM_NAME_LENGTH, HISTOGRAM_SINGLE, KIND_CUSTOM, SAMPLE_LEAST, TYPE_HISTOGRAM, TYPE_SAMPLE}
 use Rattle.segment_machine.specs.declared.actor.Actor.{Actor}
 use Rattle.segment_machine.specs.declared.actor.Known.{Known}
 use Rattle.segment_machine.specs.Form.{form_of, Leads}
@@ -29,23 +30,23 @@ IsSum found = unsigned_abs (cast_signed w64 found) ≤ 2147483648 * 4294967295
 -- lie behind them, a sample's has 8 words
 abbrev pub EndsWithin : Actor → ℕ → ℕ → ℕ → Type 0
 EndsWithin a at index found =
-    (index ≡ 2 → found ≡ 1 → at + 15 ≤ a.shape.size)
-    × (index ≡ 2 → found ≡ 3 → at + 8 ≤ a.shape.size)
-    × (index ≡ 14 → at + 15 + name_words found ≤ a.shape.size)
-    × ((len : ℕ) → index ≡ 7 → word_seen a.seen_words (at + 4) ≡ Some 3 → word_seen a.seen_words (at + 14) ≡ Some len
-    → at + 15 + name_words len + (found - 1) ≤ a.shape.size)
+    (index ≡ BLOCK_TYPE → found ≡ TYPE_HISTOGRAM → at + HISTOGRAM_NAME ≤ a.shape.size)
+    × (index ≡ BLOCK_TYPE → found ≡ TYPE_SAMPLE → at + SAMPLE_LEAST ≤ a.shape.size)
+    × (index ≡ HISTOGRAM_NAME_LENGTH → at + HISTOGRAM_NAME + name_words found ≤ a.shape.size)
+    × ((len : ℕ) → index ≡ HISTOGRAM_BUCKETS → word_seen a.seen_words (at + HISTOGRAM_KIND) ≡ Some KIND_CUSTOM → word_seen a.seen_words (at + HISTOGRAM_NAME_LENGTH) ≡ Some len
+    → at + HISTOGRAM_NAME + name_words len + (found - 1) ≤ a.shape.size)
 
 -- a single word of a histogram that it knows: it has a form, and each word that it saw before leads to it
 abbrev pub IsSingleOf : Actor → ℕ → ℕ → Type 0
 IsSingleOf a histogram found = (known : Known) → Buckets a histogram known
     → (form_of a.version (buckets_of known.spec) found ≢ None)
-    × ((word : ℕ) → Contains a.seen_singles (record { at = histogram + 9; word = word })
+    × ((word : ℕ) → Contains a.seen_singles (record { at = histogram + HISTOGRAM_SINGLE; word = word })
     → Leads a.version (buckets_of known.spec) word found)
 
 -- counts of a histogram that it knows lie within the segment
 abbrev pub AreCountsOf : Actor → ℕ → ℕ → Type 0
 AreCountsOf a histogram found = (known : Known) → Buckets a histogram known → found ≢ 0
-    → found + (4 + 2 * buckets_of known.spec) ≤ a.shape.size
+    → found + (BLOCK_HEADER + 2 * buckets_of known.spec) ≤ a.shape.size
 
 abbrev pub Learned : Actor → Event → ℕ → Type 0
 Learned a load_free found = Behind a.seen_free found × (is_pointer a.shape found ≡ true)

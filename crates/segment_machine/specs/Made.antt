@@ -2,6 +2,7 @@
 use Rattle.std.specs.Prelude.{◌≡◌, ◌≢◌, ◌⊎◌, true, ℕ, ◌+◌, ◌<◌, ℤ, List, [], ◌∷◌, ◌++◌, length, replicate, slice_index, Some}
 use Rattle.std.specs.Int.{w64, cast_unsigned}
 use Rattle.std.specs.List.{All}
+use Rattle.segment_image.specs.declared.layout.TheConstants.{BLOCK_TYPE, HISTOGRAM_KIND, HISTOGRAM_NAME, HISTOGRAM_NAME_LENGTH, SAMPLE_HISTOGRAM, SAMPLE_VALUE, TYPE_HISTOGRAM, TYPE_SAMPLE}
 use Rattle.segment_image.specs.Words.{bytes_of_words}
 use Rattle.bucket_ranges.specs.declared.spec.Spec.{Spec}
 use Rattle.bucket_ranges.specs.Spec.{spec_fields, spec_ranges}
@@ -31,30 +32,30 @@ IsPayload (Sample histogram value) payload =
 -- it saw that a record is one of a histogram of this name
 abbrev pub SawName : Actor → List ℕ → ℕ → Type 0
 SawName a name at =
-    (word_seen a.seen_words (at + 2) ≡ Some 1) × (word_seen a.seen_words (at + 14) ≡ Some (length name))
+    (word_seen a.seen_words (at + BLOCK_TYPE) ≡ Some TYPE_HISTOGRAM) × (word_seen a.seen_words (at + HISTOGRAM_NAME_LENGTH) ≡ Some (length name))
     × (letters : List ℕ) × AreNameWords name letters
-    × ((i : ℕ) → i < length letters → word_seen a.seen_words (at + 15 + i) ≡ Some (slice_index letters i))
+    × ((i : ℕ) → i < length letters → word_seen a.seen_words (at + HISTOGRAM_NAME + i) ≡ Some (slice_index letters i))
 
 -- it saw that a record is none of this name: its type is another, or the length of the name is, or the bytes of a word of it are
 abbrev pub SawOtherName : Actor → List ℕ → ℕ → Type 0
 SawOtherName a name at =
-    ((tag : ℕ) × (word_seen a.seen_words (at + 2) ≡ Some tag) × (tag ≢ 1))
-    ⊎ ((len : ℕ) × (word_seen a.seen_words (at + 14) ≡ Some len) × (len ≢ length name))
+    ((tag : ℕ) × (word_seen a.seen_words (at + BLOCK_TYPE) ≡ Some tag) × (tag ≢ TYPE_HISTOGRAM))
+    ⊎ ((len : ℕ) × (word_seen a.seen_words (at + HISTOGRAM_NAME_LENGTH) ≡ Some len) × (len ≢ length name))
     ⊎ ((letters : List ℕ) × (i word : ℕ) × AreNameWords name letters × (i < length letters)
-    × (word_seen a.seen_words (at + 15 + i) ≡ Some word) × (bytes_of_words (word ∷ []) ≢ bytes_of_words (slice_index letters i ∷ [])))
+    × (word_seen a.seen_words (at + HISTOGRAM_NAME + i) ≡ Some word) × (bytes_of_words (word ∷ []) ≢ bytes_of_words (slice_index letters i ∷ [])))
 
 -- it saw the spec of a record whose name has so many words
 abbrev pub SawSpec : Actor → Spec → ℕ → ℕ → Type 0
 SawSpec a spec letters at =
-    ((i : ℕ) → i < 4 → word_seen a.seen_words (at + 4 + i) ≡ Some (slice_index (spec_fields spec) i))
+    ((i : ℕ) → i < 4 → word_seen a.seen_words (at + HISTOGRAM_KIND + i) ≡ Some (slice_index (spec_fields spec) i))
     × ((i : ℕ) → i < length (spec_ranges spec)
-    → word_seen a.seen_words (at + 15 + letters + i) ≡ Some (slice_index (spec_ranges spec) i))
+    → word_seen a.seen_words (at + HISTOGRAM_NAME + letters + i) ≡ Some (slice_index (spec_ranges spec) i))
 
 -- it saw that the spec of a record whose name has so many words is another one: a field differs, or a range does
 abbrev pub SawOtherSpec : Actor → Spec → ℕ → ℕ → Type 0
 SawOtherSpec a spec letters at =
-    ((i word : ℕ) × (i < 4) × (word_seen a.seen_words (at + 4 + i) ≡ Some word) × (word ≢ slice_index (spec_fields spec) i))
-    ⊎ ((i word : ℕ) × (i < length (spec_ranges spec)) × (word_seen a.seen_words (at + 15 + letters + i) ≡ Some word)
+    ((i word : ℕ) × (i < 4) × (word_seen a.seen_words (at + HISTOGRAM_KIND + i) ≡ Some word) × (word ≢ slice_index (spec_fields spec) i))
+    ⊎ ((i word : ℕ) × (i < length (spec_ranges spec)) × (word_seen a.seen_words (at + HISTOGRAM_NAME + letters + i) ≡ Some word)
     × (word ≢ slice_index (spec_ranges spec) i))
 
 -- the first record of a name on the chain, as far as the actor walked along it
@@ -66,15 +67,15 @@ IsFirstNamed a name at =
 -- are one word
 abbrev pub SawSample : Actor → ℕ → ℤ → ℕ → Type 0
 SawSample a histogram value at =
-    (word_seen a.seen_words (at + 2) ≡ Some 3) × (word_seen a.seen_words (at + 4) ≡ Some histogram)
-    × (word_seen a.seen_words (at + 5) ≡ Some (cast_unsigned w64 value)) × (is_i32 value ≡ true)
+    (word_seen a.seen_words (at + BLOCK_TYPE) ≡ Some TYPE_SAMPLE) × (word_seen a.seen_words (at + SAMPLE_HISTOGRAM) ≡ Some histogram)
+    × (word_seen a.seen_words (at + SAMPLE_VALUE) ≡ Some (cast_unsigned w64 value)) × (is_i32 value ≡ true)
 
 -- it saw that a record is none
 abbrev pub SawOther : Actor → ℕ → ℤ → ℕ → Type 0
 SawOther a histogram value at =
-    ((tag : ℕ) × (word_seen a.seen_words (at + 2) ≡ Some tag) × (tag ≢ 3))
-    ⊎ ((of : ℕ) × (word_seen a.seen_words (at + 4) ≡ Some of) × (of ≢ histogram))
-    ⊎ ((word : ℕ) × (word_seen a.seen_words (at + 5) ≡ Some word) × (word ≢ cast_unsigned w64 value))
+    ((tag : ℕ) × (word_seen a.seen_words (at + BLOCK_TYPE) ≡ Some tag) × (tag ≢ TYPE_SAMPLE))
+    ⊎ ((of : ℕ) × (word_seen a.seen_words (at + SAMPLE_HISTOGRAM) ≡ Some of) × (of ≢ histogram))
+    ⊎ ((word : ℕ) × (word_seen a.seen_words (at + SAMPLE_VALUE) ≡ Some word) × (word ≢ cast_unsigned w64 value))
 
 -- the first sample of a value behind the record of its histogram, as far as the actor walked along the chain
 abbrev pub IsFirstSample : Actor → ℕ → ℤ → ℕ → Type 0

@@ -5,6 +5,7 @@ use Rattle.std.specs.List.{filter}
 use Rattle.bucket_ranges.specs.Single.{packed_bucket}
 use Rattle.bucket_ranges.specs.declared.single.SingleWord.{SingleWord}
 use Rattle.list_core.specs.Chain.{stops}
+use Rattle.segment_image.specs.declared.layout.TheConstants.{BLOCK_HEADER, CLAIMED_COOKIE, FLAG_CORRUPT, HISTOGRAM_COUNTS, HISTOGRAM_REDUNDANT, HISTOGRAM_SINGLE, HISTOGRAM_SINGLE_MARK, QUEUE, SAMPLE_COUNT, SAMPLE_VALUE, TYPE_PURGED}
 use Rattle.segment_machine.specs.declared.actor.Known.{Known}
 use Rattle.segment_machine.specs.declared.actor.Made.TheVariants.{Histogram, Sample}
 use Rattle.segment_machine.specs.declared.entry.Counting.{Counting}
@@ -107,12 +108,12 @@ sight at word = record { at = at; word = word } ∷ []
 
 -- a counts reference that is not 0, which never changes any more
 abbrev pub sight_counts : ℕ → ℕ → List Sighting
-sight_counts histogram found = if found == 0 then [] else sight (histogram + 8) found
+sight_counts histogram found = if found == 0 then [] else sight (histogram + HISTOGRAM_COUNTS) found
 
 -- the chain so far as it was seen, after the next of the block at a word was loaded
 abbrev pub extended : List ℕ → ℕ → ℕ → List ℕ
 extended chain at found =
-    if (slice_index (stops chain) (length chain) == at) && not (found == 12) then chain ++ found ∷ [] else chain
+    if (slice_index (stops chain) (length chain) == at) && not (found == QUEUE) then chain ++ found ∷ [] else chain
 
 -- ---- places
 
@@ -144,14 +145,14 @@ back _ = Idle
 
 -- the place after a count was loaded: that of a bucket, or of a sample
 abbrev pub at_count : Place → ℕ → ℕ → Place
-at_count (Looking look) at count = CountLoaded look (at - (look.counts + 4)) count
-at_count (CountLoaded look bucket before) at count = CountLoaded look (at - (look.counts + 4)) count
-at_count _ at count = SampleLoaded (at - 6) count
+at_count (Looking look) at count = CountLoaded look (at - (look.counts + BLOCK_HEADER)) count
+at_count (CountLoaded look bucket before) at count = CountLoaded look (at - (look.counts + BLOCK_HEADER)) count
+at_count _ at count = SampleLoaded (at - SAMPLE_COUNT) count
 
 -- the place after a next was loaded: a shared cursor's is noted
 abbrev pub behind : Place → ℕ → ℕ → Place
 behind (CursorLoaded cursor at) from found =
-    if from == at then (if found == 12 then Idle else BehindCursor cursor at found) else CursorLoaded cursor at
+    if from == at then (if found == QUEUE then Idle else BehindCursor cursor at found) else CursorLoaded cursor at
 behind place from found = place
 
 -- ---- what a delta takes
@@ -159,7 +160,7 @@ behind place from found = place
 -- the key whose units are taken at a place
 abbrev pub key_at : Actor → Place → ℤ
 key_at a (CountLoaded look bucket count) = bucket_key (known_at a.names look.histogram) bucket
-key_at a (SampleLoaded sample count) = cast_signed w64 (unwrap_or (word_seen a.seen_words (sample + 5)) 0)
+key_at a (SampleLoaded sample count) = cast_signed w64 (unwrap_or (word_seen a.seen_words (sample + SAMPLE_VALUE)) 0)
 key_at a _ = pos 0
 
 -- the form of a word that it saw of a known histogram
@@ -205,9 +206,9 @@ after_link false a tail at found = record a { place = Beaten tail found }
 -- after a packing exchange
 abbrev pub after_pack : Bool → Actor → ℕ → ℕ → ℕ → Actor
 after_pack true a histogram new found =
-    record a { place = Idle; running = count_next a.running; seen_singles = a.seen_singles ++ sight (histogram + 9) new }
+    record a { place = Idle; running = count_next a.running; seen_singles = a.seen_singles ++ sight (histogram + HISTOGRAM_SINGLE) new }
 after_pack false a histogram new found =
-    record a { place = Idle; seen_singles = a.seen_singles ++ sight (histogram + 9) found }
+    record a { place = Idle; seen_singles = a.seen_singles ++ sight (histogram + HISTOGRAM_SINGLE) found }
 
 -- after an exchange of the counts reference from 0
 abbrev pub after_mount : Bool → Actor → ℕ → ℕ → ℕ → Actor
@@ -225,11 +226,11 @@ after_mount false a histogram at found = record a {
 abbrev pub after_disable : Bool → Actor → ℕ → ℕ → ℕ → Actor
 after_disable true a histogram old found = record a {
   place = after_disabling a.version (look_of a.place histogram) old (form_seen a histogram old);
-  seen_singles = a.seen_singles ++ sight (histogram + 9) (off_word a.version old);
+  seen_singles = a.seen_singles ++ sight (histogram + HISTOGRAM_SINGLE) (off_word a.version old);
 }
 after_disable false a histogram old found = record a {
   place = Looking (record (look_of a.place histogram) { single = None });
-  seen_singles = a.seen_singles ++ sight (histogram + 9) found;
+  seen_singles = a.seen_singles ++ sight (histogram + HISTOGRAM_SINGLE) found;
 }
 
 -- after an exchange of a shared cursor
@@ -243,12 +244,12 @@ after_cursor false a cursor new found = record a { place = Idle; seen_cursors = 
 
 -- what becomes of an actor. At a store the number found is not used
 abbrev pub next : Actor → Event → ℕ → Actor
-next a load_flags found = record a { place = if bit_and found 1 == 0 then FlagsLoaded else Idle }
+next a load_flags found = record a { place = if bit_and found FLAG_CORRUPT == 0 then FlagsLoaded else Idle }
 next a load_free found = record a { place = FreeLoaded found; seen_free = found }
 next a (exchange_free old new) found = after_free (found == old) a old new found
 next a (store_size at size) found = record a { place = Sized at size }
 next a (store_cookie at cookie) found =
-    record a { place = if cookie == 0xC8799269 then Marked at (size_at a.place) else Idle }
+    record a { place = if cookie == CLAIMED_COOKIE then Marked at (size_at a.place) else Idle }
 next a (store_type at tag) found = record a {
   place = Idle;
   own = a.own ++ new_own at (size_at a.place) tag ∷ [];
@@ -257,10 +258,10 @@ next a (store_type at tag) found = record a {
 next a (store_payload at index value) found =
     record a { own = change_own at (λ own. record own { payload = stored own.payload index value }) a.own }
 next a (set_flag flag) found =
-    if flag == 1 then record a { place = Idle; spoiled = true } else record a { place = Idle; filled = true }
-next a (store_own_next at) found = record a { own = change_own at (λ own. record own { next = 12 }) a.own }
+    if flag == FLAG_CORRUPT then record a { place = Idle; spoiled = true } else record a { place = Idle; filled = true }
+next a (store_own_next at) found = record a { own = change_own at (λ own. record own { next = QUEUE }) a.own }
 next a load_tail found = record a { place = TailLoaded found; seen_tails = a.seen_tails ++ found ∷ [] }
-next a (link tail at) found = after_link (found == 12) a tail at found
+next a (link tail at) found = after_link (found == QUEUE) a tail at found
 next a (move_tail old new) found =
     record a { place = Idle; seen_tails = a.seen_tails ++ (if found == old then new else found) ∷ [] }
 next a (load_next at) found = record a { place = behind a.place at found; seen_chain = extended a.seen_chain at found }
@@ -273,7 +274,7 @@ next a (add_count at units) found =
     record a { place = Idle; running = count_next a.running; seen_counts = a.seen_counts ++ sight at (found + units) }
 next a (add_sum histogram amount) found = record a { place = Idle; running = sum_next a.running }
 next a (add_redundant histogram units) found =
-    record a { place = Idle; running = note_next a.running; seen_counts = a.seen_counts ++ sight (histogram + 13) (found + units) }
+    record a { place = Idle; running = note_next a.running; seen_counts = a.seen_counts ++ sight (histogram + HISTOGRAM_REDUNDANT) (found + units) }
 next a (load_count at) found =
     record a { place = at_count a.place at found; seen_counts = a.seen_counts ++ sight at found }
 next a (raise_mark at least) found = record a {
@@ -284,22 +285,22 @@ next a (raise_mark at least) found = record a {
 next a (load_sum histogram) found = record a { place = SumLoaded histogram (cast_signed w64 found) }
 next a (swap_sum_mark histogram sum) found =
     record a { place = Idle; taken = change_last (swap_sum sum (cast_signed w64 found)) a.taken }
-next a (load_redundant histogram) found = record a { seen_counts = a.seen_counts ++ sight (histogram + 13) found }
+next a (load_redundant histogram) found = record a { seen_counts = a.seen_counts ++ sight (histogram + HISTOGRAM_REDUNDANT) found }
 next a (load_single histogram) found = record a {
   place = Looking (record (look_of a.place histogram) { single = Some found });
-  seen_singles = a.seen_singles ++ sight (histogram + 9) found;
+  seen_singles = a.seen_singles ++ sight (histogram + HISTOGRAM_SINGLE) found;
 }
 next a (pack histogram old new) found = after_pack (found == old) a histogram new found
 next a (mount_counts histogram at) found = after_mount (found == 0) a histogram at found
 next a (purge_block at) found =
-    record a { place = back a.place; own = change_own at (λ own. record own { tag = 0 }) a.own }
+    record a { place = back a.place; own = change_own at (λ own. record own { tag = TYPE_PURGED }) a.own }
 next a (disable histogram old) found = after_disable (found == old) a histogram old found
 next a (add_moved counts bucket units) found =
-    record a { place = back a.place; seen_counts = a.seen_counts ++ sight (counts + 4 + bucket) (found + units) }
+    record a { place = back a.place; seen_counts = a.seen_counts ++ sight (counts + BLOCK_HEADER + bucket) (found + units) }
 next a (raise_single_mark histogram least) found = record a {
   place = back a.place;
   taken = change_last (take_units (single_key a a.place) least found) a.taken;
-  seen_counts = a.seen_counts ++ sight (histogram + 10) (max found least);
+  seen_counts = a.seen_counts ++ sight (histogram + HISTOGRAM_SINGLE_MARK) (max found least);
 }
 next a (load_cursor cursor) found =
     record a { place = CursorLoaded cursor found; seen_cursors = a.seen_cursors ++ sight cursor found }

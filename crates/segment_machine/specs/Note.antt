@@ -5,6 +5,7 @@ use mathlib.Core.Option.{some}
 use lib.ListN.{get_elem?}
 use Rattle.std.specs.List.{range_with_len, Contains, All, filter}
 use Rattle.std.specs.Str.{bytes_eq}
+use Rattle.segment_image.specs.declared.layout.TheConstants.{BLOCK_HEADER, HISTOGRAM_COUNTS, HISTOGRAM_REDUNDANT, HISTOGRAM_SINGLE, HISTOGRAM_SINGLE_MARK, SAMPLE_COUNT, SAMPLE_MARK}
 use Rattle.segment_machine.specs.declared.entry.Entry.{Entry}
 use Rattle.segment_machine.specs.declared.entry.Counting.{Counting}
 use Rattle.segment_machine.specs.declared.place.Place.TheVariants.{Spent, SumLoaded}
@@ -104,18 +105,18 @@ noted a (refused added) = record (looking a) {
 -- version 2 with the units that the word keeps
 abbrev pub SawBucket : Actor → Known → ℕ → ℕ → Type 0
 SawBucket a known bucket total =
-    (word : ℕ) × SawSingle a (known.reference + 9) word
+    (word : ℕ) × SawSingle a (known.reference + HISTOGRAM_SINGLE) word
     × let form = form_of a.version (buckets_of known.spec) word in
     (((is_off word ≡ false) × (total ≡ units_packed form bucket))
-    ⊎ ((is_off word ≡ true) × ((counts count : ℕ) × (word_seen a.seen_words (known.reference + 8) ≡ Some counts)
-    × SawCount a (counts + 4 + bucket) count × (total ≡ count + units_packed form bucket))))
+    ⊎ ((is_off word ≡ true) × ((counts count : ℕ) × (word_seen a.seen_words (known.reference + HISTOGRAM_COUNTS) ≡ Some counts)
+    × SawCount a (counts + BLOCK_HEADER + bucket) count × (total ≡ count + units_packed form bucket))))
 
 -- where the mark of a bucket stands: the single mark of the packed bucket, or behind the counts
 abbrev pub IsMarkOf : Actor → Known → ℕ → ℕ → Type 0
 IsMarkOf a known bucket at =
-    ((word : ℕ) × SawSingle a (known.reference + 9) word
-    × (packed_bucket (form_of a.version (buckets_of known.spec) word) ≡ Some bucket) × (at ≡ known.reference + 10))
-    ⊎ ((counts : ℕ) × (word_seen a.seen_words (known.reference + 8) ≡ Some counts) × (at ≡ counts + 4 + buckets_of known.spec + bucket))
+    ((word : ℕ) × SawSingle a (known.reference + HISTOGRAM_SINGLE) word
+    × (packed_bucket (form_of a.version (buckets_of known.spec) word) ≡ Some bucket) × (at ≡ known.reference + HISTOGRAM_SINGLE_MARK))
+    ⊎ ((counts : ℕ) × (word_seen a.seen_words (known.reference + HISTOGRAM_COUNTS) ≡ Some counts) × (at ≡ counts + BLOCK_HEADER + buckets_of known.spec + bucket))
 
 -- what it saw of a bucket was taken: it is 0, or the mark was raised to it at least
 abbrev pub TookBucket : Actor → Known → ℕ → Type 0
@@ -125,7 +126,7 @@ TookBucket a known bucket =
 
 abbrev pub TookSample : Actor → ℕ → Type 0
 TookSample a sample =
-    (count : ℕ) × SawCount a (sample + 6) count × ((count ≡ 0) ⊎ ((mark : ℕ) × SawCount a (sample + 7) mark × (count ≤ mark)))
+    (count : ℕ) × SawCount a (sample + SAMPLE_COUNT) count × ((count ≡ 0) ⊎ ((mark : ℕ) × SawCount a (sample + SAMPLE_MARK) mark × (count ≤ mark)))
 
 -- A delta has taken all that it saw: of each bucket, or of each sample of its histogram that it met; and the sum was swapped.
 pub record TookAll (a : Actor) (known : Known) : Type 0 where
@@ -142,13 +143,13 @@ pub record SawAll (a : Actor) (known : Known) (answered : Answered) : Type 0 whe
       → (map (λ count. count.0) answered.counts ≡ map (bucket_key (Some known)) (range_with_len 0 (buckets_of known.spec)))
       × ((bucket : ℕ) (count : ℤ × ℕ) → get_elem? answered.counts bucket ≡ some count → SawBucket a known bucket count.1)
   pub samples : known.spec ≡ spec.Sparse
-      → All (λ count. (sample : ℕ) × IsFirstSample a known.reference count.0 sample × SawCount a (sample + 6) count.1) answered.counts
+      → All (λ count. (sample : ℕ) × IsFirstSample a known.reference count.0 sample × SawCount a (sample + SAMPLE_COUNT) count.1) answered.counts
   pub once : known.spec ≡ spec.Sparse → (i j : ℕ) (x y : ℤ × ℕ) → get_elem? answered.counts i ≡ some x → get_elem? answered.counts j ≡ some y
       → x.0 ≡ y.0 → i ≡ j
   pub values : known.spec ≡ spec.Sparse → (value : ℤ) (sample : ℕ) → Contains a.seen_chain sample → SawSample a known.reference value sample
-      → (count : ℕ) × SawCount a (sample + 6) count × ((count ≡ 0) ⊎ Contains (map (λ count. count.0) answered.counts) value)
+      → (count : ℕ) × SawCount a (sample + SAMPLE_COUNT) count × ((count ≡ 0) ⊎ Contains (map (λ count. count.0) answered.counts) value)
   pub sum : a.place ≡ SumLoaded known.reference answered.sum
-  pub redundant : (before : List Sighting) × (drop a.since_counts a.seen_counts ≡ before ++ record { at = known.reference + 13; word = answered.redundant } ∷ [])
+  pub redundant : (before : List Sighting) × (drop a.since_counts a.seen_counts ≡ before ++ record { at = known.reference + HISTOGRAM_REDUNDANT; word = answered.redundant } ∷ [])
 
 -- when an actor may note it. An opener counts and takes nothing itself
 abbrev pub MayNote : Actor → Note → Type 0

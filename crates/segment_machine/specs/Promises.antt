@@ -4,6 +4,7 @@ use Rattle.std.specs.Prelude.{◌≡◌, ◌≢◌, ◌⊎◌, true, false, ℕ,
 use mathlib.Core.Option.{some}
 use lib.ListN.{get_elem?}
 use Rattle.std.specs.List.{Contains}
+use Rattle.segment_image.specs.declared.layout.TheConstants.{BLOCK_HEADER, HISTOGRAM_COUNTS, HISTOGRAM_REDUNDANT, HISTOGRAM_SINGLE, QUEUE, SAMPLE_COUNT, VERSION_WORD}
 use Rattle.segment_image.specs.Shape.{Dimensions}
 use Rattle.segment_image.specs.Words.{word_at}
 use Rattle.segment_image.specs.Head.{head_of}
@@ -38,7 +39,7 @@ new_opening shape version id = record { words = render shape (fresh shape versio
 abbrev pub new_state : Dimensions → ℕ → ℕ → ℕ → State
 new_state shape version id cursors = record {
   words = render shape (fresh shape version id);
-  cursors = replicate cursors 12;
+  cursors = replicate cursors QUEUE;
   actors = opener_of shape version cursors ∷ [];
 }
 
@@ -89,13 +90,13 @@ StepsChangeOne = (version : ℕ) (old new : State) (id : ℕ) (event : Event) �
 
 -- the chain after an event that found a number: longer by a record at its end, where a link succeeds
 abbrev pub chain_behind : Event → ℕ → List ℕ → List ℕ
-chain_behind (link tail at) found chain = if found == 12 then chain ++ at ∷ [] else chain
+chain_behind (link tail at) found chain = if found == QUEUE then chain ++ at ∷ [] else chain
 chain_behind _ found chain = chain
 
 -- a link puts its record at the end of the chain, and nothing else changes the chain: so records come in the order of their links
 abbrev pub LinksAppend : Type 0
 LinksAppend = (opening : Opening) (old new : State) (id : ℕ) (event : Event) → (before : IsConsistent opening old) → (behind : IsConsistent opening new)
-    → IsStep (word_at opening.words 1) old id event new
+    → IsStep (word_at opening.words VERSION_WORD) old id event new
     → behind.chain ≡ chain_behind event (word_at (memory old) (spot (length old.words) event)) before.chain
 
 -- ---- every state
@@ -109,7 +110,7 @@ StatesAreConsistent = (shape : Dimensions) (version id cursors : ℕ) (state : S
 -- stop, and each histogram's counts are what was counted less what is in transit, its sum the amounts that were added.
 abbrev pub ConsistentStatesRead : Type 0
 ConsistentStatesRead = (opening : Opening) (state : State) (reading : Reading) → (is : IsConsistent opening state)
-    → word_at opening.words 1 ≡ 1 → IsReading state.words (head_of state.words) reading
+    → word_at opening.words VERSION_WORD ≡ 1 → IsReading state.words (head_of state.words) reading
     → (reading.bad ≡ []) × (reading.stopped ≡ None)
     × ((name : List ℕ) (at : ℕ) → IsHistogram state.words is.chain name at
     → (h : Histogram) × Contains reading.hists h × (h.name ≡ name) × (h.reference ≡ at))
@@ -147,14 +148,14 @@ accepted_since opener a = drop (length opener.first) a.inherited ++ map (λ c. c
 
 -- since its delta or snapshot began, it saw no single word of a histogram that is off
 abbrev pub SawOpen : Actor → Known → Type 0
-SawOpen a known = (word : ℕ) → SawSingle a (known.reference + 9) word → is_off word ≡ false
+SawOpen a known = (word : ℕ) → SawSingle a (known.reference + HISTOGRAM_SINGLE) word → is_off word ≡ false
 
 -- a bucket of which nothing can be in transit for an actor that looks at it: in version 2 any, in version 1 any but the packed one
 -- where the actor saw the word off
 abbrev pub IsWhole : ℕ → Actor → Known → ℕ → Type 0
 IsWhole version a known i =
     (version ≡ 2) ⊎ SawOpen a known
-    ⊎ ((word : ℕ) → SawSingle a (known.reference + 9) word → packed_bucket (form_of version (buckets_of known.spec) word) ≢ Some i)
+    ⊎ ((word : ℕ) → SawSingle a (known.reference + HISTOGRAM_SINGLE) word → packed_bucket (form_of version (buckets_of known.spec) word) ≢ Some i)
 
 -- Once a delta has taken all that it saw, all deltas together took of each bucket and each value at least what its recorder had
 -- accepted, and what had been accepted before that one was made; of a packed bucket whose units may be in transit, at least each
@@ -166,7 +167,7 @@ DeltasTakeAccepted = (shape : Dimensions) (version id cursors : ℕ) (state : St
     → ((i : ℕ) → has_buckets known.spec ≡ true → i < buckets_of known.spec → IsWhole version a known i
     → tally_units (accepted_by a) known.name (bucket_key (Some known) i) ≤ units_taken state.actors known.name (bucket_key (Some known) i))
     × ((i : ℕ) (s : Sighting) → has_buckets known.spec ≡ true → i < buckets_of known.spec → Contains (take a.since_counts a.seen_counts) s
-    → field_at state.words known.reference 8 ≢ 0 → s.at ≡ field_at state.words known.reference 8 + 4 + i
+    → field_at state.words known.reference HISTOGRAM_COUNTS ≢ 0 → s.at ≡ field_at state.words known.reference HISTOGRAM_COUNTS + BLOCK_HEADER + i
     → s.word ≤ units_taken state.actors known.name (bucket_key (Some known) i))
     × ((value : ℤ) → known.spec ≡ spec.Sparse
     → tally_units (accepted_by a) known.name value ≤ units_taken state.actors known.name value)
@@ -179,7 +180,7 @@ SnapshotsSeeAccepted = (shape : Dimensions) (version id cursors : ℕ) (state : 
     → ((i : ℕ) → has_buckets known.spec ≡ true → i < buckets_of known.spec → IsWhole version a known i
     → tally_units (accepted_by a) known.name (bucket_key (Some known) i) ≤ units_listed answered.counts (bucket_key (Some known) i))
     × ((i : ℕ) (s : Sighting) → has_buckets known.spec ≡ true → i < buckets_of known.spec → Contains (take a.since_counts a.seen_counts) s
-    → field_at state.words known.reference 8 ≢ 0 → s.at ≡ field_at state.words known.reference 8 + 4 + i
+    → field_at state.words known.reference HISTOGRAM_COUNTS ≢ 0 → s.at ≡ field_at state.words known.reference HISTOGRAM_COUNTS + BLOCK_HEADER + i
     → s.word ≤ units_listed answered.counts (bucket_key (Some known) i))
     × ((value : ℤ) → known.spec ≡ spec.Sparse → tally_units (accepted_by a) known.name value ≤ units_listed answered.counts value)
     × (cost_of opener.first_noted known.name + tally_noted (accepted_since opener a) known.name ≤ answered.redundant)
@@ -197,9 +198,9 @@ JoinedTotals = (shape : Dimensions) (version id cursors : ℕ) (state : State) (
     → ((i : ℕ) → is_sparse state.words at ≡ false → i < record_buckets state.words at
     → bucket_total version state.words at i ≡ tally_units (log_of a) name (key_at state.words at i))
     × ((sample : ℕ) (value : ℤ) → is_sparse state.words at ≡ true → IsSample state.words is.chain at value sample
-    → field_at state.words sample 6 ≡ tally_units (log_of a) name value)
+    → field_at state.words sample SAMPLE_COUNT ≡ tally_units (log_of a) name value)
     × (sum_of state.words at ≡ tally_sum (log_of a) name)
-    × (field_at state.words at 13 ≡ tally_noted (log_of a) name)
+    × (field_at state.words at HISTOGRAM_REDUNDANT ≡ tally_noted (log_of a) name)
 
 -- where a final delta of a name was taken, all deltas together took its totals and its sum
 abbrev pub FinalDeltasTakeAll : Type 0

@@ -6,6 +6,7 @@ use Rattle.alloc_core.specs.Planned.{is_pointer}
 use Rattle.alloc_core.specs.Alloc.{IsRise}
 use Rattle.bucket_ranges.specs.Spec.{buckets_of, spec_fault}
 use Rattle.bucket_ranges.specs.Reading.{is_name, name_words, is_i32}
+use Rattle.segment_image.specs.declared.layout.TheConstants.{BLOCK_HEADER, BLOCK_TYPE, CLAIMED_COOKIE, FLAG_CORRUPT, FLAG_FULL, HISTOGRAM_BUCKETS, HISTOGRAM_COUNTS, HISTOGRAM_KIND, HISTOGRAM_NAME, HISTOGRAM_NAME_LENGTH, HISTOGRAM_SINGLE, KIND_CUSTOM, QUEUE, SAMPLE_COUNT, SAMPLE_HISTOGRAM, SAMPLE_LEAST, SAMPLE_MARK, TYPE_COUNTS, TYPE_HISTOGRAM, TYPE_SAMPLE, WASTED_COOKIE}
 use Rattle.segment_machine.specs.declared.actor.Made.TheVariants.{Histogram, Sample}
 use Rattle.bucket_ranges.specs.Single.{packed_bucket}
 use Rattle.segment_machine.specs.declared.entry.Counting.{Counting}
@@ -47,7 +48,7 @@ abbrev pub Fills : Actor → Own → Type 0
 Fills a own = Contains a.own own × (own.next ≡ 0)
 
 abbrev pub Waits : Actor → Own → Type 0
-Waits a own = Contains a.own own × (own.next ≡ 12)
+Waits a own = Contains a.own own × (own.next ≡ QUEUE)
 
 -- a bucket of a known histogram has this key
 abbrev pub HasKey : Known → ℕ → ℤ → Type 0
@@ -65,7 +66,7 @@ LooksOff a look known =
 
 -- what the counts block of a histogram with n buckets is before it is mounted
 abbrev pub IsBlankCounts : Own → ℕ → Type 0
-IsBlankCounts own n = (own.tag ≡ 2) × (own.next ≡ 0) × (own.payload ≡ []) × (4 + 2 * n ≤ own.size)
+IsBlankCounts own n = (own.tag ≡ TYPE_COUNTS) × (own.next ≡ 0) × (own.payload ≡ []) × (BLOCK_HEADER + 2 * n ≤ own.size)
 
 -- a call that counts in a histogram may make room there: no delta is going on, and where an entry is next, it is of this histogram and
 -- not counted yet
@@ -78,8 +79,8 @@ abbrev pub MayCount : Actor → ℕ → ℕ → Type 0
 MayCount a at units =
     (c : Counting) × (known : Known) × CountsNext a c × (c.entry.name ≡ known.name) × (c.entry.units ≡ units)
     × (((look : Look) × (bucket : ℕ) × LooksOff a look known × HasKey known bucket c.entry.key
-    × (at ≡ look.counts + 4 + bucket))
-    ⊎ ((sample : ℕ) × MayTurn a × Sparse a known.reference known × IsFirstSample a known.reference c.entry.key sample × (at ≡ sample + 6)))
+    × (at ≡ look.counts + BLOCK_HEADER + bucket))
+    ⊎ ((sample : ℕ) × MayTurn a × Sparse a known.reference known × IsFirstSample a known.reference c.entry.key sample × (at ≡ sample + SAMPLE_COUNT)))
 
 -- it knows the single word or the counts of a histogram with buckets
 abbrev pub is_looking : Place → Bool
@@ -92,9 +93,9 @@ abbrev pub MayLoadCount : Actor → ℕ → Type 0
 MayLoadCount a at =
     ((look : Look) × (known : Known) × (bucket : ℕ)
     × (LooksOff a look known ⊎ ((b count : ℕ) × (a.place ≡ CountLoaded look b count) × Buckets a look.histogram known))
-    × (bucket < buckets_of known.spec) × (at ≡ look.counts + 4 + bucket))
+    × (bucket < buckets_of known.spec) × (at ≡ look.counts + BLOCK_HEADER + bucket))
     ⊎ ((known : Known) × (sample : ℕ) × (value : ℤ) × Sparse a known.reference known
-    × Contains a.seen_chain sample × SawSample a known.reference value sample × (at ≡ sample + 6)
+    × Contains a.seen_chain sample × SawSample a known.reference value sample × (at ≡ sample + SAMPLE_COUNT)
     × MayTurn a × (is_looking a.place ≡ false))
 
 -- the delta that is going on is of this histogram
@@ -110,9 +111,9 @@ MayRaise a at least =
     × (((look : Look) × (known : Known) × (bucket word : ℕ) × (a.place ≡ CountLoaded look bucket least)
     × Takes a look.histogram known × (look.single ≡ Some word)
     × (packed_bucket (form_seen a look.histogram word) ≢ Some bucket)
-    × (at ≡ look.counts + 4 + buckets_of known.spec + bucket))
+    × (at ≡ look.counts + BLOCK_HEADER + buckets_of known.spec + bucket))
     ⊎ ((sample histogram : ℕ) × (known : Known) × (a.place ≡ SampleLoaded sample least)
-    × (word_seen a.seen_words (sample + 4) ≡ Some histogram) × Takes a histogram known × (at ≡ sample + 7)))
+    × (word_seen a.seen_words (sample + SAMPLE_HISTOGRAM) ≡ Some histogram) × Takes a histogram known × (at ≡ sample + SAMPLE_MARK)))
 
 -- the single mark is raised: to the packed units that were seen since the delta began; or, where the word is off, to the count that was loaded of the packed
 -- bucket, in version 2 with the units that the word keeps
@@ -120,7 +121,7 @@ abbrev pub MayRaiseSingle : Actor → ℕ → ℕ → Type 0
 MayRaiseSingle a histogram least =
     (1 ≤ least) × ((known : Known) × Takes a histogram known)
     × (((look : Look) × (known : Known) × (word : ℕ) × LooksOpen a histogram word look known
-    × SawSingle a (histogram + 9) word × (least ≡ units_in (form_seen a histogram word)))
+    × SawSingle a (histogram + HISTOGRAM_SINGLE) word × (least ≡ units_in (form_seen a histogram word)))
     ⊎ ((look : Look) × (bucket count word : ℕ) × (a.place ≡ CountLoaded look bucket count) × (look.histogram ≡ histogram)
     × (look.single ≡ Some word) × (packed_bucket (form_seen a histogram word) ≡ Some bucket)
     × (least ≡ count + units_in (form_seen a histogram word))))
@@ -129,29 +130,29 @@ MayRaiseSingle a histogram least =
 -- it knows that, its name; of a custom one also the ranges behind it
 abbrev pub IsFixedBehind : Actor → ℕ → ℕ → Type 0
 IsFixedBehind a at index =
-    ((4 ≤ index) × (index < 8)) ⊎ (index ≡ 14)
-    ⊎ ((len : ℕ) × (word_seen a.seen_words (at + 14) ≡ Some len) × (15 ≤ index)
-    × ((index < 15 + name_words len)
-    ⊎ ((n : ℕ) × (word_seen a.seen_words (at + 4) ≡ Some 3) × (word_seen a.seen_words (at + 7) ≡ Some n)
-    × (index < 15 + name_words len + (n - 1)))))
+    ((HISTOGRAM_KIND ≤ index) × (index < HISTOGRAM_COUNTS)) ⊎ (index ≡ HISTOGRAM_NAME_LENGTH)
+    ⊎ ((len : ℕ) × (word_seen a.seen_words (at + HISTOGRAM_NAME_LENGTH) ≡ Some len) × (HISTOGRAM_NAME ≤ index)
+    × ((index < HISTOGRAM_NAME + name_words len)
+    ⊎ ((n : ℕ) × (word_seen a.seen_words (at + HISTOGRAM_KIND) ≡ Some KIND_CUSTOM) × (word_seen a.seen_words (at + HISTOGRAM_BUCKETS) ≡ Some n)
+    × (index < HISTOGRAM_NAME + name_words len + (n - 1)))))
 
 -- a word of a published record that never changes: its type; of a histogram those above; of a sample its histogram and its value
 abbrev pub IsFixed : Actor → ℕ → ℕ → Type 0
 IsFixed a at index =
-    (index ≡ 2) ⊎ ((word_seen a.seen_words (at + 2) ≡ Some 1) × IsFixedBehind a at index)
-    ⊎ ((word_seen a.seen_words (at + 2) ≡ Some 3) × (4 ≤ index) × (index < 6))
+    (index ≡ BLOCK_TYPE) ⊎ ((word_seen a.seen_words (at + BLOCK_TYPE) ≡ Some TYPE_HISTOGRAM) × IsFixedBehind a at index)
+    ⊎ ((word_seen a.seen_words (at + BLOCK_TYPE) ≡ Some TYPE_SAMPLE) × (SAMPLE_HISTOGRAM ≤ index) × (index < SAMPLE_COUNT))
 
 -- A block of its own may be published as what it is to hold. A histogram has a lawful name and a lawful spec, whose counts fit in a
 -- page. A sample has a value of an `i32`, and names a known sparse histogram.
 abbrev pub MayPublish : Actor → Own → Made → Type 0
 MayPublish a own (Histogram name spec) =
-    (own.tag ≡ 1) × (is_name name ≡ true) × (spec_fault spec ≡ None) × (4 + 2 * buckets_of spec ≤ a.shape.page)
+    (own.tag ≡ TYPE_HISTOGRAM) × (is_name name ≡ true) × (spec_fault spec ≡ None) × (BLOCK_HEADER + 2 * buckets_of spec ≤ a.shape.page)
 MayPublish a own (Sample histogram value) =
-    (own.tag ≡ 3) × (8 ≤ own.size) × (is_i32 value ≡ true) × ((known : Known) × Sparse a histogram known)
+    (own.tag ≡ TYPE_SAMPLE) × (SAMPLE_LEAST ≤ own.size) × (is_i32 value ≡ true) × ((known : Known) × Sparse a histogram known)
 
 -- it has met a record, or the queue block; or a shared cursor that it loaded stands there
 abbrev pub MayFollow : Actor → ℕ → Type 0
-MayFollow a at = (at ≡ 12) ⊎ Contains a.seen_chain at ⊎ ((cursor : ℕ) × (a.place ≡ CursorLoaded cursor at))
+MayFollow a at = (at ≡ QUEUE) ⊎ Contains a.seen_chain at ⊎ ((cursor : ℕ) × (a.place ≡ CursorLoaded cursor at))
 
 abbrev pub Ready : Actor → Event → Type 0
 Ready a load_flags = MayTurn a
@@ -160,11 +161,11 @@ Ready a (exchange_free old new) =
     (a.place ≡ FreeLoaded old) × (is_pointer a.shape old ≡ true) × IsRise a.shape old new
 Ready a (store_size at size) = a.place ≡ Raised at size
 Ready a (store_cookie at cookie) =
-    ((size : ℕ) × (a.place ≡ Sized at size)) × ((cookie ≡ 0xC8799269) ⊎ (cookie ≡ 0xFFFFFFFFFFFFFFFF))
-Ready a (store_type at tag) = ((size : ℕ) × (a.place ≡ Marked at size)) × (1 ≤ tag) × (tag ≤ 3)
+    ((size : ℕ) × (a.place ≡ Sized at size)) × ((cookie ≡ CLAIMED_COOKIE) ⊎ (cookie ≡ WASTED_COOKIE))
+Ready a (store_type at tag) = ((size : ℕ) × (a.place ≡ Marked at size)) × (TYPE_HISTOGRAM ≤ tag) × (tag ≤ TYPE_SAMPLE)
 Ready a (store_payload at index value) =
-    (own : Own) × Fills a own × (own.at ≡ at) × (length own.payload ≤ index) × (4 + index < own.size)
-Ready a (set_flag flag) = MayTurn a × ((flag ≡ 1) ⊎ ((flag ≡ 2) × ((free : ℕ) × (a.place ≡ FreeLoaded free))))
+    (own : Own) × Fills a own × (own.at ≡ at) × (length own.payload ≤ index) × (BLOCK_HEADER + index < own.size)
+Ready a (set_flag flag) = MayTurn a × ((flag ≡ FLAG_CORRUPT) ⊎ ((flag ≡ FLAG_FULL) × ((free : ℕ) × (a.place ≡ FreeLoaded free))))
 Ready a (store_own_next at) = (own : Own) × Fills a own × (own.at ≡ at)
 Ready a load_tail = MayTurn a × ((own : Own) × Waits a own)
 Ready a (link tail at) =

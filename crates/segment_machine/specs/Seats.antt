@@ -1,6 +1,7 @@
 -- How recorders are made and joined, and how units are lent. These change no word of a segment, and the records of two actors:
 -- an opener and a recorder. In the running segment the first two load a word beside it that never changes.
 use Rattle.std.specs.Prelude.{◌≡◌, ◌≢◌, ℕ, ◌+◌, ◌-◌, ◌<◌, ◌≤◌, max, false, ◌||◌, nat_lt, if◌then◌else◌, List, [], ◌++◌, map, length}
+use Rattle.segment_image.specs.declared.layout.TheConstants.{HEADER_WORDS}
 use Rattle.segment_image.specs.Shape.{Dimensions}
 use Rattle.segment_machine.specs.declared.place.Place.TheVariants.{Spent, Idle}
 use Rattle.segment_machine.specs.declared.actor.Actor.{Actor}
@@ -51,7 +52,7 @@ idle shape version cursors free share = record {
 
 -- the opener of a new segment with so many shared cursors, with all its units
 abbrev pub opener_of : Dimensions → ℕ → ℕ → Actor
-opener_of shape version cursors = record (idle shape version cursors 16 4294967295) { opener = 1 }
+opener_of shape version cursors = record (idle shape version cursors HEADER_WORDS 4294967295) { opener = 1 }
 
 -- ---- a recorder is made
 

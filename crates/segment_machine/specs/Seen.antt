@@ -10,6 +10,7 @@ use Rattle.bucket_ranges.specs.Spec.{buckets_of, SameSpec}
 use Rattle.alloc_core.specs.Laws.{Behind}
 use Rattle.list_core.specs.Chain.{stops}
 use Rattle.list_core.specs.Walk.{IsPrefix}
+use Rattle.segment_image.specs.declared.layout.TheConstants.{BLOCK_HEADER, BLOCK_TYPE, HISTOGRAM_COUNTS, HISTOGRAM_KIND, HISTOGRAM_NAME_LENGTH, HISTOGRAM_REDUNDANT, HISTOGRAM_SINGLE, HISTOGRAM_SINGLE_MARK, SAMPLE_COUNT, SAMPLE_HISTOGRAM, SAMPLE_MARK, SAMPLE_VALUE}
 use Rattle.segment_machine.specs.declared.actor.Actor.{Actor}
 use Rattle.segment_machine.specs.declared.actor.Known.{Known}
 use Rattle.segment_machine.specs.declared.actor.Made.TheVariants as made
@@ -64,16 +65,17 @@ IsFirstOf records of value at =
 -- a word of a block that never changes any more
 abbrev pub IsFixedIn : Body → ℕ → Type 0
 IsFixedIn (histogram r) i =
-    (i ≡ 2) ⊎ ((4 ≤ i) × (i < 8)) ⊎ ((i ≡ 8) × (r.counts ≢ 0)) ⊎ ((14 ≤ i) × (i < length (words_of (histogram r))))
-IsFixedIn (sample s) i = (i ≡ 2) ⊎ (i ≡ 4) ⊎ (i ≡ 5)
-IsFixedIn (other size tag next payload) i = i ≡ 2
+    (i ≡ BLOCK_TYPE) ⊎ ((HISTOGRAM_KIND ≤ i) × (i < HISTOGRAM_COUNTS)) ⊎ ((i ≡ HISTOGRAM_COUNTS) × (r.counts ≢ 0))
+    ⊎ ((HISTOGRAM_NAME_LENGTH ≤ i) × (i < length (words_of (histogram r))))
+IsFixedIn (sample s) i = (i ≡ BLOCK_TYPE) ⊎ (i ≡ SAMPLE_HISTOGRAM) ⊎ (i ≡ SAMPLE_VALUE)
+IsFixedIn (other size tag next payload) i = i ≡ BLOCK_TYPE
 IsFixedIn _ i = ⊥
 
 -- a word of a block that only rises: a count, a mark or a redundant count
 abbrev pub IsCounterIn : Body → ℕ → Type 0
-IsCounterIn (histogram r) i = (i ≡ 10) ⊎ (i ≡ 13)
-IsCounterIn (counts c) i = (4 ≤ i) × (i < 4 + (length c.units + length c.marks))
-IsCounterIn (sample s) i = (i ≡ 6) ⊎ (i ≡ 7)
+IsCounterIn (histogram r) i = (i ≡ HISTOGRAM_SINGLE_MARK) ⊎ (i ≡ HISTOGRAM_REDUNDANT)
+IsCounterIn (counts c) i = (BLOCK_HEADER ≤ i) × (i < BLOCK_HEADER + (length c.units + length c.marks))
+IsCounterIn (sample s) i = (i ≡ SAMPLE_COUNT) ⊎ (i ≡ SAMPLE_MARK)
 IsCounterIn _ i = ⊥
 
 -- a word that was seen is that of a block, and will be
@@ -91,13 +93,13 @@ WasCounter pieces s =
 -- counts that were seen are in use: the single word of their record is off
 abbrev pub WasInUse : List Piece → Sighting → Type 0
 WasInUse pieces s =
-    (at i : ℕ) (c : Counts) → HasCounts pieces at c → s.at ≡ at + i → 4 ≤ i → i < 4 + (length c.units + length c.marks)
+    (at i : ℕ) (c : Counts) → HasCounts pieces at c → s.at ≡ at + i → BLOCK_HEADER ≤ i → i < BLOCK_HEADER + (length c.units + length c.marks)
     → (r : Record) × HasRecord pieces c.of r × (is_off r.single ≡ true)
 
 -- a single word that was seen has a form, and leads to the present one
 abbrev pub WasSingle : ℕ → List Piece → Sighting → Type 0
 WasSingle version pieces s =
-    (at : ℕ) × (r : Record) × HasRecord pieces at r × (s.at ≡ at + 9) × (form_of version (buckets_of r.spec) s.word ≢ None)
+    (at : ℕ) × (r : Record) × HasRecord pieces at r × (s.at ≡ at + HISTOGRAM_SINGLE) × (form_of version (buckets_of r.spec) s.word ≢ None)
     × Leads version (buckets_of r.spec) s.word r.single
 
 -- one place on the list is no later than another

@@ -1,7 +1,7 @@
 -- Texts that are written one after the other.
-use Rattle.std.proofs.Common.{◌≡◌, ◌∙◌, ℕ, ◌+◌, ◌<◌, ◌≤◌, List, [], ◌∷◌, ◌++◌, length, take, get_or, map, ap, sym, append_assoc}
+use Rattle.std.proofs.Common.{◌≡◌, ◌∙◌, ℕ, ◌+◌, ◌<◌, ◌≤◌, List, [], ◌∷◌, ◌++◌, length, take, get_or, map, ap, sym, subst, append_assoc, All}
 use Rattle.std.specs.List.{flat_map, join_with_byte}
-use Rattle.std.proofs.lemmas.List.{append-nil, take_more, take_all}
+use Rattle.std.proofs.lemmas.List.{append-nil, get_or-map, length-map, take_more, take_all}
 use Rattle.std.proofs.lemmas.List.Folds.{flat_map-map}
 use Rattle.std.proofs.lemmas.List.Concat.{flat_map-append}
 use Rattle.persist_report_core.specs.Text.{line}
@@ -41,3 +41,8 @@ line-written old first others {a} {b} {c} begun joined ended =
     by : (first : List ℕ) (others : List (List ℕ)) → first ++ flat_map (λ field. 44 ∷ field) others ≡ join_with_byte 44 (first ∷ others)
     by first [] = append-nil first
     by first (next ∷ others) = ap (λ s. first ++ 44 ∷ s) (by next others)
+
+-- what holds of each image holds of the image of an element
+pub All-image_at : {X Y : Type 0} (P : Y → Type 0) (g : X → Y) (xs : List X) (i : ℕ) (x : X) → All P (map g xs) → i < length xs → x ≡ get_or xs i x → P (g x)
+All-image_at P g xs i x all h is =
+    subst P (get_or-map g xs i x (g x) h ∙ ap g (sym is)) (all i (g x) (rw length-map h))

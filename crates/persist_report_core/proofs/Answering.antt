@@ -18,18 +18,7 @@ image_cause bytes words fault same (inr refused) other = (words, same, refused)
 -- the cause of a fault of an image
 fault_cause : (bytes words : List ℕ) (fault : ImageFault) → AreWordsOf bytes words → (fault ≡ image.NoMemory) ⊎ (header_of words ≡ Err fault) → IsCausedBy bytes (fault_of_image fault)
 fault_cause bytes words image.NoMemory same h = tt
-fault_cause bytes words image.TooShort same h = image_cause bytes words image.TooShort same h (λ e. cc e)
-fault_cause bytes words image.BadCookie same h = image_cause bytes words image.BadCookie same h (λ e. cc e)
-fault_cause bytes words image.BadVersion same h = image_cause bytes words image.BadVersion same h (λ e. cc e)
-fault_cause bytes words image.BadPage same h = image_cause bytes words image.BadPage same h (λ e. cc e)
-fault_cause bytes words image.BadSize same h = image_cause bytes words image.BadSize same h (λ e. cc e)
-fault_cause bytes words image.NotReady same h = image_cause bytes words image.NotReady same h (λ e. cc e)
-fault_cause bytes words image.Deleted same h = image_cause bytes words image.Deleted same h (λ e. cc e)
-fault_cause bytes words image.BadFree same h = image_cause bytes words image.BadFree same h (λ e. cc e)
-fault_cause bytes words image.BadQueue same h = image_cause bytes words image.BadQueue same h (λ e. cc e)
-fault_cause bytes words image.BadRef same h = image_cause bytes words image.BadRef same h (λ e. cc e)
-fault_cause bytes words image.BadBlock same h = image_cause bytes words image.BadBlock same h (λ e. cc e)
-fault_cause bytes words image.Loop same h = image_cause bytes words image.Loop same h (λ e. cc e)
+fault_cause bytes words fault same h = image_cause bytes words fault same h (λ e. cc e)
 
 -- what a reading that was refused says of the header
 header_refused : {R : Type 0} (P : SegmentHead → R → Type 0) (header : Result SegmentHead ImageFault) (r : Result R ImageFault) (fault : ImageFault) → r ≡ Err fault

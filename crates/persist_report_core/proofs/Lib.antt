@@ -1,8 +1,6 @@
 pub mod Adding
 pub mod Answering
 pub mod Buckets
-pub mod Elements
-pub mod Orders
 pub mod Readables
 pub mod Numbers
 pub mod FieldLemmas

@@ -26,15 +26,4 @@ fault_of_read reading.NotWords = cli.NotWords
 -- the fault of a call whose image was refused; want of memory is no fault of the image
 abbrev pub fault_of_image : ImageFault → CliFault
 fault_of_image image.NoMemory = cli.NoMemory
-fault_of_image image.TooShort = cli.Image image.TooShort
-fault_of_image image.BadCookie = cli.Image image.BadCookie
-fault_of_image image.BadVersion = cli.Image image.BadVersion
-fault_of_image image.BadPage = cli.Image image.BadPage
-fault_of_image image.BadSize = cli.Image image.BadSize
-fault_of_image image.NotReady = cli.Image image.NotReady
-fault_of_image image.Deleted = cli.Image image.Deleted
-fault_of_image image.BadFree = cli.Image image.BadFree
-fault_of_image image.BadQueue = cli.Image image.BadQueue
-fault_of_image image.BadRef = cli.Image image.BadRef
-fault_of_image image.BadBlock = cli.Image image.BadBlock
-fault_of_image image.Loop = cli.Image image.Loop
+fault_of_image fault = cli.Image fault

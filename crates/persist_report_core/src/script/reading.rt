@@ -20,8 +20,8 @@ use std::io::Read;
 // A script has at most so many bytes.
 const MAX_BYTES: usize = 16_777_216;
 
-// The fields of the next record, and whether there is one. Bytes in memory never fail, and records may have any number
-// of fields, so a read fails for want of memory alone.
+// The fields of the next record, and whether there is one. Bytes in memory never fail, which no contract of the kit
+// says; else a read fails for want of memory alone.
 fn next_fields(reader: &mut Reader<&[u8]>, fields: &mut ByteRecord) -> Result<bool, ScriptFault>
     requires flexible { is_flexible reader.old ≡ true }
     requires ready { Ready reader.old }
@@ -33,8 +33,8 @@ fn next_fields(reader: &mut Reader<&[u8]>, fields: &mut ByteRecord) -> Result<bo
     match reader.read_byte_record(fields) {
         Ok(found) => Ok(found),
         Err(error) => match error.kind() {
-            ErrorKind::UnequalLengths { .. } => unreachable!(),
-            _ => Err(ScriptFault::NoMemory),
+            ErrorKind::Io(_) | ErrorKind::OutOfMemory => Err(ScriptFault::NoMemory),
+            _ => unreachable!(),
         },
     }
 }

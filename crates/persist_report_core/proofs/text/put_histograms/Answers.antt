@@ -1,9 +1,8 @@
 use Rattle.std.proofs.Common.{◌≡◌, ◌++◌, subst}
 use Rattle.persist_report_core.specs.Readable.{IsReadable}
-use Rattle.persist_report_core.proofs.Elements.{All-image_at}
 use Rattle.image_reader.specs.Views.{histogram_view}
 use Rattle.persist_report_core.specs.Text.{histogram_text}
-use Rattle.persist_report_core.proofs.Adding.{written-all, written-both, written-more}
+use Rattle.persist_report_core.proofs.Adding.{All-image_at, written-all, written-both, written-more}
 use Rattle.persist_report_core.proofs.text.put_histograms.Goals as goal
 
 pub returns : goal.returns

@@ -1,8 +1,7 @@
 use Rattle.persist_report_core.specs.Readable.{IsReadable}
-use Rattle.persist_report_core.proofs.Elements.{All-image_at}
 use Rattle.image_reader.specs.Views.{histogram_view}
 use Rattle.persist_report_core.specs.Text.{redundant_text}
-use Rattle.persist_report_core.proofs.Adding.{written-all}
+use Rattle.persist_report_core.proofs.Adding.{All-image_at, written-all}
 use Rattle.persist_report_core.proofs.text.put_redundants.Goals as goal
 
 pub returns : goal.returns

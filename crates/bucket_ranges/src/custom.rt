@@ -17,10 +17,7 @@ impl Model for CustomValues {
     ghost view = { λ custom. custom.values.items };
 }
 
-ghost use Rattle.std.specs.Prelude.{◌≡◌, nat_eq};
-ghost use Rattle.std.specs.Cmp.Lexicographic.{pointwise};
-ghost use Rattle.std.proofs.Common.{rules};
-ghost use Rattle.std.specs.Cmp.Rules.{comparing};
+ghost use Rattle.std.specs.Prelude.{◌≡◌};
 
 impl From<Vec<u32>> for CustomValues {
     ghost from_gives = { λ values custom. custom ≡ values.items };
@@ -45,20 +42,6 @@ impl CustomValues {
     {
         self.values.as_slice()
     }
-}
-
-impl PartialEq for CustomValues {
-    ghost eq = { pointwise nat_eq };
-
-    ghost laws = { Prim.search (comparing, rules) };
-
-    fn eq(&self, other: &CustomValues) -> bool {
-        self.as_slice() == other.as_slice()
-    }
-}
-
-impl Eq for CustomValues {
-    ghost laws = { Prim.search (comparing, rules) };
 }
 
 ghost use Rattle.std.specs.Prelude.{◌<◌, ◌++◌, ◌∷◌, ℕ, List, [], All};

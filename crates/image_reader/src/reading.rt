@@ -5,7 +5,7 @@ use bucket_ranges::reading::RecordFault;
 use segment_image::ImageFault;
 
 /// What a histogram of a segment reads as.
-#[derive(Debug, Drop, PartialEq, Eq)]
+#[derive(Debug, Drop)]
 pub struct HistReading {
     /// The index of the first word of its record.
     pub reference: u64,
@@ -36,7 +36,7 @@ pub struct BadRecord {
 }
 
 /// What the words of a segment read as.
-#[derive(Debug, Drop, PartialEq, Eq)]
+#[derive(Debug, Drop)]
 pub struct Reading {
     /// The segment's id.
     pub id: u64,

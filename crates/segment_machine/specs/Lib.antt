@@ -24,3 +24,4 @@ pub mod Follows
 pub mod Examples
 pub mod Accounts
 pub mod Lives
+pub mod Refused

@@ -6,6 +6,7 @@
 ghost use Rattle.segment_machine.specs.Promises.{StepsChangeOne, KeysAreLeast};
 ghost use Rattle.segment_machine.specs.Follows.{NotesKeep, StepsFollow, TablesFollow};
 ghost use Rattle.segment_machine.specs.Lives.{RecorderIsJoined, LinksLengthen, DeltaOwes, SnapshotOwes};
+ghost use Rattle.segment_machine.specs.Refused.{ValuesApart, MovesFirst, CursorsThere, SamplesMet, WordsSince, SwapsAdd, RecordsAlone, DebtsStay, TailsStay, FirstEntriesApart, CountsLoaded, UnitsSpent, CountsOwe, WordsFormed, KindsRead};
 ghost use Rattle.segment_machine.specs.Accounts.{MountedAgrees, LimitAgrees, TakersAgree, SparseAgrees, BatchAgrees};
 ghost use Rattle.segment_machine.specs.Keeps.{OpeningIsKept, OpeningsAreKept, AllocatingKeeps, ListingKeeps, SplitsKeep, JoinsKeep, LendsKeep, KeptFlagsAreSet, KeptIsChain, KeptUnitsAreKept, KeptTransitIsLocal, KeptSumsAreAmounts, KeptTotalsAreCounted, KeptMarksAreTaken, KeptRecordsHold, KeptIsConsistent};
 ghost use Rattle.segment_machine.specs.Examples.{Keys, PackedThenMounted, StoppedInTransit, PackingLimit, DeltasAndMarks, TwoTakers, PackedRun, MountingRun, TakerRuns, TakingRun, SparseSamples, Batches, MountedIsConsistent, ListBreaks, RecordsBreak, TotalsBreak, MarksBreak, SumsBreak, TransitBreaks, FlagsBreak, UnitsBreak};
@@ -181,6 +182,81 @@ pub fn flags_break()
 /// Units are not kept where a unit was spent and is still in a share.
 pub fn units_break()
     ensures { UnitsBreak }
+{}
+
+/// Two numbers that are one word do not count in one sample.
+pub fn values_apart()
+    ensures { ValuesApart }
+{}
+
+/// Nothing is counted while units are moving.
+pub fn moves_first()
+    ensures { MovesFirst }
+{}
+
+/// A cursor that is not there is not loaded.
+pub fn cursors_there()
+    ensures { CursorsThere }
+{}
+
+/// A count is loaded of a sample that was met.
+pub fn samples_met()
+    ensures { SamplesMet }
+{}
+
+/// A single mark is raised to what was seen since the delta began.
+pub fn words_since()
+    ensures { WordsSince }
+{}
+
+/// A delta that swaps the sum mark twice has taken both differences.
+pub fn swaps_add()
+    ensures { SwapsAdd }
+{}
+
+/// A record is published without counts.
+pub fn records_alone()
+    ensures { RecordsAlone }
+{}
+
+/// Who owes an answer is not joined.
+pub fn debts_stay()
+    ensures { DebtsStay }
+{}
+
+/// A join keeps the tails that were seen.
+pub fn tails_stay()
+    ensures { TailsStay }
+{}
+
+/// First entries were accepted, and stand in no redundant count that is kept.
+pub fn first_entries_apart()
+    ensures { FirstEntriesApart }
+{}
+
+/// What was loaded is the count of a bucket, or of a sample.
+pub fn counts_loaded()
+    ensures { CountsLoaded }
+{}
+
+/// A unit that is logged is spent.
+pub fn units_spent()
+    ensures { UnitsSpent }
+{}
+
+/// A count that was seen of a known record owes what was accepted.
+pub fn counts_owe()
+    ensures { CountsOwe }
+{}
+
+/// A single word that was seen has a form.
+pub fn words_formed()
+    ensures { WordsFormed }
+{}
+
+/// A record's kind is one that is read.
+pub fn kinds_read()
+    ensures { KindsRead }
 {}
 
 /// A new segment with its opener is kept: what holds between any two events holds of it.

@@ -13,17 +13,17 @@ use Rattle.image_reader.specs.declared.buckets.Buckets.{Buckets}
 use Rattle.image_reader.specs.Buckets.{AreBucketsAt}
 
 -- what is found of the buckets is what the record has
-pub large-found : (words : List ℕ) (at : ℕ) (b : Buckets) → AreBucketsAt words at b
-    → has_large (map (total_at words b.counts b.single) (range_with_len 0 b.number)) ≡ has_large (totals_of words at)
-large-found words at b are = λ i. has_large (map (total_at words (are.counts i) (are.single i)) (range_with_len 0 (are.number i)))
+pub large-found : (version : ℕ) (words : List ℕ) (at : ℕ) (b : Buckets) → AreBucketsAt version words at b
+    → has_large (map (total_at words b.counts b.single) (range_with_len 0 b.number)) ≡ has_large (totals_of version words at)
+large-found version words at b are = λ i. has_large (map (total_at words (are.counts i) (are.single i)) (range_with_len 0 (are.number i)))
 
-pub single-found : (words : List ℕ) (at : ℕ) (b : Buckets) → AreBucketsAt words at b
-    → is_bad_single b.single b.counts ≡ is_bad_single (record_single words at) (field_at words at 8)
-single-found words at b are = λ i. is_bad_single (are.single i) (are.counts i)
+pub single-found : (version : ℕ) (words : List ℕ) (at : ℕ) (b : Buckets) → AreBucketsAt version words at b
+    → is_bad_single b.single b.counts ≡ is_bad_single (record_single version words at) (field_at words at 8)
+single-found version words at b are = λ i. is_bad_single (are.single i) (are.counts i)
 
-pub mark-found : (words : List ℕ) (at : ℕ) (b : Buckets) → AreBucketsAt words at b
-    → is_bad_mark_at words b.counts b.number b.single b.single_mark ≡ is_bad_mark words at
-mark-found words at b are = λ i. is_bad_mark_at words (are.counts i) (are.number i) (are.single i) (are.single_mark i)
+pub mark-found : (version : ℕ) (words : List ℕ) (at : ℕ) (b : Buckets) → AreBucketsAt version words at b
+    → is_bad_mark_at b.version words b.counts b.number b.single b.single_mark ≡ is_bad_mark version words at
+mark-found version words at b are = λ i. is_bad_mark_at (are.version_is i) words (are.counts i) (are.number i) (are.single i) (are.single_mark i)
 
 -- three checks of which the first, the second, the third or none fails
 pub three-first : (counts single mark : Bool) → counts ≡ true
@@ -77,7 +77,7 @@ pub fault_of-units : (words : List ℕ) (head : SegmentHead) (at : ℕ) (fault :
     → first_fault (checks_behind_name words head at) ≡ Some fault
 fault_of-units words head at fault s e =
     behind-units (is_bad_spec words head.shape.page at) (is_bad_counts words head at)
-    (is_bad_single (record_single words at) (field_at words at 8)) (is_bad_mark words at)
+    (is_bad_single (record_single head.version words at) (field_at words at 8)) (is_bad_mark head.version words at)
     (is_bad_sum (sum_of words at) (sum_mark_of words at)) fault s e
 
 pub fault_of-sum : (words : List ℕ) (head : SegmentHead) (at : ℕ) (bad : Bool)
@@ -86,6 +86,6 @@ pub fault_of-sum : (words : List ℕ) (head : SegmentHead) (at : ℕ) (bad : Boo
     → first_fault (checks_behind_name words head at) ≡ (if bad then Some BadSum else None)
 fault_of-sum words head at bad s e b =
     behind-sum (is_bad_spec words head.shape.page at) (is_bad_counts words head at)
-    (is_bad_single (record_single words at) (field_at words at 8)) (is_bad_mark words at)
+    (is_bad_single (record_single head.version words at) (field_at words at 8)) (is_bad_mark head.version words at)
     (is_bad_sum (sum_of words at) (sum_mark_of words at)) s e
     ∙ ap (λ t. if t then Some BadSum else None) b

@@ -31,10 +31,10 @@ known : (old : Names) (bytes name : List ℕ) (added said : Bool) → bytes ≡ 
 known old bytes name added said same is says = ap (λ n. not (holds old n)) (sym same) ∙ (sym is ∙ says)
 
 -- one more histogram
-seen_more : (before now : List HistReading) (hist : HistReading) (words : List ℕ) (at : ℕ) → now ≡ before ++ hist ∷ []
-    → histogram_view hist ≡ histogram_of words [] at
-    → map histogram_view now ≡ map histogram_view before ++ histogram_of words [] at ∷ []
-seen_more before now hist words at is seen =
+seen_more : (before now : List HistReading) (hist : HistReading) (version : ℕ) (words : List ℕ) (at : ℕ) → now ≡ before ++ hist ∷ []
+    → histogram_view hist ≡ histogram_of version words [] at
+    → map histogram_view now ≡ map histogram_view before ++ histogram_of version words [] at ∷ []
+seen_more before now hist version words at is seen =
     ap (map histogram_view) is
     ∙ (map-append histogram_view before (hist ∷ []) ∙ ap (λ h. map histogram_view before ++ h ∷ []) seen)
 
@@ -88,7 +88,7 @@ returns-else-words-at-eq-KIND_SPARSE-clause-gathered c = λ earlier so_far.
 -- the references stay those of words
 near_more : (before now : List HistReading) (hist : HistReading) (words : List ℕ) (head : SegmentHead) (at : ℕ) → header_of words ≡ Ok head
     → record_fault words head at ≡ None → at + field_at words at 0 ≤ length words → now ≡ before ++ hist ∷ []
-    → histogram_view hist ≡ histogram_of words [] at → AreNear before → AreNear now
+    → histogram_view hist ≡ histogram_of head.version words [] at → AreNear before → AreNear now
 near_more before now hist words head at header lawful within is seen near =
     subst AreNear (sym is)
     (All-push (λ (h : HistReading). h.reference < 2 ^ 32) before hist near

@@ -13,8 +13,8 @@ pub record Block : Type 0 where
   pub words : List ℕ
 
 -- What a segment consists of. `other_flags` are the bits of the word of flags above its first two, and `reserved` the three
--- words between the tail and the queue block: both are 0 in a new segment, and whatever an image has in one that was made of
--- it. `spare` are the words behind the last block.
+-- words between the tail and the queue block: in a new segment they are 0, in one that was made of an image as they were there.
+-- `spare` are the words behind the last block.
 pub record Layout : Type 0 where
   pub version : ℕ
   pub id : ℕ

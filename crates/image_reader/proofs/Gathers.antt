@@ -19,18 +19,6 @@ use Rattle.image_reader.specs.Names.{holds}
 use Rattle.image_reader.specs.Gathering.{IsGathered}
 use Rattle.image_reader.proofs.Gathered.{unlawful-push, other-push, read-same, read-push, names-push, sparse-push, bad-none, bad-some, fault_behind-histogram, fault_behind-sample, fault_behind-other, samples-same, is_sample-other, is_sample-from, first_samples-push}
 
--- nothing gathered
-pub IsGathered-none : (words : List ℕ) (head : SegmentHead) (g : Gathering) → g.hists.items ≡ [] → g.bad.items ≡ []
-    → ((name : List ℕ) → holds g.names name ≡ false) → ((r : ℕ) → get_or g.sparse.items r false ≡ false)
-    → ((h : ℕ) → held g.samples h ≡ []) → IsGathered words head [] g
-IsGathered-none words head g hists bad names sparse samples = record {
-  hists_are = ap (map histogram_view) hists;
-  bad_are = rw bad refl;
-  names_are = names;
-  sparse_are = sparse;
-  samples_are = samples;
-}
-
 -- type 1 is not type 3
 one-three : (words : List ℕ) (r : ℕ) → field_at words r 2 ≡ 1 → (field_at words r 2 == 3) ≡ false
 one-three words r e = ap (λ t. t == 3) e

@@ -1,6 +1,6 @@
 -- What a lawful header and a lawful block say of the words.
 use Rattle.std.proofs.Common.{◌≡◌, Bool, true, false, not, ◌&&◌, ◌==◌, if◌then◌else◌, ℕ, ◌+◌, ◌%◌, ◌≤◌, List, [], ◌∷◌, length, Option, Some, None, Ok, Err, refl, arith, ap, sym, ◌∙◌}
-use Rattle.std.specs.Prelude.{nat_lt, nat_le, is_ok}
+use Rattle.std.specs.Prelude.{nat_lt, nat_le}
 use Rattle.std.specs.List.{AllByRecursion, list_any}
 use Rattle.std.proofs.lemmas.Bool.{not-false, or_parts, and_parts, and_from, leb-true, ltb-false, eqb-true, eq-eqb, ne_eqb}
 use Rattle.segment_image.specs.Checks.{checked, first_fault}
@@ -155,15 +155,3 @@ pub is_block-from_fault : (words : List ℕ) (head : SegmentHead) (reference : �
     → block_of words head reference ≡ Err fault → is_block words head reference ≡ false
 is_block-from_fault words head reference fault e =
     no_block (is_placed head reference) (is_claimed words head reference) (block_head_of words reference) fault e
-
-is_ok_of_checked : (placed claimed : Bool) (found : BlockHead)
-    → is_ok (checked ((not placed, BadRef) ∷ (not claimed, BadBlock) ∷ []) found) ≡ (placed && claimed)
-is_ok_of_checked false claimed found = refl
-is_ok_of_checked true false found = refl
-is_ok_of_checked true true found = refl
-
--- whether a block has no fault
-pub is_ok_of_block : (words : List ℕ) (head : SegmentHead) (reference : ℕ)
-    → is_ok (block_of words head reference) ≡ is_block words head reference
-is_ok_of_block words head reference =
-    is_ok_of_checked (is_placed head reference) (is_claimed words head reference) (block_head_of words reference)

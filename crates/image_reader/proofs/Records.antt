@@ -1,5 +1,5 @@
 -- The first fault of a record, from what its checks found.
-use Rattle.std.proofs.Common.{◌≡◌, Bool, true, false, not, ℕ, ◌+◌, ◌<◌, ◌≤◌, List, [], ◌∷◌, ◌++◌, map, Some, None, Err, get_or, inl, inr, refl, ap, sym, ◌∙◌, arith}
+use Rattle.std.proofs.Common.{◌≡◌, Bool, true, false, not, ℕ, ◌+◌, ◌<◌, ◌≤◌, List, [], ◌∷◌, ◌++◌, map, None, get_or, inl, inr, refl, ap, sym, ◌∙◌, arith}
 use Rattle.std.specs.List.{range_with_len, list_any}
 use Rattle.std.proofs.lemmas.List.{map-id}
 use Rattle.std.proofs.lemmas.List.FromFn.{get_or-range_with_len, length-range_with_len, get_or-map-range_with_len, length-map-range_with_len, map-range_with_len_more}
@@ -9,47 +9,9 @@ use Rattle.std.proofs.lemmas.Bool.{lt-ltb, le-ltb, or_from, cases_lt, both_ways}
 use Rattle.segment_image.specs.Checks.{first_fault}
 use Rattle.segment_image.specs.Blocks.{field_at}
 use Rattle.segment_image.specs.declared.head.SegmentHead.{SegmentHead}
-use Rattle.bucket_ranges.specs.declared.reading.RecordFault.{RecordFault}
 use Rattle.bucket_ranges.specs.declared.reading.RecordFault.TheVariants.{BadKind, BadName, BadSpec, BadCounts, BadSingle, BadMark, BadSum}
-use Rattle.bucket_ranges.specs.Reading.{Histogram, Reading, checks_behind_name, record_fault, record_single, is_bad_kind, has_name, is_bad_spec, is_bad_counts, has_large, is_bad_single, is_bad_mark, is_bad_sum, sum_of, sum_mark_of}
+use Rattle.bucket_ranges.specs.Reading.{Histogram, Reading, record_fault, record_single, is_bad_kind, has_name, is_bad_spec, is_bad_counts, has_large, is_bad_single, is_bad_mark, is_bad_sum, sum_of, sum_mark_of}
 use Rattle.image_reader.proofs.Marks.{list_any-push}
-use Rattle.image_reader.specs.declared.record.Refusal.{Refusal}
-use Rattle.image_reader.specs.declared.record.Refusal.TheVariants.{Memory, Fault}
-use Rattle.image_reader.specs.Records.{IsRefusedBy, RefusedOnly}
-
--- where a call of one check is refused, the record is, as far as that check gives the first fault
-pub IsRefusedBy-from_only : (words : List ℕ) (head : SegmentHead) (at : ℕ) (fault : RecordFault) (cause : Type 0)
-    (refusal : Refusal) → RefusedOnly {X = Unit {0}} fault cause (Err refusal)
-    → (cause → record_fault words head at ≡ Some fault) → IsRefusedBy words head at refusal
-IsRefusedBy-from_only words head at fault cause Memory only first = tt
-IsRefusedBy-from_only words head at fault cause (Fault other) only first = first only.1 ∙ ap (λ f. Some f) (sym only.0)
-
--- the first two checks before others
-two-first : (kind name : Bool) (rest : List (Bool × RecordFault)) → kind ≡ true
-    → first_fault ((kind, BadKind) ∷ (not name, BadName) ∷ rest) ≡ Some BadKind
-two-first kind name rest k = rw k refl
-
-two-second : (kind name : Bool) (rest : List (Bool × RecordFault)) → kind ≡ false → name ≡ false
-    → first_fault ((kind, BadKind) ∷ (not name, BadName) ∷ rest) ≡ Some BadName
-two-second kind name rest k n = rw (k, n) refl
-
-two-rest : (kind name : Bool) (rest : List (Bool × RecordFault)) → kind ≡ false → name ≡ true
-    → first_fault ((kind, BadKind) ∷ (not name, BadName) ∷ rest) ≡ first_fault rest
-two-rest kind name rest k n = rw (k, n) refl
-
-pub record_fault-kind : (words : List ℕ) (head : SegmentHead) (at : ℕ) → is_bad_kind words at ≡ true
-    → record_fault words head at ≡ Some BadKind
-record_fault-kind words head at k = two-first (is_bad_kind words at) (has_name words at) (checks_behind_name words head at) k
-
-pub record_fault-name : (words : List ℕ) (head : SegmentHead) (at : ℕ) → is_bad_kind words at ≡ false
-    → has_name words at ≡ false → record_fault words head at ≡ Some BadName
-record_fault-name words head at k n =
-    two-second (is_bad_kind words at) (has_name words at) (checks_behind_name words head at) k n
-
-pub record_fault-behind : (words : List ℕ) (head : SegmentHead) (at : ℕ) → is_bad_kind words at ≡ false
-    → has_name words at ≡ true → record_fault words head at ≡ first_fault (checks_behind_name words head at)
-record_fault-behind words head at k n =
-    two-rest (is_bad_kind words at) (has_name words at) (checks_behind_name words head at) k n
 
 -- what is known of a record without a fault
 pub record IsSound (words : List ℕ) (head : SegmentHead) (at : ℕ) : Type 0 where

@@ -147,11 +147,6 @@ none-behind h x (e ∷ es) above sorted =
     let other : (e.0.0 == h) ≡ false = ne_eqb e.0.0 h (λ same. absurd (omega arith)) in
     ap (λ b. cond b (e ∷ filter (of h) es) (filter (of h) es)) other ∙ none-behind h x es above sorted.1
 
--- the step where the first entry is of the histogram too
-same-step : (o : Ordering) (y x : Entry) (rest put kept kept_put : List Entry) → kept_put ≡ put
-    → match_ordering o (y ∷ x ∷ kept) (x ∷ kept) (x ∷ kept_put) ≡ match_ordering o (y ∷ x ∷ kept) (x ∷ kept) (x ∷ put)
-same-step o y x rest put kept kept_put same = ap (λ xs. match_ordering o (y ∷ x ∷ kept) (x ∷ kept) (x ∷ xs)) same
-
 -- a test of a choice by an ordering
 filter-choice : (p : Entry → Bool) (o : Ordering) (a b c : List Entry)
     → filter p (match_ordering o a b c) ≡ match_ordering o (filter p a) (filter p b) (filter p c)

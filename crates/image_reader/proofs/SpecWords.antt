@@ -20,10 +20,6 @@ has_spec-buckets words at e =
     named-buckets (field_at words at 4) (field_at words at 5) (field_at words at 6) (field_at words at 7)
     (inner_ranges words at) (has_spec-parts words at e).1
 
--- a spec is bad where it is unlawful
-pub is_bad_spec-unlawful : (words : List ℕ) (page at : ℕ) → has_spec words at ≡ false → is_bad_spec words page at ≡ true
-is_bad_spec-unlawful words page at e = ap (λ b. not b || nat_lt page (4 + 2 * record_buckets words at)) e
-
 -- or where its counts do not fit
 pub is_bad_spec-lawful : (words : List ℕ) (page at : ℕ) → has_spec words at ≡ true
     → is_bad_spec words page at ≡ nat_lt page (4 + 2 * field_at words at 7)

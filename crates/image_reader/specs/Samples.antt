@@ -1,5 +1,5 @@
 -- The samples that a reader has met.
-use Rattle.std.specs.Prelude.{◌≡◌, Bool, true, not, ◌||◌, ◌==◌, nat_lt, ℕ, ◌<◌, ◌^◌, ℤ, List, All, map}
+use Rattle.std.specs.Prelude.{◌≡◌, true, ◌==◌, ℕ, ◌<◌, ◌^◌, ℤ, List, All, map}
 use Rattle.std.specs.List.{filter}
 use Rattle.std.specs.declared.cmp.Ordering.{Ordering}
 use Rattle.std.specs.Ordering.{nat_cmp, int_cmp, ordering_then}

@@ -150,7 +150,7 @@ module _ (shape : Dimensions) (opened : Anatomy) (state : State) (kept : Kept sh
       full = goes.full;
       roles = roles_set state.actors id a (doing a d) mine (same_role a d turns) not_opener kept.roles;
       first_noted = kept.first_noted;
-      answered = answered_set opened.records before.records state.actors id a (doing a d) mine refl goes.owed kept.answered;
+      answered = answered_set before.records state.actors id a (doing a d) mine refl goes.owed kept.answered;
       cursors = cursors_set (order_of before) state.cursors state.actors id a (doing a d) mine records refl kept.cursors;
       standing = stands_all;
       each = fits_all;

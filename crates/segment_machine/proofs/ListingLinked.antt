@@ -383,18 +383,18 @@ module _ (shape : Dimensions) (opened : Anatomy) (state : State) (kept : Kept sh
         }
 
     -- the record is the first of its name and its maker owes the answer, or the first one stays
-    answered_now : AreAnswered opened.records new.records actors'
+    answered_now : AreAnswered new.records actors'
     answered_now name kind at (front, behind, is, others) = ⊎_elim
-        (λ t. answered_more opened.records anatomy.records state.actors id a (doing a d) mine refl
+        (λ t. answered_more anatomy.records state.actors id a (doing a d) mine refl
         (λ known has. Contains-append_left a.owed (owed_for (own_at a.own own.at) own.at) known has) kept.answered name kind at (front, t.0, t.1, others))
         (λ t.
         let asked_for : given ≡ made.Histogram name kind = cc (ap (λ (z : Listed). z.made) t.0) in
         let owes = owed_is (own_at a.own own.at) own name kind own.at (own_found a.own i own mine_fits.apart there) (asked ∙ ap (λ (g : Made). Some g) asked_for) in
         let entry : Known = record { name = name; spec = kind; reference = own.at } in
-        inr (inr (subst (λ (n : ℕ). Contains (all_owed actors') (record { name = name; spec = kind; reference = n })) (ap (λ (z : Listed). z.reference) t.0)
+        inr (subst (λ (n : ℕ). Contains (all_owed actors') (record { name = name; spec = kind; reference = n })) (ap (λ (z : Listed). z.reference) t.0)
         (row_in (λ (b : Actor). b.owed) actors' id (doing a d) entry (set_at state.actors id a (doing a d) mine)
         (Contains-append_right a.owed (owed_for (own_at a.own own.at) own.at) entry
-        (subst (λ (list : List Known). Contains list entry) (sym owes) (0, omega arith, refl)))))))
+        (subst (λ (list : List Known). Contains list entry) (sym owes) (0, omega arith, refl))))))
         (snoc_split anatomy.records front behind l (record { reference = at; made = Some (made.Histogram name kind) }) is)
 
     others_stay : (who at : ℕ) (body : Body) → who ≢ id → Stands anatomy.pieces at (some who) body → Stands pieces at (some who) body

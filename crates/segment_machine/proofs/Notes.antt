@@ -33,7 +33,7 @@ pub looks_kept : NoteKeeps looks
 looks_kept shape opened state id a kept mine records (lived, recorder, runs, takes) =
     let n : Noting = record (noting_of a) { since_singles = length a.seen_singles; since_counts = length a.seen_counts } in
     notes_on shape opened state kept id a mine records n lived (looks_counts a) (takes_nothing a n) (λ name key. refl) (λ known has. has)
-    (answered_set opened.records kept.anatomy.records state.actors id a (noting a n) mine refl refl)
+    (answered_set kept.anatomy.records state.actors id a (noting a n) mine refl refl)
     (λ fit. noting_fits shape kept.anatomy state.cursors _ kept.roles.opener id a n fit fit.sees.names
     (calls_by kept.anatomy a n fit.calls (looks_counts a) fit.calls.ordered fit.calls.within fit.calls.held fit.calls.ended fit.calls.spent fit.calls.taking)
     (looks_anew kept.anatomy _ kept.roles.opener a n (fit.looks records))
@@ -104,7 +104,7 @@ begins_kept name cost entries shape opened state id a kept mine records (lived, 
     let n : Noting = record (noting_of a) { share = a.share - cost; held = record { name = name; units = cost } ∷ []; running = map fresh entries } in
     let counts = begins_counts a name cost entries runs holds enough in
     notes_on shape opened state kept id a mine records n lived counts (takes_nothing a n) (λ name key. refl) (λ known has. has)
-    (answered_set opened.records kept.anatomy.records state.actors id a (noting a n) mine refl refl)
+    (answered_set kept.anatomy.records state.actors id a (noting a n) mine refl refl)
     (λ fit. noting_fits shape kept.anatomy state.cursors _ kept.roles.opener id a n fit fit.sees.names
     (calls_by kept.anatomy a n fit.calls counts (fresh_ordered entries)
     (λ some_run. (name, cost, refl, subst (AreWithin name cost) (sym (fresh_entries entries)) within, known))

@@ -223,7 +223,7 @@ amounts_kept amount shape opened state id a kept mine records ((before, last, ru
     not_empty before [] last (sym runs ∙ ap (λ (a : Actor). a.running) (subst (StandsRight shape kept.anatomy id a) is_spent (kept.standing id a mine))) in
     subst (λ (running : List Counting). Kept shape opened (record state { actors = set state.actors id (record a { running = running }) })) (sym changed)
     (notes_on shape opened state kept id a mine records n lived counts (takes_nothing a n) (λ name key. refl) (λ known has. has)
-    (answered_set opened.records kept.anatomy.records state.actors id a (noting a n) mine refl refl)
+    (answered_set kept.anatomy.records state.actors id a (noting a n) mine refl refl)
     (λ fit.
     let (name, cost, holds, within, known) = fit.calls.within (λ none. not_empty before [] last (sym runs ∙ none)) in
     let held_is : cost_total a.held ≡ 0 + cost = ap cost_total holds in

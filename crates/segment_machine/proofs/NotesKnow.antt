@@ -70,7 +70,7 @@ module _ (a : Actor) (known : Known) where
       notes_on shape opened state kept id a mine records knower lived knows_counts (takes_nothing a knower)
       (λ name key. moves_still shape kept.anatomy id name key a.place (kept.standing id a mine))
       (λ k has. Contains-append_left a.names (known ∷ []) k has)
-      (answered_knows opened.records kept.anatomy.records state.actors id a (noting a knower) mine known refl refl)
+      (answered_knows kept.anatomy.records state.actors id a (noting a knower) mine known refl refl)
       (λ fit. noting_fits shape kept.anatomy state.cursors _ kept.roles.opener id a knower fit
       (All-push (Knows kept.anatomy) a.names known fit.sees.names right)
       (calls_by kept.anatomy a knower fit.calls knows_counts fit.calls.ordered

@@ -226,7 +226,7 @@ declines_kept owes shape opened state id a kept mine records (there, (at, letter
     let counts : SameCounts a (noting a n) =
     record { counted = λ name key. refl; summed = λ name. refl; noted = λ name. refl; costs = λ name. omega arith; units = refl } in
     notes_on shape opened state kept id a mine records n lived counts (takes_nothing a n) (λ name key. refl) (λ known has. has)
-    (answered_declines opened.records kept.anatomy.records state.actors id a (noting a n) mine owes kind at first apart refl refl)
+    (answered_declines kept.anatomy.records state.actors id a (noting a n) mine owes kind at first apart refl refl)
     (λ fit. noting_fits shape kept.anatomy state.cursors _ kept.roles.opener id a n fit fit.sees.names
     (calls_by kept.anatomy a n fit.calls counts fit.calls.ordered fit.calls.within fit.calls.held fit.calls.ended fit.calls.spent fit.calls.taking)
     (looks_on kept.anatomy _ kept.roles.opener a n (fit.looks records))

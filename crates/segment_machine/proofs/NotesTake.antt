@@ -91,7 +91,7 @@ takes_kept name shape opened state id a kept mine records (lived, recorder, runs
     let lives = lives_on a records lived in
     let nothing = not_opener shape opened state kept id a mine records in
     notes_on shape opened state kept id a mine records n lived (takes_counts a name) (takes_same a name) (λ name key. refl) (λ known has. has)
-    (answered_set opened.records kept.anatomy.records state.actors id a (noting a n) mine refl refl)
+    (answered_set kept.anatomy.records state.actors id a (noting a n) mine refl refl)
     (λ fit. noting_fits shape kept.anatomy state.cursors _ kept.roles.opener id a n fit fit.sees.names
     (calls_by kept.anatomy a n fit.calls (takes_counts a name) fit.calls.ordered fit.calls.within fit.calls.held fit.calls.ended fit.calls.spent
     (λ taking. (runs, (a.taken, nothing_taken a name, refl))))

@@ -152,7 +152,7 @@ module _ (shape : Dimensions) (opened : Anatomy) (state : State) (kept : Kept sh
           (set_else state.actors id 0 later (λ same. not_first (sym same)) ∙ kept.roles.stands) refl (refl, refl) sums (stood_set state.actors id a later mine role)
 
       module _ (knows : (known : Known) → Contains a.names known → Contains n.names known)
-          (answers : AreAnswered opened.records kept.anatomy.records state.actors → AreAnswered opened.records kept.anatomy.records noters)
+          (answers : AreAnswered kept.anatomy.records state.actors → AreAnswered kept.anatomy.records noters)
           (refits : Fits shape kept.anatomy state.cursors noters kept.roles.opener id a → Fits shape kept.anatomy state.cursors noters kept.roles.opener id later) where
         each : (k : ℕ) (c : Actor) → get_elem? noters k ≡ some c → c.place ≢ Spent → Fits shape kept.anatomy state.cursors noters kept.roles.opener k c
         each k c at live = elim (at_set state.actors id k later c at) [

@@ -42,6 +42,9 @@ first_one records name kind other at place (xs, rest, is, before) (ys, more, als
 
 -- ---- what its maker owes
 
+abbrev debt : List ℕ → Spec → ℕ → Known
+debt name kind at = record { name = name; spec = kind; reference = at }
+
 -- a record that is linked owes the answer
 pub owed_is : (found : std.Option Own) (own : Own) (name : List ℕ) (kind : Spec) (at : ℕ) → found ≡ Some own → own.made ≡ Some (Histogram name kind)
     → owed_for found at ≡ record { name = name; spec = kind; reference = at } ∷ []
@@ -51,17 +54,16 @@ owed_is found own name kind at is asked =
 
 -- ---- what actors were answered and owe
 
-module _ (opened records : List Listed) where
+module _ (records : List Listed) where
   -- where no answer is lost
   pub answered_by : (old new : List Actor) → ((known : Known) → Contains (all_names old) known → Contains (all_names new) known)
       → ((mine : Known) → Contains (all_owed old) mine → Contains (all_owed new) mine)
-      → AreAnswered opened records old → AreAnswered opened records new
+      → AreAnswered records old → AreAnswered records new
   answered_by old new names owed all name kind at first = along (all name kind at first)
     where
-      along : IsAnswered opened old name kind at → IsAnswered opened new name kind at
-      along (inl before) = inl before
-      along (inr (inl (known, has, is))) = inr (inl (known, names known has, is))
-      along (inr (inr owes)) = inr (inr (owed _ owes))
+      along : IsAnswered old name kind at → IsAnswered new name kind at
+      along (inl (known, has, is)) = inl (known, names known has, is)
+      along (inr owes) = inr (owed _ owes)
 
   module _ (actors : List Actor) (id : ℕ) (a b : Actor) (mine : get_elem? actors id ≡ some a) where
     -- of one that became another: its own, and what others have
@@ -79,50 +81,49 @@ module _ (opened records : List Listed) where
 
     -- it was answered the same, and owes no less
     pub answered_more : b.names ≡ a.names → ((owes : Known) → Contains a.owed owes → Contains b.owed owes)
-        → AreAnswered opened records actors → AreAnswered opened records (set actors id b)
+        → AreAnswered records actors → AreAnswered records (set actors id b)
     answered_more names owed = answered_by actors (set actors id b)
         (λ known has. subst (λ (list : List Known). Contains list known) (sym (rows (λ (c : Actor). c.names) actors id a b mine names)) has)
         (λ owes has. ⊎_elim (λ still. still) (λ own. own_debt owes (owed owes own)) (debt_left owes has))
 
     -- or the same
-    pub answered_set : b.names ≡ a.names → b.owed ≡ a.owed → AreAnswered opened records actors → AreAnswered opened records (set actors id b)
+    pub answered_set : b.names ≡ a.names → b.owed ≡ a.owed → AreAnswered records actors → AreAnswered records (set actors id b)
     answered_set names owed = answered_more names (λ owes has. subst (λ (list : List Known). Contains list owes) (sym owed) has)
 
     -- it was answered, and owes nothing of that name any more
     pub answered_knows : (known : Known) → b.names ≡ a.names ++ known ∷ [] → b.owed ≡ filter (λ (mine : Known). not (bytes_eq mine.name known.name)) a.owed
-        → AreAnswered opened records actors → AreAnswered opened records (set actors id b)
+        → AreAnswered records actors → AreAnswered records (set actors id b)
     answered_knows known names owed all name kind at first = along (all name kind at first)
       where
-        by_name : Contains a.owed (record { name = name; spec = kind; reference = at }) → (same : Bool) → bytes_eq name known.name ≡ same → IsAnswered opened (set actors id b) name kind at
-        by_name has true is = inr (inl (
+        by_name : Contains a.owed (debt name kind at) → (same : Bool) → bytes_eq name known.name ≡ same → IsAnswered (set actors id b) name kind at
+        by_name has true is = inl (
           known,
           own_name known (subst (λ (list : List Known). Contains list known) (sym names) (Contains-append_right a.names (known ∷ []) known (0, omega arith, refl))),
           sym ((bytes_eq-Decides name known.name).0 is),
-        ))
-        by_name has false is = inr (inr (own_debt (record { name = name; spec = kind; reference = at }) (subst (λ (list : List Known). Contains list (record { name = name; spec = kind; reference = at })) (sym owed)
-            (contains_filter (λ (mine : Known). not (bytes_eq mine.name known.name)) a.owed (record { name = name; spec = kind; reference = at }) has (ap not is)))))
+        )
+        by_name has false is = inr (own_debt (debt name kind at) (subst (λ (list : List Known). Contains list (debt name kind at)) (sym owed)
+            (contains_filter (λ (mine : Known). not (bytes_eq mine.name known.name)) a.owed (debt name kind at) has (ap not is))))
 
-        along : IsAnswered opened actors name kind at → IsAnswered opened (set actors id b) name kind at
-        along (inl before) = inl before
-        along (inr (inl (k, has, is))) = inr (inl (
+        along : IsAnswered actors name kind at → IsAnswered (set actors id b) name kind at
+        along (inl (k, has, is)) = inl (
           k,
           ⊎_elim (λ still. still)
               (λ own. own_name k (subst (λ (list : List Known). Contains list k) (sym names) (Contains-append_left a.names (known ∷ []) k own))) (name_left k has),
           is,
-        ))
-        along (inr (inr owes)) = ⊎_elim (λ still. inr (inr still)) (λ own. by_name own (bytes_eq name known.name) refl) (debt_left (record { name = name; spec = kind; reference = at }) owes)
+        )
+        along (inr owes) = ⊎_elim (λ still. inr still) (λ own. by_name own (bytes_eq name known.name) refl) (debt_left (debt name kind at) owes)
 
     -- it was refused: the first record of the name is another one
     pub answered_declines : (refused : Known) (first_kind : Spec) (place : ℕ) → IsFirst records refused.name first_kind place → place ≢ refused.reference
         → b.names ≡ a.names → b.owed ≡ filter (λ (other : Known). not (bytes_eq other.name refused.name && (other.reference == refused.reference))) a.owed
-        → AreAnswered opened records actors → AreAnswered opened records (set actors id b)
+        → AreAnswered records actors → AreAnswered records (set actors id b)
     answered_declines refused first_kind place its apart names owed all name kind at first = along (all name kind at first)
       where
-        passes : Contains a.owed (record { name = name; spec = kind; reference = at }) → not (bytes_eq name refused.name && (at == refused.reference)) ≡ true → IsAnswered opened (set actors id b) name kind at
-        passes has is = inr (inr (own_debt (record { name = name; spec = kind; reference = at }) (subst (λ (list : List Known). Contains list (record { name = name; spec = kind; reference = at })) (sym owed)
-            (contains_filter (λ (other : Known). not (bytes_eq other.name refused.name && (other.reference == refused.reference))) a.owed (record { name = name; spec = kind; reference = at }) has is))))
+        passes : Contains a.owed (debt name kind at) → not (bytes_eq name refused.name && (at == refused.reference)) ≡ true → IsAnswered (set actors id b) name kind at
+        passes has is = inr (own_debt (debt name kind at) (subst (λ (list : List Known). Contains list (debt name kind at)) (sym owed)
+            (contains_filter (λ (other : Known). not (bytes_eq other.name refused.name && (other.reference == refused.reference))) a.owed (debt name kind at) has is)))
 
-        by_both : Contains a.owed (record { name = name; spec = kind; reference = at }) → (same here : Bool) → bytes_eq name refused.name ≡ same → (at == refused.reference) ≡ here → IsAnswered opened (set actors id b) name kind at
+        by_both : Contains a.owed (debt name kind at) → (same here : Bool) → bytes_eq name refused.name ≡ same → (at == refused.reference) ≡ here → IsAnswered (set actors id b) name kind at
         by_both has true true named is =
             let one = first_one records refused.name first_kind kind place at its
             (subst (λ (n : List ℕ). IsFirst records n kind at) ((bytes_eq-Decides name refused.name).0 named) first) in
@@ -130,12 +131,11 @@ module _ (opened records : List Listed) where
         by_both has false here named is = passes has (ap (λ (s : Bool). not (s && (at == refused.reference))) named)
         by_both has true false named is = passes has (λ i. not (named i && is i))
 
-        along : IsAnswered opened actors name kind at → IsAnswered opened (set actors id b) name kind at
-        along (inl before) = inl before
-        along (inr (inl (k, has, is))) = inr (inl (
+        along : IsAnswered actors name kind at → IsAnswered (set actors id b) name kind at
+        along (inl (k, has, is)) = inl (
           k,
           subst (λ (list : List Known). Contains list k) (sym (rows (λ (c : Actor). c.names) actors id a b mine names)) has,
           is,
-        ))
-        along (inr (inr owes)) =
-            ⊎_elim (λ still. inr (inr still)) (λ own. by_both own (bytes_eq name refused.name) (at == refused.reference) refl refl) (debt_left (record { name = name; spec = kind; reference = at }) owes)
+        )
+        along (inr owes) =
+            ⊎_elim (λ still. inr still) (λ own. by_both own (bytes_eq name refused.name) (at == refused.reference) refl refl) (debt_left (debt name kind at) owes)

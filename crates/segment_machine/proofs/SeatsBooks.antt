@@ -53,7 +53,7 @@ pub record Books (shape : Dimensions) (opened anatomy : Anatomy) (words cursors 
   pub pool : sum_by units_of actors ≡ 4294967295
   pub corrupt : IsSetBy anatomy.corrupt opened.corrupt (map (λ a. a.spoiled) actors)
   pub full : IsSetBy anatomy.full opened.full (map (λ a. a.filled) actors)
-  pub answered : AreAnswered opened.records anatomy.records actors
+  pub answered : AreAnswered anatomy.records actors
   pub stand : CursorsStand (order_of anatomy) cursors actors
 
 pub books_of : (shape : Dimensions) (opened : Anatomy) (state : State) (kept : Kept shape opened state)
@@ -178,7 +178,7 @@ books_by shape opened anatomy words cursors old new same loaded books = record {
   pool = same.units ∙ books.pool;
   corrupt = books.corrupt ∙ ap (λ (b : Bool). opened.corrupt || b) (sym same.spoiled);
   full = books.full ∙ ap (λ (b : Bool). opened.full || b) (sym same.filled);
-  answered = answered_by opened.records anatomy.records old new
+  answered = answered_by anatomy.records old new
       (λ known has. Contains-permutation (all_names old) (all_names new) known (IsPermutation-sym _ _ same.names) has)
       (λ mine has. Contains-permutation (all_owed old) (all_owed new) mine (IsPermutation-sym _ _ same.owed) has) books.answered;
   stand = λ k below.

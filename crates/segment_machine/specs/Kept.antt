@@ -284,15 +284,14 @@ IsAlone actors a = (opener : Actor) × (get_elem? actors 0 ≡ some opener) × (
 
 -- ---- names
 
--- the first record of a name was there at the opening, or a `hist` was answered with it, or its maker owes the answer
-abbrev pub IsAnswered : List Listed → List Actor → List ℕ → Spec → ℕ → Type 0
-IsAnswered opened actors name kind at =
-    IsFirst opened name kind at
-    ⊎ ((known : Known) × Contains (all_names actors) known × (known.name ≡ name))
+-- a `hist` was answered with the histogram of a name, or the maker of the first record of it owes the answer
+abbrev pub IsAnswered : List Actor → List ℕ → Spec → ℕ → Type 0
+IsAnswered actors name kind at =
+    ((known : Known) × Contains (all_names actors) known × (known.name ≡ name))
     ⊎ Contains (all_owed actors) (record { name = name; spec = kind; reference = at })
 
-abbrev pub AreAnswered : (opened records : List Listed) → List Actor → Type 0
-AreAnswered opened records actors = (name : List ℕ) (kind : Spec) (at : ℕ) → IsFirst records name kind at → IsAnswered opened actors name kind at
+abbrev pub AreAnswered : List Listed → List Actor → Type 0
+AreAnswered records actors = (name : List ℕ) (kind : Spec) (at : ℕ) → IsFirst records name kind at → IsAnswered actors name kind at
 
 -- ---- deltas and snapshots
 
@@ -427,7 +426,7 @@ pub record Kept (shape : Dimensions) (opened : Anatomy) (state : State) : Type 0
   pub full : IsSetBy anatomy.full opened.full (map (λ a. a.filled) state.actors)
   pub roles : RolesAreKept state.actors
   pub first_noted : (name : List ℕ) → cost_of roles.opener.first_noted name ≡ all_held (noted_held name) opened.pieces
-  pub answered : AreAnswered opened.records anatomy.records state.actors
+  pub answered : AreAnswered anatomy.records state.actors
   pub cursors : CursorsAreKept (order_of anatomy) state.cursors state.actors
   pub standing : (id : ℕ) (a : Actor) → get_elem? state.actors id ≡ some a → StandsRight shape anatomy id a a.place
   pub each : (id : ℕ) (a : Actor) → get_elem? state.actors id ≡ some a → a.place ≢ Spent

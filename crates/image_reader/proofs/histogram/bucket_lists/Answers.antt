@@ -1,5 +1,5 @@
 -- The buckets of a record without a fault lie in the words, and none of their totals is too large.
-use Rattle.std.proofs.Common.{◌≡◌, None, ap, ◌∙◌}
+use Rattle.std.proofs.Common.{◌≡◌, ap, ◌∙◌}
 use Rattle.bucket_ranges.specs.Reading.{spec_of}
 use Rattle.bucket_ranges.specs.Ranges.{boundaries_of}
 use Rattle.bucket_ranges.specs.Spec.{spec_fault}

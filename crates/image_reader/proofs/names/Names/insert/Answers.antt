@@ -1,10 +1,10 @@
 -- The set's order finds a name by its key.
-use Rattle.std.proofs.Common.{◌≡◌, All, ap, not, sym, subst, ◌∙◌, ◌||◌}
+use Rattle.std.proofs.Common.{All, ap, not, sym, subst, ◌∙◌, ◌||◌}
 use Rattle.std.specs.Str.{bytes_eq}
 use Rattle.std.proofs.lemmas.List.Elements.{recursion_from_All}
 use Rattle.std.proofs.lemmas.Map.Views.{All-insert_key}
 use Rattle.image_reader.specs.Names.{prefix_of, holds, IsKey}
-use Rattle.image_reader.proofs.NameSets.{Key, by_key, is_named, is_named-insert, is_named-look_up}
+use Rattle.image_reader.proofs.NameSets.{by_key, is_named, is_named-insert, is_named-look_up}
 use Rattle.image_reader.proofs.names.Names.insert.Goals as goal
 
 key : (c : goal.In_ok-insert) → IsKey (c.prefix.result, c.in_ok-bytes.bytes)

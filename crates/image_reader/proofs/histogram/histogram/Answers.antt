@@ -8,6 +8,9 @@ use Rattle.image_reader.proofs.Sound.{IsReadable-from_none, counts-buckets, mark
 use Rattle.image_reader.proofs.histogram.histogram.Goals as goal
 use Rattle.image_reader.proofs.histogram.histogram.Goals.{then-words-at-eq-KIND_SPARSE, else-words-at-eq-KIND_SPARSE+in_ok-counts}
 
+pub spec_at-requires-clause-long : goal.spec_at-requires-clause-long
+spec_at-requires-clause-long c = (IsReadable-from_none c.args.words.now c.args.head.now c.args.at c.requires.lawful).long
+
 pub spec_at-requires-clause-name : goal.spec_at-requires-clause-name
 spec_at-requires-clause-name c = (IsReadable-from_none c.args.words.now c.args.head.now c.args.at c.requires.lawful).name
 

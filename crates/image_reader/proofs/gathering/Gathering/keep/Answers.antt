@@ -61,8 +61,8 @@ returns-then-words-at-eq-KIND_SPARSE-clause-gathered c = λ earlier so_far.
     (not-true (holds c.args.self.now.names name)
     (known c.args.self.now.names c.deref.result.now name c.in_ok-insert.field-0 true
     c.deref.ensures.value c.in_ok-insert.ensures.new c.if-not-branch.false))
-    (seen_more c.args.self.now.hists.items c.push.new.self.items c.in_ok-histogram.field-0 c.args.words.now c.args.reference
-    c.in_ok-push.ensures.items c.in_ok-histogram.ensures)
+    (seen_more c.args.self.now.hists.items c.push.new.self.items c.in_ok-histogram.field-0 c.args.head.now.version c.args.words.now
+    c.args.reference c.in_ok-push.ensures.items c.in_ok-histogram.ensures)
     refl
     (λ h. marked-sparse c.args.self.now.sparse.items c.args.reference h _ within refl
     ∙ sym (ap (λ b. get_or c.args.self.now.sparse.items h false || ((c.args.reference == h) && b))
@@ -78,8 +78,8 @@ returns-else-words-at-eq-KIND_SPARSE-clause-gathered c = λ earlier so_far.
     (not-true (holds c.args.self.now.names name)
     (known c.args.self.now.names c.deref.result.now name c.in_ok-insert.field-0 true
     c.deref.ensures.value c.in_ok-insert.ensures.new c.if-not-branch.false))
-    (seen_more c.args.self.now.hists.items c.push.new.self.items c.in_ok-histogram.field-0 c.args.words.now c.args.reference
-    c.in_ok-push.ensures.items c.in_ok-histogram.ensures)
+    (seen_more c.args.self.now.hists.items c.push.new.self.items c.in_ok-histogram.field-0 c.args.head.now.version c.args.words.now
+    c.args.reference c.in_ok-push.ensures.items c.in_ok-histogram.ensures)
     refl
     (λ h. unmarked-sparse c.args.reference h _ (is_sparse c.args.words.now c.args.reference)
     (ne_eqb (field_at c.args.words.now c.args.reference 4) 4 c.if-words-at-eq-KIND_SPARSE.false))

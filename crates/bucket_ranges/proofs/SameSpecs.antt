@@ -1,10 +1,8 @@
 -- Custom specs are the same exactly where each has the other's values above 0.
-use Rattle.std.proofs.Common.{◌≡◌, Bool, true, false, ◌&&◌, ◌||◌, ◌==◌, ℕ, ◌<◌, List, [], ◌∷◌, inl, inr, refl, ap, sym, subst, arith}
-use Rattle.std.specs.List.{list_any, list_all}
-use Rattle.std.proofs.lemmas.Bool.{and_parts, and_from, or_cases, or_left, or_right, eqb-true, eq-eqb, cases_eq, ne_eqb}
-use Rattle.bucket_ranges.specs.declared.spec.Spec.{Spec}
-use Rattle.bucket_ranges.specs.declared.spec.Spec.TheVariants.{Linear, Boolean, Custom, Sparse}
-use Rattle.bucket_ranges.specs.Spec.{distinct_values, has_values, SameSpec}
+use Rattle.std.proofs.Common.{◌≡◌, true, ◌||◌, ◌==◌, ℕ, ◌<◌, List, [], ◌∷◌, inl, inr, refl, sym, subst, arith}
+use Rattle.std.specs.List.{list_any}
+use Rattle.std.proofs.lemmas.Bool.{and_parts, and_from, or_cases, or_left, or_right, eqb-true, eq-eqb, cases_eq}
+use Rattle.bucket_ranges.specs.Spec.{distinct_values, has_values}
 use Rattle.bucket_ranges.proofs.Distinct.{Member, ascending-unique, distinct-ascends, distinct-member, member-distinct}
 
 -- a value that is found among the others

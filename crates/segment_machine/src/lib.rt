@@ -6,7 +6,8 @@
 //! recorders and takes them back. What an actor has done and seen is an `Actor`, whose types are in this folder, since
 //! callers hold them as what a thread knows. The definitions are in `specs/`: entries and their tally (`Entry`), what
 //! becomes of an actor (`Actor`, `Note`, `Seats`), the events (`Form`, `Event`, `Ready`, `Next`), what holds at every moment
-//! (`Consistent`), and what the results owe to it (`Final`).
+//! (`Consistent`) and between any two events (`Body`, `Ledger`, `Seen`, `Kept`), what is promised (`Promises`), and worked
+//! examples, with those of what is refused (`Examples`, `Lives`, `Accounts`, `Refused`).
 #![tactic(auto)]
 
 mod actor;

@@ -7,6 +7,7 @@ pub mod Anatomies
 pub mod Asking
 pub mod Bodies
 pub mod Countings
+pub mod CountsHeld
 pub mod Filling
 pub mod Follow
 pub mod Goings

@@ -16,15 +16,19 @@ use Rattle.bucket_ranges.proofs.Buckets.{ascends}
 use Rattle.segment_machine.specs.Form.{units_in}
 use Rattle.segment_machine.specs.Ledger.{key_of_bucket, at_bucket}
 use Rattle.segment_machine.proofs.Singled.{if_nothing}
-use Rattle.segment_machine.proofs.ImpliedSpecs.{spelled, field_named, named_by, boundaries_spelled}
+use Rattle.segment_machine.proofs.ImpliedSpecs.{spelled, field_named, named_by, buckets_spelled, boundaries_spelled}
 
 -- ---- specs that are the same
 
+same_spelling : (a b : Spec) → SameSpec a b → spelled a ≡ spelled b
+same_spelling a b same =
+    sym (named_by a (spec_ranges a) (λ _. refl)) ∙ ((λ i. field_named (same.0 i) (same.1 i)) ∙ named_by b (spec_ranges b) (λ _. refl))
+
 pub same_boundaries : (a b : Spec) → SameSpec a b → boundaries_of a ≡ boundaries_of b
-same_boundaries a b same =
-    let equal : spelled a ≡ spelled b =
-    sym (named_by a (spec_ranges a) (λ _. refl)) ∙ ((λ i. field_named (same.0 i) (same.1 i)) ∙ named_by b (spec_ranges b) (λ _. refl)) in
-    sym (boundaries_spelled a) ∙ (ap boundaries_of equal ∙ boundaries_spelled b)
+same_boundaries a b same = sym (boundaries_spelled a) ∙ (ap boundaries_of (same_spelling a b same) ∙ boundaries_spelled b)
+
+pub same_buckets : (a b : Spec) → SameSpec a b → buckets_of a ≡ buckets_of b
+same_buckets a b same = sym (buckets_spelled a) ∙ (ap buckets_of (same_spelling a b same) ∙ buckets_spelled b)
 
 -- ---- buckets by their keys
 

@@ -36,6 +36,7 @@ use Rattle.segment_machine.specs.Seen.{HasRecord, HasCounts, IsFirst, Knows}
 use Rattle.segment_machine.specs.Kept.{StandsRight, Kept, HasKey}
 use Rattle.segment_machine.specs.Keeps.{KeptTotalsAreCounted}
 use Rattle.segment_machine.proofs.Pieces.{piece_word, one_stands}
+use Rattle.segment_machine.proofs.CountsSeen.{count_in}
 use Rattle.segment_machine.proofs.ImpliedRecords.{record_word}
 use Rattle.segment_machine.proofs.ImpliedSpecs.{buckets_are, key_is, form_is}
 use Rattle.segment_machine.proofs.ImpliedKeys.{same_boundaries, key_test, packed_within, packed_units, no_packed}
@@ -101,11 +102,7 @@ module _ (shape : Dimensions) (version id : ℕ) (state : State) (kept : Kept sh
   count_word at c i (k, there) below =
       let long = length-append c.units c.marks in
       let all = length-append (c.units ++ c.marks) c.rest in
-      let back : 4 + i - 4 ≡ i = omega arith in
-      piece_word shape state.words kept.anatomy kept.shown k _ (4 + i) there (omega (arith, below, long, all))
-      ∙ (get_or-append_right (c.size ∷ 0xC8799269 ∷ 2 ∷ c.next ∷ []) (c.units ++ c.marks ++ c.rest) 4 (4 + i) 0 refl (omega arith)
-      ∙ (ap (slice_index (c.units ++ c.marks ++ c.rest)) back
-      ∙ (get_or_append_left (c.units ++ c.marks) c.rest 0 i (omega (arith, below, long)) ∙ get_or_append_left c.units c.marks 0 i below)))
+      piece_word shape state.words kept.anatomy kept.shown k _ (4 + i) there (omega (arith, below, long, all)) ∙ count_in c i below
 
   pub mark_word : (at : ℕ) (c : Counts) (n i : ℕ) → HasCounts kept.anatomy.pieces at c → length c.units ≡ n → i < length c.marks
       → field_at state.words at (4 + n + i) ≡ slice_index c.marks i

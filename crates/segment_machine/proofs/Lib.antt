@@ -8,6 +8,8 @@ pub mod Asking
 pub mod Bodies
 pub mod Countings
 pub mod CountsHeld
+pub mod CountsLoaded
+pub mod CountsSeen
 pub mod Filling
 pub mod Follow
 pub mod Goings

@@ -74,7 +74,7 @@ ranges_long Sparse kind = absurd (omega (arith, kind))
 -- ---- words that were seen
 
 -- a word that was seen is among the sightings
-word_contains : (list : List Sighting) (at word : ℕ) → word_seen list at ≡ Some word → Contains list (record { at = at; word = word })
+pub word_contains : (list : List Sighting) (at word : ℕ) → word_seen list at ≡ Some word → Contains list (record { at = at; word = word })
 word_contains [] at word is = absurd (cc is)
 word_contains (s ∷ rest) at word is = dite (ℕ_discrete s.at at)
     (λ here.
@@ -86,7 +86,7 @@ word_contains (s ∷ rest) at word is = dite (ℕ_discrete s.at at)
     (suc k, omega (arith, lt), found))
 
 -- one more sighting changes none of the words that were seen, and no other
-word_still : (list : List Sighting) (at word : ℕ) (more : List Sighting) → word_seen list at ≡ Some word → word_seen (list ++ more) at ≡ Some word
+pub word_still : (list : List Sighting) (at word : ℕ) (more : List Sighting) → word_seen list at ≡ Some word → word_seen (list ++ more) at ≡ Some word
 word_still [] at word more is = absurd (cc is)
 word_still (s ∷ rest) at word more is = dite (ℕ_discrete s.at at)
     (λ here.
@@ -108,23 +108,27 @@ no_counts a at (inr (inl (tag, inr (inl len)))) = omega (arith, len)
 no_counts a at (inr (inl (tag, inr (inr (len, seen, from, within))))) = omega (arith, from)
 no_counts a at (inr (inr (tag, least, most))) = omega (arith, most)
 
--- a word that an actor saw of a block is that of the block
-module _ (shape : Dimensions) (opened : Anatomy) (state : State) (kept : Kept shape opened state) (id : ℕ) (a : Actor)
-    (mine : get_elem? state.actors id ≡ some a) (lives : a.place ≢ Spent) where
+-- a word that was seen of a block is that of the block
+module _ (shape : Dimensions) (opened : Anatomy) (state : State) (kept : Kept shape opened state) where
   abbrev blocks : List Piece
   blocks = kept.anatomy.pieces
 
-  pub sighted : (at j word : ℕ) (body : Body) → Stands blocks at none body → j < length (words_of body)
-      → word_seen a.seen_words (at + j) ≡ Some word → slice_index (words_of body) j ≡ word
-  sighted at j word body (k, there) lt seen =
-      let s : Sighting = record { at = at + j; word = word } in
-      let (at', i, body', (k', there'), is, fixed, value) =
-      All-contains (WasFixed blocks) a.seen_words s (kept.each id a mine lives).sees.fixed (word_contains a.seen_words (at + j) word seen) in
+  pub seen_stays : (at j word : ℕ) (body : Body) → Stands blocks at none body → j < length (words_of body)
+      → WasFixed blocks (record { at = at + j; word = word }) → slice_index (words_of body) j ≡ word
+  seen_stays at j word body (k, there) lt (at', i, body', (k', there'), is, fixed, value) =
       let index = one_index shape state.words kept.anatomy kept.shown k k' _ _ j i there there' lt (fixed_within body' i fixed) is in
       let same = some-injective _ _ (sym there ∙ (ap (get_elem? blocks) index ∙ there')) in
       let place : at ≡ at' = ap (λ (p : Piece). p.at) same in
       let word_is : j ≡ i = omega (arith, place, is) in
       ap (λ (p : ℕ × Body). slice_index (words_of p.1) p.0) (λ i. (word_is i, (ap (λ (p : Piece). p.body) same) i)) ∙ value
+
+  -- so of a word that an actor saw
+  pub sighted : (id : ℕ) (a : Actor) → get_elem? state.actors id ≡ some a → a.place ≢ Spent
+      → (at j word : ℕ) (body : Body) → Stands blocks at none body → j < length (words_of body)
+      → word_seen a.seen_words (at + j) ≡ Some word → slice_index (words_of body) j ≡ word
+  sighted id a mine lives at j word body stands lt seen =
+      seen_stays at j word body stands lt
+      (All-contains (WasFixed blocks) a.seen_words _ (kept.each id a mine lives).sees.fixed (word_contains a.seen_words (at + j) word seen))
 
 module _ (shape : Dimensions) (opened : Anatomy) (state : State) (kept : Kept shape opened state) (id : ℕ) (a : Actor)
     (mine : get_elem? state.actors id ≡ some a) (records : a.opener ≡ 0) (unbound : is_bound a.place ≡ false) where

@@ -128,6 +128,7 @@ module _ (anatomy : Anatomy) (pieces : List Piece) (spare : ℕ) (corrupt full :
     sees = sees_along cursors a free no_later fits.sees;
     own = own_stays shape anatomy later id (λ own. others own.at (held own)) a.own fits.own;
     apart = fits.apart;
+    owes = fits.owes;
     calls = calls_along a fits.calls;
     looks = λ recorder. looks_along actors opener a (fits.looks recorder);
     finals = fits.finals;

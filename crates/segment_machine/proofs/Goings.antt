@@ -1,5 +1,5 @@
 -- A state is kept where one actor goes on, and at most one of the blocks in the making changes.
-use Rattle.std.proofs.Common.{◌≡◌, ◌≢◌, ℕ, ◌<◌, Bool, List, ◌++◌, map, length, set, take, drop, All, Contains, inl, inr, refl, sym, ap, ◌∙◌, subst, arith, length-set}
+use Rattle.std.proofs.Common.{◌≡◌, ◌≢◌, ℕ, ◌<◌, Bool, List, ◌++◌, map, length, set, take, drop, All, Contains, inl, inr, refl, sym, ap, ◌∙◌, subst, subst₂, arith, length-set}
 use Rattle.std.proofs.Math.Seq.{take-append_seam, drop-append_seam}
 use Rattle.std.proofs.lemmas.List.{set-append_left, get_or_append_left}
 use Rattle.std.specs.Prelude.{IsPermutation}
@@ -25,7 +25,7 @@ use Rattle.segment_machine.specs.Learned.{Learned}
 use Rattle.segment_machine.specs.Keeps.{found_at, happened}
 use Rattle.segment_machine.specs.Body.{Body, plain, Piece, Anatomy, layout_of, order_of, free_of, claims_of}
 use Rattle.segment_machine.specs.Seen.{Stands, IsNoLater, Sees}
-use Rattle.segment_machine.specs.Kept.{StandsRight, HoldsOwn, CallsRight, LooksBack, Fits, IsSetBy, ClaimedRight, StandStill, Kept}
+use Rattle.segment_machine.specs.Kept.{StandsRight, HoldsOwn, CallsRight, LooksBack, OwesPublished, Fits, IsSetBy, ClaimedRight, StandStill, Kept}
 use Rattle.segment_machine.proofs.Standing.{follows_itself, stands_on}
 use Rattle.segment_machine.proofs.SeatsFrames.{balanced, sums_near}
 use Rattle.segment_machine.proofs.SeatsBooks.{cursors_set, listed_set}
@@ -98,6 +98,7 @@ module _ (shape : Dimensions) (opened : Anatomy) (state : State) (kept : Kept sh
           sees = goes.sees;
           own = goes.own;
           apart = goes.apart;
+          owes = subst₂ OwesPublished (sym goes.published) (sym goes.owed) fits.owes;
           calls = goes.calls;
           looks = λ recorder. goes.looks;
           finals = finals_doing state.actors kept.roles.opener id a d fits.finals;

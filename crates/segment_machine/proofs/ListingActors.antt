@@ -24,7 +24,7 @@ use Rattle.segment_machine.specs.Promises.{accepted_by}
 use Rattle.segment_machine.specs.Body.{Record, Body, histogram, sample, words_of, Listed, Anatomy}
 use Rattle.segment_machine.specs.Ledger.{form_at}
 use Rattle.segment_machine.specs.Seen.{HasRecord, IsNamed, IsFirstOf, WasCounter, Sees}
-use Rattle.segment_machine.specs.Kept.{HoldsOwn, CallsRight, HasKey, IsSettled, LooksBack, Fits}
+use Rattle.segment_machine.specs.Kept.{HoldsOwn, CallsRight, HasKey, IsSettled, LooksBack, OwesPublished, Fits}
 use Rattle.segment_machine.proofs.Bodies.{counter_within}
 use Rattle.segment_machine.proofs.Actors.{Doing, doing, doing_of, finals_doing}
 use Rattle.segment_machine.proofs.ListingGrowth.{Grows, first_of_longer, record_stays, record_came}
@@ -134,14 +134,16 @@ module _ (shape : Dimensions) (old new : Anatomy) (added : ℕ → Body → Type
   -- all that holds of it
   pub fits_grow : (cursors : List ℕ) (id : ℕ) → Sees new cursors (doing x c) → All (HoldsOwn shape new.pieces id) c.own
       → ((i j : ℕ) (y z : Own) → get_elem? c.own i ≡ some y → get_elem? c.own j ≡ some z → y.at ≡ z.at → i ≡ j)
+      → OwesPublished c.published c.owed
       → Fits shape old cursors actors opener id x → Fits shape new cursors actors opener id (doing x c)
-  fits_grow cursors id sees own apart fits = record {
+  fits_grow cursors id sees own apart owes fits = record {
     shaped = fits.shaped;
     versioned = fits.versioned ∙ sym grows.version;
     numbered = fits.numbered;
     sees = sees;
     own = own;
     apart = apart;
+    owes = owes;
     calls = calls_grow fits.calls;
     looks = λ records. looks_grow (fits.looks records);
     finals = finals_doing actors opener id x c fits.finals;

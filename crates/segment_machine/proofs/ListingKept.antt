@@ -21,7 +21,7 @@ use Rattle.segment_machine.specs.Actor.{log_of, counted_of, all_counted}
 use Rattle.segment_machine.specs.Body.{Record, Body, Listed, Anatomy}
 use Rattle.segment_machine.specs.Seen.{HasRecord, Knows, Sees}
 use Rattle.segment_machine.specs.State.{State}
-use Rattle.segment_machine.specs.Kept.{StandsAs, HasKey, StandsRight, HoldsOwn, Fits, Kept}
+use Rattle.segment_machine.specs.Kept.{StandsAs, HasKey, StandsRight, HoldsOwn, Fits, Kept, OwesPublished}
 use Rattle.segment_machine.proofs.Lists.{row_in}
 use Rattle.segment_machine.proofs.Actors.{Doing, doing, lives_on}
 use Rattle.segment_machine.proofs.ListingGrowth.{Grows}
@@ -96,8 +96,9 @@ module _ (shape : Dimensions) (opened : Anatomy) (state : State) (kept : Kept sh
     pub fits_on : (id : ℕ) (x : Actor) (d : Doing) → get_elem? state.actors id ≡ some x → x.place ≢ Spent → SawMore x d
         → Sees new state.cursors (doing x d) → All (HoldsOwn shape new.pieces id) d.own
         → ((i j : ℕ) (y z : Own) → get_elem? d.own i ≡ some y → get_elem? d.own j ≡ some z → y.at ≡ z.at → i ≡ j)
+        → OwesPublished d.published d.owed
         → Fits shape new state.cursors state.actors kept.roles.opener id (doing x d)
-    fits_on id x d there lives more sees own apart =
+    fits_on id x d there lives more sees own apart owes =
         let fits = kept.each id x there lives in
         fits_grow shape kept.anatomy new added grows state.actors kept.roles.opener x d more (keyed id x there lives) (known_record id x there lives)
-        (λ reference sum is. loaded_record id x reference sum there is) fits.sees.counters state.cursors id sees own apart fits
+        (λ reference sum is. loaded_record id x reference sum there is) fits.sees.counters state.cursors id sees own apart owes fits

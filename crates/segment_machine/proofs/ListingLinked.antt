@@ -18,7 +18,7 @@ use Rattle.list_core.specs.Laws.{IsStop, AreNeighbours}
 use Rattle.list_core.proofs.Chains.{one_place}
 use Rattle.list_core.proofs.EventKinds.{link_through}
 use Rattle.alloc_core.proofs.Owners.{set_at}
-use Rattle.segment_machine.proofs.Owing.{answered_more, owed_is}
+use Rattle.segment_machine.proofs.Owing.{answered_more, owed_is, owes_both, owes_linked}
 use Rattle.segment_machine.specs.declared.actor.Known.{Known}
 use Rattle.segment_machine.specs.declared.entry.Entry.{Entry}
 use Rattle.segment_machine.specs.declared.actor.Actor.{Actor}
@@ -448,13 +448,15 @@ module _ (shape : Dimensions) (opened : Anatomy) (state : State) (kept : Kept sh
           names = old.names;
         })
         own_now apart_now
+        (owes_both a.published (published_as (own_at a.own own.at) own.at) a.owed (owed_for (own_at a.own own.at) own.at)
+        mine_fits.owes (owes_linked (own_at a.own own.at) own.at))
 
     fits_else : (who : ℕ) (b : Actor) → who ≢ id → get_elem? state.actors who ≡ some b → b.place ≢ Spent
         → Fits shape new state.cursors state.actors kept.roles.opener who b
     fits_else who b ne here lives =
         let fits = kept.each who b here lives in
         fits_on shape opened state kept new added grows who b (doing_of b) here lives (saw_itself b) (sees_now b fits.sees)
-        (own_stays shape anatomy new who (λ x stands. others_stay who x.at (held x) ne stands) b.own fits.own) fits.apart
+        (own_stays shape anatomy new who (λ x stands. others_stay who x.at (held x) ne stands) b.own fits.own) fits.apart fits.owes
 
     pub links_on : Kept shape opened (record { words = words'; cursors = state.cursors; actors = actors' })
     links_on = record {

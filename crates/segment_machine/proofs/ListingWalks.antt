@@ -156,7 +156,7 @@ module _ (shape : Dimensions) (opened : Anatomy) (state : State) (kept : Kept sh
           names = old_sees.names;
         } in
         let on = fits_on shape opened state kept new (λ at body. ⊥)
-        (grows_not anatomy pieces anatomy.spare anatomy.corrupt anatomy.full present stays) id a d mine turns.lived more sees holds apart in
+        (grows_not anatomy pieces anatomy.spare anatomy.corrupt anatomy.full present stays) id a d mine turns.lived more sees holds apart fits.owes in
         goes_on shape opened state kept id a mine records d turns pieces anatomy.spare anatomy.corrupt anatomy.full present words'
         (record {
           shown = shown;

@@ -227,7 +227,7 @@ amounts_kept amount shape opened state id a kept mine records ((before, last, ru
     (λ fit.
     let (name, cost, holds, within, known) = fit.calls.within (λ none. not_empty before [] last (sym runs ∙ none)) in
     let held_is : cost_total a.held ≡ 0 + cost = ap cost_total holds in
-    noting_fits shape kept.anatomy state.cursors _ kept.roles.opener id a n fit fit.sees.names
+    noting_fits shape kept.anatomy state.cursors _ kept.roles.opener id a n fit fit.sees.names fit.owes
     (calls_by kept.anatomy a n fit.calls counts
     (amounts_ordered a amount before last runs unsummed unnoted nothing (subst AreInOrder runs fit.calls.ordered))
     (λ some_run. (

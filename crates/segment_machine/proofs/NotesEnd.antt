@@ -90,7 +90,7 @@ module _ (a : Actor) (share : ℕ) (spent : List Cost) (ended : List Counting) w
         let long = length-append (log_of a) (map (λ (c : Counting). c.entry) ended) in
         notes_on shape opened state kept id a mine records gone lived counts (takes_nothing a gone) (λ name key. refl) (λ known has. has)
         (answered_set kept.anatomy.records state.actors id a (noting a gone) mine refl refl)
-        (λ fit. noting_fits shape kept.anatomy state.cursors _ kept.roles.opener id a gone fit fit.sees.names
+        (λ fit. noting_fits shape kept.anatomy state.cursors _ kept.roles.opener id a gone fit fit.sees.names fit.owes
         (calls_by kept.anatomy a gone fit.calls counts none_ordered (λ some_run. absurd (some_run refl)) (omega arith)
         (All-append (λ (c : Counting). has_ended c ≡ true) a.log ended fit.calls.ended done)
         (λ name.

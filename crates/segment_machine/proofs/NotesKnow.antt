@@ -2,7 +2,7 @@
 use Rattle.std.proofs.Common.{⊎_elim, ◌≡◌, ◌≢◌, ℕ, ◌==◌, ℤ, Bool, not, List, [], ◌∷◌, ◌++◌, map, length, set, Contains, refl, sym, ap, ◌∙◌, subst, eq-eqb, arith}
 use Rattle.std.specs.Prelude.{if◌then◌else◌, Option, Some}
 use Rattle.std.proofs.lemmas.List.{map-append}
-use Rattle.std.proofs.lemmas.List.Elements.{All-push, Contains-append_left}
+use Rattle.std.proofs.lemmas.List.Elements.{All-push, All-filter, Contains-append_left}
 use Rattle.std.proofs.lemmas.Map.Made.{Contains-tail}
 use mathlib.Core.Logic.{dite}
 use mathlib.Core.Option.{some}
@@ -22,7 +22,7 @@ use Rattle.segment_machine.specs.Note.{knows, noted}
 use Rattle.segment_machine.specs.Body.{Anatomy}
 use Rattle.segment_machine.specs.Ledger.{moving_of, moving_at}
 use Rattle.segment_machine.specs.Seen.{Knows}
-use Rattle.segment_machine.specs.Kept.{StandsRight, Kept}
+use Rattle.segment_machine.specs.Kept.{StandsRight, HasPublished, Kept}
 use Rattle.segment_machine.proofs.Actors.{moves_or_not}
 use Rattle.segment_machine.proofs.Noting.{Noting, noting, noting_of, SameCounts, notes_on}
 use Rattle.segment_machine.proofs.NotingFits.{noting_fits, looks_anew, finals_on, calls_by}
@@ -73,6 +73,7 @@ module _ (a : Actor) (known : Known) where
       (answered_knows kept.anatomy.records state.actors id a (noting a knower) mine known refl refl)
       (λ fit. noting_fits shape kept.anatomy state.cursors _ kept.roles.opener id a knower fit
       (All-push (Knows kept.anatomy) a.names known fit.sees.names right)
+      (All-filter (λ (mine : Known). not (bytes_eq mine.name known.name)) (HasPublished a.published) a.owed fit.owes)
       (calls_by kept.anatomy a knower fit.calls knows_counts fit.calls.ordered
       (λ some_run.
       let (name, cost, holds, within, named) = fit.calls.within some_run in (

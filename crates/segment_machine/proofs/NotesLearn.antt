@@ -1,10 +1,11 @@
 -- An actor may note what a `hist` was answered: the first record that it saw of a name is the histogram of that name, and what holds is
 -- kept.
-use Rattle.std.proofs.Common.{◌≡◌, ◌≢◌, ℕ, zero, suc, ◌+◌, ◌-◌, ◌<◌, List, [], ◌∷◌, ◌++◌, length, All, Contains, inl, inr, refl, sym, ap, ◌∙◌, subst, append_assoc, arith, get_or-drop, length-append, not, ◌&&◌, ◌==◌}
+use Rattle.std.proofs.Common.{◌≡◌, ◌≢◌, ℕ, zero, suc, ◌+◌, ◌-◌, ◌<◌, List, [], ◌∷◌, ◌++◌, length, map, All, Contains, inl, inr, refl, sym, ap, ◌∙◌, subst, append_assoc, arith, get_or-drop, length-append, not, ◌&&◌, ◌==◌}
 use Rattle.std.specs.Prelude.{slice_index, Option, Some, None}
 use Rattle.std.proofs.lemmas.Grind.{same_number_lists}
 use Rattle.std.proofs.lemmas.List.{get_or_append_left, get_or-append-add}
-use Rattle.std.proofs.lemmas.List.Elements.{All-contains, Contains-append_left, Contains-append_right}
+use Rattle.std.proofs.lemmas.List.Elements.{All-contains, All-filter, Contains-append_left, Contains-append_right}
+use Rattle.std.proofs.lemmas.List.Sorted.{IsPermutation-sym, Contains-permutation}
 use mathlib.Core.Logic.{dite}
 use mathlib.Core.Option.{some}
 use native.Mathlib.Decide.{ℕ_discrete}
@@ -25,17 +26,18 @@ use Rattle.segment_machine.specs.declared.place.Place.TheVariants.{Spent}
 use Rattle.segment_machine.specs.declared.actor.Actor.{Actor}
 use Rattle.segment_machine.specs.declared.actor.Known.{Known}
 use Rattle.segment_machine.specs.declared.actor.Made.{Made}
+use Rattle.segment_machine.specs.declared.actor.Published.{Published}
 use Rattle.segment_machine.specs.declared.actor.Made.TheVariants as made
-use Rattle.segment_machine.specs.Actor.{word_seen}
+use Rattle.segment_machine.specs.Actor.{word_seen, all_published}
 use Rattle.segment_machine.specs.State.{State}
 use Rattle.segment_machine.specs.Seats.{spent}
-use Rattle.segment_machine.proofs.Lists.{all_of, split_map}
+use Rattle.segment_machine.proofs.Lists.{all_of, split_map, row_in}
 use Rattle.segment_machine.proofs.SeatsLists.{contains_map}
-use Rattle.segment_machine.specs.Made.{AreNameWords, SawName, SawOtherName, SawSpec, IsFirstNamed}
+use Rattle.segment_machine.specs.Made.{AreNameWords, SawName, SawOtherName, SawSpec, SawOtherSpec, IsFirstNamed}
 use Rattle.segment_machine.specs.Note.{knows, MayNote, declines}
-use Rattle.segment_machine.specs.Body.{Record, Listed, spec_field, record_words, histogram, sample, other, Anatomy, order_of}
+use Rattle.segment_machine.specs.Body.{Record, Listed, spec_field, record_words, histogram, sample, other, Anatomy, order_of, listed}
 use Rattle.segment_machine.specs.Seen.{HasRecord, IsNamed, Knows, IsFirst}
-use Rattle.segment_machine.specs.Kept.{StandsAs, StandsRight, Kept}
+use Rattle.segment_machine.specs.Kept.{StandsAs, StandsRight, HasPublished, Kept}
 use Rattle.segment_machine.specs.Follows.{NoteKeeps}
 use Rattle.segment_machine.proofs.ListingReads.{letters_long, record_long, ranges_long, sighted}
 use Rattle.segment_machine.proofs.NotesNamed.{names_same, bytes_same, word_bytes}
@@ -82,6 +84,9 @@ below_four P a b c d (suc zero) lt = b
 below_four P a b c d (suc (suc zero)) lt = c
 below_four P a b c d (suc (suc (suc zero))) lt = d
 below_four P a b c d (suc (suc (suc (suc i)))) lt = absurd (omega (arith, lt))
+
+field_word : (r : Record) (i : ℕ) → i < 4 → slice_index (record_words r) (4 + i) ≡ spec_field r.spec i
+field_word r i below = below_four (λ i. slice_index (record_words r) (4 + i) ≡ spec_field r.spec i) refl refl refl refl i below
 
 module _ (shape : Dimensions) (opened : Anatomy) (state : State) (kept : Kept shape opened state) (id : ℕ) (a : Actor)
     (mine : get_elem? state.actors id ≡ some a) (lives : a.place ≢ Spent) where
@@ -132,6 +137,21 @@ module _ (shape : Dimensions) (opened : Anatomy) (state : State) (kept : Kept sh
             (let place : at + 15 + length r.letters + i ≡ at + (15 + (length r.letters + i)) = omega arith in
             subst (λ n. word_seen a.seen_words n ≡ Some (slice_index (spec_ranges s) i)) place (ranges i (omega (arith, below, many))))),
       )
+
+  -- it saw that the spec of the record is another one
+  other_spec : (s : Spec) (at : ℕ) (r : Record) → HasRecord kept.anatomy.pieces at r → r.spec ≡ s → SawOtherSpec a s (length r.letters) at → ⊥
+  other_spec s at r has is (inl (i, word, below, seen, ne)) =
+      let all = record_long r in
+      let place : at + 4 + i ≡ at + (4 + i) = omega arith in
+      let found = record_seen at (4 + i) word r has (omega (arith, all, below)) (subst (λ n. word_seen a.seen_words n ≡ Some word) place seen) in
+      ne (sym found ∙ (field_word r i below ∙ ap (λ (s : Spec). spec_field s i) is))
+  other_spec s at r has is (inr (i, word, below, seen, ne)) =
+      let all = record_long r in
+      let long = ap (λ (s : Spec). length (spec_ranges s)) is in
+      let place : at + 15 + length r.letters + i ≡ at + (15 + (length r.letters + i)) = omega arith in
+      let found = record_seen at (15 + (length r.letters + i)) word r has (omega (arith, below, long, all))
+      (subst (λ n. word_seen a.seen_words n ≡ Some word) place seen) in
+      ne (sym found ∙ (range_word r i (omega (arith, below, long)) ∙ ap (λ (s : Spec). slice_index (spec_ranges s) i) is))
 
   -- it saw that a record is of another name
   other_seen : (name : List ℕ) (at : ℕ) (r : Record) → HasRecord kept.anatomy.pieces at r → r.name ≡ name → SawOtherName a name at → ⊥
@@ -201,6 +221,25 @@ module _ (shape : Dimensions) (opened : Anatomy) (state : State) (kept : Kept sh
             (spec_seen known.spec known.reference r has (subst (λ n. SawSpec a known.spec n known.reference) many spec_saw));
       }
 
+  -- a record whose answer it owes has the spec that it was given, so the first of the name, which has another, is another record
+  pub declined_apart : (owes : Known) (at : ℕ) (letters : List ℕ) → Contains a.owed owes → IsFirstNamed a owes.name at → AreNameWords owes.name letters
+      → SawOtherSpec a owes.spec (length letters) at → at ≢ owes.reference
+  declined_apart owes at letters there named are unlike here =
+      let fits = kept.each id a mine lives in
+      let entry : Published = record { reference = owes.reference; made = made.Histogram owes.name owes.spec } in
+      let published = All-contains (HasPublished a.published) a.owed owes fits.owes there in
+      let (front, all, permuted) = kept.list.once in
+      let among = Contains-permutation (map listed (all_published state.actors)) front (listed entry) (IsPermutation-sym _ _ permuted)
+      (contains_map listed (all_published state.actors) entry (row_in (λ (c : Actor). c.published) state.actors id a entry mine published)) in
+      let on_list : Contains kept.anatomy.records (listed entry) = subst (λ (list : List Listed). Contains list (listed entry)) (sym all)
+      (Contains-append_right opened.records front (listed entry) among) in
+      let (r, has, name_is, same) = All-contains (λ (l : Listed). StandsAs kept.anatomy.pieces l l.made) kept.anatomy.records (listed entry) kept.list.standing on_list in
+      let lawful = kept.records.lawful owes.reference r has in
+      let many : length letters ≡ length r.letters =
+      sym (letters_long owes.name letters are) ∙ (ap (λ (n : List ℕ). name_words (length n)) (sym name_is) ∙ letters_long r.name r.letters lawful.lettered) in
+      other_spec owes.spec owes.reference r has same
+      (subst (SawOtherSpec a owes.spec (length r.letters)) here (subst (λ n. SawOtherSpec a owes.spec n at) many unlike))
+
 -- who saw the chain is not spent
 saw_lives : (shape : Dimensions) (opened : Anatomy) (state : State) (id : ℕ) (a : Actor) (kept : Kept shape opened state)
     → get_elem? state.actors id ≡ some a → (name : List ℕ) (at : ℕ) → IsFirstNamed a name at → a.place ≢ Spent
@@ -217,9 +256,10 @@ knows_kept known shape opened state id a kept mine records may =
     knows_one_more a known shape opened state id kept mine records lived (known_right shape opened state kept id a mine lived known may)
 
 pub declines_kept : (owes : Known) → NoteKeeps (declines owes)
-declines_kept owes shape opened state id a kept mine records (there, (at, letters, named, apart, are, unlike)) =
+declines_kept owes shape opened state id a kept mine records (there, (at, letters, named, are, unlike)) =
     let lived = saw_lives shape opened state id a kept mine owes.name at named in
     let (kind, r, has, name_is, same, first) = first_right shape opened state kept id a mine lived owes.name at named in
+    let apart = declined_apart shape opened state kept id a mine lived owes at letters there named are unlike in
     let n : Noting = record (noting_of a) {
       owed = filter (λ (debt : Known). not (bytes_eq debt.name owes.name && (debt.reference == owes.reference))) a.owed;
     } in
@@ -228,6 +268,7 @@ declines_kept owes shape opened state id a kept mine records (there, (at, letter
     notes_on shape opened state kept id a mine records n lived counts (takes_nothing a n) (λ name key. refl) (λ known has. has)
     (answered_declines kept.anatomy.records state.actors id a (noting a n) mine owes kind at first apart refl refl)
     (λ fit. noting_fits shape kept.anatomy state.cursors _ kept.roles.opener id a n fit fit.sees.names
+    (All-filter (λ (debt : Known). not (bytes_eq debt.name owes.name && (debt.reference == owes.reference))) (HasPublished a.published) a.owed fit.owes)
     (calls_by kept.anatomy a n fit.calls counts fit.calls.ordered fit.calls.within fit.calls.held fit.calls.ended fit.calls.spent fit.calls.taking)
     (looks_on kept.anatomy _ kept.roles.opener a n (fit.looks records))
     (finals_on _ kept.roles.opener id a n (omega arith) (λ name k within quiet. quiet) fit.finals)

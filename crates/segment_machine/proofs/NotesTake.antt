@@ -92,7 +92,7 @@ takes_kept name shape opened state id a kept mine records (lived, recorder, runs
     let nothing = not_opener shape opened state kept id a mine records in
     notes_on shape opened state kept id a mine records n lived (takes_counts a name) (takes_same a name) (λ name key. refl) (λ known has. has)
     (answered_set kept.anatomy.records state.actors id a (noting a n) mine refl refl)
-    (λ fit. noting_fits shape kept.anatomy state.cursors _ kept.roles.opener id a n fit fit.sees.names
+    (λ fit. noting_fits shape kept.anatomy state.cursors _ kept.roles.opener id a n fit fit.sees.names fit.owes
     (calls_by kept.anatomy a n fit.calls (takes_counts a name) fit.calls.ordered fit.calls.within fit.calls.held fit.calls.ended fit.calls.spent
     (λ taking. (runs, (a.taken, nothing_taken a name, refl))))
     (looks_anew kept.anatomy _ kept.roles.opener a n (fit.looks records))

@@ -13,7 +13,7 @@ use Rattle.segment_machine.specs.Actor.{log_of, counted_of, cost_of}
 use Rattle.segment_machine.specs.Consistent.{IsWithinCounts}
 use Rattle.segment_machine.specs.Body.{Anatomy}
 use Rattle.segment_machine.specs.Seen.{Knows, IsFirst, IsFirstOf}
-use Rattle.segment_machine.specs.Kept.{AreInOrder, CallsRight, LooksBack, IsQuiet, IsMoment, FinalsAreExact, Fits}
+use Rattle.segment_machine.specs.Kept.{AreInOrder, CallsRight, LooksBack, IsQuiet, IsMoment, FinalsAreExact, OwesPublished, Fits}
 use Rattle.segment_machine.proofs.Lists.{none_in}
 use Rattle.std.proofs.lemmas.List.{drop_all}
 use Rattle.segment_machine.proofs.SeatsFrames.{ended_began}
@@ -22,10 +22,10 @@ use Rattle.segment_machine.proofs.Noting.{Noting, noting, SameCounts, counted_be
 -- ---- it fits
 
 module _ (shape : Dimensions) (anatomy : Anatomy) (cursors : List ℕ) (actors : List Actor) (opener : Actor) (id : ℕ) (a : Actor) (n : Noting) where
-  pub noting_fits : Fits shape anatomy cursors actors opener id a → All (Knows anatomy) n.names → CallsRight anatomy (noting a n)
+  pub noting_fits : Fits shape anatomy cursors actors opener id a → All (Knows anatomy) n.names → OwesPublished a.published n.owed → CallsRight anatomy (noting a n)
       → LooksBack anatomy actors opener (noting a n) → FinalsAreExact actors opener id (noting a n) → All (IsWithinCounts actors) n.snapshots
       → Fits shape anatomy cursors actors opener id (noting a n)
-  noting_fits fit names calls looks finals snapshots = record {
+  noting_fits fit names owes calls looks finals snapshots = record {
     shaped = fit.shaped;
     versioned = fit.versioned;
     numbered = fit.numbered;
@@ -42,6 +42,7 @@ module _ (shape : Dimensions) (anatomy : Anatomy) (cursors : List ℕ) (actors :
     };
     own = fit.own;
     apart = fit.apart;
+    owes = owes;
     calls = calls;
     looks = λ records. looks;
     finals = finals;

@@ -161,6 +161,7 @@ module _ (shape : Dimensions) (version id cursors : ℕ) (lawful : IsShape shape
     sees = sees;
     own = All-nil _;
     apart = λ i j x y there. absurd (none_at i x there);
+    owes = All-nil _;
     calls = calls;
     looks = λ e. absurd (omega (arith, e));
     finals = finals;

@@ -1,12 +1,12 @@
 -- Of each name the first record is answered or owed, whatever actors do.
 use Rattle.std.proofs.Common.{◌≡◌, ◌≢◌, ◌⊎◌, ℕ, Bool, true, false, not, ◌&&◌, ◌==◌, List, [], ◌∷◌, ◌++◌, Contains, set, inl, inr, ⊎_elim, refl, sym, ap, ◌∙◌, subst, eqb-true, arith}
-use Rattle.std.specs.Prelude.{Some}
+use Rattle.std.specs.Prelude.{Some, None}
 use Rattle.std.specs.Prelude as std
 use Rattle.std.specs.Str.{bytes_eq}
 use Rattle.std.specs.List.{filter, flat_map}
 use Rattle.std.proofs.lemmas.Slice.Eq.{bytes_eq-Decides}
 use Rattle.std.proofs.lemmas.List.{set-set}
-use Rattle.std.proofs.lemmas.List.Elements.{Contains-append_left, Contains-append_right}
+use Rattle.std.proofs.lemmas.List.Elements.{All-nil, All-cons, All-weaker, All-append, Contains-append_left, Contains-append_right}
 use mathlib.Core.Option.{some}
 use lib.ListN.{get_elem?}
 use Rattle.atomic_table.proofs.Lists.{set_again}
@@ -15,13 +15,14 @@ use Rattle.bucket_ranges.specs.declared.spec.Spec.{Spec}
 use Rattle.segment_machine.specs.declared.actor.Actor.{Actor}
 use Rattle.segment_machine.specs.declared.actor.Known.{Known}
 use Rattle.segment_machine.specs.declared.actor.Made.{Made}
-use Rattle.segment_machine.specs.declared.actor.Made.TheVariants.{Histogram}
+use Rattle.segment_machine.specs.declared.actor.Made.TheVariants.{Histogram, Sample}
 use Rattle.segment_machine.specs.declared.actor.Own.{Own}
+use Rattle.segment_machine.specs.declared.actor.Published.{Published}
 use Rattle.segment_machine.specs.Actor.{all_names, all_owed}
-use Rattle.segment_machine.specs.Next.{owed_for}
+use Rattle.segment_machine.specs.Next.{owed_for, published_as}
 use Rattle.segment_machine.specs.Body.{Listed}
 use Rattle.segment_machine.specs.Seen.{IsNamed, IsFirst}
-use Rattle.segment_machine.specs.Kept.{IsAnswered, AreAnswered}
+use Rattle.segment_machine.specs.Kept.{IsAnswered, AreAnswered, HasPublished, OwesPublished}
 use Rattle.segment_machine.proofs.Lists.{rows, row_in, row_from, contains_filter, first_unique}
 
 -- ---- lists
@@ -51,6 +52,29 @@ pub owed_is : (found : std.Option Own) (own : Own) (name : List ℕ) (kind : Spe
 owed_is found own name kind at is asked =
     ap (λ (f : std.Option Own). owed_for f at) is
     ∙ ap (λ (m : std.Option Made). owed_for (Some (record own { made = m })) at) asked
+
+-- and has published its record
+pub owes_linked : (found : std.Option Own) (at : ℕ) → OwesPublished (published_as found at) (owed_for found at)
+owes_linked None at = All-nil _
+owes_linked (Some own) at = by_made own.made
+  where
+    by_made : (asked : std.Option Made) → OwesPublished (published_as (Some (record own { made = asked })) at) (owed_for (Some (record own { made = asked })) at)
+    by_made None = All-nil _
+    by_made (Some (Sample of value)) = All-nil _
+    by_made (Some (Histogram name kind)) =
+        let published : List Published = record { reference = at; made = Histogram name kind } ∷ [] in
+        All-cons (HasPublished published) (debt name kind at) [] (0, omega arith, refl) (All-nil (HasPublished published))
+
+-- where more was published
+pub owes_more : (published more : List Published) (owed : List Known) → OwesPublished published owed → OwesPublished (published ++ more) owed
+owes_more published more owed all = All-weaker (HasPublished published) (HasPublished (published ++ more))
+    (λ mine has. Contains-append_left published more _ has) owed all
+
+-- and more is owed
+pub owes_both : (published more : List Published) (owed others : List Known) → OwesPublished published owed → OwesPublished more others
+    → OwesPublished (published ++ more) (owed ++ others)
+owes_both published more owed others all rest = All-append (HasPublished (published ++ more)) owed others (owes_more published more owed all)
+    (All-weaker (HasPublished more) (HasPublished (published ++ more)) (λ mine has. Contains-append_right published more _ has) others rest)
 
 -- ---- what actors were answered and owe
 

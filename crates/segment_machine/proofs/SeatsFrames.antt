@@ -189,6 +189,7 @@ fits shape anatomy cursors old new opener later id a same since alone fit = reco
   sees = fit.sees;
   own = fit.own;
   apart = fit.apart;
+  owes = fit.owes;
   calls = fit.calls;
   looks = λ records. looks_back anatomy old new opener later a same since (alone (inl records)) (fit.looks records);
   finals = finals old new opener later id a same since (λ taking. alone (inr taking)) fit.finals;

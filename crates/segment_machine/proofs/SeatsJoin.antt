@@ -17,6 +17,7 @@ use Rattle.segment_machine.specs.declared.actor.Given.{Given}
 use Rattle.segment_machine.specs.Actor.{is_bound, log_of}
 use Rattle.segment_machine.specs.Consistent.{IsWithinCounts}
 use Rattle.segment_machine.specs.State.{State}
+use Rattle.segment_machine.proofs.Owing.{owes_more}
 use Rattle.segment_machine.specs.Seats.{MayJoin, joined, spent, shifted, shifted_answers}
 use Rattle.segment_machine.specs.Keeps.{JoinsKeep}
 use Rattle.segment_machine.specs.Body.{plain, Anatomy, order_of}
@@ -166,6 +167,7 @@ module _ (shape : Dimensions) (opened : Anatomy) (old : State) (kept : Kept shap
     sees = sees_passed other 0 kept.anatomy old.cursors later (joined_sees kept.anatomy old.cursors opener b mine.sees theirs.sees);
     own = joined_own shape old.words kept.anatomy kept.shown other apart opener b mine.own theirs.own;
     apart = joined_apart shape old.words kept.anatomy kept.shown other apart opener b mine.own theirs.own mine.apart theirs.apart;
+    owes = owes_more opener.published b.published opener.owed mine.owes;
     calls = calls_passed other 0 kept.anatomy later
         (joined_calls shape old.words kept.anatomy kept.shown old.cursors opener b mine.sees theirs.sees joins kept.roles.rests.2 mine.calls theirs.calls);
     looks = λ records. let opens = kept.roles.opens in absurd (omega (arith, records, opens));

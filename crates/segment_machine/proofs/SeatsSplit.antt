@@ -137,6 +137,7 @@ module _ (anatomy : Anatomy) (cursors : List ℕ) (actors : List Actor) (later a
     sees = fresh_sees fit.sees;
     own = All-nil (HoldsOwn shape anatomy.pieces id);
     apart = λ i j x y first. absurd (none_at i x first);
+    owes = All-nil _;
     calls = fresh_calls fit.calls;
     looks = λ records. fresh_looks;
     finals = fresh_finals id;

@@ -64,6 +64,7 @@ module _ (shape : Dimensions) (anatomy : Anatomy) (cursors : List ℕ) (actors :
     sees = turned_sees anatomy a share a.made a.outstanding cursors fit.sees;
     own = fit.own;
     apart = fit.apart;
+    owes = fit.owes;
     calls = turned_calls anatomy a share a.made a.outstanding fit.calls;
     looks = λ records. shared_looks (fit.looks records);
     finals = shared_finals fit.finals;
@@ -94,6 +95,7 @@ module _ (shape : Dimensions) (anatomy : Anatomy) (cursors : List ℕ) (actors :
     sees = turned_sees anatomy a share made outstanding cursors fit.sees;
     own = fit.own;
     apart = fit.apart;
+    owes = fit.owes;
     calls = turned_calls anatomy a share made outstanding fit.calls;
     looks = λ records. absurd (omega (arith, records, opens));
     finals = opener_finals fit.finals;

@@ -29,6 +29,7 @@ use Rattle.segment_machine.specs.declared.actor.Made.{Made}
 use Rattle.segment_machine.specs.declared.actor.Moment.{Moment}
 use Rattle.segment_machine.specs.declared.actor.Made.TheVariants as made
 use Rattle.segment_machine.specs.declared.actor.Own.{Own}
+use Rattle.segment_machine.specs.declared.actor.Published.{Published}
 use Rattle.segment_machine.specs.declared.actor.Sighting.{Sighting}
 use Rattle.segment_machine.specs.declared.actor.Taken.{Taken}
 use Rattle.segment_machine.specs.Entry.{is_counted, is_summed, has_ended, AreWithin, is_of, tally_units, tally_sum, tally_noted}
@@ -365,6 +366,13 @@ pub record FinalsAreExact (actors : List Actor) (opener : Actor) (id : ℕ) (a :
   pub swapped : (before : List Taken) (last : Taken) → a.taking ≡ true → a.taken ≡ before ++ last ∷ [] → last.swapped ≡ true → IsAlone actors a
       → taken_sum (all_taken actors) last.name ≡ tally_sum (all_summed actors) last.name
 
+-- who owes the answer of a `hist` has published its record
+abbrev pub HasPublished : List Published → Known → Type 0
+HasPublished published mine = Contains published (record { reference = mine.reference; made = made.Histogram mine.name mine.spec })
+
+abbrev pub OwesPublished : List Published → List Known → Type 0
+OwesPublished published owed = All (HasPublished published) owed
+
 -- ---- all of it
 
 -- what holds of one actor that was not joined
@@ -375,6 +383,7 @@ pub record Fits (shape : Dimensions) (anatomy : Anatomy) (cursors : List ℕ) (a
   pub sees : Sees anatomy cursors a
   pub own : All (HoldsOwn shape anatomy.pieces id) a.own
   pub apart : (i j : ℕ) (x y : Own) → get_elem? a.own i ≡ some x → get_elem? a.own j ≡ some y → x.at ≡ y.at → i ≡ j
+  pub owes : OwesPublished a.published a.owed
   pub calls : CallsRight anatomy a
   pub looks : a.opener ≡ 0 → LooksBack anatomy actors opener a
   pub finals : FinalsAreExact actors opener id a

@@ -166,7 +166,7 @@ MayNote a (knows known) =
     × ((letters : List ℕ) × AreNameWords known.name letters × SawSpec a known.spec (length letters) known.reference)
 MayNote a (declines mine) =
     Contains a.owed mine
-    × ((at : ℕ) × (letters : List ℕ) × IsFirstNamed a mine.name at × (at ≢ mine.reference) × AreNameWords mine.name letters
+    × ((at : ℕ) × (letters : List ℕ) × IsFirstNamed a mine.name at × AreNameWords mine.name letters
     × SawOtherSpec a mine.spec (length letters) at)
 MayNote a (takes name) =
     (a.place ≢ Spent) × (a.opener ≡ 0) × (a.running ≡ []) × (a.taking ≡ false) × Contains (map (λ known. known.name) a.names) name

@@ -95,7 +95,7 @@ Words words_of(const std::string& bytes) {
 Fault header_fault(const Words& words) {
     if (words.size() < 16) return "TooShort";
     if (words[0] != kSegmentCookie) return "BadCookie";
-    if (words[1] != 1) return "BadVersion";
+    if (words[1] != 1 && words[1] != 2) return "BadVersion";
     const Word size = words[2], page = words[3], state = words[5], free = words[7];
     if (page < 64 || page > 65'536 || page % 16 != 0) return "BadPage";
     if (size != words.size() || size % page != 0 || size > kMostWords) return "BadSize";
@@ -114,7 +114,7 @@ bool is_lawful_sum(const Words& words, Word at) {
     return mark < 0 ? sum <= bound + mark : sum >= mark - bound;
 }
 
-// The bucket that the single word names, and the units that it packs for it.
+// The bucket that the single word names, and the units that it keeps beside the counts.
 struct Single {
     bool is_lawful = false;
     bool is_disabled = false;
@@ -122,28 +122,39 @@ struct Single {
     Word units = 0;
 };
 
-Single single_of(Word word, Word n) {
+// A word that is packed, or that was when it was frozen.
+Single packed_of(Word word, Word n) {
+    Single single;
+    const Word bucket = word >> 32, units = word & 0xFFFF'FFFF;
+    single.is_lawful = bucket < n && units >= 1 && units <= kMostPacked;
+    if (single.is_lawful) {
+        single.bucket = bucket;
+        single.units = units;
+    }
+    return single;
+}
+
+Single single_of(Word word, Word n, Word version) {
     Single single;
     if (word == 0) {
         single.is_lawful = true;
-    } else if (word >= kTop) {
-        single.is_disabled = true;
+    } else if (word < kTop) {
+        single = packed_of(word, n);
+    } else if (version == 1) {
         single.is_lawful = word == kNothingPacked || word - kTop < n;
         if (single.is_lawful && word != kNothingPacked) single.bucket = word - kTop;
+    } else if (word == kTop) {
+        single.is_lawful = true;
     } else {
-        const Word bucket = word >> 32, units = word & 0xFFFF'FFFF;
-        single.is_lawful = bucket < n && units >= 1 && units <= kMostPacked;
-        if (single.is_lawful) {
-            single.bucket = bucket;
-            single.units = units;
-        }
+        single = packed_of(word - kTop, n);
     }
+    single.is_disabled = word >= kTop;
     return single;
 }
 
 class Reader {
 public:
-    explicit Reader(const Words& words) : words_(words), page_(words[3]), free_(words[7]) {}
+    explicit Reader(const Words& words) : words_(words), version_(words[1]), page_(words[3]), free_(words[7]) {}
 
     Reading read() {
         std::vector<bool> is_met(words_.size());
@@ -225,17 +236,20 @@ private:
             totals_.assign(n, 0);
         }
         if (std::any_of(totals_.begin(), totals_.end(), [](Word total) { return total > kMostUnits; })) return "BadCounts";
-        const Single single = single_of(words_[at + 9], n);
+        const Single single = single_of(words_[at + 9], n, version_);
         if (single.bucket) totals_[*single.bucket] += single.units;
         if (single.bucket && totals_[*single.bucket] > kMostUnits) return "BadCounts";
         if (!single.is_lawful || (single.is_disabled && counts == 0)) return "BadSingle";
         if (!single.bucket && single_mark != 0) return "BadMark";
-        if (single.bucket && single_mark > std::max(totals_[*single.bucket], kMostPacked)) return "BadMark";
+        if (single.bucket && single_mark > most_single_mark(totals_[*single.bucket])) return "BadMark";
         for (Word i = 0; counts != 0 && i < n; ++i) {
             if (words_[counts + 4 + n + i] > totals_[i] && single.bucket != i) return "BadMark";
         }
         return nullptr;
     }
+
+    // In version 1 the units of the packed bucket may be on their way to the counts.
+    Word most_single_mark(Word total) const { return version_ == 1 ? std::max(total, kMostPacked) : total; }
 
     Fault read_histogram(Word at) {
         const Word kind = words_[at + 4];
@@ -290,6 +304,7 @@ private:
     }
 
     const Words& words_;
+    const Word version_;
     const Word page_;
     const Word free_;
     Reading reading_;

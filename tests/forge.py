@@ -1,4 +1,4 @@
-"""Forged images: lawful ones with histograms of all kinds, and then faults in them.
+"""Forged images of both versions: lawful ones with histograms of all kinds, and then faults in them.
 
 `image_of(chance)` gives the bytes of one; the same random numbers give the same bytes.
 """
@@ -42,7 +42,8 @@ class Forge:
         self.page = chance.choice([64, 64, 64, 96, 128, 256, 4096])
         self.words = [0] * (self.page * (1 if self.page == 4096 else chance.randint(1, 8)))
         flags = chance.choice([0, 0, 0, 0, 1, 2, 3, 4])
-        self.words[0:9] = [0x408305DC, 1, len(self.words), self.page, 7, 1, flags, 16, QUEUE]
+        self.version = chance.choice([1, 2])
+        self.words[0:9] = [0x408305DC, self.version, len(self.words), self.page, 7, 1, flags, 16, QUEUE]
         self.words[12:16] = [4, 1, 0, QUEUE]
         self.free = 16
         self.tail = QUEUE
@@ -118,6 +119,11 @@ class Forge:
         self.histograms.append(record)
         return record
 
+    def single_words(self, bucket, units):
+        """The words that are packed with these units, disabled after that (in version 2: frozen), and before any were packed."""
+        packed = bucket * 2**32 + units
+        return (packed, TOP + bucket, NOTHING_PACKED) if self.version == 1 else (packed, TOP + packed, TOP)
+
     def samples_of(self, record):
         """A lawful single word, counts and marks of a histogram that is not sparse; gives its units."""
         chance, at, n = self.chance, record.at, record.n
@@ -126,24 +132,24 @@ class Forge:
             record.counts = chance.choice(shared)
         elif chance.random() < 0.7:
             record.counts = self.block(2 * n, 2) or 0
-        bucket = chance.randrange(n)
-        packed = chance.choice([1, 7, 65_535])
-        single = chance.choice([0, bucket * 2**32 + packed, TOP + bucket, TOP + bucket, NOTHING_PACKED])
+        bucket, units = chance.randrange(n), chance.choice([1, 7, 65_535])
+        packed, disabled, nothing_packed = self.single_words(bucket, units)
+        single = chance.choice([0, packed, disabled, disabled, nothing_packed])
         single = single if single < TOP or record.counts else 0
+        kept = units if single == packed or (single == disabled and self.version == 2) else 0
         counts = self.words[record.counts + 4 : record.counts + 4 + n] if record.counts else [0] * n
         if record.counts and (single >= TOP or chance.random() < 0.3):
             counts = [chance.choice([0, 0, 1, 5, 70_000, MOST_UNITS - 65_535]) for _ in range(n)]
             self.store(record.counts + 4, *counts)
             self.store(record.counts + 4 + n, *[chance.choice([0, count, count // 2]) for count in counts])
-        units = sum(counts) + (packed if 0 < single < TOP else 0)
-        if single not in (0, NOTHING_PACKED):
+        if single not in (0, nothing_packed):
             record.named = bucket
-            total = counts[bucket] + (packed if single < TOP else 0)
-            self.store(at + 10, chance.choice([0, 0, total, total // 2, max(total, 65_535)]))
+            total = counts[bucket] + kept
+            self.store(at + 10, chance.choice([0, 0, total, total // 2, max(total, 65_535) if self.version == 1 else total]))
             if record.counts:
                 self.store(record.counts + 4 + n + bucket, chance.choice([0, 0, 0, 2**64 - 1]))
         self.store(at + 8, record.counts, single)
-        return units
+        return sum(counts) + kept
 
     def sums(self, record, units):
         chance = self.chance
@@ -283,12 +289,12 @@ def count(forge, record):
 
 
 def count_and_packed(forge, record):
-    """The sum of the two is at the limit, or one above it."""
+    """The sum of the two is at the limit, or one above it; in version 2 the word may be frozen."""
     chance = forge.chance
     if record.counts:
         units = chance.choice([1, 65_535])
         bucket = chance.randrange(record.n)
-        forge.store(record.at + 9, bucket * 2**32 + units)
+        forge.store(record.at + 9, chance.choice(forge.single_words(bucket, units)[:2]))
         forge.store(record.counts + 4 + bucket, MOST_UNITS - units + chance.choice([0, 1, 1]))
 
 
@@ -298,16 +304,19 @@ def sparse_words(forge, record):
 
 
 def single_word(forge, record):
-    n = record.n
-    no_form = [65_536, 2**32, n * 2**32 - 2**32 + 65_536, TOP - 1, TOP + 65_534, TOP + 65_536, 2**64 - 1]
-    no_bucket = [n * 2**32 + 1, TOP + n, 2**47 + 1]
-    forms = [0, 1, max(0, n - 1) * 2**32 + 65_535, TOP, TOP + max(0, n - 1), NOTHING_PACKED]
-    forge.store(record.at + 9, forge.chance.choice(forge.chance.choice([no_form, no_bucket, forms])))
+    """Words of either version, in an image of any."""
+    chance, n = forge.chance, record.n
+    last = max(0, n - 1)
+    packed_past = [65_536, 2**32, last * 2**32 + 65_536, TOP - 1, n * 2**32 + 1, 2**47 + 1]
+    disabled_past = [TOP + 65_534, TOP + 65_536, TOP + n, 2**64 - 1]
+    frozen_past = [TOP + word for word in packed_past[:3]] + [TOP + n * 2**32 + 1]
+    forms = [0, 1, last * 2**32 + 65_535, TOP, TOP + last, NOTHING_PACKED, TOP + 1, TOP + last * 2**32 + 65_535]
+    forge.store(record.at + 9, chance.choice(chance.choice([packed_past, disabled_past, frozen_past, forms])))
 
 
 def single_without_counts(forge, record):
     if record.kind != SPARSE:
-        forge.store(record.at + 8, 0, TOP + forge.chance.choice([0, record.n - 1, 65_535]))
+        forge.store(record.at + 8, 0, TOP + forge.chance.choice([0, record.n - 1, 65_535, 2**32 + 1]))
 
 
 def single_mark(forge, record):
@@ -318,8 +327,9 @@ def single_mark_at_total(forge, record):
     """A mark at the packed bucket's total, or one above it."""
     if record.counts and record.named is not None:
         total = forge.chance.choice([65_534, 65_535, 65_536, MOST_UNITS])
-        forge.store(record.at + 9, TOP + record.named)
-        forge.store(record.counts + 4 + record.named, total)
+        kept = 7 if forge.version == 2 else 0
+        forge.store(record.at + 9, forge.single_words(record.named, 7)[1])
+        forge.store(record.counts + 4 + record.named, total - kept)
         forge.store(record.at + 10, total + forge.chance.choice([0, 1, 1]))
 
 
@@ -468,7 +478,7 @@ def break_header(forge):
         return
     edges = {
         0: [0, 0x408305DC + 2**32],
-        1: [0, 2, 3],
+        1: [0, 1, 2, 3],
         2: [size + page, size - page, 0, 2**20 + 2**16, 2**32 + size],
         3: [0, 48, 60, 65, 65_552, 2**63 + 64],
         5: [0, 2, 2, 2, 3, 2**32 + 1],

@@ -22,6 +22,7 @@ GREATEST = 2_147_483_647
 MOST_UNITS = 2**32 - 1
 MOST_SUM = 2**31 * MOST_UNITS
 MOST_PACKED = 65_535
+NOTHING_PACKED = 65_535
 TOP = 2**63
 KINDS = {1: "linear", 2: "boolean", 3: "custom", 4: "sparse"}
 
@@ -41,12 +42,18 @@ BadSpec past the page
 BadCounts, BadRef below the first block; BadCounts, BadRef past the free pointer; BadCounts, BadBlock of another cookie
 BadCounts, BadBlock too small; BadCounts, BadBlock past the free pointer; BadCounts, BadBlock in two pages
 BadCounts of another type; BadCounts of a block too small for them; BadCounts of a count; BadCounts with packed units
-BadCounts of a sparse
-BadSingle of no form; BadSingle of no bucket; BadSingle without counts
-BadMark where nothing was packed; BadMark of the packed bucket; BadMark of another bucket
+BadCounts with frozen units; BadCounts of a sparse
+BadSingle of a packed word of no form; BadSingle of a packed word of no bucket
+BadSingle of a disabled word of no form; BadSingle of a disabled word of no bucket; BadSingle of a disabled word without counts
+BadSingle of a frozen word of no form; BadSingle of a frozen word of no bucket; BadSingle of a frozen word without counts
+BadMark where nothing was packed; BadMark of the packed bucket in version 1; BadMark of the packed bucket in version 2
+BadMark of another bucket
 BadSum of the sum; BadSum of the mark; BadSum of the difference
 single word empty; single word packed; single word disabled after packing; single word disabled without packing
-counts beside an empty single word; counts beside packed units; units on their way; a mark on the counts that is not looked at
+single word frozen after packing; single word frozen without packing
+counts beside an empty single word; counts beside packed units; units on their way
+a mark of the packed bucket in version 1; a mark of the packed bucket in version 2
+a mark on the counts that is not looked at in version 1; a mark on the counts that is not looked at in version 2
 a mark of another bucket; a block of counts named twice; a name of 128 bytes; a name with padding that is not zero
 a sample; a sample without units; a later sample of a value; the least value; the greatest value
 BadSample of a small block; BadSample of no value; BadSample of a count; BadSample of a mark
@@ -96,7 +103,7 @@ def check_header(words, seen):
 
     wanted(len(words) >= 16, "TooShort")
     wanted(words[0] == SEGMENT_COOKIE, "BadCookie")
-    wanted(words[1] == 1, "BadVersion")
+    wanted(words[1] in (1, 2), "BadVersion")
     size, page, state, free = words[2], words[3], words[5], words[7]
     wanted(page % 16 == 0 and 64 <= page <= 65_536, "BadPage")
     wanted(size == len(words) and size <= MOST_WORDS, "BadSize", ", other than the words")
@@ -196,9 +203,13 @@ def check_counts_block(words, counts, n):
     require(words[counts] >= 4 + 2 * n, "BadCounts", "of a block too small for them")
 
 
-def packed_in(single, n):
-    """The bucket and the units that a lawful packed word has, or None."""
-    bucket, units = divmod(single, 2**32)
+def kept_in(words, at, n):
+    """The bucket and the units that the single word keeps beside the counts, or None where it keeps none.
+
+    A packed word keeps them, and in version 2 a frozen one too.
+    """
+    version, single = words[1], words[at + 9]
+    bucket, units = divmod(single % TOP if version == 2 else single, 2**32)
     return (bucket, units) if bucket < n and 1 <= units <= MOST_PACKED else None
 
 
@@ -210,48 +221,74 @@ def totals_of(words, at, n):
         check_counts_block(words, counts, n)
         totals = list(words[counts + 4 : counts + 4 + n])
     require(all(total <= MOST_UNITS for total in totals), "BadCounts", "of a count")
-    packed = packed_in(words[at + 9], n)
-    if packed is not None:
-        bucket, units = packed
+    kept = kept_in(words, at, n)
+    if kept is not None:
+        bucket, units = kept
         totals[bucket] += units
-        require(totals[bucket] <= MOST_UNITS, "BadCounts", "with packed units")
+        require(totals[bucket] <= MOST_UNITS, "BadCounts", "with packed units" if words[at + 9] < TOP else "with frozen units")
     return totals
+
+
+def packed_bucket(single, n, word):
+    """The bucket of a single word that is packed, or that was when it was frozen."""
+    bucket, units = divmod(single, 2**32)
+    require(1 <= units <= MOST_PACKED, "BadSingle", f"of a {word} word of no form")
+    require(bucket < n, "BadSingle", f"of a {word} word of no bucket")
+    return bucket
+
+
+def disabled_bucket(single, n):
+    """The bucket of a single word that is disabled, as in version 1; None where nothing was packed."""
+    bucket = single - TOP
+    if bucket == NOTHING_PACKED:
+        return None
+    require(bucket < NOTHING_PACKED, "BadSingle", "of a disabled word of no form")
+    require(bucket < n, "BadSingle", "of a disabled word of no bucket")
+    return bucket
+
+
+def frozen_bucket(single, n):
+    """The bucket of a single word that is frozen, as in version 2; None where nothing was packed."""
+    return None if single == TOP else packed_bucket(single - TOP, n, "frozen")
 
 
 def named_bucket(words, at, n, seen):
     """The bucket that is or was packed, or None, after the checks of the single word."""
-    counts, single = words[at + 8], words[at + 9]
+    version, counts, single = words[1], words[at + 8], words[at + 9]
     if single == 0:
         seen["single word empty"] += 1
         seen["counts beside an empty single word"] += counts != 0
         return None
     if single < TOP:
-        bucket, units = divmod(single, 2**32)
-        require(1 <= units <= MOST_PACKED, "BadSingle", "of no form")
-        require(bucket < n, "BadSingle", "of no bucket")
+        bucket = packed_bucket(single, n, "packed")
         seen["single word packed"] += 1
         seen["counts beside packed units"] += counts != 0 and any(words[counts + 4 : counts + 4 + n])
         return bucket
-    bucket = single - TOP
-    require(bucket <= 65_535, "BadSingle", "of no form")
-    require(bucket == 65_535 or bucket < n, "BadSingle", "of no bucket")
-    require(counts != 0, "BadSingle", "without counts")
-    seen[f"single word disabled {'without' if bucket == 65_535 else 'after'} packing"] += 1
-    return None if bucket == 65_535 else bucket
+    word, bucket = ("disabled", disabled_bucket(single, n)) if version == 1 else ("frozen", frozen_bucket(single, n))
+    require(counts != 0, "BadSingle", f"of a {word} word without counts")
+    seen[f"single word {word} {'without' if bucket is None else 'after'} packing"] += 1
+    return bucket
+
+
+def most_single_mark(version, total):
+    """The greatest lawful mark of the packed bucket. In version 1 its units may be on their way to the counts."""
+    return max(total, MOST_PACKED) if version == 1 else total
 
 
 def check_marks(words, at, totals, named, seen):
-    counts, single_mark = words[at + 8], words[at + 10]
+    version, counts, single_mark = words[1], words[at + 8], words[at + 10]
     require(named is not None or single_mark == 0, "BadMark", "where nothing was packed")
     if named is not None:
-        require(single_mark <= max(totals[named], MOST_PACKED), "BadMark", "of the packed bucket")
+        most = most_single_mark(version, totals[named])
+        require(single_mark <= most, "BadMark", f"of the packed bucket in version {version}")
         seen["units on their way"] += single_mark > totals[named]
+        seen[f"a mark of the packed bucket in version {version}"] += single_mark > 0
     if counts != 0:
         first = counts + 4 + len(totals)
         for bucket, total in enumerate(totals):
             mark = words[first + bucket]
             if bucket == named:
-                seen["a mark on the counts that is not looked at"] += mark > total
+                seen[f"a mark on the counts that is not looked at in version {version}"] += mark > total
             else:
                 require(mark <= total, "BadMark", "of another bucket")
                 seen["a mark of another bucket"] += mark > 0

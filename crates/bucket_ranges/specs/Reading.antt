@@ -12,7 +12,7 @@ use Rattle.bucket_ranges.specs.declared.reading.RecordFault.{RecordFault}
 use Rattle.bucket_ranges.specs.declared.reading.RecordFault.TheVariants.{BadSample}
 pub use Rattle.bucket_ranges.specs.Listed.{before, next_of, IsWalk, IsListed, next_checks, stop_of}
 pub use Rattle.bucket_ranges.specs.Record.{is_of_type, name_words, name_length, named_words, name_end, name_of, is_name_byte, is_name, has_name, is_kind, is_sparse, inner_ranges, ascends_above, ascends_inside, is_custom_named, is_sparse_named, is_boolean_named, is_linear_named, spec_named, is_spec_named, spec_of, record_words, has_spec, record_buckets, record_single, sum_of, sum_mark_of}
-pub use Rattle.bucket_ranges.specs.Units.{counts_words, is_counts_block, count_at, total_at, totals_at, mark_at, marks_at, bucket_counts_at, has_large, is_bad_single, is_large_mark, is_large_mark_at, is_bad_mark_at, record_counts, record_single_mark, total_of, totals_of, mark_of, bucket_counts, bucket_marks, has_counts, has_no_units}
+pub use Rattle.bucket_ranges.specs.Units.{counts_words, is_counts_block, count_at, total_at, totals_at, mark_at, marks_at, bucket_counts_at, has_large, is_bad_single, units_move, is_large_mark, is_large_mark_at, is_bad_mark_at, record_counts, record_single_mark, total_of, totals_of, mark_of, bucket_counts, bucket_marks, has_counts, has_no_units}
 pub use Rattle.bucket_ranges.specs.RecordChecks.{is_bad_kind, is_bad_spec, is_bad_bucket_counts, is_bad_counts, is_bad_record_single, is_bad_mark, is_beyond, is_bad_sum, is_bad_record_sum, single_checks, bucket_checks, units_checks, checks_behind_name, record_checks, record_fault}
 pub use Rattle.bucket_ranges.specs.Sample.{sample_histogram, sample_value, sample_count, sample_mark, is_i32, has_bad_sample, is_bad_sample_by, by_value, samples_of, first_samples, sample_counts, sample_marks}
 
@@ -80,18 +80,18 @@ pub record Histogram : Type 0 where
   pub sum_mark : ℤ
   pub redundant : ℕ
 
--- the histogram of a record, where the samples of the list are these
-abbrev pub histogram_of : List ℕ → List ℕ → ℕ → Histogram
-histogram_of words samples reference = record {
+-- the histogram of a record in a version, where the samples of the list are these
+abbrev pub histogram_of : ℕ → List ℕ → List ℕ → ℕ → Histogram
+histogram_of version words samples reference = record {
   reference = reference;
   name = name_of words reference;
   spec = spec_of words reference;
   counts = if is_sparse words reference
       then sample_counts words (first_samples words samples reference)
-      else bucket_counts words reference;
+      else bucket_counts version words reference;
   marks = if is_sparse words reference
       then sample_marks words (first_samples words samples reference)
-      else bucket_marks words reference;
+      else bucket_marks version words reference;
   sum = sum_of words reference;
   sum_mark = sum_mark_of words reference;
   redundant = field_at words reference HISTOGRAM_REDUNDANT;
@@ -125,7 +125,7 @@ reading_along words head references = record {
   id = head.id;
   full = head.full;
   corrupt = head.corrupt;
-  hists = map (histogram_of words (lawful_samples words head references)) (read_records words head references);
+  hists = map (histogram_of head.version words (lawful_samples words head references)) (read_records words head references);
   bad = filter_map (bad_record words head) (with_earlier references);
   stopped = stop_of words head references;
 }

@@ -137,9 +137,10 @@ record_buckets words reference = buckets_of (spec_of words reference)
 
 -- ---- the single word and the sums
 
--- what the single word says, where it has a lawful form
-abbrev pub record_single : List ℕ → ℕ → Option SingleWord
-record_single words reference = single_of (record_buckets words reference) (field_at words reference HISTOGRAM_SINGLE)
+-- what the single word says in a version, where it has a lawful form there
+abbrev pub record_single : ℕ → List ℕ → ℕ → Option SingleWord
+record_single version words reference =
+    single_of version (record_buckets words reference) (field_at words reference HISTOGRAM_SINGLE)
 
 -- the sum of the samples, and the part of it that deltas have taken
 abbrev pub sum_of : List ℕ → ℕ → ℤ

@@ -22,22 +22,23 @@ is_bad_spec words page reference =
 
 -- whether the counts of a record with buckets are bad: there is no block of counts, or a total is too large
 abbrev pub is_bad_bucket_counts : List ℕ → SegmentHead → ℕ → Bool
-is_bad_bucket_counts words head reference = not (has_counts words head reference) || has_large (totals_of words reference)
+is_bad_bucket_counts words head reference = not (has_counts words head reference) || has_large (totals_of head.version words reference)
 
 -- whether the counts of a record are bad: a sparse one has none, no single word and no single mark
 abbrev pub is_bad_counts : List ℕ → SegmentHead → ℕ → Bool
 is_bad_counts words head reference =
     if is_sparse words reference then not (has_no_units words reference) else is_bad_bucket_counts words head reference
 
--- whether the single word of a record is bad
-abbrev pub is_bad_record_single : List ℕ → ℕ → Bool
-is_bad_record_single words reference = is_bad_single (record_single words reference) (record_counts words reference)
+-- whether the single word of a record is bad in a version
+abbrev pub is_bad_record_single : ℕ → List ℕ → ℕ → Bool
+is_bad_record_single version words reference =
+    is_bad_single (record_single version words reference) (record_counts words reference)
 
--- whether a record's marks are bad
-abbrev pub is_bad_mark : List ℕ → ℕ → Bool
-is_bad_mark words reference =
-    is_bad_mark_at words (record_counts words reference) (record_buckets words reference) (record_single words reference)
-    (record_single_mark words reference)
+-- whether a record's marks are bad in a version
+abbrev pub is_bad_mark : ℕ → List ℕ → ℕ → Bool
+is_bad_mark version words reference =
+    is_bad_mark_at version words (record_counts words reference) (record_buckets words reference)
+    (record_single version words reference) (record_single_mark words reference)
 
 -- whether a sum is beyond 2^31 * (2^32 - 1) in size, which the units of a segment cannot reach
 abbrev pub is_beyond : ℤ → Bool
@@ -51,18 +52,18 @@ is_bad_sum sum mark = is_beyond sum || is_beyond mark || is_beyond (sum -ℤ mar
 abbrev pub is_bad_record_sum : List ℕ → ℕ → Bool
 is_bad_record_sum words reference = is_bad_sum (sum_of words reference) (sum_mark_of words reference)
 
--- the checks of a record's single word and marks
-abbrev pub single_checks : List ℕ → ℕ → List (Bool × RecordFault)
-single_checks words reference =
-    (is_bad_record_single words reference, BadSingle) ∷ (is_bad_mark words reference, BadMark) ∷ []
+-- the checks of a record's single word and marks in a version
+abbrev pub single_checks : ℕ → List ℕ → ℕ → List (Bool × RecordFault)
+single_checks version words reference =
+    (is_bad_record_single version words reference, BadSingle) ∷ (is_bad_mark version words reference, BadMark) ∷ []
 
 -- those of the units of a record with buckets
 abbrev pub bucket_checks : List ℕ → SegmentHead → ℕ → List (Bool × RecordFault)
-bucket_checks words head reference = (is_bad_bucket_counts words head reference, BadCounts) ∷ single_checks words reference
+bucket_checks words head reference = (is_bad_bucket_counts words head reference, BadCounts) ∷ single_checks head.version words reference
 
 -- those of the units of any record
 abbrev pub units_checks : List ℕ → SegmentHead → ℕ → List (Bool × RecordFault)
-units_checks words head reference = (is_bad_counts words head reference, BadCounts) ∷ single_checks words reference
+units_checks words head reference = (is_bad_counts words head reference, BadCounts) ∷ single_checks head.version words reference
 
 -- those of a record behind its kind and its name
 abbrev pub checks_behind_name : List ℕ → SegmentHead → ℕ → List (Bool × RecordFault)

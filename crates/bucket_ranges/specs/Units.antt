@@ -5,7 +5,7 @@ use Rattle.std.specs.Prelude.{Bool, not, ◌&&◌, ◌||◌, ◌==◌, nat_lt, n
 use Rattle.std.specs.List.{range_with_len, list_any}
 use Rattle.segment_image.specs.Blocks.{field_at, is_block}
 use Rattle.segment_image.specs.declared.head.SegmentHead.{SegmentHead}
-use Rattle.segment_image.specs.declared.layout.TheConstants.{BLOCK_SIZE, BLOCK_HEADER, TYPE_COUNTS, HISTOGRAM_COUNTS, HISTOGRAM_SINGLE, HISTOGRAM_SINGLE_MARK}
+use Rattle.segment_image.specs.declared.layout.TheConstants.{VERSION_FROZEN, BLOCK_SIZE, BLOCK_HEADER, TYPE_COUNTS, HISTOGRAM_COUNTS, HISTOGRAM_SINGLE, HISTOGRAM_SINGLE_MARK}
 use Rattle.bucket_ranges.specs.declared.limits.TheConstants.{MAX_PACKED, MAX_UNITS}
 use Rattle.bucket_ranges.specs.declared.single.SingleWord.{SingleWord}
 use Rattle.bucket_ranges.specs.Ranges.{boundaries_of}
@@ -62,23 +62,29 @@ has_large totals = list_any (λ total. nat_lt MAX_UNITS total) totals
 abbrev pub is_bad_single : Option SingleWord → ℕ → Bool
 is_bad_single single counts = is_none single || (is_disabled single && (counts == 0))
 
--- whether a mark is above what a bucket's mark may be: its total; in the packed bucket also up to 65,535, since its
--- units may be on their way from the single word to the counts
-abbrev pub is_large_mark : ℕ → ℕ → Bool → Bool
-is_large_mark mark total packed = nat_lt total mark && (not packed || nat_lt MAX_PACKED mark)
+-- whether the units of a packed bucket move from the single word to the counts in a version
+abbrev pub units_move : ℕ → Bool
+units_move version = not (version == VERSION_FROZEN)
+
+-- whether a mark is above what a bucket's mark may be: its total; in a packed bucket whose units move also up to 65,535,
+-- since they may be on their way
+abbrev pub is_large_mark : ℕ → ℕ → ℕ → Bool → Bool
+is_large_mark version mark total packed =
+    nat_lt total mark && (not (packed && units_move version) || nat_lt MAX_PACKED mark)
 
 -- whether the mark of bucket i of n is
-abbrev pub is_large_mark_at : List ℕ → ℕ → ℕ → Option SingleWord → ℕ → ℕ → Bool
-is_large_mark_at words counts n single single_mark i =
-    is_large_mark (mark_at words counts n single single_mark i) (total_at words counts single i) (is_packed_bucket single i)
+abbrev pub is_large_mark_at : ℕ → List ℕ → ℕ → ℕ → Option SingleWord → ℕ → ℕ → Bool
+is_large_mark_at version words counts n single single_mark i =
+    is_large_mark version (mark_at words counts n single single_mark i) (total_at words counts single i)
+    (is_packed_bucket single i)
 
 -- whether there is a single mark while no bucket is or was packed, or a bucket's mark is above what it may be
-abbrev pub is_bad_mark_at : List ℕ → ℕ → ℕ → Option SingleWord → ℕ → Bool
-is_bad_mark_at words counts n single single_mark =
+abbrev pub is_bad_mark_at : ℕ → List ℕ → ℕ → ℕ → Option SingleWord → ℕ → Bool
+is_bad_mark_at version words counts n single single_mark =
     (is_none (packed_bucket single) && not (single_mark == 0))
-    || list_any (is_large_mark_at words counts n single single_mark) (range_with_len 0 n)
+    || list_any (is_large_mark_at version words counts n single single_mark) (range_with_len 0 n)
 
--- ---- of a histogram's record
+-- ---- of a histogram's record, in a version
 
 -- the counts reference, and the single mark
 abbrev pub record_counts : List ℕ → ℕ → ℕ
@@ -88,28 +94,28 @@ abbrev pub record_single_mark : List ℕ → ℕ → ℕ
 record_single_mark words reference = field_at words reference HISTOGRAM_SINGLE_MARK
 
 -- the total of bucket i of a record, and the totals of all its buckets
-abbrev pub total_of : List ℕ → ℕ → ℕ → ℕ
-total_of words reference i = total_at words (record_counts words reference) (record_single words reference) i
+abbrev pub total_of : ℕ → List ℕ → ℕ → ℕ → ℕ
+total_of version words reference i = total_at words (record_counts words reference) (record_single version words reference) i
 
-abbrev pub totals_of : List ℕ → ℕ → List ℕ
-totals_of words reference =
-    totals_at words (record_counts words reference) (record_single words reference) (record_buckets words reference)
+abbrev pub totals_of : ℕ → List ℕ → ℕ → List ℕ
+totals_of version words reference =
+    totals_at words (record_counts words reference) (record_single version words reference) (record_buckets words reference)
 
 -- the mark of bucket i of a record
-abbrev pub mark_of : List ℕ → ℕ → ℕ → ℕ
-mark_of words reference i =
-    mark_at words (record_counts words reference) (record_buckets words reference) (record_single words reference)
+abbrev pub mark_of : ℕ → List ℕ → ℕ → ℕ → ℕ
+mark_of version words reference i =
+    mark_at words (record_counts words reference) (record_buckets words reference) (record_single version words reference)
     (record_single_mark words reference) i
 
 -- the counts of the buckets of a record, each under its least value, and their marks
-abbrev pub bucket_counts : List ℕ → ℕ → List (ℤ × ℕ)
-bucket_counts words reference =
+abbrev pub bucket_counts : ℕ → List ℕ → ℕ → List (ℤ × ℕ)
+bucket_counts version words reference =
     bucket_counts_at (boundaries_of (spec_of words reference)) words (record_counts words reference)
-    (record_single words reference) (record_buckets words reference)
+    (record_single version words reference) (record_buckets words reference)
 
-abbrev pub bucket_marks : List ℕ → ℕ → List ℕ
-bucket_marks words reference =
-    marks_at words (record_counts words reference) (record_buckets words reference) (record_single words reference)
+abbrev pub bucket_marks : ℕ → List ℕ → ℕ → List ℕ
+bucket_marks version words reference =
+    marks_at words (record_counts words reference) (record_buckets words reference) (record_single version words reference)
     (record_single_mark words reference)
 
 -- whether the counts reference is 0 or names a block of counts for so many buckets

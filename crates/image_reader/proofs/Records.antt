@@ -34,7 +34,7 @@ pub IsSound-from_none : (words : List ℕ) (head : SegmentHead) (at : ℕ) → r
     → IsSound words head at
 IsSound-from_none words head at none =
     let p = sound-name (is_bad_kind words at) (has_name words at) (is_bad_spec words head.shape.page at)
-    (is_bad_counts words head at) (is_bad_single (record_single words at) (field_at words at 8)) (is_bad_mark words at)
+    (is_bad_counts words head at) (is_bad_single (record_single head.version words at) (field_at words at 8)) (is_bad_mark head.version words at)
     (is_bad_sum (sum_of words at) (sum_mark_of words at)) none in
     record { kind = p.0; name = p.1; spec = p.2; counts = p.3 }
 

@@ -81,9 +81,9 @@ not-sparse false zeros true large s e = (refl, e)
 not-sparse false zeros false large s e = absurd (cc)
 
 -- what is known of its buckets
-pub record HasBuckets (words : List ℕ) (at : ℕ) : Type 0 where
+pub record HasBuckets (version : ℕ) (words : List ℕ) (at : ℕ) : Type 0 where
   pub room : 0 < field_at words at 8 → field_at words at 8 + (4 + 2 * record_buckets words at) ≤ length words
-  pub small : has_large (totals_of words at) ≡ false
+  pub small : has_large (totals_of version words at) ≡ false
 
 or-second : (a b : Bool) → a ≡ false → (a || b) ≡ true → b ≡ true
 or-second true b f e = absurd (cc)
@@ -103,12 +103,12 @@ room-from words head at h e some =
     omega (arith, enough, lies)
 
 pub HasBuckets-from_none : (words : List ℕ) (head : SegmentHead) (at : ℕ) → header_of words ≡ Ok head
-    → record_fault words head at ≡ None → (field_at words at 4 ≡ 4 → ⊥) → HasBuckets words at
+    → record_fault words head at ≡ None → (field_at words at 4 ≡ 4 → ⊥) → HasBuckets head.version words at
 HasBuckets-from_none words head at h none kind =
     let readable = IsReadable-from_none words head at none in
     let parts = not-sparse (field_at words at 4 == 4)
     ((field_at words at 8 == 0) && (field_at words at 9 == 0) && (field_at words at 10 == 0)) (has_counts words head at)
-    (has_large (totals_of words at)) (ne_eqb (field_at words at 4) 4 kind) readable.counts in
+    (has_large (totals_of head.version words at)) (ne_eqb (field_at words at 4) 4 kind) readable.counts in
     record { room = room-from words head at h parts.0; small = parts.1 }
 
 -- where there is no fault, what a match says
@@ -117,26 +117,26 @@ match-none P Q None e m = m
 match-none P Q (Some fault) e m = absurd (cc)
 
 -- what is read of the buckets is what the record has
-pub counts-read : (words : List ℕ) (at : ℕ) (b : Buckets) (ranges : List ℕ) → AreBucketsAt words at b
+pub counts-read : (version : ℕ) (words : List ℕ) (at : ℕ) (b : Buckets) (ranges : List ℕ) → AreBucketsAt version words at b
     → ranges ≡ boundaries_of (spec_of words at)
-    → map (λ i. (pos (slice_index ranges i), total_at words b.counts b.single i)) (range_with_len 0 b.number) ≡ bucket_counts words at
-counts-read words at b ranges are is =
+    → map (λ i. (pos (slice_index ranges i), total_at words b.counts b.single i)) (range_with_len 0 b.number) ≡ bucket_counts version words at
+counts-read version words at b ranges are is =
     λ j. map (λ i. (pos (slice_index (is j) i), total_at words (are.counts j) (are.single j) i)) (range_with_len 0 (are.number j))
 
-pub marks-read : (words : List ℕ) (at : ℕ) (b : Buckets) → AreBucketsAt words at b
-    → map (mark_at words b.counts b.number b.single b.single_mark) (range_with_len 0 b.number) ≡ bucket_marks words at
-marks-read words at b are =
+pub marks-read : (version : ℕ) (words : List ℕ) (at : ℕ) (b : Buckets) → AreBucketsAt version words at b
+    → map (mark_at words b.counts b.number b.single b.single_mark) (range_with_len 0 b.number) ≡ bucket_marks version words at
+marks-read version words at b are =
     λ j. map (mark_at words (are.counts j) (are.number j) (are.single j) (are.single_mark j)) (range_with_len 0 (are.number j))
 
 -- and there is room for it
-pub room-read : (words : List ℕ) (at : ℕ) (b : Buckets) → AreBucketsAt words at b → HasBuckets words at → IsRoomFor words b
-room-read words at b are has some =
+pub room-read : (version : ℕ) (words : List ℕ) (at : ℕ) (b : Buckets) → AreBucketsAt version words at b → HasBuckets version words at → IsRoomFor words b
+room-read version words at b are has some =
     let room = has.room (omega (arith, are.counts)) in
     omega (arith, are.counts, are.number, room)
 
-pub small-read : (words : List ℕ) (at : ℕ) (b : Buckets) → AreBucketsAt words at b → HasBuckets words at
+pub small-read : (version : ℕ) (words : List ℕ) (at : ℕ) (b : Buckets) → AreBucketsAt version words at b → HasBuckets version words at
     → has_large (map (total_at words b.counts b.single) (range_with_len 0 b.number)) ≡ false
-small-read words at b are has = large-found words at b are ∙ has.small
+small-read version words at b are has = large-found version words at b are ∙ has.small
 
 -- ---- the histogram
 
@@ -147,22 +147,22 @@ if-false : {X : Type 0} (b : Bool) (x y : X) → b ≡ false → (if b then x el
 if-false b x y e = ap (λ t. if t then x else y) e
 
 -- the counts and the marks of a histogram that is not sparse are those of its buckets
-pub counts-buckets : (words listed : List ℕ) (at : ℕ) → (field_at words at 4 ≡ 4 → ⊥)
-    → bucket_counts words at ≡ (histogram_of words listed at).counts
-counts-buckets words listed at kind =
-    sym (if-false (field_at words at 4 == 4) _ (bucket_counts words at) (ne_eqb (field_at words at 4) 4 kind))
+pub counts-buckets : (version : ℕ) (words listed : List ℕ) (at : ℕ) → (field_at words at 4 ≡ 4 → ⊥)
+    → bucket_counts version words at ≡ (histogram_of version words listed at).counts
+counts-buckets version words listed at kind =
+    sym (if-false (field_at words at 4 == 4) _ (bucket_counts version words at) (ne_eqb (field_at words at 4) 4 kind))
 
-pub marks-buckets : (words listed : List ℕ) (at : ℕ) → (field_at words at 4 ≡ 4 → ⊥)
-    → bucket_marks words at ≡ (histogram_of words listed at).marks
-marks-buckets words listed at kind =
-    sym (if-false (field_at words at 4 == 4) _ (bucket_marks words at) (ne_eqb (field_at words at 4) 4 kind))
+pub marks-buckets : (version : ℕ) (words listed : List ℕ) (at : ℕ) → (field_at words at 4 ≡ 4 → ⊥)
+    → bucket_marks version words at ≡ (histogram_of version words listed at).marks
+marks-buckets version words listed at kind =
+    sym (if-false (field_at words at 4 == 4) _ (bucket_marks version words at) (ne_eqb (field_at words at 4) 4 kind))
 
 -- a sparse one has none without samples
-pub counts-none : (words : List ℕ) (at : ℕ) → field_at words at 4 ≡ 4 → [] ≡ (histogram_of words [] at).counts
-counts-none words at kind = sym (if-true (field_at words at 4 == 4) (sample_counts words []) (bucket_counts words at) (eq-eqb _ 4 kind))
+pub counts-none : (version : ℕ) (words : List ℕ) (at : ℕ) → field_at words at 4 ≡ 4 → [] ≡ (histogram_of version words [] at).counts
+counts-none version words at kind = sym (if-true (field_at words at 4 == 4) (sample_counts words []) (bucket_counts version words at) (eq-eqb _ 4 kind))
 
-pub marks-none : (words : List ℕ) (at : ℕ) → field_at words at 4 ≡ 4 → [] ≡ (histogram_of words [] at).marks
-marks-none words at kind = sym (if-true (field_at words at 4 == 4) (sample_marks words []) (bucket_marks words at) (eq-eqb _ 4 kind))
+pub marks-none : (version : ℕ) (words : List ℕ) (at : ℕ) → field_at words at 4 ≡ 4 → [] ≡ (histogram_of version words [] at).marks
+marks-none version words at kind = sym (if-true (field_at words at 4 == 4) (sample_marks words []) (bucket_marks version words at) (eq-eqb _ 4 kind))
 
 -- a record names a sparse spec by its kind
 sparse-named : {X : Type 0} (sparse custom boolean : Bool) (min max n : ℕ) (inner : List ℕ) (x y z : X)
@@ -174,9 +174,9 @@ sparse-named false false true min max n inner x y z = refl
 sparse-named false false false min max n inner x y z = refl
 
 -- so a histogram without samples, and then with those that are held of it, is the histogram with the samples of the list
-pub given-samples : (words listed : List ℕ) (samples : Samples) (at : ℕ) → HoldsSamples words listed samples
-    → with_samples samples (histogram_of words [] at) ≡ histogram_of words listed at
-given-samples words listed samples at holds =
+pub given-samples : (version : ℕ) (words listed : List ℕ) (samples : Samples) (at : ℕ) → HoldsSamples words listed samples
+    → with_samples samples (histogram_of version words [] at) ≡ histogram_of version words listed at
+given-samples version words listed samples at holds =
     let sparse : Bool = field_at words at 4 == 4 in
     let custom : Bool = field_at words at 4 == 3 in
     let boolean : Bool = field_at words at 4 == 2 in
@@ -184,11 +184,11 @@ given-samples words listed samples at holds =
     ap (map entry_count) (holds at) ∙ map-map entry_count (sample_entry words) (first_samples words listed at) in
     let marks : map entry_mark (held samples at) ≡ sample_marks words (first_samples words listed at) =
     ap (map entry_mark) (holds at) ∙ map-map entry_mark (sample_entry words) (first_samples words listed at) in
-    same_histogram _ (histogram_of words listed at) refl refl refl
+    same_histogram _ (histogram_of version words listed at) refl refl refl
     (sparse-named sparse custom boolean (field_at words at 5) (field_at words at 6) (field_at words at 7) (inner_ranges words at)
-    (map entry_count (held samples at)) (bucket_counts words at) []
-    ∙ ap (λ cs. if sparse then cs else bucket_counts words at) counts)
+    (map entry_count (held samples at)) (bucket_counts version words at) []
+    ∙ ap (λ cs. if sparse then cs else bucket_counts version words at) counts)
     (sparse-named sparse custom boolean (field_at words at 5) (field_at words at 6) (field_at words at 7) (inner_ranges words at)
-    (map entry_mark (held samples at)) (bucket_marks words at) []
-    ∙ ap (λ ms. if sparse then ms else bucket_marks words at) marks)
+    (map entry_mark (held samples at)) (bucket_marks version words at) []
+    ∙ ap (λ ms. if sparse then ms else bucket_marks version words at) marks)
     refl refl refl

@@ -12,7 +12,7 @@ use Rattle.image_reader.specs.Samples.{AreNear, AreSamples, HoldsSamples}
 -- what is gathered of these references: the histograms that are read, as they are without a sample, the bad records, which
 -- names the lawful ones have, where a sparse histogram is read, and the samples
 pub record IsGathered (words : List ℕ) (head : SegmentHead) (references : List ℕ) (gathering : Gathering) : Type 0 where
-  pub hists_are : map histogram_view gathering.hists.items ≡ map (histogram_of words []) (read_records words head references)
+  pub hists_are : map histogram_view gathering.hists.items ≡ map (histogram_of head.version words []) (read_records words head references)
   pub bad_are : map bad_view gathering.bad.items ≡ filter_map (bad_record words head) (with_earlier references)
   pub names_are : (name : List ℕ) → holds gathering.names name
       ≡ list_any (λ reference. bytes_eq name (name_of words reference)) (lawful_records words head references)

@@ -16,7 +16,7 @@ use bucket_ranges::reading::RecordFault;
 use bucket_ranges::{Ranges, SingleWord};
 use segment_image::layout::{
     BLOCK_HEADER, HISTOGRAM_BUCKETS, HISTOGRAM_COUNTS, HISTOGRAM_LEAST, HISTOGRAM_SINGLE,
-    HISTOGRAM_SINGLE_MARK, TYPE_COUNTS,
+    HISTOGRAM_SINGLE_MARK, TYPE_COUNTS, VERSION_FROZEN,
 };
 use segment_image::{SegmentHead, block};
 use std::alloc::{AllocError, Global};
@@ -24,6 +24,8 @@ use std::alloc::{AllocError, Global};
 /// Where the units of a record's buckets stand, and their marks.
 #[derive(Clone, Copy, Debug)]
 pub(crate) struct Buckets {
+    /// The version of the format.
+    version: u64,
     /// How many buckets there are.
     number: usize,
     /// The reference of the block of counts, 0 where there is none.
@@ -35,18 +37,19 @@ pub(crate) struct Buckets {
 }
 
 impl Buckets {
-    /// Those of the record at `at`, which names a lawful spec with buckets.
-    pub(crate) fn at(words: &[u64], at: usize) -> Buckets
+    /// Those of the record at `at`, which names a lawful spec with buckets, in a version of the format.
+    pub(crate) fn at(version: u64, words: &[u64], at: usize) -> Buckets
         requires within { at + HISTOGRAM_LEAST ≤ length words.now }
         requires buckets { record_buckets words.now at ≡ field_at words.now at HISTOGRAM_BUCKETS }
         requires few { field_at words.now at HISTOGRAM_BUCKETS ≤ MAX_BUCKETS }
-        ensures { AreBucketsAt words.now at result }
+        ensures { AreBucketsAt version words.now at result }
     {
         let number = words[at + HISTOGRAM_BUCKETS] as usize;
         Buckets {
+            version,
             number,
             counts: words[at + HISTOGRAM_COUNTS] as usize,
-            single: SingleWord::of(words[at + HISTOGRAM_SINGLE], number),
+            single: SingleWord::of(version, words[at + HISTOGRAM_SINGLE], number),
             single_mark: words[at + HISTOGRAM_SINGLE_MARK],
         }
     }
@@ -60,7 +63,7 @@ pub(crate) fn buckets_fault(
     buckets: &Buckets,
 ) -> Option<RecordFault>
     requires header { header_of words.now ≡ Ok head.now }
-    requires buckets { AreBucketsAt words.now at buckets.now }
+    requires buckets { AreBucketsAt head.now.version words.now at buckets.now }
     ensures { result ≡ first_fault (bucket_checks words.now head.now at) }
 {
     if !has_counts(words, head, at, buckets) || has_large(words, buckets) {
@@ -78,7 +81,7 @@ pub(crate) fn buckets_fault(
 // Whether the counts reference is 0 or names a block of counts for so many buckets.
 fn has_counts(words: &[u64], head: &SegmentHead, at: usize, buckets: &Buckets) -> bool
     requires header { header_of words.now ≡ Ok head.now }
-    requires buckets { AreBucketsAt words.now at buckets.now }
+    requires buckets { AreBucketsAt head.now.version words.now at buckets.now }
     ensures value { result ≡ has_counts_of words.now head.now at }
     ensures room { result ≡ true → IsRoomFor words.now buckets.now }
 {
@@ -112,6 +115,10 @@ fn units_packed(single: &Option<SingleWord>, bucket: usize) -> u64
     match single {
         Some(
             SingleWord::Packed {
+                bucket: packed,
+                units,
+            }
+            | SingleWord::Frozen {
                 bucket: packed,
                 units,
             },
@@ -148,8 +155,8 @@ fn is_bad_single(buckets: &Buckets) -> bool
 {
     match buckets.single {
         None => true,
-        Some(SingleWord::Disabled { .. }) => buckets.counts == 0,
-        Some(_) => false,
+        Some(SingleWord::Empty | SingleWord::Packed { .. }) => false,
+        Some(_) => buckets.counts == 0,
     }
 }
 
@@ -158,7 +165,9 @@ fn packed_bucket(single: &Option<SingleWord>) -> Option<usize>
     ensures { result ≡ packed_bucket_of single.now }
 {
     match single {
-        Some(SingleWord::Packed { bucket, .. }) => Some(*bucket),
+        Some(SingleWord::Packed { bucket, .. } | SingleWord::Frozen { bucket, .. }) => {
+            Some(*bucket)
+        }
         Some(SingleWord::Disabled { packed }) => *packed,
         _ => None,
     }
@@ -188,21 +197,21 @@ fn mark(words: &[u64], buckets: &Buckets, bucket: usize) -> u64
     }
 }
 
-// Whether the mark of a bucket is above its total, in the packed bucket also above 65,535.
+// Whether the mark of a bucket is above its total, in a packed bucket whose units move also above 65,535.
 fn is_large_mark(words: &[u64], buckets: &Buckets, bucket: usize) -> bool
     requires room { IsRoomFor words.now buckets.now }
     requires bucket { bucket < buckets.now.number }
-    ensures { result ≡ is_large_mark_at words.now buckets.now.counts buckets.now.number buckets.now.single buckets.now.single_mark bucket }
+    ensures { result ≡ is_large_mark_at buckets.now.version words.now buckets.now.counts buckets.now.number buckets.now.single buckets.now.single_mark bucket }
 {
     let mark = mark(words, buckets, bucket);
-    mark > total(words, buckets, bucket)
-        && (!is_packed(&buckets.single, bucket) || mark > MAX_PACKED)
+    let may_move = is_packed(&buckets.single, bucket) && buckets.version != VERSION_FROZEN;
+    mark > total(words, buckets, bucket) && (!may_move || mark > MAX_PACKED)
 }
 
 // Whether there is a single mark while no bucket is or was packed, or a bucket's mark is too large.
 fn is_bad_mark(words: &[u64], buckets: &Buckets) -> bool
     requires { IsRoomFor words.now buckets.now }
-    ensures { result ≡ is_bad_mark_at words.now buckets.now.counts buckets.now.number buckets.now.single buckets.now.single_mark }
+    ensures { result ≡ is_bad_mark_at buckets.now.version words.now buckets.now.counts buckets.now.number buckets.now.single buckets.now.single_mark }
 {
     if packed_bucket(&buckets.single).is_none() && buckets.single_mark != 0 {
         return true;

@@ -33,7 +33,7 @@ pub(crate) fn histogram(
     requires lawful { record_fault words.now head.now at ≡ None }
     requires within { at + field_at words.now at BLOCK_SIZE ≤ length words.now }
     requires name { name.items ≡ name_of words.now at }
-    ensures { IfOk result (λ hist. histogram_view hist ≡ histogram_of words.now [] at) }
+    ensures { IfOk result (λ hist. histogram_view hist ≡ histogram_of head.now.version words.now [] at) }
 {
     let spec = spec_at(alloc, words, at)?;
     let (counts, marks) = if words[at + HISTOGRAM_KIND] == KIND_SPARSE {
@@ -81,9 +81,9 @@ fn bucket_lists(
     requires within { at + field_at words.now at BLOCK_SIZE ≤ length words.now }
     requires kind { field_at words.now at HISTOGRAM_KIND ≢ KIND_SPARSE }
     requires spec { spec.now ≡ spec_of words.now at }
-    ensures { IfOk result (λ lists. (lists.0.items ≡ bucket_counts words.now at) × (lists.1.items ≡ bucket_marks words.now at)) }
+    ensures { IfOk result (λ lists. (lists.0.items ≡ bucket_counts head.now.version words.now at) × (lists.1.items ≡ bucket_marks head.now.version words.now at)) }
 {
-    let buckets = Buckets::at(words, at);
+    let buckets = Buckets::at(head.version, words, at);
     let ranges = ranges_of(alloc, spec)?;
     let counts = counts_of(alloc, words, &buckets, &ranges)?;
     Ok((counts, marks_of(alloc, words, &buckets)?))

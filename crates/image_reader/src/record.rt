@@ -117,7 +117,7 @@ fn units_fault(words: &[u64], head: &SegmentHead, at: usize) -> Option<RecordFau
     ensures { result ≡ first_fault (units_checks words.now head.now at) }
 {
     if words[at + HISTOGRAM_KIND] != KIND_SPARSE {
-        return buckets_fault(words, head, at, &Buckets::at(words, at));
+        return buckets_fault(words, head, at, &Buckets::at(head.version, words, at));
     }
     if words[at + HISTOGRAM_COUNTS] != 0
         || words[at + HISTOGRAM_SINGLE] != 0

@@ -78,14 +78,15 @@ small_sum counts few below =
     omega (arith, few, units)
 
 -- the counts of buckets: as many as the buckets, each at most 2^32 - 1
-abbrev bucket_at : List ℕ → ℕ → ℕ → ℤ × ℕ
-bucket_at words reference i = (pos (slice_index (boundaries_of (spec_of words reference)) i), total_of words reference i)
+abbrev bucket_at : ℕ → List ℕ → ℕ → ℕ → ℤ × ℕ
+bucket_at version words reference i =
+    (pos (slice_index (boundaries_of (spec_of words reference)) i), total_of version words reference i)
 
-bucket_counts-small : (words : List ℕ) (reference : ℕ) → has_large (totals_of words reference) ≡ false
-    → All (λ count. count.1 ≤ 4294967295) (bucket_counts words reference)
-bucket_counts-small words reference small =
-    All-map (λ count. count.1 ≤ 4294967295) (bucket_at words reference) (range_with_len 0 (record_buckets words reference))
-    (all_within 4294967295 (total_of words reference) (range_with_len 0 (record_buckets words reference)) small)
+bucket_counts-small : (version : ℕ) (words : List ℕ) (reference : ℕ) → has_large (totals_of version words reference) ≡ false
+    → All (λ count. count.1 ≤ 4294967295) (bucket_counts version words reference)
+bucket_counts-small version words reference small =
+    All-map (λ count. count.1 ≤ 4294967295) (bucket_at version words reference) (range_with_len 0 (record_buckets words reference))
+    (all_within 4294967295 (total_of version words reference) (range_with_len 0 (record_buckets words reference)) small)
 
 length-choice : (o : Ordering) (n : ℕ) (less same more : List ℕ) → length less ≤ n → length same ≤ n → length more ≤ n
     → length (match_ordering o less same more) ≤ n
@@ -163,18 +164,18 @@ sampled-small words samples reference few small =
 
 -- the histogram of a lawful record, where the samples are small and not too many
 record_readable : (words : List ℕ) (head : SegmentHead) (samples : List ℕ) (reference : ℕ) → length samples ≤ 1048576
-    → All (IsSmallSample words) samples → record_fault words head reference ≡ None → IsReadable (histogram_of words samples reference)
+    → All (IsSmallSample words) samples → record_fault words head reference ≡ None → IsReadable (histogram_of head.version words samples reference)
 record_readable words head samples reference few small e =
     let (named, counts) = record_lawful words head reference e in
     let spec = spec_lawful words reference named in
     let many : record_buckets words reference ≤ 1000 = few_buckets (spec_of words reference) spec in
-    let buckets : length (bucket_counts words reference) ≡ record_buckets words reference =
-    length-map-range_with_len (bucket_at words reference) 0 (record_buckets words reference) in
-    let (counted, both) = of_either (is_sparse words reference) _ (sample_counts words (first_samples words samples reference)) (bucket_counts words reference)
+    let buckets : length (bucket_counts head.version words reference) ≡ record_buckets words reference =
+    length-map-range_with_len (bucket_at head.version words reference) 0 (record_buckets words reference) in
+    let (counted, both) = of_either (is_sparse words reference) _ (sample_counts words (first_samples words samples reference)) (bucket_counts head.version words reference)
     (not ((field_at words reference 8 == 0) && (field_at words reference 9 == 0) && (field_at words reference 10 == 0)))
-    (not (has_counts words head reference) || has_large (totals_of words reference)) counts
+    (not (has_counts words head reference) || has_large (totals_of head.version words reference)) counts
     (sampled-small words samples reference few small)
-    (λ passed. record { few = omega (arith, buckets, many); below = bucket_counts-small words reference (or_parts _ _ passed).1 })
+    (λ passed. record { few = omega (arith, buckets, many); below = bucket_counts-small head.version words reference (or_parts _ _ passed).1 })
     buckets in
     record { lawful = spec; counted = counted; small = small_sum _ both.few both.below }
 
@@ -186,7 +187,7 @@ reading_readable words head reading within (references, listed, is) =
     let records = lawful_records words head references in
     let lawful : All (λ reference. is_none (record_fault words head reference) ≡ true) records = filter_passes (λ reference. is_none (record_fault words head reference)) (histogram_records words references) in
     let firsts = All-first_of_each (same_name words) (λ reference. is_none (record_fault words head reference) ≡ true) records lawful in
-    let readable = All-map IsReadable (histogram_of words samples) (read_records words head references)
+    let readable = All-map IsReadable (histogram_of head.version words samples) (read_records words head references)
     (λ k d h. let reference : ℕ = get_or (read_records words head references) k d in
     record_readable words head samples reference few (lawful_samples-small words head references) (none_is (record_fault words head reference) (firsts k d h))) in
     subst (λ (r : Reading). All IsReadable r.hists) (sym is) readable

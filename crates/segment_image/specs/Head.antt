@@ -6,11 +6,11 @@ use Rattle.segment_image.specs.Shape.{is_page, is_size}
 use Rattle.segment_image.specs.declared.fault.ImageFault.{ImageFault}
 use Rattle.segment_image.specs.declared.fault.ImageFault.TheVariants.{TooShort, BadCookie, BadVersion, BadPage, BadSize, NotReady, Deleted, BadFree, BadQueue}
 use Rattle.segment_image.specs.declared.head.SegmentHead.{SegmentHead}
-use Rattle.segment_image.specs.declared.layout.TheConstants.{HEADER_WORDS, COOKIE_WORD, VERSION_WORD, SIZE_WORD, PAGE_WORD, ID_WORD, STATE_WORD, FLAGS_WORD, FREE_WORD, TAIL_WORD, QUEUE, SEGMENT_COOKIE, VERSION, STATE_READY, STATE_DELETED, FLAG_CORRUPT, FLAG_FULL, QUEUE_SIZE, QUEUE_COOKIE, TYPE_PURGED, BLOCK_SIZE, BLOCK_COOKIE, BLOCK_TYPE}
+use Rattle.segment_image.specs.declared.layout.TheConstants.{HEADER_WORDS, COOKIE_WORD, VERSION_WORD, SIZE_WORD, PAGE_WORD, ID_WORD, STATE_WORD, FLAGS_WORD, FREE_WORD, TAIL_WORD, QUEUE, SEGMENT_COOKIE, VERSION_MOVING, VERSION_FROZEN, STATE_READY, STATE_DELETED, FLAG_CORRUPT, FLAG_FULL, QUEUE_SIZE, QUEUE_COOKIE, TYPE_PURGED, BLOCK_SIZE, BLOCK_COOKIE, BLOCK_TYPE}
 
 -- a version of the format that is read
 abbrev pub is_version : ℕ → Bool
-is_version version = version == VERSION
+is_version version = (version == VERSION_MOVING) || (version == VERSION_FROZEN)
 
 -- the queue block, from which the list of records starts: size 4, cookie 1, type 0
 abbrev pub is_queue : List ℕ → Bool

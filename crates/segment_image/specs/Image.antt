@@ -1,11 +1,11 @@
 -- The first words of a segment.
 use Rattle.std.specs.Prelude.{ℕ, ◌-◌, List, [], ◌∷◌, ◌++◌, replicate}
-use Rattle.segment_image.specs.declared.layout.TheConstants.{HEADER_WORDS, SEGMENT_COOKIE, VERSION, STATE_READY, QUEUE, QUEUE_SIZE, QUEUE_COOKIE, TYPE_PURGED}
+use Rattle.segment_image.specs.declared.layout.TheConstants.{HEADER_WORDS, SEGMENT_COOKIE, VERSION_MOVING, STATE_READY, QUEUE, QUEUE_SIZE, QUEUE_COOKIE, TYPE_PURGED}
 
 -- the header of a ready segment without blocks: the free pointer stands at 16, and the list is empty
 abbrev pub blank_header : ℕ → ℕ → ℕ → List ℕ
 blank_header size page id =
-    SEGMENT_COOKIE ∷ VERSION ∷ size ∷ page ∷ id ∷ STATE_READY ∷ 0 ∷ HEADER_WORDS ∷ QUEUE ∷ 0 ∷ 0 ∷ 0
+    SEGMENT_COOKIE ∷ VERSION_MOVING ∷ size ∷ page ∷ id ∷ STATE_READY ∷ 0 ∷ HEADER_WORDS ∷ QUEUE ∷ 0 ∷ 0 ∷ 0
     ∷ QUEUE_SIZE ∷ QUEUE_COOKIE ∷ TYPE_PURGED ∷ QUEUE ∷ []
 
 -- all its words: behind the header they are 0

@@ -4,8 +4,8 @@ use crate::fault::ImageFault;
 use crate::layout::{
     BLOCK_COOKIE, BLOCK_SIZE, BLOCK_TYPE, COOKIE_WORD, FLAG_CORRUPT, FLAG_FULL, FLAGS_WORD,
     FREE_WORD, HEADER_WORDS, ID_WORD, PAGE_WORD, QUEUE, QUEUE_COOKIE, QUEUE_SIZE, SEGMENT_COOKIE,
-    SIZE_WORD, STATE_DELETED, STATE_READY, STATE_WORD, TAIL_WORD, TYPE_PURGED, VERSION,
-    VERSION_WORD,
+    SIZE_WORD, STATE_DELETED, STATE_READY, STATE_WORD, TAIL_WORD, TYPE_PURGED, VERSION_FROZEN,
+    VERSION_MOVING, VERSION_WORD,
 };
 use crate::shape::Shape;
 
@@ -14,7 +14,7 @@ use crate::shape::Shape;
 pub struct SegmentHead {
     /// The words of the segment and of its pages.
     pub shape: Shape,
-    /// The version of the format.
+    /// The version of the format, 1 or 2.
     pub version: u64,
     /// The segment's id, any number.
     pub id: u64,
@@ -43,7 +43,8 @@ pub fn header(words: &[u64]) -> Result<SegmentHead, ImageFault>
     if words[COOKIE_WORD] != SEGMENT_COOKIE {
         return Err(ImageFault::BadCookie);
     }
-    if words[VERSION_WORD] != VERSION {
+    let version = words[VERSION_WORD];
+    if version != VERSION_MOVING && version != VERSION_FROZEN {
         return Err(ImageFault::BadVersion);
     }
     let size = words[SIZE_WORD];
@@ -68,7 +69,7 @@ pub fn header(words: &[u64]) -> Result<SegmentHead, ImageFault>
     }
     Ok(SegmentHead {
         shape,
-        version: words[VERSION_WORD],
+        version,
         id: words[ID_WORD],
         free,
         tail: words[TAIL_WORD],

@@ -3,7 +3,7 @@
 use crate::fault::ImageFault;
 use crate::layout::{
     HEADER_WORDS, QUEUE, QUEUE_COOKIE, QUEUE_SIZE, SEGMENT_COOKIE, STATE_DELETED, STATE_READY,
-    STATE_WORD, TYPE_PURGED, VERSION,
+    STATE_WORD, TYPE_PURGED, VERSION_MOVING,
 };
 use crate::shape::Shape;
 use std::alloc::{AllocError, Global};
@@ -77,7 +77,7 @@ fn blank_of(alloc: Global, shape: Shape, id: u64) -> Result<Image, AllocError>
     let mut words = Vec::with_capacity(alloc, size as usize)?;
     words.extend_from_slice(&[
         SEGMENT_COOKIE,
-        VERSION,
+        VERSION_MOVING,
         size,
         page,
         id,

@@ -52,8 +52,11 @@ pub const QUEUE: u64 = 12;
 /// The cookie of a segment.
 pub const SEGMENT_COOKIE: u64 = 0x4083_05DC;
 
-/// The version of the format.
-pub const VERSION: u64 = 1;
+/// The version of the format in which the units of a packed single word move to the counts.
+pub const VERSION_MOVING: u64 = 1;
+
+/// The version of the format in which they stay in the single word for good, which is frozen.
+pub const VERSION_FROZEN: u64 = 2;
 
 /// The state of a segment that is in use.
 pub const STATE_READY: u64 = 1;

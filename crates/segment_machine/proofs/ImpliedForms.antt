@@ -6,11 +6,11 @@ use Rattle.segment_image.specs.Shape.{Dimensions}
 use Rattle.segment_image.specs.Head.{head_of}
 use Rattle.segment_image.specs.Blocks.{field_at, is_block}
 use Rattle.bucket_ranges.specs.Spec.{buckets_of}
-use Rattle.bucket_ranges.specs.Reading.{has_counts, record_buckets}
+use Rattle.bucket_ranges.specs.Reading.{has_counts, record_buckets, record_single}
 use Rattle.bucket_ranges.specs.Single.{packed_bucket}
 use Rattle.segment_machine.specs.State.{State}
 use Rattle.segment_machine.specs.Form.{is_off}
-use Rattle.segment_machine.specs.Consistent.{HasForm, single_at}
+use Rattle.segment_machine.specs.Consistent.{HasForm}
 use Rattle.segment_machine.specs.Body.{Record, Counts, blank}
 use Rattle.segment_machine.specs.Ledger.{form_at}
 use Rattle.segment_machine.specs.Seen.{HasRecord, HasCounts}
@@ -38,7 +38,7 @@ module _ (shape : Dimensions) (version id : ℕ) (state : State) (kept : Kept sh
   single : field_at state.words at 9 ≡ r.single
   single = record_word shape state.words kept.anatomy kept.shown at r 9 has (omega arith)
 
-  form : single_at kept.anatomy.version state.words at ≡ form_at kept.anatomy.version r
+  form : record_single kept.anatomy.version state.words at ≡ form_at kept.anatomy.version r
   form = form_is shape state.words kept.anatomy kept.shown kept.anatomy.version at r has right kept.anatomy.version
 
   -- the counts that it names

@@ -1,5 +1,5 @@
 -- The keys of buckets: those of one histogram differ, and specs that are the same have the same ones.
-use Rattle.std.proofs.Common.{◌≡◌, ◌≢◌, ◌⊎◌, Bool, true, false, ◌==◌, nat_lt, nat_le, ◌&&◌, if◌then◌else◌, ℕ, ◌+◌, ◌-◌, ◌/◌, ◌%◌, ◌^◌, ◌<◌, ℤ, List, length, inl, inr, refl, sym, ap, ◌∙◌, arith, Option, Some, None}
+use Rattle.std.proofs.Common.{◌≡◌, ◌≢◌, ◌⊎◌, Bool, true, false, ◌==◌, nat_lt, if◌then◌else◌, ℕ, ◌+◌, ◌-◌, ◌/◌, ◌%◌, ◌^◌, ◌<◌, ℤ, List, length, inl, inr, refl, sym, ap, ◌∙◌, arith, Option, Some, None}
 use Rattle.std.specs.Prelude.{slice_index}
 use Rattle.std.specs.Ordering.{int_eq}
 use Rattle.std.proofs.lemmas.Bool.{cases_order, eqb-true, eqb-false, ltb-true, and_parts}
@@ -7,13 +7,13 @@ use Rattle.std.proofs.lemmas.Bool.Decides.{Decides-int_eq}
 use Rattle.bucket_ranges.specs.declared.spec.Spec.{Spec}
 use Rattle.bucket_ranges.specs.declared.spec.Spec.TheVariants.{Sparse}
 use Rattle.bucket_ranges.specs.declared.single.SingleWord.{SingleWord}
-use Rattle.bucket_ranges.specs.declared.single.SingleWord.TheVariants.{Empty, Packed, Disabled}
+use Rattle.bucket_ranges.specs.declared.single.SingleWord.TheVariants.{Empty, Packed, Disabled, FrozenEmpty, Frozen}
 use Rattle.bucket_ranges.specs.Spec.{buckets_of, spec_fault, spec_ranges, SameSpec}
 use Rattle.bucket_ranges.specs.Ranges.{boundaries_of, IsAscending}
-use Rattle.bucket_ranges.specs.Single.{packed_of, disabled_of, packed_bucket, is_packed_bucket, units_packed}
+use Rattle.bucket_ranges.specs.Single.{single_of, is_packed_word, packed_of, disabled_of, frozen_of, packed_bucket, is_packed_bucket, units_packed}
 use Rattle.bucket_ranges.proofs.Ascent.{boundaries_of-split}
 use Rattle.bucket_ranges.proofs.Buckets.{ascends}
-use Rattle.segment_machine.specs.Form.{form_of, is_off, units_in}
+use Rattle.segment_machine.specs.Form.{units_in}
 use Rattle.segment_machine.specs.Ledger.{key_of_bucket, at_bucket}
 use Rattle.segment_machine.proofs.Singled.{if_nothing}
 use Rattle.segment_machine.proofs.ImpliedSpecs.{spelled, field_named, named_by, boundaries_spelled}
@@ -53,9 +53,14 @@ one_key spec i j lawful bucketed low high same =
 -- ---- forms by their buckets
 
 -- the packed bucket of a form is one of the buckets
-packed_by : (n bucket units i : ℕ) (b : Bool) → (b ≡ true → bucket < n) → packed_bucket (if b then Some (Packed bucket units) else None) ≡ Some i → i < n
-packed_by n bucket units i true within is = let e : bucket ≡ i = cc is in let lt = within refl in omega (arith, e, lt)
-packed_by n bucket units i false within is = cc is
+packed_by : (n bucket i : ℕ) (b : Bool) (form : SingleWord) → packed_bucket (Some form) ≡ Some bucket → (b ≡ true → bucket < n)
+    → packed_bucket (if b then Some form else None) ≡ Some i → i < n
+packed_by n bucket i true form names within is = let e : bucket ≡ i = cc (is, names) in let lt = within refl in omega (arith, e, lt)
+packed_by n bucket i false form names within is = cc is
+
+-- a word that names a bucket and its units names one of the buckets
+word_within : (n word : ℕ) → is_packed_word n word ≡ true → word / 2 ^ 32 < n
+word_within n word all = ltb-true (word / 2 ^ 32) n (and_parts _ _ (and_parts _ _ all).0).0
 
 disabled_by : (n low i : ℕ) (none few : Bool) → (few ≡ true → low < n)
     → packed_bucket (if none then Some (Disabled None) else (if few then Some (Disabled (Some low)) else None)) ≡ Some i → i < n
@@ -63,28 +68,35 @@ disabled_by n low i true few within is = cc is
 disabled_by n low i false true within is = let e : low ≡ i = cc is in let lt = within refl in omega (arith, e, lt)
 disabled_by n low i false false within is = cc is
 
-single_by : (n word i : ℕ) (empty low : Bool)
-    → packed_bucket (if empty then Some Empty else (if low then packed_of n word else disabled_of n (word - 2 ^ 63))) ≡ Some i → i < n
-single_by n word i true low is = cc is
-single_by n word i false true is =
-    packed_by n (word / 2 ^ 32) (word % 2 ^ 32) i (nat_lt (word / 2 ^ 32) n && nat_le 1 (word % 2 ^ 32) && nat_le (word % 2 ^ 32) 65535)
-    (λ all. ltb-true (word / 2 ^ 32) n (and_parts _ _ (and_parts _ _ all).0).0) is
-single_by n word i false false is = disabled_by n (word - 2 ^ 63) i (word - 2 ^ 63 == 65535) (nat_lt (word - 2 ^ 63) n) (ltb-true (word - 2 ^ 63) n) is
+frozen_by : (n low i : ℕ) (none : Bool)
+    → packed_bucket (if none then Some FrozenEmpty else (if is_packed_word n low then Some (Frozen (low / 2 ^ 32) (low % 2 ^ 32)) else None)) ≡ Some i
+    → i < n
+frozen_by n low i true is = cc is
+frozen_by n low i false is =
+    packed_by n (low / 2 ^ 32) i (is_packed_word n low) (Frozen (low / 2 ^ 32) (low % 2 ^ 32)) refl (word_within n low) is
 
-pub packed_within : (version n word i : ℕ) → packed_bucket (form_of version n word) ≡ Some i → i < n
-packed_within version n word i is =
-    let w : ℕ = if (version == 2) && is_off word then word - 2 ^ 63 else word in
-    single_by n w i (w == 0) (nat_lt w (2 ^ 63)) is
+single_by : (n word i : ℕ) (empty low frozen : Bool)
+    → packed_bucket (if empty then Some Empty
+    else (if low then packed_of n word else (if frozen then frozen_of n (word - 2 ^ 63) else disabled_of n (word - 2 ^ 63)))) ≡ Some i → i < n
+single_by n word i true low frozen is = cc is
+single_by n word i false true frozen is =
+    packed_by n (word / 2 ^ 32) i (is_packed_word n word) (Packed (word / 2 ^ 32) (word % 2 ^ 32)) refl (word_within n word) is
+single_by n word i false false true is = frozen_by n (word - 2 ^ 63) i (word - 2 ^ 63 == 0) is
+single_by n word i false false false is =
+    disabled_by n (word - 2 ^ 63) i (word - 2 ^ 63 == 65535) (nat_lt (word - 2 ^ 63) n) (ltb-true (word - 2 ^ 63) n) is
+
+pub packed_within : (version n word i : ℕ) → packed_bucket (single_of version n word) ≡ Some i → i < n
+packed_within version n word i is = single_by n word i (word == 0) (nat_lt word (2 ^ 63)) (version == 2) is
 
 -- an empty word holds no units
-pub no_units : (version n word : ℕ) → (version ≡ 1) ⊎ (version ≡ 2) → word ≡ 0 → units_in (form_of version n word) ≡ 0
-no_units version n word (inl one) empty = (λ i. units_in (form_of (one i) n (empty i)))
-no_units version n word (inr two) empty = (λ i. units_in (form_of (two i) n (empty i)))
+pub no_units : (version n word : ℕ) → (version ≡ 1) ⊎ (version ≡ 2) → word ≡ 0 → units_in (single_of version n word) ≡ 0
+no_units version n word (inl one) empty = (λ i. units_in (single_of (one i) n (empty i)))
+no_units version n word (inr two) empty = (λ i. units_in (single_of (two i) n (empty i)))
 
 -- and packs no bucket
-pub no_packed : (version n word : ℕ) → (version ≡ 1) ⊎ (version ≡ 2) → word ≡ 0 → packed_bucket (form_of version n word) ≡ None
-no_packed version n word (inl one) empty = (λ i. packed_bucket (form_of (one i) n (empty i)))
-no_packed version n word (inr two) empty = (λ i. packed_bucket (form_of (two i) n (empty i)))
+pub no_packed : (version n word : ℕ) → (version ≡ 1) ⊎ (version ≡ 2) → word ≡ 0 → packed_bucket (single_of version n word) ≡ None
+no_packed version n word (inl one) empty = (λ i. packed_bucket (single_of (one i) n (empty i)))
+no_packed version n word (inr two) empty = (λ i. packed_bucket (single_of (two i) n (empty i)))
 
 -- ---- what stands for a bucket
 
@@ -111,6 +123,8 @@ module _ (spec : Spec) (lawful : spec_fault spec ≡ None) (bucketed : spec ≢ 
   packed_units (Some (Packed bucket units)) within = ap (λ (b : Bool). if b then units else 0) (key_test bucket (within bucket refl))
   packed_units (Some Empty) within = refl
   packed_units (Some (Disabled packed)) within = at_no_bucket spec (key_of_bucket spec i) packed
+  packed_units (Some FrozenEmpty) within = refl
+  packed_units (Some (Frozen bucket units)) within = ap (λ (b : Bool). if b then units else 0) (key_test bucket (within bucket refl))
   packed_units None within = refl
 
   -- the mark of the packed bucket is the single mark

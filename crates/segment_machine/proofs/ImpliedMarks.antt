@@ -10,16 +10,16 @@ use Rattle.segment_image.specs.Blocks.{field_at}
 use Rattle.bucket_ranges.specs.declared.spec.Spec.{Spec}
 use Rattle.bucket_ranges.specs.declared.spec.Spec.TheVariants as spec
 use Rattle.bucket_ranges.specs.declared.single.SingleWord.{SingleWord}
-use Rattle.bucket_ranges.specs.declared.single.SingleWord.TheVariants.{Empty, Packed, Disabled}
+use Rattle.bucket_ranges.specs.declared.single.SingleWord.TheVariants.{Empty, Packed, Disabled, FrozenEmpty, Frozen}
 use Rattle.bucket_ranges.specs.Spec.{buckets_of}
-use Rattle.bucket_ranges.specs.Reading.{count_at, mark_at}
+use Rattle.bucket_ranges.specs.Reading.{count_at, mark_at, total_of, mark_of}
 use Rattle.bucket_ranges.specs.Single.{packed_bucket, is_packed_bucket, units_packed}
 use Rattle.segment_machine.specs.declared.actor.Sighting.{Sighting}
 use Rattle.segment_machine.specs.State.{State}
 use Rattle.segment_machine.specs.Entry.{tally_units}
 use Rattle.segment_machine.specs.Form.{units_in}
 use Rattle.segment_machine.specs.Actor.{all_counted}
-use Rattle.segment_machine.specs.Consistent.{bucket_total, bucket_mark, key_at, units_taken}
+use Rattle.segment_machine.specs.Consistent.{key_at, units_taken}
 use Rattle.segment_machine.specs.Body.{Record, blank}
 use Rattle.segment_machine.specs.Ledger.{form_at, key_of_bucket, at_bucket, keyed, marks_held, all_held}
 use Rattle.segment_machine.specs.Seen.{HasRecord, IsFirst, WasCounter}
@@ -53,6 +53,10 @@ packed_all (Some (Packed bucket units)) i is =
     sym (ap (λ (b : Bool). if b then units else 0) (eq-eqb bucket i same))
 packed_all (Some Empty) i is = refl
 packed_all (Some (Disabled packed)) i is = refl
+packed_all (Some FrozenEmpty) i is = refl
+packed_all (Some (Frozen bucket units)) i is =
+    let same : bucket ≡ i = cc is in
+    sym (ap (λ (b : Bool). if b then units else 0) (eq-eqb bucket i same))
 packed_all None i is = refl
 
 -- the greater of two numbers is no less than the first
@@ -68,10 +72,10 @@ module _ (shape : Dimensions) (version id : ℕ) (state : State) (kept : Kept sh
   -- a bucket's mark is what blocks hold of its key
   mark_held : (name : List ℕ) (kind : Spec) (at : ℕ) (r : Record) → IsFirst kept.anatomy.records name kind at → HasRecord kept.anatomy.pieces at r
       → r.name ≡ name → r.spec ≡ kind → r.spec ≢ spec.Sparse → (i : ℕ) → i < buckets_of r.spec
-      → bucket_mark kept.anatomy.version state.words at i ≡ all_held (marks_held kept.anatomy.version name (key_of_bucket r.spec i)) kept.anatomy.pieces
+      → mark_of kept.anatomy.version state.words at i ≡ all_held (marks_held kept.anatomy.version name (key_of_bucket r.spec i)) kept.anatomy.pieces
   mark_held name kind at r first has named specified bucketed i below = words_say ∙ by_counts (r.counts == 0) (eqb-true r.counts 0) (eqb-false r.counts 0)
     where
-      words_say : bucket_mark kept.anatomy.version state.words at i ≡ mark_at state.words r.counts (buckets_of r.spec) (form r) r.mark i
+      words_say : mark_of kept.anatomy.version state.words at i ≡ mark_at state.words r.counts (buckets_of r.spec) (form r) r.mark i
       words_say =
           let lawful = kept.records.lawful at r has in
           let counts_ref = record_word shape state.words kept.anatomy kept.shown at r 8 has (omega arith) in
@@ -111,7 +115,7 @@ module _ (shape : Dimensions) (version id : ℕ) (state : State) (kept : Kept sh
 
   -- in version 1 the single mark is at most the greater of its bucket's total and 65,535
   mark_bound : (at : ℕ) (r : Record) → HasRecord kept.anatomy.pieces at r → kept.anatomy.version ≡ 1 → (i : ℕ) → packed_bucket (form r) ≡ Some i
-      → r.mark ≤ max (bucket_total kept.anatomy.version state.words at i) 65535
+      → r.mark ≤ max (total_of kept.anatomy.version state.words at i) 65535
   mark_bound at r has one i packed =
       subst (λ (n : ℕ). r.mark ≤ max n 65535) (sym (total_words shape version id state kept at r has kept.anatomy.version i))
       (by_counts (r.counts == 0) (eqb-true r.counts 0) (eqb-false r.counts 0))
@@ -146,8 +150,8 @@ marks_are_taken shape version id state lawful kept = record {
       let within : i < buckets_of r.spec = subst (λ (n : ℕ). i < n) (buckets_are shape state.words kept.anatomy kept.shown kept.anatomy.version at r has right) below in
       let held = mark_held shape version id state kept name kind at r first has named specified bucketed i within in
       let key = key_is shape state.words kept.anatomy kept.shown kept.anatomy.version at r has right i in
-      let taken : bucket_mark version state.words at i ≡ units_taken state.actors name (key_at state.words at i) =
-      ap (λ (v : ℕ). bucket_mark v state.words at i) (sym kept.same.0)
+      let taken : mark_of version state.words at i ≡ units_taken state.actors name (key_at state.words at i) =
+      ap (λ (v : ℕ). mark_of v state.words at i) (sym kept.same.0)
       ∙ (held ∙ (kept.balanced.marks name (key_of_bucket r.spec i) ∙ ap (units_taken state.actors name) (sym key))) in
       (taken, subst (λ (n : ℕ). n ≤ tally_units (all_counted state.actors) name (key_at state.words at i)) (sym taken) (kept.balanced.taken name (key_at state.words at i)));
   values = λ name at place value is sparse first_value.
@@ -175,7 +179,7 @@ marks_are_taken shape version id state lawful kept = record {
       let here : packed_bucket (form_at kept.anatomy.version r) ≡ Some i =
       ap (λ (v : ℕ). packed_bucket (form_at v r)) kept.same.0 ∙ (ap packed_bucket (sym single) ∙ packed) in
       let bound = mark_bound shape version id state kept at r has (kept.same.0 ∙ first) i here in
-      subst (λ (p : ℕ × ℕ). p.0 ≤ max (bucket_total p.1 state.words at i) 65535)
+      subst (λ (p : ℕ × ℕ). p.0 ≤ max (total_of p.1 state.words at i) 65535)
       (λ j. (sym (record_word shape state.words kept.anatomy kept.shown at r 10 has (omega arith)) j, kept.same.0 j)) bound;
   sum = λ name at is.
       let (kind, r, first, (has, named, specified)) = first_of_name shape version id state kept name at is in

@@ -9,11 +9,11 @@ use Rattle.bucket_ranges.specs.declared.spec.Spec.{Spec}
 use Rattle.bucket_ranges.specs.declared.spec.Spec.TheVariants.{Linear, Boolean, Custom, Sparse}
 use Rattle.bucket_ranges.specs.Spec.{distinct_values, buckets_of, spec_fields, spec_ranges, SameSpec}
 use Rattle.bucket_ranges.specs.Ranges.{boundaries_of}
-use Rattle.bucket_ranges.specs.Reading.{name_words, spec_named, spec_of, inner_ranges, record_buckets}
+use Rattle.bucket_ranges.specs.Reading.{name_words, spec_named, spec_of, inner_ranges, record_buckets, record_single}
 use Rattle.bucket_ranges.proofs.Distinct.{distinct-ascends, distinct-member, distinct-of_ascending}
 use Rattle.alloc_core.specs.Layout.{IsShown}
-use Rattle.segment_machine.specs.Form.{form_of}
-use Rattle.segment_machine.specs.Consistent.{single_at, key_at}
+use Rattle.bucket_ranges.specs.Single.{single_of}
+use Rattle.segment_machine.specs.Consistent.{key_at}
 use Rattle.segment_machine.specs.Body.{Record, histogram, Anatomy, layout_of, record_words}
 use Rattle.segment_machine.specs.Ledger.{form_at, key_of_bucket}
 use Rattle.segment_machine.specs.Seen.{HasRecord}
@@ -110,5 +110,5 @@ module _ (shape : Dimensions) (words : List ℕ) (anatomy : Anatomy) (shown : Is
   pub key_is : (i : ℕ) → key_at words at i ≡ key_of_bucket r.spec i
   key_is i = ap (λ (boundaries : List ℕ). pos (slice_index boundaries i)) boundaries_are
 
-  pub form_is : (v : ℕ) → single_at v words at ≡ form_at v r
-  form_is v = λ i. form_of v (buckets_are i) (word 9 (omega arith) i)
+  pub form_is : (v : ℕ) → record_single v words at ≡ form_at v r
+  form_is v = λ i. single_of v (buckets_are i) (word 9 (omega arith) i)

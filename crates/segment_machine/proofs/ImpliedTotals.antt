@@ -15,7 +15,7 @@ use Rattle.bucket_ranges.specs.declared.spec.Spec.{Spec}
 use Rattle.bucket_ranges.specs.declared.spec.Spec.TheVariants as spec
 use Rattle.bucket_ranges.specs.Spec.{buckets_of, spec_fields}
 use Rattle.bucket_ranges.specs.Ranges.{boundaries_of}
-use Rattle.bucket_ranges.specs.Reading.{is_sparse, count_at}
+use Rattle.bucket_ranges.specs.Reading.{is_sparse, count_at, total_of}
 use Rattle.bucket_ranges.specs.Single.{packed_bucket, units_packed}
 use Rattle.segment_machine.specs.declared.actor.Actor.{Actor}
 use Rattle.segment_machine.specs.declared.actor.Known.{Known}
@@ -29,7 +29,7 @@ use Rattle.segment_machine.specs.Entry.{tally_units}
 use Rattle.segment_machine.proofs.Actors.{moves_or_not}
 use Rattle.segment_machine.proofs.Lists.{at_from}
 use Rattle.segment_machine.proofs.Singled.{sum_none}
-use Rattle.segment_machine.specs.Consistent.{bucket_total, HasPlace}
+use Rattle.segment_machine.specs.Consistent.{HasPlace}
 use Rattle.segment_machine.specs.Body.{Record, Counts, histogram, order_of, blank}
 use Rattle.segment_machine.specs.Ledger.{form_at, key_of_bucket, at_bucket, keyed, units_held, all_held, moving_of, moving_at, all_moving}
 use Rattle.segment_machine.specs.Seen.{HasRecord, HasCounts, IsFirst, Knows}
@@ -122,7 +122,7 @@ module _ (shape : Dimensions) (version id : ℕ) (state : State) (kept : Kept sh
 
   -- a total by the words
   pub total_words : (at : ℕ) (r : Record) → HasRecord kept.anatomy.pieces at r → (v i : ℕ)
-      → bucket_total v state.words at i ≡ count_at state.words r.counts i + units_packed (form_at v r) i
+      → total_of v state.words at i ≡ count_at state.words r.counts i + units_packed (form_at v r) i
   total_words at r has v i =
       let counts_ref = record_word shape state.words kept.anatomy kept.shown at r 8 has (omega arith) in
       let form = form_is shape state.words kept.anatomy kept.shown kept.anatomy.version at r has (kept.records.lawful at r has) v in
@@ -215,7 +215,7 @@ module _ (shape : Dimensions) (version id : ℕ) (state : State) (kept : Kept sh
       moved_all = same_sums (λ a. moving_at a name (key_of_bucket r.spec i) a.place) (λ a. transit_at a.place at i) state.actors moved
 
       -- a bucket's total is what blocks hold of its key
-      pub total_held : bucket_total kept.anatomy.version state.words at i ≡ all_held (units_held kept.anatomy.version name (key_of_bucket r.spec i)) kept.anatomy.pieces
+      pub total_held : total_of kept.anatomy.version state.words at i ≡ all_held (units_held kept.anatomy.version name (key_of_bucket r.spec i)) kept.anatomy.pieces
       total_held = by_counts (r.counts == 0) (eqb-true r.counts 0) (eqb-false r.counts 0)
         where
           packed : at_bucket r.spec (key_of_bucket r.spec i) (packed_bucket (form_at kept.anatomy.version r)) (units_in (form_at kept.anatomy.version r))
@@ -223,11 +223,11 @@ module _ (shape : Dimensions) (version id : ℕ) (state : State) (kept : Kept sh
           packed = packed_units r.spec (kept.records.lawful at r has).lawful bucketed i below (form_at kept.anatomy.version r)
               (λ bucket is. packed_within kept.anatomy.version (buckets_of r.spec) r.single bucket is)
 
-          words_say : bucket_total kept.anatomy.version state.words at i ≡ count_at state.words r.counts i + units_packed (form_at kept.anatomy.version r) i
+          words_say : total_of kept.anatomy.version state.words at i ≡ count_at state.words r.counts i + units_packed (form_at kept.anatomy.version r) i
           words_say = total_words at r has kept.anatomy.version i
 
           by_counts : (b : Bool) → (b ≡ true → r.counts ≡ 0) → (b ≡ false → r.counts ≢ 0)
-              → bucket_total kept.anatomy.version state.words at i ≡ all_held (units_held kept.anatomy.version name (key_of_bucket r.spec i)) kept.anatomy.pieces
+              → total_of kept.anatomy.version state.words at i ≡ all_held (units_held kept.anatomy.version name (key_of_bucket r.spec i)) kept.anatomy.pieces
           by_counts true none_there some_there =
               let all = bucket_alone shape version id state kept name kind at r first has named specified (key_of_bucket r.spec i) _ _ _ _
               (units_book kept.anatomy.version name (key_of_bucket r.spec i) kept.versions) bucketed (none_there refl) in
@@ -273,9 +273,9 @@ totals_are_counted shape version id state lawful kept = record {
       let held = total_held shape version id state kept name kind at r first has named specified bucketed i within in
       let moved = moved_all shape version id state kept name kind at r first has named specified bucketed i within in
       let balance = kept.balanced.units name (key_of_bucket r.spec i) in
-      let sum : bucket_total kept.anatomy.version state.words at i + transit_of state.actors at i ≡ tally_units (all_counted state.actors) name (key_of_bucket r.spec i) =
+      let sum : total_of kept.anatomy.version state.words at i + transit_of state.actors at i ≡ tally_units (all_counted state.actors) name (key_of_bucket r.spec i) =
       omega (arith, held, moved, balance) in
-      ap (λ (v : ℕ). bucket_total v state.words at i + transit_of state.actors at i) (sym kept.same.0)
+      ap (λ (v : ℕ). total_of v state.words at i + transit_of state.actors at i) (sym kept.same.0)
       ∙ (sum ∙ ap (tally_units (all_counted state.actors) name) (sym (key_is shape state.words kept.anatomy kept.shown kept.anatomy.version at r has right i)));
   values = λ name at place value is sparse first_value.
       let (kind, r, first, (has, named, specified)) = first_of_name shape version id state kept name at is in

@@ -8,7 +8,7 @@ use lib.ListN.{get_elem?}
 use Rattle.segment_image.specs.Shape.{Dimensions}
 use Rattle.bucket_ranges.specs.declared.spec.Spec.TheVariants as spec
 use Rattle.bucket_ranges.specs.Spec.{buckets_of}
-use Rattle.bucket_ranges.specs.Single.{packed_bucket, units_packed}
+use Rattle.bucket_ranges.specs.Single.{single_of, packed_bucket, units_packed}
 use Rattle.segment_machine.specs.declared.entry.Entry.{Entry}
 use Rattle.segment_machine.specs.declared.place.Place.TheVariants.{SumLoaded}
 use Rattle.segment_machine.specs.declared.actor.Actor.{Actor}
@@ -17,7 +17,6 @@ use Rattle.segment_machine.specs.declared.actor.Made.TheVariants as made
 use Rattle.segment_machine.specs.declared.actor.Own.{Own}
 use Rattle.segment_machine.specs.declared.actor.Sighting.{Sighting}
 use Rattle.segment_machine.specs.Entry.{tally_units}
-use Rattle.segment_machine.specs.Form.{form_of}
 use Rattle.segment_machine.specs.Actor.{word_seen, counted_of, bucket_key, SawCount}
 use Rattle.segment_machine.specs.Note.{SawBucket}
 use Rattle.segment_machine.specs.Promises.{accepted_by}
@@ -102,7 +101,7 @@ module _ (shape : Dimensions) (old new : Anatomy) (added : ℕ → Body → Type
     most = λ known bucket total named below saw.
         looks.most known bucket total named below (saw_before known bucket total named saw);
     packed = λ known bucket word named below saw on.
-        subst (λ (version : ℕ). tally_units (accepted_by x) known.name (bucket_key (Some known) bucket) ≤ units_packed (form_of version (buckets_of known.spec) word) bucket)
+        subst (λ (version : ℕ). tally_units (accepted_by x) known.name (bucket_key (Some known) bucket) ≤ units_packed (single_of version (buckets_of known.spec) word) bucket)
         (sym grows.version) (looks.packed known bucket word named below saw on);
     counted = λ known bucket count r named below there mounts saw settled. ⊎_elim
         (λ t. let (r0, n, before, is) = t in

@@ -15,9 +15,9 @@ use Rattle.bucket_ranges.specs.declared.single.SingleWord.{SingleWord}
 use Rattle.bucket_ranges.specs.declared.single.SingleWord.TheVariants.{Empty}
 use Rattle.bucket_ranges.specs.Spec.{buckets_of, spec_fault, spec_fields, spec_ranges}
 use Rattle.bucket_ranges.specs.Reading.{is_name, is_i32}
-use Rattle.bucket_ranges.specs.Single.{packed_bucket}
+use Rattle.bucket_ranges.specs.Single.{single_of, packed_bucket}
 use Rattle.segment_machine.specs.declared.actor.Own.{Own}
-use Rattle.segment_machine.specs.Form.{form_of, units_in}
+use Rattle.segment_machine.specs.Form.{units_in}
 use Rattle.segment_machine.specs.Made.{AreNameWords}
 use Rattle.segment_machine.specs.Body.{Record, Counts, Sample, own_words, record_words, counts_words, sample_words, spec_field}
 use Rattle.segment_machine.specs.Ledger.{form_at}
@@ -34,9 +34,9 @@ pub record IsBlank (form : std.Option SingleWord) : Type 0 where
 blank_empty : IsBlank (Some Empty)
 blank_empty = record { some_form = λ is. cc is; unpacked = refl; empty = refl }
 
-pub blank_form : (version n : ℕ) → (version ≡ 1) ⊎ (version ≡ 2) → IsBlank (form_of version n 0)
-blank_form version n (inl one) = subst (λ (v : ℕ). IsBlank (form_of v n 0)) (sym one) blank_empty
-blank_form version n (inr two) = subst (λ (v : ℕ). IsBlank (form_of v n 0)) (sym two) blank_empty
+pub blank_form : (version n : ℕ) → (version ≡ 1) ⊎ (version ≡ 2) → IsBlank (single_of version n 0)
+blank_form version n (inl one) = subst (λ (v : ℕ). IsBlank (single_of v n 0)) (sym one) blank_empty
+blank_form version n (inr two) = subst (λ (v : ℕ). IsBlank (single_of v n 0)) (sym two) blank_empty
 
 -- ---- a record
 

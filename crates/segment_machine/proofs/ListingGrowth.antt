@@ -19,7 +19,8 @@ use Rattle.segment_machine.specs.declared.actor.Sighting.{Sighting}
 use Rattle.segment_machine.specs.declared.actor.Made.{Made}
 use Rattle.segment_machine.specs.declared.actor.Made.TheVariants as made
 use Rattle.segment_machine.specs.declared.actor.Own.{Own}
-use Rattle.segment_machine.specs.Form.{form_of, Leads}
+use Rattle.bucket_ranges.specs.Single.{single_of}
+use Rattle.segment_machine.specs.Form.{Leads}
 use Rattle.segment_machine.specs.Body.{Record, Counts, Sample, Body, queue, plain, held, histogram, counts, sample, other, words_of, is_claimed, Piece, Listed, Anatomy, order_of, free_of}
 use Rattle.segment_machine.specs.Ledger.{all_held, all_amounts}
 use Rattle.segment_machine.specs.Seen.{Stands, HasPlain, HasRecord, HasCounts, HasSample, IsNamed, IsFirst, IsFirstOf, IsFixedIn, IsCounterIn, WasFixed, WasCounter, WasInUse, WasSingle, IsNoLater, AreNoLater, Knows, Sees}
@@ -299,7 +300,7 @@ module _ (old new : Anatomy) (added : ℕ → Body → Type 0) (grows : Grows ol
         record r { next = n },
         stands,
         is,
-        subst (λ (version : ℕ). form_of version (buckets_of r.spec) s.word ≢ None) (sym grows.version) formed,
+        subst (λ (version : ℕ). single_of version (buckets_of r.spec) s.word ≢ None) (sym grows.version) formed,
         subst (λ (version : ℕ). Leads version (buckets_of r.spec) s.word r.single) (sym grows.version) leads,
       )
 

@@ -12,7 +12,7 @@ use Rattle.segment_image.specs.Head.{head_of}
 use Rattle.segment_image.specs.Blocks.{field_at, is_block}
 use Rattle.alloc_core.specs.Laws.{Apart}
 use Rattle.list_core.specs.Chain.{stops, IsChain}
-use Rattle.bucket_ranges.specs.Reading.{is_sparse, record_buckets, sum_of, sum_mark_of, name_of}
+use Rattle.bucket_ranges.specs.Reading.{is_sparse, record_buckets, sum_of, sum_mark_of, name_of, total_of, mark_of}
 use Rattle.segment_machine.specs.declared.entry.Entry.{Entry}
 use Rattle.segment_machine.specs.declared.entry.Counting.{Counting}
 use Rattle.segment_machine.specs.declared.actor.Sighting.{Sighting}
@@ -24,7 +24,7 @@ use Rattle.segment_machine.specs.declared.actor.Claim.{Claim}
 use Rattle.segment_machine.specs.declared.actor.Published.{Published}
 use Rattle.segment_machine.specs.Entry.{tally_units, tally_sum, tally_noted, has_ended}
 use Rattle.segment_machine.specs.Actor.{Each, all_counted, all_summed, all_noted, transit_of, all_costs}
-use Rattle.segment_machine.specs.Consistent.{IsHistogram, redundant_at_opening, HasForm, HasPlace, HoldsMade, key_at, bucket_total, bucket_mark, units_taken, run_of, places_of, SawBefore, IsSum, IsLoaded, ListIsChain, RecordsHold, TotalsAreCounted, MarksAreTaken, SumsAreAmounts, TransitIsLocal, FlagsAreSet, UnitsAreKept}
+use Rattle.segment_machine.specs.Consistent.{IsHistogram, redundant_at_opening, HasForm, HasPlace, HoldsMade, key_at, units_taken, run_of, places_of, SawBefore, IsSum, IsLoaded, ListIsChain, RecordsHold, TotalsAreCounted, MarksAreTaken, SumsAreAmounts, TransitIsLocal, FlagsAreSet, UnitsAreKept}
 use Rattle.segment_machine.specs.Examples.{letter_a, mounted, mounter, opening, one, whole, MountedIsConsistent}
 use Rattle.segment_machine.proofs.Lists.{none_in, none_at, one_in, each_of_one}
 use Rattle.segment_machine.proofs.Alone.{the_one, of_the_one, below_three}
@@ -216,9 +216,9 @@ totals : TotalsAreCounted 1 mounted all chain
 totals = record {
   buckets = λ name at i is. of_the_one mounted letter_a
       (λ n k. is_sparse mounted k ≡ false → i < record_buckets mounted k
-      → bucket_total 1 mounted k i + transit_of all k i ≡ tally_units (all_counted all) n (key_at mounted k i))
+      → total_of 1 mounted k i + transit_of all k i ≡ tally_units (all_counted all) n (key_at mounted k i))
       refl
-      (λ even below. below_three (λ i. bucket_total 1 mounted 16 i + transit_of all 16 i ≡ tally_units (all_counted all) letter_a (key_at mounted 16 i)) refl refl refl i below)
+      (λ even below. below_three (λ i. total_of 1 mounted 16 i + transit_of all 16 i ≡ tally_units (all_counted all) letter_a (key_at mounted 16 i)) refl refl refl i below)
       name at is;
   values = λ name at sample value is sparse. absurd (no_sparse name at is sparse);
   placed = λ entry there units. subst (λ (e : Entry). HasPlace mounted chain e.name e.key) there.2 (placed there.0 entry there.1);
@@ -235,19 +235,19 @@ marks : MarksAreTaken 1 mounted all chain
 marks = record {
   buckets = λ name at i is. of_the_one mounted letter_a
       (λ n k. is_sparse mounted k ≡ false → i < record_buckets mounted k
-      → (bucket_mark 1 mounted k i ≡ units_taken all n (key_at mounted k i))
-      × (bucket_mark 1 mounted k i ≤ tally_units (all_counted all) n (key_at mounted k i)))
+      → (mark_of 1 mounted k i ≡ units_taken all n (key_at mounted k i))
+      × (mark_of 1 mounted k i ≤ tally_units (all_counted all) n (key_at mounted k i)))
       refl
       (λ even below. below_three
-      (λ i. (bucket_mark 1 mounted 16 i ≡ units_taken all letter_a (key_at mounted 16 i))
-      × (bucket_mark 1 mounted 16 i ≤ tally_units (all_counted all) letter_a (key_at mounted 16 i)))
+      (λ i. (mark_of 1 mounted 16 i ≡ units_taken all letter_a (key_at mounted 16 i))
+      × (mark_of 1 mounted 16 i ≤ tally_units (all_counted all) letter_a (key_at mounted 16 i)))
       (refl, omega arith) (refl, omega arith) (refl, omega arith) i below)
       name at is;
   values = λ name at sample value is sparse. absurd (no_sparse name at is sparse);
   placed = λ t count there. absurd (none_in t there);
   unpacked = λ at there tag e. subst (λ (k : ℕ). field_at mounted k 10 ≡ 0) (here at there) refl;
   packed = λ at i there tag one e.
-      subst (λ (k : ℕ). field_at mounted k 10 ≤ max (bucket_total 1 mounted k i) 65535) (here at there) (omega arith);
+      subst (λ (k : ℕ). field_at mounted k 10 ≤ max (total_of 1 mounted k i) 65535) (here at there) (omega arith);
   sum = λ name at is. of_the_one mounted letter_a (λ n k. sum_mark_of mounted k ≡ pos 0) refl refl name at is;
   seen = each_one who (λ (a : Actor). All (λ (s : Sighting). s.word ≤ word_at mounted s.at) a.seen_counts)
       (All-nil (λ (s : Sighting). s.word ≤ word_at mounted s.at));

@@ -1,6 +1,6 @@
 -- What holds of the words, the shared cursors and all actors at every moment, whatever happened and in whatever order: eight
 -- parts. `opened` are the words with which the segment was opened: those of a new segment, or an adopted image.
-use Rattle.std.specs.Prelude.{◌≡◌, ◌≢◌, ◌⊎◌, ◌↔◌, true, false, ◌==◌, nat_lt, max, ℕ, ◌+◌, ◌*◌, ◌/◌, ◌%◌, ◌<◌, ◌≤◌, ℤ, pos, ◌-ℤ◌, unsigned_abs, List, ◌∷◌, ◌++◌, map, length, take, sum_by, slice_index, bit_and, if◌then◌else◌, Option, Some, None, IsPermutation}
+use Rattle.std.specs.Prelude.{◌≡◌, ◌≢◌, ◌⊎◌, ◌↔◌, true, false, ◌==◌, nat_lt, max, ℕ, ◌+◌, ◌*◌, ◌/◌, ◌%◌, ◌<◌, ◌≤◌, ℤ, pos, ◌-ℤ◌, unsigned_abs, List, ◌∷◌, ◌++◌, map, length, take, sum_by, slice_index, bit_and, if◌then◌else◌, Some, None, IsPermutation}
 use mathlib.Core.Option.{some}
 use lib.ListN.{get_elem?}
 use Rattle.std.specs.List.{slice_range, flat_map, Contains, All}
@@ -14,10 +14,9 @@ use Rattle.list_core.specs.Chain.{stops, IsChain}
 use Rattle.list_core.specs.Laws.{IsStop}
 use Rattle.list_core.specs.Walk.{IsPrefix}
 use Rattle.bucket_ranges.specs.Spec.{SameSpec}
-use Rattle.bucket_ranges.specs.declared.single.SingleWord.{SingleWord}
 use Rattle.bucket_ranges.specs.Ranges.{boundaries_of}
 use Rattle.bucket_ranges.specs.Single.{packed_bucket}
-use Rattle.bucket_ranges.specs.Reading.{name_of, name_words, is_kind, is_sparse, spec_of, has_spec, has_name, has_counts, record_buckets, total_at, mark_at, sum_of, sum_mark_of, sample_value, is_i32}
+use Rattle.bucket_ranges.specs.Reading.{name_of, name_words, is_kind, is_sparse, spec_of, has_spec, has_name, has_counts, record_buckets, sum_of, sum_mark_of, sample_value, is_i32, record_single, total_of, mark_of}
 use Rattle.segment_machine.specs.declared.entry.Entry.{Entry}
 use Rattle.segment_machine.specs.declared.place.Place.TheVariants.{SumLoaded}
 use Rattle.segment_machine.specs.declared.actor.Actor.{Actor}
@@ -29,7 +28,7 @@ use Rattle.segment_machine.specs.declared.actor.Published.{Published}
 use Rattle.segment_machine.specs.declared.actor.Sighting.{Sighting}
 use Rattle.segment_machine.specs.declared.actor.Taken.{Taken}
 use Rattle.segment_machine.specs.Entry.{has_ended, tally_units, tally_sum, tally_noted}
-use Rattle.segment_machine.specs.Form.{is_off, form_of, Leads}
+use Rattle.segment_machine.specs.Form.{is_off, Leads}
 use Rattle.segment_machine.specs.Actor.{Each, all_counted, all_summed, all_noted, all_taken, all_published, all_given, all_costs, taken_units, taken_sum, transit_of, units_of}
 use Rattle.segment_machine.specs.Made.{AreNameWords}
 use Rattle.segment_machine.specs.State.{State}
@@ -61,19 +60,7 @@ pub record IsSample (words chain : List ℕ) (histogram : ℕ) (value : ℤ) (at
   pub first : All (λ other. ¬ (IsSampleOf words histogram value other)) front
   pub valued : IsSampleOf words histogram value at
 
--- ---- totals and marks, in both versions
-
--- the form of a histogram's single word
-abbrev pub single_at : ℕ → List ℕ → ℕ → Option SingleWord
-single_at version words at = form_of version (record_buckets words at) (field_at words at HISTOGRAM_SINGLE)
-
--- the total and the mark of a bucket
-abbrev pub bucket_total : ℕ → List ℕ → ℕ → ℕ → ℕ
-bucket_total version words at i = total_at words (field_at words at HISTOGRAM_COUNTS) (single_at version words at) i
-
-abbrev pub bucket_mark : ℕ → List ℕ → ℕ → ℕ → ℕ
-bucket_mark version words at i =
-    mark_at words (field_at words at HISTOGRAM_COUNTS) (record_buckets words at) (single_at version words at) (field_at words at HISTOGRAM_SINGLE_MARK) i
+-- ---- the keys of buckets
 
 -- the key of a bucket
 abbrev pub key_at : List ℕ → ℕ → ℕ → ℤ
@@ -163,11 +150,11 @@ HoldsStill opened words at =
 pub record HasForm (version : ℕ) (words : List ℕ) (at : ℕ) : Type 0 where
   pub sparse : is_sparse words at ≡ true → (i : ℕ) → HISTOGRAM_COUNTS ≤ i → i < HISTOGRAM_SUM → field_at words at i ≡ 0
   pub counts : is_sparse words at ≡ false → has_counts words (head_of words) at ≡ true
-  pub lawful : is_sparse words at ≡ false → single_at version words at ≢ None
+  pub lawful : is_sparse words at ≡ false → record_single version words at ≢ None
   pub off : is_sparse words at ≡ false → is_off (field_at words at HISTOGRAM_SINGLE) ≡ true → field_at words at HISTOGRAM_COUNTS ≢ 0
   pub unused : is_sparse words at ≡ false → is_off (field_at words at HISTOGRAM_SINGLE) ≡ false → field_at words at HISTOGRAM_COUNTS ≢ 0
       → (i : ℕ) → i < 2 * record_buckets words at → field_at words (field_at words at HISTOGRAM_COUNTS) (BLOCK_HEADER + i) ≡ 0
-  pub packed : is_sparse words at ≡ false → field_at words at HISTOGRAM_COUNTS ≢ 0 → (i : ℕ) → packed_bucket (single_at version words at) ≡ Some i
+  pub packed : is_sparse words at ≡ false → field_at words at HISTOGRAM_COUNTS ≢ 0 → (i : ℕ) → packed_bucket (record_single version words at) ≡ Some i
       → field_at words (field_at words at HISTOGRAM_COUNTS) (BLOCK_HEADER + record_buckets words at + i) ≡ 0
 
 -- the words of its counts block, counts and marks, and how many they are
@@ -222,7 +209,7 @@ pub record TotalsAreCounted (version : ℕ) (words : List ℕ) (actors : List Ac
   -- a bucket's total and its units in transit are the units of the entries that are counted there
   pub buckets : (name : List ℕ) (at i : ℕ) → IsHistogram words chain name at → is_sparse words at ≡ false
       → i < record_buckets words at
-      → bucket_total version words at i + transit_of actors at i ≡ tally_units (all_counted actors) name (key_at words at i)
+      → total_of version words at i + transit_of actors at i ≡ tally_units (all_counted actors) name (key_at words at i)
   -- so are those of a sparse value, which has none in transit
   pub values : (name : List ℕ) (at sample : ℕ) (value : ℤ) → IsHistogram words chain name at → is_sparse words at ≡ true
       → IsSample words chain at value sample → field_at words sample SAMPLE_COUNT ≡ tally_units (all_counted actors) name value
@@ -244,8 +231,8 @@ IsWithinCounts actors answered = All (λ count. count.1 ≤ tally_units (all_cou
 pub record MarksAreTaken (version : ℕ) (words : List ℕ) (actors : List Actor) (chain : List ℕ) : Type 0 where
   -- a bucket's mark is the units that were taken there, and no more than were counted there
   pub buckets : (name : List ℕ) (at i : ℕ) → IsHistogram words chain name at → is_sparse words at ≡ false
-      → i < record_buckets words at → (bucket_mark version words at i ≡ units_taken actors name (key_at words at i))
-      × (bucket_mark version words at i ≤ tally_units (all_counted actors) name (key_at words at i))
+      → i < record_buckets words at → (mark_of version words at i ≡ units_taken actors name (key_at words at i))
+      × (mark_of version words at i ≤ tally_units (all_counted actors) name (key_at words at i))
   -- so is a sparse value's
   pub values : (name : List ℕ) (at sample : ℕ) (value : ℤ) → IsHistogram words chain name at → is_sparse words at ≡ true
       → IsSample words chain at value sample
@@ -255,11 +242,11 @@ pub record MarksAreTaken (version : ℕ) (words : List ℕ) (actors : List Actor
       → HasPlace words chain t.name count.0
   -- the single mark is 0 while no bucket is or was packed; in version 1 it is at most the greater of that bucket's total and
   -- 65,535, since its units may be in transit
-  pub unpacked : (at : ℕ) → Contains chain at → field_at words at BLOCK_TYPE ≡ TYPE_HISTOGRAM → packed_bucket (single_at version words at) ≡ None
+  pub unpacked : (at : ℕ) → Contains chain at → field_at words at BLOCK_TYPE ≡ TYPE_HISTOGRAM → packed_bucket (record_single version words at) ≡ None
       → field_at words at HISTOGRAM_SINGLE_MARK ≡ 0
   pub packed : (at i : ℕ) → Contains chain at → field_at words at BLOCK_TYPE ≡ TYPE_HISTOGRAM → version ≡ 1
-      → packed_bucket (single_at version words at) ≡ Some i
-      → field_at words at HISTOGRAM_SINGLE_MARK ≤ max (bucket_total version words at i) 65535
+      → packed_bucket (record_single version words at) ≡ Some i
+      → field_at words at HISTOGRAM_SINGLE_MARK ≤ max (total_of version words at i) 65535
   -- the sum mark is the sum of what was taken of the sum
   pub sum : (name : List ℕ) (at : ℕ) → IsHistogram words chain name at → sum_mark_of words at ≡ taken_sum (all_taken actors) name
   -- counts, marks and redundant counts that an actor saw are at most the present ones
@@ -285,7 +272,7 @@ pub record SumsAreAmounts (opened words : List ℕ) (actors : List Actor) (chain
 -- disabling the word and adding them
 abbrev pub TransitIsLocal : ℕ → List ℕ → List Actor → Type 0
 TransitIsLocal version words actors =
-    (at i : ℕ) → 0 < transit_of actors at i → (version ≡ 1) × (packed_bucket (single_at version words at) ≡ Some i)
+    (at i : ℕ) → 0 < transit_of actors at i → (version ≡ 1) × (packed_bucket (record_single version words at) ≡ Some i)
 
 -- ---- 7: flags are set
 

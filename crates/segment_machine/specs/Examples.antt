@@ -5,7 +5,7 @@ use Rattle.segment_image.specs.Shape.{Dimensions}
 use Rattle.segment_image.specs.Image.{blank_words}
 use Rattle.segment_image.specs.Blocks.{field_at}
 use Rattle.bucket_ranges.specs.declared.spec.Spec.TheVariants as spec
-use Rattle.bucket_ranges.specs.Reading.{sum_of, sum_mark_of}
+use Rattle.bucket_ranges.specs.Reading.{sum_of, sum_mark_of, total_of, mark_of}
 use Rattle.segment_machine.specs.declared.entry.Entry.{Entry}
 use Rattle.segment_machine.specs.declared.entry.Counting.{Counting}
 use Rattle.segment_machine.specs.declared.place.Place.TheVariants.{Moving}
@@ -20,7 +20,7 @@ use Rattle.segment_machine.specs.Ready.{Ready}
 use Rattle.segment_machine.specs.Note.{MayNote, has_taken, noted, begins, takes, ends}
 use Rattle.segment_machine.specs.Next.{next}
 use Rattle.segment_machine.specs.Seats.{opener_of}
-use Rattle.segment_machine.specs.Consistent.{bucket_total, bucket_mark, IsSampleOf, ListIsChain, RecordsHold, TotalsAreCounted, MarksAreTaken, SumsAreAmounts, TransitIsLocal, FlagsAreSet, UnitsAreKept, Opening, IsConsistent}
+use Rattle.segment_machine.specs.Consistent.{IsSampleOf, ListIsChain, RecordsHold, TotalsAreCounted, MarksAreTaken, SumsAreAmounts, TransitIsLocal, FlagsAreSet, UnitsAreKept, Opening, IsConsistent}
 use Rattle.segment_machine.specs.State.{State}
 
 -- ---- segments of 128 words in pages of 64, with the id 7
@@ -122,7 +122,7 @@ PackedThenMounted =
     (packed_word 1 2 ≡ 4294967298) × (off_word 1 4294967298 ≡ 9223372036854775809)
     × (after 128 1 (add_redundant 16 1) (after 128 1 (add_count 36 1) (after 128 1 (add_moved 32 1 2)
     (after 128 1 (disable 16 4294967298) (mounted_segment 4294967298 0 2 0 2 (replicate 6 0))))) ≡ mounted)
-    × (map (bucket_total 1 mounted 16) (0 ∷ 1 ∷ 2 ∷ []) ≡ 1 ∷ 2 ∷ 0 ∷ [])
+    × (map (total_of 1 mounted 16) (0 ∷ 1 ∷ 2 ∷ []) ≡ 1 ∷ 2 ∷ 0 ∷ [])
     × (map (λ key. tally_units (log_of (mounter (1 ∷ 1 ∷ 0 ∷ []))) letter_a (pos key)) (0 ∷ 1 ∷ 2 ∷ []) ≡ 1 ∷ 2 ∷ 0 ∷ [])
     × (sum_of mounted 16 ≡ tally_sum (log_of (mounter (1 ∷ 1 ∷ 0 ∷ []))) letter_a)
     × (sum_of mounted 16 ≡ pos 2) × (field_at mounted 16 13 ≡ 3)
@@ -143,7 +143,7 @@ mover = record (mounter (1 ∷ 1 ∷ [])) {
 
 abbrev pub StoppedInTransit : Type 0
 StoppedInTransit =
-    (map (bucket_total 1 in_transit 16) (0 ∷ 1 ∷ 2 ∷ []) ≡ 0 ∷ 0 ∷ 0 ∷ [])
+    (map (total_of 1 in_transit 16) (0 ∷ 1 ∷ 2 ∷ []) ≡ 0 ∷ 0 ∷ 0 ∷ [])
     × (map (transit_of (mover ∷ []) 16) (0 ∷ 1 ∷ 2 ∷ []) ≡ 0 ∷ 2 ∷ 0 ∷ [])
     × (map (λ key. tally_units (counted_of mover) letter_a (pos key)) (0 ∷ 1 ∷ 2 ∷ []) ≡ 0 ∷ 2 ∷ 0 ∷ [])
     × (units_of mover ≡ 4294967295)
@@ -155,9 +155,9 @@ StoppedInTransit =
 abbrev pub PackingLimit : Type 0
 PackingLimit =
     (off_word 1 0 ≡ 2 ^ 63 + 65535) × (packed_word 1 65535 ≡ 4295032831) × (off_word 1 4295032831 ≡ 2 ^ 63 + 1)
-    × (bucket_total 1 (mounted_segment (2 ^ 63 + 65535) 0 70000 0 70000 (0 ∷ 70000 ∷ 0 ∷ 0 ∷ 0 ∷ 0 ∷ [])) 16 1 ≡ 70000)
-    × (bucket_total 1 (mounted_segment (2 ^ 63 + 1) 0 65536 0 65536 (0 ∷ 65536 ∷ 0 ∷ 0 ∷ 0 ∷ 0 ∷ [])) 16 1 ≡ 65536)
-    × (bucket_total 2 (mounted_segment (2 ^ 63 + 4295032831) 0 65536 0 65536 (0 ∷ 1 ∷ 0 ∷ 0 ∷ 0 ∷ 0 ∷ [])) 16 1 ≡ 65536)
+    × (total_of 1 (mounted_segment (2 ^ 63 + 65535) 0 70000 0 70000 (0 ∷ 70000 ∷ 0 ∷ 0 ∷ 0 ∷ 0 ∷ [])) 16 1 ≡ 70000)
+    × (total_of 1 (mounted_segment (2 ^ 63 + 1) 0 65536 0 65536 (0 ∷ 65536 ∷ 0 ∷ 0 ∷ 0 ∷ 0 ∷ [])) 16 1 ≡ 65536)
+    × (total_of 2 (mounted_segment (2 ^ 63 + 4295032831) 0 65536 0 65536 (0 ∷ 1 ∷ 0 ∷ 0 ∷ 0 ∷ 0 ∷ [])) 16 1 ≡ 65536)
 
 -- ---- deltas and marks
 
@@ -168,7 +168,7 @@ three_deltas = taken_at 2 ((pos 1, 2) ∷ []) (pos 2) ∷ taken_at 3 ((pos 0, 1)
 -- and the second and the third delta are final ones, the first is not
 abbrev pub DeltasAndMarks : Type 0
 DeltasAndMarks =
-    (map (bucket_mark 1 (mounted_segment 9223372036854775809 2 2 2 3 (1 ∷ 2 ∷ 0 ∷ 1 ∷ 0 ∷ 0 ∷ [])) 16) (0 ∷ 1 ∷ 2 ∷ []) ≡ 1 ∷ 2 ∷ 0 ∷ [])
+    (map (mark_of 1 (mounted_segment 9223372036854775809 2 2 2 3 (1 ∷ 2 ∷ 0 ∷ 1 ∷ 0 ∷ 0 ∷ [])) 16) (0 ∷ 1 ∷ 2 ∷ []) ≡ 1 ∷ 2 ∷ 0 ∷ [])
     × (map (λ key. taken_units three_deltas letter_a (pos key)) (0 ∷ 1 ∷ 2 ∷ []) ≡ 1 ∷ 2 ∷ 0 ∷ [])
     × (taken_sum three_deltas letter_a ≡ pos 2)
     × IsFinal 1 (log_of (mounter (1 ∷ 1 ∷ 0 ∷ []))) letter_a (record { log = 3; before = 0; outstanding = 0 })
@@ -181,7 +181,7 @@ abbrev pub TwoTakers : Type 0
 TwoTakers =
     (map (λ key. taken_units (taken_at 4 ((pos 0, 1) ∷ (pos 1, 3) ∷ []) (pos 3) ∷ taken_at 4 [] (pos 0) ∷ []) letter_a (pos key)) (0 ∷ 1 ∷ 2 ∷ [])
     ≡ 1 ∷ 3 ∷ 0 ∷ [])
-    × (map (bucket_mark 1 (mounted_segment 9223372036854775809 3 3 3 4 (1 ∷ 3 ∷ 0 ∷ 1 ∷ 0 ∷ 0 ∷ [])) 16) (0 ∷ 1 ∷ 2 ∷ []) ≡ 1 ∷ 3 ∷ 0 ∷ [])
+    × (map (mark_of 1 (mounted_segment 9223372036854775809 3 3 3 4 (1 ∷ 3 ∷ 0 ∷ 1 ∷ 0 ∷ 0 ∷ [])) 16) (0 ∷ 1 ∷ 2 ∷ []) ≡ 1 ∷ 3 ∷ 0 ∷ [])
     × (taken_sum (taken_at 4 ((pos 0, 1) ∷ (pos 1, 3) ∷ []) (pos 3) ∷ taken_at 4 [] (pos 0) ∷ []) letter_a ≡ pos 3)
 
 -- ---- runs of one actor

@@ -1,23 +1,21 @@
 -- The single word in both versions. In version 1 a disabled word forgets its units, which are added to the counts; in version
 -- 2 it is frozen: its top bit is set, and it keeps the rest for good.
-use Rattle.std.specs.Prelude.{◌≡◌, ◌⊎◌, Bool, true, false, ◌&&◌, ◌==◌, nat_le, ℕ, ◌+◌, ◌-◌, ◌*◌, ◌/◌, ◌^◌, ◌≤◌, if◌then◌else◌, Option, Some, None}
+use Rattle.std.specs.Prelude.{◌≡◌, ◌⊎◌, Bool, true, false, ◌==◌, nat_le, ℕ, ◌+◌, ◌*◌, ◌/◌, ◌^◌, ◌≤◌, if◌then◌else◌, Option, Some, None}
 use Rattle.bucket_ranges.specs.declared.single.SingleWord.{SingleWord}
-use Rattle.bucket_ranges.specs.declared.single.SingleWord.TheVariants.{Empty, Packed, Disabled}
+use Rattle.bucket_ranges.specs.declared.single.SingleWord.TheVariants.{Empty, Packed, Disabled, FrozenEmpty, Frozen}
 use Rattle.bucket_ranges.specs.Single.{single_of, packed_bucket}
 
 -- whether the counts are in use: the word is disabled or frozen
 abbrev pub is_off : ℕ → Bool
 is_off word = nat_le (2 ^ 63) word
 
--- the form of a word of a histogram with n buckets. A frozen word has the form that it had when it was frozen
-abbrev pub form_of : ℕ → ℕ → ℕ → Option SingleWord
-form_of version n word = single_of n (if (version == 2) && is_off word then word - 2 ^ 63 else word)
-
 -- the units that a form holds
 abbrev pub units_in : Option SingleWord → ℕ
 units_in (Some (Packed bucket units)) = units
 units_in (Some Empty) = 0
 units_in (Some (Disabled packed)) = 0
+units_in (Some FrozenEmpty) = 0
+units_in (Some (Frozen bucket units)) = units
 units_in None = 0
 
 -- the word with which a word is disabled, or frozen
@@ -43,5 +41,5 @@ abbrev pub Leads : ℕ → ℕ → ℕ → ℕ → Type 0
 Leads version n old new =
     (old ≡ new) ⊎ (old ≡ 0)
     ⊎ ((is_off old ≡ false)
-    × (packed_bucket (form_of version n new) ≡ packed_bucket (form_of version n old))
-    × ((units_in (form_of version n old) ≤ units_in (form_of version n new)) ⊎ ((version ≡ 1) × (is_off new ≡ true))))
+    × (packed_bucket (single_of version n new) ≡ packed_bucket (single_of version n old))
+    × ((units_in (single_of version n old) ≤ units_in (single_of version n new)) ⊎ ((version ≡ 1) × (is_off new ≡ true))))

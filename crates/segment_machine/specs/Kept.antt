@@ -13,7 +13,7 @@ use Rattle.bucket_ranges.specs.declared.spec.Spec.{Spec}
 use Rattle.bucket_ranges.specs.declared.spec.Spec.TheVariants as spec
 use Rattle.bucket_ranges.specs.Spec.{buckets_of, spec_fault, spec_fields, spec_ranges}
 use Rattle.bucket_ranges.specs.Reading.{is_name, is_i32}
-use Rattle.bucket_ranges.specs.Single.{packed_bucket, units_packed}
+use Rattle.bucket_ranges.specs.Single.{single_of, packed_bucket, units_packed}
 use Rattle.list_core.specs.Chain.{stops, IsLinked}
 use Rattle.list_core.specs.Laws.{IsStop, AreNeighbours}
 use Rattle.segment_machine.specs.declared.entry.Entry.{Entry}
@@ -33,7 +33,7 @@ use Rattle.segment_machine.specs.declared.actor.Published.{Published}
 use Rattle.segment_machine.specs.declared.actor.Sighting.{Sighting}
 use Rattle.segment_machine.specs.declared.actor.Taken.{Taken}
 use Rattle.segment_machine.specs.Entry.{is_counted, is_summed, has_ended, AreWithin, is_of, tally_units, tally_sum, tally_noted}
-use Rattle.segment_machine.specs.Form.{is_off, form_of, units_in}
+use Rattle.segment_machine.specs.Form.{is_off, units_in}
 use Rattle.segment_machine.specs.Actor.{Buckets, Sparse, log_of, counted_of, bucket_key, units_listed, taken_sum, all_counted, all_summed, all_noted, all_taken, all_published, all_given, cost_of, units_of, SawSingle, SawCount, all_names, all_owed}
 use Rattle.segment_machine.specs.Made.{AreNameWords, SawSample}
 use Rattle.segment_machine.specs.Note.{is_untouched, SawBucket}
@@ -312,7 +312,7 @@ pub record LooksBack (anatomy : Anatomy) (actors : List Actor) (opener a : Actor
       → total ≤ tally_units (all_counted actors) known.name (bucket_key (Some known) bucket)
   pub packed : (known : Known) (bucket word : ℕ) → Contains a.names known → bucket < buckets_of known.spec
       → SawSingle a (known.reference + HISTOGRAM_SINGLE) word → is_off word ≡ false
-      → tally_units (accepted_by a) known.name (bucket_key (Some known) bucket) ≤ units_packed (form_of anatomy.version (buckets_of known.spec) word) bucket
+      → tally_units (accepted_by a) known.name (bucket_key (Some known) bucket) ≤ units_packed (single_of anatomy.version (buckets_of known.spec) word) bucket
   pub counted : (known : Known) (bucket count : ℕ) (r : Record) → Contains a.names known → bucket < buckets_of known.spec
       → HasRecord anatomy.pieces known.reference r → r.counts ≢ 0 → SawCount a (r.counts + BLOCK_HEADER + bucket) count
       → IsSettled anatomy actors a known bucket

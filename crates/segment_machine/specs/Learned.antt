@@ -10,7 +10,8 @@ use Rattle.list_core.specs.Chain.{is_reference}
 use Rattle.segment_image.specs.declared.layout.TheConstants.{BLOCK_HEADER, BLOCK_TYPE, HISTOGRAM_BUCKETS, HISTOGRAM_KIND, HISTOGRAM_NAME, HISTOGRAM_NAME_LENGTH, HISTOGRAM_SINGLE, KIND_CUSTOM, SAMPLE_LEAST, TYPE_HISTOGRAM, TYPE_SAMPLE}
 use Rattle.segment_machine.specs.declared.actor.Actor.{Actor}
 use Rattle.segment_machine.specs.declared.actor.Known.{Known}
-use Rattle.segment_machine.specs.Form.{form_of, Leads}
+use Rattle.bucket_ranges.specs.Single.{single_of}
+use Rattle.segment_machine.specs.Form.{Leads}
 use Rattle.segment_machine.specs.Actor.{Buckets, word_seen}
 use Rattle.segment_machine.specs.Event.{Event, load_free, exchange_free, load_tail, link, move_tail, load_next, load_published, load_counts, add_count, add_redundant, load_count, raise_mark, load_sum, swap_sum_mark, load_redundant, load_single, pack, mount_counts, disable, add_moved, raise_single_mark, load_cursor, move_cursor}
 
@@ -39,7 +40,7 @@ EndsWithin a at index found =
 -- a single word of a histogram that it knows: it has a form, and each word that it saw before leads to it
 abbrev pub IsSingleOf : Actor → ℕ → ℕ → Type 0
 IsSingleOf a histogram found = (known : Known) → Buckets a histogram known
-    → (form_of a.version (buckets_of known.spec) found ≢ None)
+    → (single_of a.version (buckets_of known.spec) found ≢ None)
     × ((word : ℕ) → Contains a.seen_singles (record { at = histogram + HISTOGRAM_SINGLE; word = word })
     → Leads a.version (buckets_of known.spec) word found)
 

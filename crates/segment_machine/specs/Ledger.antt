@@ -9,13 +9,13 @@ use Rattle.bucket_ranges.specs.declared.spec.Spec.{Spec}
 use Rattle.bucket_ranges.specs.Spec.{buckets_of}
 use Rattle.bucket_ranges.specs.Ranges.{boundaries_of}
 use Rattle.bucket_ranges.specs.declared.single.SingleWord.{SingleWord}
-use Rattle.bucket_ranges.specs.Single.{packed_bucket}
+use Rattle.bucket_ranges.specs.Single.{single_of, packed_bucket}
 use Rattle.segment_machine.specs.declared.actor.Actor.{Actor}
 use Rattle.segment_machine.specs.declared.actor.Known.{Known}
 use Rattle.segment_machine.specs.declared.place.Place.{Place}
 use Rattle.segment_machine.specs.declared.place.Place.TheVariants.{Moving}
 use Rattle.segment_machine.specs.Entry.{tally_units, tally_sum, tally_noted}
-use Rattle.segment_machine.specs.Form.{form_of, units_in}
+use Rattle.segment_machine.specs.Form.{units_in}
 use Rattle.segment_machine.specs.Actor.{known_at, bucket_key, all_counted, all_summed, all_noted, all_taken, taken_units, taken_sum}
 use Rattle.segment_machine.specs.Body.{Record, Body, histogram, counts, sample, Piece}
 
@@ -44,7 +44,7 @@ amount_of_name mine name n = if bytes_eq mine name then n else pos 0
 
 -- the form of a record's single word
 abbrev pub form_at : ℕ → Record → Option SingleWord
-form_at version r = form_of version (buckets_of r.spec) r.single
+form_at version r = single_of version (buckets_of r.spec) r.single
 
 -- the units of a key: packed, counted, and of a sample
 abbrev pub units_held : ℕ → List ℕ → ℤ → Body → ℕ

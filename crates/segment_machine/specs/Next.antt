@@ -2,7 +2,7 @@
 use Rattle.std.specs.Prelude.{Bool, true, false, not, ◌&&◌, ◌==◌, nat_lt, ℕ, ◌+◌, ◌-◌, max, ℤ, pos, ◌+ℤ◌, ◌-ℤ◌, if◌then◌else◌, List, [], ◌∷◌, ◌++◌, length, replicate, slice_index, bit_and, Option, Some, None, unwrap_or}
 use Rattle.std.specs.Int.{w64, cast_signed}
 use Rattle.std.specs.List.{filter}
-use Rattle.bucket_ranges.specs.Single.{packed_bucket}
+use Rattle.bucket_ranges.specs.Single.{single_of, packed_bucket}
 use Rattle.bucket_ranges.specs.declared.single.SingleWord.{SingleWord}
 use Rattle.list_core.specs.Chain.{stops}
 use Rattle.segment_image.specs.declared.layout.TheConstants.{BLOCK_HEADER, CLAIMED_COOKIE, FLAG_CORRUPT, HISTOGRAM_COUNTS, HISTOGRAM_REDUNDANT, HISTOGRAM_SINGLE, HISTOGRAM_SINGLE_MARK, QUEUE, SAMPLE_COUNT, SAMPLE_VALUE, TYPE_PURGED}
@@ -19,7 +19,7 @@ use Rattle.segment_machine.specs.declared.actor.Published.{Published}
 use Rattle.segment_machine.specs.declared.actor.Sighting.{Sighting}
 use Rattle.segment_machine.specs.declared.actor.Taken.{Taken}
 use Rattle.segment_machine.specs.Entry.{has_ended}
-use Rattle.segment_machine.specs.Form.{form_of, units_in, off_word}
+use Rattle.segment_machine.specs.Form.{units_in, off_word}
 use Rattle.segment_machine.specs.Actor.{known_at, known_buckets, bucket_key, word_seen}
 use Rattle.segment_machine.specs.Event.{Event, load_flags, load_free, exchange_free, store_size, store_cookie, store_type, store_payload, set_flag, store_own_next, load_tail, link, move_tail, load_next, load_published, load_counts, add_count, add_sum, add_redundant, load_count, raise_mark, load_sum, swap_sum_mark, load_redundant, load_single, pack, mount_counts, purge_block, disable, add_moved, raise_single_mark, load_cursor, move_cursor}
 
@@ -165,7 +165,7 @@ key_at a _ = pos 0
 
 -- the form of a word that it saw of a known histogram
 abbrev pub form_seen : Actor → ℕ → ℕ → Option SingleWord
-form_seen a histogram word = form_of a.version (known_buckets (known_at a.names histogram)) word
+form_seen a histogram word = single_of a.version (known_buckets (known_at a.names histogram)) word
 
 abbrev pub packed_key : Actor → Look → ℤ
 packed_key a look =

@@ -21,8 +21,8 @@ use Rattle.segment_machine.specs.declared.actor.Taken.{Taken}
 use Rattle.segment_machine.specs.Entry.{AreWithin, fresh, has_ended, tally_noted}
 use Rattle.bucket_ranges.specs.Spec.{buckets_of}
 use Rattle.bucket_ranges.specs.declared.spec.Spec.TheVariants as spec
-use Rattle.bucket_ranges.specs.Single.{units_packed, packed_bucket}
-use Rattle.segment_machine.specs.Form.{is_off, form_of}
+use Rattle.bucket_ranges.specs.Single.{single_of, units_packed, packed_bucket}
+use Rattle.segment_machine.specs.Form.{is_off}
 use Rattle.segment_machine.specs.Actor.{log_of, is_bound, looking, cost_total, bucket_key, has_buckets, word_seen, SawSingle, SawCount}
 use Rattle.segment_machine.specs.Made.{IsFirstNamed, IsFirstSample, SawSample, SawSpec, AreNameWords, SawOtherSpec}
 use Rattle.segment_machine.specs.Next.{change_last, change_own}
@@ -106,7 +106,7 @@ noted a (refused added) = record (looking a) {
 abbrev pub SawBucket : Actor → Known → ℕ → ℕ → Type 0
 SawBucket a known bucket total =
     (word : ℕ) × SawSingle a (known.reference + HISTOGRAM_SINGLE) word
-    × let form = form_of a.version (buckets_of known.spec) word in
+    × let form = single_of a.version (buckets_of known.spec) word in
     (((is_off word ≡ false) × (total ≡ units_packed form bucket))
     ⊎ ((is_off word ≡ true) × ((counts count : ℕ) × (word_seen a.seen_words (known.reference + HISTOGRAM_COUNTS) ≡ Some counts)
     × SawCount a (counts + BLOCK_HEADER + bucket) count × (total ≡ count + units_packed form bucket))))
@@ -115,7 +115,7 @@ SawBucket a known bucket total =
 abbrev pub IsMarkOf : Actor → Known → ℕ → ℕ → Type 0
 IsMarkOf a known bucket at =
     ((word : ℕ) × SawSingle a (known.reference + HISTOGRAM_SINGLE) word
-    × (packed_bucket (form_of a.version (buckets_of known.spec) word) ≡ Some bucket) × (at ≡ known.reference + HISTOGRAM_SINGLE_MARK))
+    × (packed_bucket (single_of a.version (buckets_of known.spec) word) ≡ Some bucket) × (at ≡ known.reference + HISTOGRAM_SINGLE_MARK))
     ⊎ ((counts : ℕ) × (word_seen a.seen_words (known.reference + HISTOGRAM_COUNTS) ≡ Some counts) × (at ≡ counts + BLOCK_HEADER + buckets_of known.spec + bucket))
 
 -- what it saw of a bucket was taken: it is 0, or the mark was raised to it at least

@@ -7,10 +7,10 @@ use Rattle.std.specs.List.{Contains}
 use Rattle.segment_image.specs.declared.layout.TheConstants.{BLOCK_HEADER, HISTOGRAM_COUNTS, HISTOGRAM_REDUNDANT, HISTOGRAM_SINGLE, QUEUE, SAMPLE_COUNT, VERSION_WORD}
 use Rattle.segment_image.specs.Shape.{Dimensions}
 use Rattle.segment_image.specs.Words.{word_at}
-use Rattle.segment_image.specs.Head.{head_of}
+use Rattle.segment_image.specs.Head.{head_of, is_version}
 use Rattle.segment_image.specs.Blocks.{field_at}
 use Rattle.alloc_core.specs.Layout.{IsShape, render, fresh}
-use Rattle.bucket_ranges.specs.Reading.{is_sparse, record_buckets, sum_of, spec_of, Histogram, Reading, IsReading}
+use Rattle.bucket_ranges.specs.Reading.{is_sparse, record_buckets, sum_of, spec_of, Histogram, Reading, IsReading, total_of}
 use Rattle.segment_machine.specs.declared.actor.Actor.{Actor}
 use Rattle.segment_machine.specs.declared.actor.Answered.{Answered}
 use Rattle.segment_machine.specs.declared.actor.Known.{Known}
@@ -18,17 +18,17 @@ use Rattle.segment_machine.specs.declared.actor.Sighting.{Sighting}
 use Rattle.segment_machine.specs.declared.actor.Taken.{Taken}
 use Rattle.bucket_ranges.specs.Spec.{buckets_of, SameSpec}
 use Rattle.bucket_ranges.specs.declared.spec.Spec.TheVariants as spec
-use Rattle.bucket_ranges.specs.Single.{packed_bucket}
+use Rattle.bucket_ranges.specs.Single.{single_of, packed_bucket}
 use Rattle.bucket_ranges.specs.Ranges.{clamped, AreBoundaries, IsBucketOf}
 use Rattle.segment_machine.specs.declared.entry.Entry.{Entry}
 use Rattle.segment_machine.specs.Entry.{key_of, tally_units, tally_sum, tally_noted}
-use Rattle.segment_machine.specs.Form.{is_off, form_of}
+use Rattle.segment_machine.specs.Form.{is_off}
 use Rattle.segment_machine.specs.Actor.{Each, has_buckets, bucket_key, log_of, cost_of, all_counted, all_summed, units_listed, taken_units, taken_sum, transit_of, given_by, IsFinal, SawSingle}
 use Rattle.segment_machine.specs.Note.{TookAll, SawAll}
 use Rattle.segment_machine.specs.Event.{Event, link, spot}
 use Rattle.segment_machine.specs.State.{State, memory, IsStep}
 use Rattle.segment_machine.specs.Seats.{opener_of, MaySplit, parent, newcomer, MayLend, lender, borrower, MayJoin, joined, spent}
-use Rattle.segment_machine.specs.Consistent.{Opening, IsConsistent, IsHistogram, IsSample, bucket_total, key_at, units_taken}
+use Rattle.segment_machine.specs.Consistent.{Opening, IsConsistent, IsHistogram, IsSample, key_at, units_taken}
 
 -- ---- the states that are reached
 
@@ -106,18 +106,18 @@ abbrev pub StatesAreConsistent : Type 0
 StatesAreConsistent = (shape : Dimensions) (version id cursors : ℕ) (state : State) → IsState shape version id cursors state
     → IsConsistent (new_opening shape version id) state
 
--- A consistent state of version 1 reads as exactly the names that were published, each once: nothing is bad, the list does not
+-- A consistent state of either version reads as exactly the names that were published, each once: nothing is bad, the list does not
 -- stop, and each histogram's counts are what was counted less what is in transit, its sum the amounts that were added.
 abbrev pub ConsistentStatesRead : Type 0
 ConsistentStatesRead = (opening : Opening) (state : State) (reading : Reading) → (is : IsConsistent opening state)
-    → word_at opening.words VERSION_WORD ≡ 1 → IsReading state.words (head_of state.words) reading
+    → is_version (word_at opening.words VERSION_WORD) ≡ true → IsReading state.words (head_of state.words) reading
     → (reading.bad ≡ []) × (reading.stopped ≡ None)
     × ((name : List ℕ) (at : ℕ) → IsHistogram state.words is.chain name at
     → (h : Histogram) × Contains reading.hists h × (h.name ≡ name) × (h.reference ≡ at))
     × ((h : Histogram) → Contains reading.hists h → IsHistogram state.words is.chain h.name h.reference
     × (h.sum ≡ tally_sum (all_summed state.actors) h.name)
     × ((i : ℕ) → is_sparse state.words h.reference ≡ false → i < record_buckets state.words h.reference
-    → bucket_total 1 state.words h.reference i + transit_of state.actors h.reference i
+    → total_of (head_of state.words).version state.words h.reference i + transit_of state.actors h.reference i
     ≡ tally_units (all_counted state.actors) h.name (key_at state.words h.reference i)))
 
 -- a histogram that a `hist` was answered Ok with is the first of its name, and has the spec
@@ -155,7 +155,7 @@ SawOpen a known = (word : ℕ) → SawSingle a (known.reference + HISTOGRAM_SING
 abbrev pub IsWhole : ℕ → Actor → Known → ℕ → Type 0
 IsWhole version a known i =
     (version ≡ 2) ⊎ SawOpen a known
-    ⊎ ((word : ℕ) → SawSingle a (known.reference + HISTOGRAM_SINGLE) word → packed_bucket (form_of version (buckets_of known.spec) word) ≢ Some i)
+    ⊎ ((word : ℕ) → SawSingle a (known.reference + HISTOGRAM_SINGLE) word → packed_bucket (single_of version (buckets_of known.spec) word) ≢ Some i)
 
 -- Once a delta has taken all that it saw, all deltas together took of each bucket and each value at least what its recorder had
 -- accepted, and what had been accepted before that one was made; of a packed bucket whose units may be in transit, at least each
@@ -196,7 +196,7 @@ abbrev pub JoinedTotals : Type 0
 JoinedTotals = (shape : Dimensions) (version id cursors : ℕ) (state : State) (a : Actor) → IsState shape version id cursors state → IsJoined state a
     → (is : IsConsistent (new_opening shape version id) state) (name : List ℕ) (at : ℕ) → IsHistogram state.words is.chain name at
     → ((i : ℕ) → is_sparse state.words at ≡ false → i < record_buckets state.words at
-    → bucket_total version state.words at i ≡ tally_units (log_of a) name (key_at state.words at i))
+    → total_of version state.words at i ≡ tally_units (log_of a) name (key_at state.words at i))
     × ((sample : ℕ) (value : ℤ) → is_sparse state.words at ≡ true → IsSample state.words is.chain at value sample
     → field_at state.words sample SAMPLE_COUNT ≡ tally_units (log_of a) name value)
     × (sum_of state.words at ≡ tally_sum (log_of a) name)

@@ -16,7 +16,8 @@ use Rattle.segment_machine.specs.declared.actor.Known.{Known}
 use Rattle.segment_machine.specs.declared.actor.Made.TheVariants as made
 use Rattle.segment_machine.specs.declared.actor.Own.{Own}
 use Rattle.segment_machine.specs.declared.actor.Sighting.{Sighting}
-use Rattle.segment_machine.specs.Form.{is_off, form_of, Leads}
+use Rattle.bucket_ranges.specs.Single.{single_of}
+use Rattle.segment_machine.specs.Form.{is_off, Leads}
 use Rattle.segment_machine.specs.Body.{Record, Counts, Sample, Body, plain, held, histogram, counts, sample, other, words_of, Piece, Listed, Anatomy, order_of, free_of}
 
 -- ---- blocks by their places
@@ -99,7 +100,7 @@ WasInUse pieces s =
 -- a single word that was seen has a form, and leads to the present one
 abbrev pub WasSingle : ℕ → List Piece → Sighting → Type 0
 WasSingle version pieces s =
-    (at : ℕ) × (r : Record) × HasRecord pieces at r × (s.at ≡ at + HISTOGRAM_SINGLE) × (form_of version (buckets_of r.spec) s.word ≢ None)
+    (at : ℕ) × (r : Record) × HasRecord pieces at r × (s.at ≡ at + HISTOGRAM_SINGLE) × (single_of version (buckets_of r.spec) s.word ≢ None)
     × Leads version (buckets_of r.spec) s.word r.single
 
 -- one place on the list is no later than another

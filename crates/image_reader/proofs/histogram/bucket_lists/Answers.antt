@@ -14,17 +14,17 @@ at-buckets-requires-clause-few c = (IsReadable-from_none c.args.words.now c.args
 
 pub counts_of-requires-clause-room : goal.counts_of-requires-clause-room
 counts_of-requires-clause-room c =
-    room-read c.args.words.now c.args.at c.at-buckets.result c.at-buckets.ensures
+    room-read c.args.head.now.version c.args.words.now c.args.at c.at-buckets.result c.at-buckets.ensures
     (HasBuckets-from_none c.args.words.now c.args.head.now c.args.at c.requires.header c.requires.lawful c.requires.kind)
 
 pub counts_of-requires-clause-small : goal.counts_of-requires-clause-small
 counts_of-requires-clause-small c =
-    small-read c.args.words.now c.args.at c.at-buckets.result c.at-buckets.ensures
+    small-read c.args.head.now.version c.args.words.now c.args.at c.at-buckets.result c.at-buckets.ensures
     (HasBuckets-from_none c.args.words.now c.args.head.now c.args.at c.requires.header c.requires.lawful c.requires.kind)
 
 pub marks_of-requires : goal.marks_of-requires
 marks_of-requires c =
-    room-read c.args.words.now c.args.at c.at-buckets.result c.at-buckets.ensures
+    room-read c.args.head.now.version c.args.words.now c.args.at c.at-buckets.result c.at-buckets.ensures
     (HasBuckets-from_none c.args.words.now c.args.head.now c.args.at c.requires.header c.requires.lawful c.requires.kind)
 
 pub ranges_of-requires : goal.ranges_of-requires
@@ -35,6 +35,6 @@ pub returns : goal.returns
 returns c =
     let ranges : c.in_ok-ranges.ranges ≡ boundaries_of (spec_of c.args.words.now c.args.at) =
     c.in_ok-ranges.ensures.value ∙ ap boundaries_of c.requires.spec in (
-      c.in_ok-counts.ensures ∙ counts-read c.args.words.now c.args.at c.at-buckets.result c.in_ok-ranges.ranges c.at-buckets.ensures ranges,
-      c.in_ok-marks_of.ensures ∙ marks-read c.args.words.now c.args.at c.at-buckets.result c.at-buckets.ensures,
+      c.in_ok-counts.ensures ∙ counts-read c.args.head.now.version c.args.words.now c.args.at c.at-buckets.result c.in_ok-ranges.ranges c.at-buckets.ensures ranges,
+      c.in_ok-marks_of.ensures ∙ marks-read c.args.head.now.version c.args.words.now c.args.at c.at-buckets.result c.at-buckets.ensures,
     )

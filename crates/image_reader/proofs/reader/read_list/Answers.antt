@@ -33,8 +33,8 @@ returns c =
           ∙ (c.in_ok-give_samples.ensures
           ∙ (ap (λ hists. map given (map histogram_view hists)) c.deref_mut.ensures.value
           ∙ (ap (map given) c.in_ok-gathered.ensures.gathered.hists_are
-          ∙ (map-map given (histogram_of words []) read
-          ∙ (λ i. map (λ at. given-samples words samples c.in_ok-gathered.gathered.samples at c.in_ok-gathered.ensures.gathered.samples_are i) read))))))
+          ∙ (map-map given (histogram_of c.args.head.now.version words []) read
+          ∙ (λ i. map (λ at. given-samples c.args.head.now.version words samples c.in_ok-gathered.gathered.samples at c.in_ok-gathered.ensures.gathered.samples_are i) read))))))
           c.in_ok-gathered.ensures.gathered.bad_are
           (c.in_ok-references.ensures.stopped ∙ ap (stop_of words c.args.head.now) (sym same)),
     )

@@ -31,10 +31,10 @@ known : (old : Names) (bytes name : List ℕ) (added said : Bool) → bytes ≡ 
 known old bytes name added said same is says = ap (λ n. not (holds old n)) (sym same) ∙ (sym is ∙ says)
 
 -- one more histogram
-seen_more : (before now : List HistReading) (hist : HistReading) (words : List ℕ) (at : ℕ) → now ≡ before ++ hist ∷ []
-    → histogram_view hist ≡ histogram_of words [] at
-    → map histogram_view now ≡ map histogram_view before ++ histogram_of words [] at ∷ []
-seen_more before now hist words at is seen =
+seen_more : (before now : List HistReading) (hist : HistReading) (version : ℕ) (words : List ℕ) (at : ℕ) → now ≡ before ++ hist ∷ []
+    → histogram_view hist ≡ histogram_of version words [] at
+    → map histogram_view now ≡ map histogram_view before ++ histogram_of version words [] at ∷ []
+seen_more before now hist version words at is seen =
     ap (map histogram_view) is
     ∙ (map-append histogram_view before (hist ∷ []) ∙ ap (λ h. map histogram_view before ++ h ∷ []) seen)
 
@@ -61,8 +61,8 @@ returns-then-words-at-eq-KIND_SPARSE-clause-gathered c = λ earlier so_far.
     (not-true (holds c.args.self.now.names name)
     (known c.args.self.now.names c.deref.result.now name c.in_ok-insert.field-0 true
     c.deref.ensures.value c.in_ok-insert.ensures.new c.if-not-branch.false))
-    (seen_more c.args.self.now.hists.items c.push.new.self.items c.in_ok-histogram.field-0 c.args.words.now c.args.reference
-    c.in_ok-push.ensures.items c.in_ok-histogram.ensures)
+    (seen_more c.args.self.now.hists.items c.push.new.self.items c.in_ok-histogram.field-0 c.args.head.now.version c.args.words.now
+    c.args.reference c.in_ok-push.ensures.items c.in_ok-histogram.ensures)
     refl
     (λ h. marked-sparse c.args.self.now.sparse.items c.args.reference h _ within refl
     ∙ sym (ap (λ b. get_or c.args.self.now.sparse.items h false || ((c.args.reference == h) && b))
@@ -78,8 +78,8 @@ returns-else-words-at-eq-KIND_SPARSE-clause-gathered c = λ earlier so_far.
     (not-true (holds c.args.self.now.names name)
     (known c.args.self.now.names c.deref.result.now name c.in_ok-insert.field-0 true
     c.deref.ensures.value c.in_ok-insert.ensures.new c.if-not-branch.false))
-    (seen_more c.args.self.now.hists.items c.push.new.self.items c.in_ok-histogram.field-0 c.args.words.now c.args.reference
-    c.in_ok-push.ensures.items c.in_ok-histogram.ensures)
+    (seen_more c.args.self.now.hists.items c.push.new.self.items c.in_ok-histogram.field-0 c.args.head.now.version c.args.words.now
+    c.args.reference c.in_ok-push.ensures.items c.in_ok-histogram.ensures)
     refl
     (λ h. unmarked-sparse c.args.reference h _ (is_sparse c.args.words.now c.args.reference)
     (ne_eqb (field_at c.args.words.now c.args.reference 4) 4 c.if-words-at-eq-KIND_SPARSE.false))
@@ -88,7 +88,7 @@ returns-else-words-at-eq-KIND_SPARSE-clause-gathered c = λ earlier so_far.
 -- the references stay those of words
 near_more : (before now : List HistReading) (hist : HistReading) (words : List ℕ) (head : SegmentHead) (at : ℕ) → header_of words ≡ Ok head
     → record_fault words head at ≡ None → at + field_at words at 0 ≤ length words → now ≡ before ++ hist ∷ []
-    → histogram_view hist ≡ histogram_of words [] at → AreNear before → AreNear now
+    → histogram_view hist ≡ histogram_of head.version words [] at → AreNear before → AreNear now
 near_more before now hist words head at header lawful within is seen near =
     subst AreNear (sym is)
     (All-push (λ (h : HistReading). h.reference < 2 ^ 32) before hist near

@@ -5,7 +5,7 @@ use Rattle.segment_machine.specs.Event.{load_flags, load_cursor}
 use Rattle.segment_machine.specs.Next.{next}
 use Rattle.segment_machine.specs.Seats.{opener_of, lender}
 use Rattle.segment_machine.specs.State.{State, IsStep}
-use Rattle.segment_machine.specs.Promises.{IsSplit, IsLent, IsJoin, IsReached, started, stepped, split, lent, joined_in}
+use Rattle.segment_machine.specs.Reached.{IsSplit, IsLent, IsJoin, IsReached, started, stepped, split, lent, joined_in}
 use Rattle.segment_machine.specs.Examples.{shape}
 use Rattle.segment_machine.specs.Lives as lives
 use Rattle.segment_machine.proofs.laws.recorder_is_joined.Goals as goal

@@ -7,7 +7,9 @@ use Rattle.segment_machine.specs.declared.actor.Actor.{Actor}
 use Rattle.segment_machine.specs.Entry.{sample_entry, tally_units, tally_sum}
 use Rattle.segment_machine.specs.Form.{off_word, packed_word}
 use Rattle.segment_machine.specs.Actor.{log_of, counted_of, taken_units, taken_sum, transit_of, units_of, IsFinal}
-use Rattle.segment_machine.specs.Event.{disable, add_moved, add_count, add_redundant, after}
+use Rattle.segment_machine.specs.Packing.{disable, add_moved}
+use Rattle.segment_machine.specs.Event.{packing_event, counting_event, after}
+use Rattle.segment_machine.specs.Counting.{add_count, add_redundant}
 use Rattle.segment_invariant.specs.Consistent.{IsSampleOf, ListIsChain, RecordsHold, TotalsAreCounted, MarksAreTaken, SumsAreAmounts, TransitIsLocal, FlagsAreSet, UnitsAreKept, Opening, IsConsistent}
 use Rattle.segment_machine.specs.State.{State}
 use Rattle.segment_machine.specs.Examples.{packed_segment, mounted_segment, letter_a, maker, mounter, taken_at, mounted, in_transit, mover, three_deltas, sparse_segment}
@@ -19,8 +21,8 @@ use Rattle.segment_machine.specs.Examples.{packed_segment, mounted_segment, lett
 abbrev pub PackedThenMounted : Type 0
 PackedThenMounted =
     (packed_word 1 2 ≡ 4294967298) × (off_word 1 4294967298 ≡ 9223372036854775809)
-    × (after 128 1 (add_redundant 16 1) (after 128 1 (add_count 36 1) (after 128 1 (add_moved 32 1 2)
-    (after 128 1 (disable 16 4294967298) (mounted_segment 4294967298 0 2 0 2 (replicate 6 0))))) ≡ mounted)
+    × (after 128 1 (counting_event (add_redundant 16 1)) (after 128 1 (counting_event (add_count 36 1)) (after 128 1 (packing_event (add_moved 32 1 2))
+    (after 128 1 (packing_event (disable 16 4294967298)) (mounted_segment 4294967298 0 2 0 2 (replicate 6 0))))) ≡ mounted)
     × (map (total_of 1 mounted 16) (0 ∷ 1 ∷ 2 ∷ []) ≡ 1 ∷ 2 ∷ 0 ∷ [])
     × (map (λ key. tally_units (log_of (mounter (1 ∷ 1 ∷ 0 ∷ []))) letter_a (pos key)) (0 ∷ 1 ∷ 2 ∷ []) ≡ 1 ∷ 2 ∷ 0 ∷ [])
     × (sum_of mounted 16 ≡ tally_sum (log_of (mounter (1 ∷ 1 ∷ 0 ∷ []))) letter_a)

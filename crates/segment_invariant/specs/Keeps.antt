@@ -8,14 +8,14 @@ use Rattle.segment_image.specs.Shape.{Dimensions}
 use Rattle.segment_image.specs.Words.{word_at}
 use Rattle.alloc_core.specs.Layout.{IsShape}
 use Rattle.segment_machine.specs.declared.actor.Actor.{Actor}
-use Rattle.segment_machine.specs.Event.{Event, load_flags, load_free, exchange_free, store_size, store_cookie, store_type, store_payload, set_flag, store_own_next, load_tail, link, move_tail, load_next, load_published, spot, after}
-use Rattle.segment_machine.specs.Next.{next}
-use Rattle.segment_machine.specs.Ready.{Ready}
+use Rattle.segment_machine.specs.Event.{Event, allocating_event, publishing_event, walking_event, spot, after, next, Ready, Learned}
+use Rattle.segment_machine.specs.Allocating.{AllocatingEvent}
+use Rattle.segment_machine.specs.Publishing.{PublishingEvent}
+use Rattle.segment_machine.specs.Walking.{WalkingEvent}
 use Rattle.segment_machine.specs.State.{State, memory}
 use Rattle.segment_invariant.specs.Consistent.{ListIsChain, FlagsAreSet, UnitsAreKept, RecordsHold, TotalsAreCounted, MarksAreTaken, SumsAreAmounts, TransitIsLocal, IsConsistent, new_opening}
 use Rattle.segment_machine.specs.Reached.{new_state, IsState, IsSplit, IsJoin, IsLent}
 use Rattle.segment_invariant.specs.Body.{Anatomy, blank, order_of}
-use Rattle.segment_machine.specs.Learned.{Learned}
 use Rattle.segment_invariant.specs.Kept.{Kept}
 use Rattle.segment_machine.specs.Note.{Note, begins, amounts, asks, knows, takes, looks, ends, refused, MayNote, noted, declines}
 
@@ -56,32 +56,16 @@ EventKeeps event = (shape : Dimensions) (opened : Anatomy) (state : State) (id :
     → Kept shape opened (happened opened.version state id a event) × Learned a event (found_at state event)
 
 -- the events that allocate a block and set flags
-abbrev pub IsAllocating : Event → Type 0
-IsAllocating load_flags = ⊤
-IsAllocating load_free = ⊤
-IsAllocating (exchange_free old new) = ⊤
-IsAllocating (store_size at size) = ⊤
-IsAllocating (store_cookie at cookie) = ⊤
-IsAllocating (store_type at tag) = ⊤
-IsAllocating (store_payload at index value) = ⊤
-IsAllocating (set_flag flag) = ⊤
-IsAllocating _ = ⊥
-
--- the events that put a record on the list and walk along it
-abbrev pub IsListing : Event → Type 0
-IsListing (store_own_next at) = ⊤
-IsListing load_tail = ⊤
-IsListing (link tail at) = ⊤
-IsListing (move_tail old new) = ⊤
-IsListing (load_next at) = ⊤
-IsListing (load_published at index) = ⊤
-IsListing _ = ⊥
-
 abbrev pub AllocatingKeeps : Type 0
-AllocatingKeeps = (event : Event) → IsAllocating event → EventKeeps event
+AllocatingKeeps = (event : AllocatingEvent) → EventKeeps (allocating_event event)
 
-abbrev pub ListingKeeps : Type 0
-ListingKeeps = (event : Event) → IsListing event → EventKeeps event
+-- the events that put a record on the list
+abbrev pub PublishingKeeps : Type 0
+PublishingKeeps = (event : PublishingEvent) → EventKeeps (publishing_event event)
+
+-- the events that walk along it
+abbrev pub WalkingKeeps : Type 0
+WalkingKeeps = (event : WalkingEvent) → EventKeeps (walking_event event)
 
 -- ---- at notes
 

@@ -6,7 +6,7 @@
 ghost use Rattle.segment_invariant.specs.Examples.{PackedThenMounted, StoppedInTransit, PackingLimit, DeltasAndMarks, TwoTakers, SparseSamples, MountedIsConsistent, ListBreaks, RecordsBreak, TotalsBreak, MarksBreak, SumsBreak, TransitBreaks, FlagsBreak, UnitsBreak};
 ghost use Rattle.segment_invariant.specs.Accounts.{MountedAgrees, LimitAgrees, TakersAgree, SparseAgrees, BatchAgrees};
 ghost use Rattle.segment_invariant.specs.Refused.{CountsLoaded, UnitsSpent, CountsOwe, WordsFormed, KindsRead};
-ghost use Rattle.segment_invariant.specs.Keeps.{OpeningIsKept, OpeningsAreKept, AllocatingKeeps, ListingKeeps, SplitsKeep, JoinsKeep, LendsKeep, KeptFlagsAreSet, KeptIsChain, KeptUnitsAreKept, KeptTransitIsLocal, KeptSumsAreAmounts, KeptTotalsAreCounted, KeptMarksAreTaken, NotesKeep, KeptRecordsHold, KeptIsConsistent};
+ghost use Rattle.segment_invariant.specs.Keeps.{OpeningIsKept, OpeningsAreKept, AllocatingKeeps, PublishingKeeps, WalkingKeeps, SplitsKeep, JoinsKeep, LendsKeep, KeptFlagsAreSet, KeptIsChain, KeptUnitsAreKept, KeptTransitIsLocal, KeptSumsAreAmounts, KeptTotalsAreCounted, KeptMarksAreTaken, NotesKeep, KeptRecordsHold, KeptIsConsistent};
 
 /// Two packed units are moved to the counts, where the next sample is counted: the words become those of the segment, and the
 /// totals, the sum and the redundant count are those of the entries.
@@ -151,10 +151,16 @@ pub fn allocating_keeps()
     ensures { AllocatingKeeps }
 {}
 
-/// Each event that puts a record on the list or walks along it keeps what holds, and its actor learns that what it found is the end of
-/// the list or a record that lies within the segment.
-pub fn listing_keeps()
-    ensures { ListingKeeps }
+/// Each event that puts a record on the list keeps what holds, and its actor learns that what it found is the end of the list or a
+/// record that lies within the segment.
+pub fn publishing_keeps()
+    ensures { PublishingKeeps }
+{}
+
+/// Each event that walks along the list keeps what holds, and its actor learns that what it found is the end of the list or a
+/// record, which with its name and its ranges lies within the segment.
+pub fn walking_keeps()
+    ensures { WalkingKeeps }
 {}
 
 /// What holds between any two events holds on where an opener makes a recorder.

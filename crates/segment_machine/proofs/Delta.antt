@@ -3,7 +3,7 @@ use Rattle.std.proofs.Common.{ℕ, ◌<◌, [], inl, inr, refl, arith, Some}
 use Rattle.segment_machine.specs.declared.actor.Actor.{Actor}
 use Rattle.segment_machine.specs.declared.place.Look.{Look}
 use Rattle.segment_machine.specs.Actor.{Buckets, SawSingle}
-use Rattle.segment_machine.specs.Ready.{Takes}
+use Rattle.segment_machine.specs.Taking.{Takes}
 use Rattle.segment_machine.specs.Note.{TookAll, TookBucket}
 use Rattle.segment_machine.specs.Examples.{takes_all, taking, run}
 use Rattle.segment_machine.specs.Examples.{known_a}

@@ -11,10 +11,12 @@ use Rattle.segment_machine.specs.declared.actor.Made.TheVariants as made
 use Rattle.segment_machine.specs.declared.actor.Taken.{Taken}
 use Rattle.segment_machine.specs.Entry.{key_of, sample_entry, batch_entries, batch_cost, fresh}
 use Rattle.segment_machine.specs.Actor.{units_of}
-use Rattle.segment_machine.specs.Event.{Event, mount_counts, load_flags, load_free, exchange_free, store_size, store_cookie, store_type, load_counts, load_single, pack, disable, add_moved, add_count, add_sum, add_redundant, raise_single_mark, load_sum, swap_sum_mark}
-use Rattle.segment_machine.specs.Ready.{Ready}
+use Rattle.segment_machine.specs.Event.{Event, packing_event, allocating_event, counting_event, taking_event, Ready, next}
+use Rattle.segment_machine.specs.Packing.{mount_counts, load_single, pack, disable, add_moved}
+use Rattle.segment_machine.specs.Allocating.{load_flags, load_free, exchange_free, store_size, store_cookie, store_type}
+use Rattle.segment_machine.specs.Counting.{load_counts, add_count, add_sum, add_redundant}
+use Rattle.segment_machine.specs.Taking.{raise_single_mark, load_sum, swap_sum_mark}
 use Rattle.segment_machine.specs.Note.{MayNote, has_taken, noted, begins, takes, ends}
-use Rattle.segment_machine.specs.Next.{next}
 use Rattle.segment_machine.specs.Seats.{opener_of}
 use Rattle.segment_machine.specs.declared.actor.Known.{Known}
 
@@ -140,14 +142,14 @@ three_deltas = taken_at 2 ((pos 1, 2) ∷ []) (pos 2) ∷ taken_at 3 ((pos 0, 1)
 -- A sample of 1 is packed: the call begins and holds a unit, finds the single word empty, packs, adds the amount, notes the unit
 -- and ends. Then the entry is in the log, and the unit is spent.
 abbrev pub sampler : Actor
-sampler = next (noted (maker []) (begins letter_a 1 (one 1 ∷ []))) (load_single 16) 0
+sampler = next (noted (maker []) (begins letter_a 1 (one 1 ∷ []))) (packing_event (load_single 16)) 0
 
 abbrev pub sampled : Actor
-sampled = noted (next (next (next sampler (pack 16 0 4294967297) 0) (add_sum 16 (pos 1)) 0) (add_redundant 16 1) 0) ends
+sampled = noted (next (next (next sampler (packing_event (pack 16 0 4294967297)) 0) (counting_event (add_sum 16 (pos 1))) 0) (counting_event (add_redundant 16 1)) 0) ends
 
 abbrev pub PackedRun : Type 0
 PackedRun =
-    Ready sampler (pack 16 0 4294967297)
+    Ready sampler (packing_event (pack 16 0 4294967297))
     × (sampled.log ≡ whole (one 1) ∷ []) × (sampled.running ≡ []) × (sampled.share ≡ 4294967294)
     × (units_of sampled ≡ 4294967295) × (units_of sampler ≡ 4294967295)
 
@@ -164,10 +166,10 @@ run a (e ∷ rest) = run (next a e.0 e.1) rest
 -- two units, and counts its own.
 abbrev pub mounting : List (Event × ℕ)
 mounting =
-    (load_single 16, 4294967298) ∷ (load_counts 16, 0) ∷ (load_flags, 0) ∷ (load_free, 32) ∷ (exchange_free 32 42, 32)
-    ∷ (store_size 32 10, 0) ∷ (store_cookie 32 0xC8799269, 0) ∷ (store_type 32 2, 0) ∷ (mount_counts 16 32, 0)
-    ∷ (load_single 16, 4294967298) ∷ (disable 16 4294967298, 4294967298) ∷ (add_moved 32 1 2, 0) ∷ (add_count 36 1, 0)
-    ∷ (add_redundant 16 1, 2) ∷ []
+    (packing_event (load_single 16), 4294967298) ∷ (counting_event (load_counts 16), 0) ∷ (allocating_event load_flags, 0) ∷ (allocating_event load_free, 32) ∷ (allocating_event (exchange_free 32 42), 32)
+    ∷ (allocating_event (store_size 32 10), 0) ∷ (allocating_event (store_cookie 32 0xC8799269), 0) ∷ (allocating_event (store_type 32 2), 0) ∷ (packing_event (mount_counts 16 32), 0)
+    ∷ (packing_event (load_single 16), 4294967298) ∷ (packing_event (disable 16 4294967298), 4294967298) ∷ (packing_event (add_moved 32 1 2), 0) ∷ (counting_event (add_count 36 1), 0)
+    ∷ (counting_event (add_redundant 16 1), 2) ∷ []
 
 abbrev pub mounts : Actor
 mounts = noted (maker (1 ∷ 1 ∷ [])) (begins letter_a 1 (one 0 ∷ []))
@@ -183,11 +185,11 @@ MountingRun =
 -- A taker has loaded the single word (1, 2). Where the mark was 0 it takes two units and the sum 2; where another taker has
 -- raised the mark to 3 and swapped the sum 3 in before, it takes nothing.
 abbrev pub taker : Actor
-taker = next (noted (maker (1 ∷ 1 ∷ [])) (takes letter_a)) (load_single 16) 4294967298
+taker = next (noted (maker (1 ∷ 1 ∷ [])) (takes letter_a)) (packing_event (load_single 16)) 4294967298
 
 abbrev pub took : ℕ → ℕ → ℕ → Actor
 took mark sum sum_mark =
-    next (next (next taker (raise_single_mark 16 2) mark) (load_sum 16) sum) (swap_sum_mark 16 (pos sum)) sum_mark
+    next (next (next taker (taking_event (raise_single_mark 16 2)) mark) (taking_event (load_sum 16)) sum) (taking_event (swap_sum_mark 16 (pos sum))) sum_mark
 
 abbrev pub TakerRuns : Type 0
 TakerRuns =
@@ -196,7 +198,7 @@ TakerRuns =
 
 -- the events of that delta, each of which may be done; behind them the delta has taken all, and may end
 abbrev pub taking : List (Event × ℕ)
-taking = (load_single 16, 4294967298) ∷ (raise_single_mark 16 2, 0) ∷ (load_sum 16, 2) ∷ (swap_sum_mark 16 (pos 2), 0) ∷ []
+taking = (packing_event (load_single 16), 4294967298) ∷ (taking_event (raise_single_mark 16 2), 0) ∷ (taking_event (load_sum 16), 2) ∷ (taking_event (swap_sum_mark 16 (pos 2)), 0) ∷ []
 
 abbrev pub takes_all : Actor
 takes_all = noted (maker (1 ∷ 1 ∷ [])) (takes letter_a)

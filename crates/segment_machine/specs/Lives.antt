@@ -2,8 +2,9 @@
 use Rattle.std.specs.Prelude.{◌≡◌, List, [], ◌∷◌, map}
 use Rattle.segment_machine.specs.declared.actor.Actor.{Actor}
 use Rattle.segment_machine.specs.Actor.{units_of}
-use Rattle.segment_machine.specs.Event.{load_flags, load_cursor}
-use Rattle.segment_machine.specs.Next.{next}
+use Rattle.segment_machine.specs.Allocating.{load_flags}
+use Rattle.segment_machine.specs.Event.{allocating_event, cursor_event, next}
+use Rattle.segment_machine.specs.Cursors.{load_cursor}
 use Rattle.segment_machine.specs.Seats.{opener_of, parent, newcomer, lender, borrower, joined, spent}
 use Rattle.segment_machine.specs.State.{State}
 use Rattle.segment_machine.specs.Reached.{new_state, IsState, IsJoined}
@@ -27,7 +28,7 @@ lent = borrower recorder 3
 
 -- it loads the flags, and then the shared cursor
 abbrev pub looked : Actor
-looked = next (next lent load_flags 0) (load_cursor 0) 12
+looked = next (next lent (allocating_event load_flags) 0) (cursor_event (load_cursor 0)) 12
 
 abbrev pub last_opener : Actor
 last_opener = joined (lender split_opener 3) looked

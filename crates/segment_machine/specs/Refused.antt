@@ -6,8 +6,10 @@ use Rattle.segment_machine.specs.declared.actor.Made.TheVariants as made
 use Rattle.segment_machine.specs.declared.place.Look.{Look}
 use Rattle.segment_machine.specs.declared.place.Place.TheVariants.{Looking, Moving}
 use Rattle.segment_machine.specs.Entry.{fresh, tally_noted}
-use Rattle.segment_machine.specs.Event.{Event, load_sum, swap_sum_mark, add_count, load_count, load_cursor, raise_single_mark}
-use Rattle.segment_machine.specs.Ready.{Ready}
+use Rattle.segment_machine.specs.Event.{Event, taking_event, counting_event, cursor_event, Ready}
+use Rattle.segment_machine.specs.Taking.{load_sum, swap_sum_mark, load_count, raise_single_mark}
+use Rattle.segment_machine.specs.Counting.{add_count}
+use Rattle.segment_machine.specs.Cursors.{load_cursor}
 use Rattle.segment_machine.specs.Made.{IsPayload}
 use Rattle.segment_machine.specs.Seats.{opener_of, newcomer, joined, MayJoin}
 use Rattle.segment_machine.specs.Actor.{accepted_by, accepted_since}
@@ -36,19 +38,19 @@ look single counts = record { histogram = 16; single = Some single; counts = cou
 
 -- a unit of -5 counts in the sample of -5; one of 2^64 - 5, which is the same word, does not
 abbrev pub ValuesApart : Type 0
-ValuesApart = Ready (counting (negsuc 4)) (add_count 62 1) × (¬ (Ready (counting (pos 18446744073709551611)) (add_count 62 1)))
+ValuesApart = Ready (counting (negsuc 4)) (counting_event (add_count 62 1)) × (¬ (Ready (counting (pos 18446744073709551611)) (counting_event (add_count 62 1))))
 
 -- nothing is counted while units are moving
 abbrev pub MovesFirst : Type 0
-MovesFirst = ¬ (Ready (record (counting (negsuc 4)) { place = Moving (look 9223372036854775809 32) 1 2 }) (add_count 62 1))
+MovesFirst = ¬ (Ready (record (counting (negsuc 4)) { place = Moving (look 9223372036854775809 32) 1 2 }) (counting_event (add_count 62 1)))
 
 -- a cursor that is not there is not loaded
 abbrev pub CursorsThere : Type 0
-CursorsThere = Ready recorder (load_cursor 0) × (¬ (Ready recorder (load_cursor 1)))
+CursorsThere = Ready recorder (cursor_event (load_cursor 0)) × (¬ (Ready recorder (cursor_event (load_cursor 1))))
 
 -- no count is loaded where no sample was met
 abbrev pub SamplesMet : Type 0
-SamplesMet = Ready recorder (load_count 62) × (¬ (Ready recorder (load_count 63)))
+SamplesMet = Ready recorder (taking_event (load_count 62)) × (¬ (Ready recorder (taking_event (load_count 63))))
 
 -- a single mark is not raised to what was seen before the delta began
 abbrev pub WordsSince : Type 0
@@ -59,11 +61,11 @@ WordsSince = ¬ (Ready
       since_singles = 1;
       taking = true;
     })
-    (raise_single_mark 16 7))
+    (taking_event (raise_single_mark 16 7)))
 
 -- a delta that swaps twice has taken both differences: 2, and then 3 more
 abbrev pub swapping : List (Event × ℕ)
-swapping = (load_sum 16, 2) ∷ (swap_sum_mark 16 (pos 2), 0) ∷ (load_sum 16, 5) ∷ (swap_sum_mark 16 (pos 5), 2) ∷ []
+swapping = (taking_event (load_sum 16), 2) ∷ (taking_event (swap_sum_mark 16 (pos 2)), 0) ∷ (taking_event (load_sum 16), 5) ∷ (taking_event (swap_sum_mark 16 (pos 5)), 2) ∷ []
 
 abbrev pub SwapsAdd : Type 0
 SwapsAdd = map (λ t. t.sum) (run takes_all swapping).taken ≡ pos 5 ∷ []

@@ -5,9 +5,10 @@
 //! words; both are held to these definitions. An actor is one who calls: a thread's recorder, or an opener, who makes
 //! recorders and takes them back. What an actor has done and seen is an `Actor`, whose types are in this folder, since
 //! callers hold them as what a thread knows. The definitions are in `specs/`: entries and their tally (`Entry`), the
-//! single word (`Form`), the events (`Event`), when an actor may do one (`Ready`), what becomes of it (`Next`) and what it
-//! learns (`Learned`), what it notes (`Note`), how recorders are made and joined (`Seats`), one step (`State`) and the
-//! states that are reached (`Reached`). Worked examples are in `Examples`, `Lives` and `Refused`.
+//! single word (`Form`), the events, a file for each family (`Allocating`, `Publishing`, `Walking`, `Counting`,
+//! `Packing`, `Taking`, `Cursors`) and one that puts them together (`Event`), what an actor notes (`Note`), how recorders
+//! are made and joined (`Seats`), one step (`State`) and the states that are reached (`Reached`). Worked examples are in
+//! `Examples`, `Lives` and `Refused`.
 //!
 //! What holds between any two events is in `segment_invariant`, what follows from it in `segment_promises`.
 #![tactic(auto)]

@@ -14,8 +14,14 @@ use Rattle.alloc_core.proofs.Layouts.{length_shown}
 use Rattle.segment_image.specs.Shape.{Dimensions}
 use Rattle.segment_machine.specs.declared.actor.Actor.{Actor}
 use Rattle.segment_machine.specs.declared.place.Place.TheVariants.{Idle}
-use Rattle.segment_machine.specs.Event.{Event, load_flags, load_free, exchange_free, store_size, store_cookie, store_type, store_payload, set_flag, store_own_next, load_tail, link, move_tail, load_next, load_published, load_counts, add_count, add_sum, add_redundant, load_count, raise_mark, load_sum, swap_sum_mark, load_redundant, load_single, pack, mount_counts, purge_block, disable, add_moved, raise_single_mark, load_cursor, move_cursor, spot, change, after}
-use Rattle.segment_machine.specs.Next.{next, after_free, after_link, after_pack, after_mount, after_disable, after_cursor}
+use Rattle.segment_machine.specs.Event.{Event, allocating_event, publishing_event, walking_event, counting_event, taking_event, packing_event, cursor_event, spot, change, after, next}
+use Rattle.segment_machine.specs.Allocating.{load_flags, load_free, exchange_free, store_size, store_cookie, store_type, store_payload, set_flag, after_free}
+use Rattle.segment_machine.specs.Publishing.{store_own_next, load_tail, link, move_tail, after_link}
+use Rattle.segment_machine.specs.Walking.{load_next, load_published}
+use Rattle.segment_machine.specs.Counting.{load_counts, add_count, add_sum, add_redundant}
+use Rattle.segment_machine.specs.Taking.{load_count, raise_mark, load_sum, swap_sum_mark, load_redundant, raise_single_mark}
+use Rattle.segment_machine.specs.Packing.{load_single, pack, mount_counts, purge_block, disable, add_moved, after_pack, after_mount, after_disable}
+use Rattle.segment_machine.specs.Cursors.{load_cursor, move_cursor, after_cursor}
 use Rattle.segment_machine.specs.Note.{Note, Notes, noted, begins, amounts, asks, knows, takes, has_taken, looks, answers, ends, refused, declines}
 use Rattle.segment_machine.specs.State.{State, memory}
 use Rattle.segment_invariant.specs.Body.{Anatomy, layout_of}
@@ -100,38 +106,38 @@ module _ (a : Actor) where
 
 -- nor does an event
 acts_on : (a : Actor) (event : Event) (found : ℕ) → (next a event found).opener ≡ a.opener
-acts_on a load_flags found = refl
-acts_on a load_free found = refl
-acts_on a (exchange_free old new) found = freed a (eqb found old) old new found
-acts_on a (store_size at size) found = refl
-acts_on a (store_cookie at cookie) found = refl
-acts_on a (store_type at tag) found = refl
-acts_on a (store_payload at index value) found = refl
-acts_on a (set_flag flag) found = flagged a (eqb flag 1)
-acts_on a (store_own_next at) found = refl
-acts_on a load_tail found = refl
-acts_on a (link tail at) found = linked a (eqb found 12) tail at found
-acts_on a (move_tail old new) found = refl
-acts_on a (load_next at) found = refl
-acts_on a (load_published at index) found = refl
-acts_on a (load_counts histogram) found = refl
-acts_on a (add_count at units) found = refl
-acts_on a (add_sum histogram amount) found = refl
-acts_on a (add_redundant histogram units) found = refl
-acts_on a (load_count at) found = refl
-acts_on a (raise_mark at least) found = refl
-acts_on a (load_sum histogram) found = refl
-acts_on a (swap_sum_mark histogram sum) found = refl
-acts_on a (load_redundant histogram) found = refl
-acts_on a (load_single histogram) found = refl
-acts_on a (pack histogram old new) found = packed a (eqb found old) histogram new found
-acts_on a (mount_counts histogram at) found = mounted a (eqb found 0) histogram at found
-acts_on a (purge_block at) found = refl
-acts_on a (disable histogram old) found = disabled a (eqb found old) histogram old found
-acts_on a (add_moved counts bucket units) found = refl
-acts_on a (raise_single_mark histogram least) found = refl
-acts_on a (load_cursor cursor) found = refl
-acts_on a (move_cursor cursor old new) found = gave a (eqb found old) cursor new found
+acts_on a (allocating_event load_flags) found = refl
+acts_on a (allocating_event load_free) found = refl
+acts_on a (allocating_event (exchange_free old new)) found = freed a (eqb found old) old new found
+acts_on a (allocating_event (store_size at size)) found = refl
+acts_on a (allocating_event (store_cookie at cookie)) found = refl
+acts_on a (allocating_event (store_type at tag)) found = refl
+acts_on a (allocating_event (store_payload at index value)) found = refl
+acts_on a (allocating_event (set_flag flag)) found = flagged a (eqb flag 1)
+acts_on a (publishing_event (store_own_next at)) found = refl
+acts_on a (publishing_event load_tail) found = refl
+acts_on a (publishing_event (link tail at)) found = linked a (eqb found 12) tail at found
+acts_on a (publishing_event (move_tail old new)) found = refl
+acts_on a (walking_event (load_next at)) found = refl
+acts_on a (walking_event (load_published at index)) found = refl
+acts_on a (counting_event (load_counts histogram)) found = refl
+acts_on a (counting_event (add_count at units)) found = refl
+acts_on a (counting_event (add_sum histogram amount)) found = refl
+acts_on a (counting_event (add_redundant histogram units)) found = refl
+acts_on a (taking_event (load_count at)) found = refl
+acts_on a (taking_event (raise_mark at least)) found = refl
+acts_on a (taking_event (load_sum histogram)) found = refl
+acts_on a (taking_event (swap_sum_mark histogram sum)) found = refl
+acts_on a (taking_event (load_redundant histogram)) found = refl
+acts_on a (packing_event (load_single histogram)) found = refl
+acts_on a (packing_event (pack histogram old new)) found = packed a (eqb found old) histogram new found
+acts_on a (packing_event (mount_counts histogram at)) found = mounted a (eqb found 0) histogram at found
+acts_on a (packing_event (purge_block at)) found = refl
+acts_on a (packing_event (disable histogram old)) found = disabled a (eqb found old) histogram old found
+acts_on a (packing_event (add_moved counts bucket units)) found = refl
+acts_on a (taking_event (raise_single_mark histogram least)) found = refl
+acts_on a (cursor_event (load_cursor cursor)) found = refl
+acts_on a (cursor_event (move_cursor cursor old new)) found = gave a (eqb found old) cursor new found
 
 -- the words and cursors of a state are the front and the back of its memory
 words_of_memory : (s : State) (n : ℕ) (m : List ℕ) → length s.words ≡ n → memory s ≡ m → take n m ≡ s.words

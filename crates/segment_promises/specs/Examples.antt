@@ -4,7 +4,11 @@ use Rattle.segment_machine.specs.declared.actor.Actor.{Actor}
 use Rattle.segment_machine.specs.declared.actor.Answered.{Answered}
 use Rattle.segment_machine.specs.Entry.{tally_units, tally_noted}
 use Rattle.segment_machine.specs.Actor.{units_listed, taken_units, accepted_by}
-use Rattle.segment_machine.specs.Event.{Event, load_flags, link, load_single, load_sum, load_redundant}
+use Rattle.segment_machine.specs.Event.{Event, allocating_event, publishing_event, packing_event, taking_event}
+use Rattle.segment_machine.specs.Allocating.{load_flags}
+use Rattle.segment_machine.specs.Publishing.{link}
+use Rattle.segment_machine.specs.Packing.{load_single}
+use Rattle.segment_machine.specs.Taking.{load_sum, load_redundant}
 use Rattle.segment_machine.specs.Note.{MayNote, looks, answers, noted, TookAll}
 use Rattle.segment_promises.specs.Promises.{IsWhole, chain_behind}
 use Rattle.segment_machine.specs.Examples.{letter_a, maker, AreReady, run, takes_all, taking, known_a}
@@ -13,7 +17,7 @@ use Rattle.segment_machine.specs.Examples.{letter_a, maker, AreReady, run, takes
 
 -- a link that finds the end makes the chain longer, one that does not leaves it
 abbrev pub LinksLengthen : Type 0
-LinksLengthen = (chain_behind (link 12 16) 12 [] ≡ 16 ∷ []) × (chain_behind (link 12 32) 16 (16 ∷ []) ≡ 16 ∷ []) × (chain_behind load_flags 12 [] ≡ [])
+LinksLengthen = (chain_behind (publishing_event (link 12 16)) 12 [] ≡ 16 ∷ []) × (chain_behind (publishing_event (link 12 32)) 16 (16 ∷ []) ≡ 16 ∷ []) × (chain_behind (allocating_event load_flags) 12 [] ≡ [])
 
 -- ---- what a delta and a snapshot saw
 
@@ -26,7 +30,7 @@ DeltaOwes =
 
 -- a snapshot of the same word: it loads the single word, the sum and the redundant count, and may answer what it saw
 abbrev pub snapping : List (Event × ℕ)
-snapping = (load_single 16, 4294967298) ∷ (load_sum 16, 2) ∷ (load_redundant 16, 2) ∷ []
+snapping = (packing_event (load_single 16), 4294967298) ∷ (taking_event (load_sum 16), 2) ∷ (taking_event (load_redundant 16), 2) ∷ []
 
 abbrev pub snaps : Actor
 snaps = noted (record (maker (1 ∷ 1 ∷ [])) { opener = 0 }) looks

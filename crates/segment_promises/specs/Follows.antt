@@ -5,13 +5,10 @@ use Rattle.std.specs.List.{Contains}
 use Rattle.atomic_table.specs.Table as table
 use Rattle.segment_image.specs.Shape.{Dimensions}
 use Rattle.segment_machine.specs.declared.actor.Actor.{Actor}
-use Rattle.segment_machine.specs.Event.{Event, spot, change}
-use Rattle.segment_machine.specs.Next.{next}
-use Rattle.segment_machine.specs.Ready.{Ready}
+use Rattle.segment_machine.specs.Event.{Event, spot, change, next, Ready, Learned}
 use Rattle.segment_machine.specs.Note.{Note}
 use Rattle.segment_machine.specs.State.{State, memory, IsStep}
 use Rattle.segment_invariant.specs.Body.{Anatomy}
-use Rattle.segment_machine.specs.Learned.{Learned}
 use Rattle.segment_invariant.specs.Kept.{Kept}
 use Rattle.segment_invariant.specs.Keeps.{EventKeeps, found_at, NoteKeeps}
 

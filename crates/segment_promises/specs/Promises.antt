@@ -22,7 +22,8 @@ use Rattle.segment_machine.specs.Entry.{tally_units, tally_sum, tally_noted}
 use Rattle.segment_machine.specs.Form.{is_off}
 use Rattle.segment_machine.specs.Actor.{Each, has_buckets, bucket_key, log_of, cost_of, all_counted, all_summed, units_listed, taken_units, taken_sum, transit_of, given_by, IsFinal, SawSingle, accepted_by, accepted_since}
 use Rattle.segment_machine.specs.Note.{TookAll, SawAll}
-use Rattle.segment_machine.specs.Event.{Event, link, spot}
+use Rattle.segment_machine.specs.Event.{Event, publishing_event, spot}
+use Rattle.segment_machine.specs.Publishing.{link}
 use Rattle.segment_machine.specs.State.{State, memory, IsStep}
 use Rattle.segment_invariant.specs.Consistent.{Opening, IsConsistent, IsHistogram, IsSample, key_at, units_taken, new_opening}
 use Rattle.segment_machine.specs.Reached.{IsState, IsJoined}
@@ -31,7 +32,7 @@ use Rattle.segment_machine.specs.Reached.{IsState, IsJoined}
 
 -- the chain after an event that found a number: longer by a record at its end, where a link succeeds
 abbrev pub chain_behind : Event → ℕ → List ℕ → List ℕ
-chain_behind (link tail at) found chain = if found == QUEUE then chain ++ at ∷ [] else chain
+chain_behind (publishing_event (link tail at)) found chain = if found == QUEUE then chain ++ at ∷ [] else chain
 chain_behind _ found chain = chain
 
 -- a link puts its record at the end of the chain, and nothing else changes the chain: so records come in the order of their links

@@ -20,10 +20,8 @@ use Rattle.segment_machine.specs.declared.actor.Actor.{Actor}
 use Rattle.segment_machine.specs.declared.place.Place.TheVariants.{Spent, Idle, FlagsLoaded, FreeLoaded, Raised}
 use Rattle.segment_machine.specs.Actor.{is_bound}
 use Rattle.segment_machine.specs.State.{State}
-use Rattle.segment_machine.specs.Event.{Event, load_flags, load_free, exchange_free, set_flag, spot}
-use Rattle.segment_machine.specs.Next.{after_free}
-use Rattle.segment_machine.specs.Ready.{Ready}
-use Rattle.segment_machine.specs.Learned.{Learned}
+use Rattle.segment_machine.specs.Event.{Event, allocating_event, spot, Ready, Learned}
+use Rattle.segment_machine.specs.Allocating.{load_flags, load_free, exchange_free, set_flag, after_free}
 use Rattle.segment_invariant.specs.Body.{Anatomy, layout_of, free_of}
 use Rattle.segment_invariant.specs.Kept.{StandsRight, IsSetBy, Kept}
 use Rattle.segment_invariant.proofs.Lists.Elements.{any_there, column}
@@ -72,7 +70,7 @@ module _ (shape : Dimensions) (opened : Anatomy) (state : State) (kept : Kept sh
       let turns = turns_unbound a Idle turn refl in
       waits shape opened state kept id a mine records Idle a.seen_free turns (kept.each id a mine turns.lived).sees.free tt
 
-  pub flags_loaded : Ready a load_flags → Keeps load_flags
+  pub flags_loaded : Ready a (allocating_event load_flags) → Keeps (allocating_event load_flags)
   flags_loaded ready = (leaves 6 (word_at state.words 6) _ refl (flags_at (bit_and (word_at state.words 6) 1 == 0) ready), tt)
 
   -- the free pointer
@@ -97,7 +95,7 @@ module _ (shape : Dimensions) (opened : Anatomy) (state : State) (kept : Kept sh
         subst (λ (p : Dimensions × ℕ). is_pointer p.0 p.1 ≡ true) (λ i. (sym fits.shaped i, sym free_is i)) lawful_pointer,
       )
 
-  pub free_loaded : Ready a load_free → Keeps load_free
+  pub free_loaded : Ready a (allocating_event load_free) → Keeps (allocating_event load_free)
   free_loaded ready =
       let found : ℕ = word_at state.words 7 in
       let turns = turns_plain a (FreeLoaded found) (ap is_plain ready) refl in (
@@ -127,7 +125,7 @@ module _ (shape : Dimensions) (opened : Anatomy) (state : State) (kept : Kept sh
         stands_last anatomy.pieces (raw_piece old id size),
       )
 
-  pub free_exchanged : (old new : ℕ) → Ready a (exchange_free old new) → Keeps (exchange_free old new)
+  pub free_exchanged : (old new : ℕ) → Ready a (allocating_event (exchange_free old new)) → Keeps (allocating_event (exchange_free old new))
   free_exchanged old new (ready, lawful, rise) =
       let found : ℕ = word_at state.words 7 in
       let turns = turns_plain a Idle (ap is_plain ready) refl in
@@ -146,7 +144,7 @@ module _ (shape : Dimensions) (opened : Anatomy) (state : State) (kept : Kept sh
       )
 
   -- a flag is set: the corrupt one, and the full one
-  pub corrupt_set : is_bound a.place ≡ false → Keeps (set_flag 1)
+  pub corrupt_set : is_bound a.place ≡ false → Keeps (allocating_event (set_flag 1))
   corrupt_set turn =
       let b : Actor = record a { place = Idle; spoiled = true } in (
         flags_set shape opened state kept id a mine records true anatomy.full (bit_or (word_at state.words 6) 1) Idle true a.filled
@@ -156,7 +154,7 @@ module _ (shape : Dimensions) (opened : Anatomy) (state : State) (kept : Kept sh
         tt,
       )
 
-  pub full_set : is_bound a.place ≡ false → Keeps (set_flag 2)
+  pub full_set : is_bound a.place ≡ false → Keeps (allocating_event (set_flag 2))
   full_set turn =
       let b : Actor = record a { place = Idle; filled = true } in (
         flags_set shape opened state kept id a mine records anatomy.corrupt true (bit_or (word_at state.words 6) 2) Idle a.spoiled true
@@ -166,6 +164,6 @@ module _ (shape : Dimensions) (opened : Anatomy) (state : State) (kept : Kept sh
         tt,
       )
 
-  pub flag_set : (flag : ℕ) → Ready a (set_flag flag) → Keeps (set_flag flag)
-  flag_set flag (turn, inl corrupt) = subst (λ n. Keeps (set_flag n)) (sym corrupt) (corrupt_set turn)
-  flag_set flag (turn, inr (full, loaded)) = subst (λ n. Keeps (set_flag n)) (sym full) (full_set turn)
+  pub flag_set : (flag : ℕ) → Ready a (allocating_event (set_flag flag)) → Keeps (allocating_event (set_flag flag))
+  flag_set flag (turn, inl corrupt) = subst (λ n. Keeps (allocating_event (set_flag n))) (sym corrupt) (corrupt_set turn)
+  flag_set flag (turn, inr (full, loaded)) = subst (λ n. Keeps (allocating_event (set_flag n))) (sym full) (full_set turn)

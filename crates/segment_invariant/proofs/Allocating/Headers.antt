@@ -17,9 +17,8 @@ use Rattle.segment_machine.specs.declared.actor.Own.{Own}
 use Rattle.segment_machine.specs.declared.place.Place.{Place}
 use Rattle.segment_machine.specs.declared.place.Place.TheVariants.{Idle, Sized, Marked}
 use Rattle.segment_machine.specs.State.{State}
-use Rattle.segment_machine.specs.Event.{store_size, store_cookie, store_type}
-use Rattle.segment_machine.specs.Next.{size_at, new_own}
-use Rattle.segment_machine.specs.Ready.{Ready}
+use Rattle.segment_machine.specs.Allocating.{store_size, store_cookie, store_type, size_at, new_own}
+use Rattle.segment_machine.specs.Event.{allocating_event, Ready}
 use Rattle.segment_invariant.specs.Body.{plain, held, own_words, is_claimed, Piece, block_of, Anatomy, layout_of, claims_of}
 use Rattle.segment_invariant.specs.Seen.{Stands, HasPlain}
 use Rattle.segment_invariant.specs.Kept.{StandsRight, HoldsOwn, Kept}
@@ -84,7 +83,7 @@ module _ (shape : Dimensions) (opened : Anatomy) (state : State) (kept : Kept sh
         (turns_plain a place was is) (stands (stands_here anatomy.pieces there.0 (raw at old) (raw at new) there.1))
 
   -- its size
-  pub size_kept : (at size : ℕ) → Ready a (store_size at size) → Keeps shape opened state kept id a mine records (store_size at size)
+  pub size_kept : (at size : ℕ) → Ready a (allocating_event (store_size at size)) → Keeps shape opened state kept id a mine records (allocating_event (store_size at size))
   size_kept at size ready =
       let (placed, (k, there)) = subst (StandsRight shape anatomy id a) ready (kept.standing id a mine) in
       let five = placed.five in
@@ -112,7 +111,7 @@ module _ (shape : Dimensions) (opened : Anatomy) (state : State) (kept : Kept sh
       place (ap is_plain ready) plain_place (λ has. stands _ placed has)
 
   -- that of a block, or that of a wasted rest of a page
-  pub cookie_kept : (at cookie : ℕ) → Ready a (store_cookie at cookie) → Keeps shape opened state kept id a mine records (store_cookie at cookie)
+  pub cookie_kept : (at cookie : ℕ) → Ready a (allocating_event (store_cookie at cookie)) → Keeps shape opened state kept id a mine records (allocating_event (store_cookie at cookie))
   cookie_kept at cookie ((size, ready), inl block) =
       let here : Goes (at + 1) 0xC8799269 (record a { place = Marked at size }) =
       cookie_put at size 0xC8799269 (Marked at size) ready refl (λ pieces placed has. (placed, has)) in
@@ -216,7 +215,7 @@ module _ (shape : Dimensions) (opened : Anatomy) (state : State) (kept : Kept sh
         (own_beside shape opened state kept id a mine records k (p placed k there) (q placed k there) words store refl fits.own) (new_holds placed k there))
         (apart_longer a.own block fits.apart (none_there placed k there fits.own))
 
-  pub type_kept : (at tag : ℕ) → Ready a (store_type at tag) → Keeps shape opened state kept id a mine records (store_type at tag)
+  pub type_kept : (at tag : ℕ) → Ready a (allocating_event (store_type at tag)) → Keeps shape opened state kept id a mine records (allocating_event (store_type at tag))
   type_kept at tag ((size, ready), least, most) =
       let same : size ≡ size_at a.place = sym (ap size_at ready) in (
         subst (λ n. Goes (at + 2) tag (record a {

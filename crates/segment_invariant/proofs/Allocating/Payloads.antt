@@ -15,9 +15,9 @@ use Rattle.segment_machine.specs.declared.actor.Own.{Own}
 use Rattle.segment_machine.specs.declared.place.Place.TheVariants.{Spent}
 use Rattle.segment_machine.specs.State.{State}
 use Rattle.segment_machine.specs.Seats.{spent}
-use Rattle.segment_machine.specs.Event.{store_payload}
-use Rattle.segment_machine.specs.Next.{change_first, change_own, stored}
-use Rattle.segment_machine.specs.Ready.{Ready}
+use Rattle.segment_machine.specs.Allocating.{store_payload, stored}
+use Rattle.segment_machine.specs.Event.{allocating_event, Ready}
+use Rattle.segment_machine.specs.Calls.{change_first, change_own}
 use Rattle.segment_invariant.specs.Body.{plain, held, own_words, is_claimed, Piece, Anatomy}
 use Rattle.segment_invariant.specs.Kept.{StandsRight, HoldsOwn, Kept}
 use Rattle.segment_invariant.proofs.Lists.Elements.{at_from, contains_at, all_at, all_from}
@@ -212,7 +212,7 @@ module _ (shape : Dimensions) (opened : Anatomy) (state : State) (kept : Kept sh
       ap (λ (l : List ℕ). x.size ∷ 0xC8799269 ∷ x.tag ∷ x.next ∷ l) (payload_stored x.payload (x.size - 4) index value from (omega (arith, to)))
       ∙ ap (λ (j : ℕ). set (own_words x) j value) four
 
-  pub payload_kept : (at index value : ℕ) → Ready a (store_payload at index value) → Keeps shape opened state kept id a mine records (store_payload at index value)
+  pub payload_kept : (at index value : ℕ) → Ready a (allocating_event (store_payload at index value)) → Keeps shape opened state kept id a mine records (allocating_event (store_payload at index value))
   payload_kept at index value (x, (has, unended), place, from, to) =
       let (i, there) = at_from a.own x has in
       let fits = kept.each id a mine (has_lived i x there) in

@@ -19,7 +19,7 @@ use Rattle.segment_machine.specs.declared.actor.Made.TheVariants.{Histogram, Sam
 use Rattle.segment_machine.specs.declared.actor.Own.{Own}
 use Rattle.segment_machine.specs.declared.actor.Published.{Published}
 use Rattle.segment_machine.specs.Actor.{all_names, all_owed}
-use Rattle.segment_machine.specs.Next.{owed_for, published_as}
+use Rattle.segment_machine.specs.Publishing.{owed_for, published_as}
 use Rattle.segment_invariant.specs.Body.{Listed}
 use Rattle.segment_invariant.specs.Seen.{IsNamed, IsFirst}
 use Rattle.segment_invariant.specs.Kept.{IsAnswered, AreAnswered, HasPublished, OwesPublished}

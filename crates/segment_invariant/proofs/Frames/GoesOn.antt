@@ -19,9 +19,7 @@ use Rattle.segment_machine.specs.declared.actor.Actor.{Actor}
 use Rattle.segment_machine.specs.declared.actor.Own.{Own}
 use Rattle.segment_machine.specs.declared.place.Place.TheVariants.{Spent}
 use Rattle.segment_machine.specs.State.{State, memory}
-use Rattle.segment_machine.specs.Event.{Event, spot, change}
-use Rattle.segment_machine.specs.Next.{next}
-use Rattle.segment_machine.specs.Learned.{Learned}
+use Rattle.segment_machine.specs.Event.{Event, spot, change, next, Learned}
 use Rattle.segment_invariant.specs.Keeps.{found_at, happened}
 use Rattle.segment_invariant.specs.Body.{Body, plain, Piece, Anatomy, layout_of, order_of, free_of, claims_of}
 use Rattle.segment_invariant.specs.Seen.{Stands, IsNoLater, Sees}

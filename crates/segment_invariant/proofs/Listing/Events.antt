@@ -22,10 +22,9 @@ use Rattle.segment_machine.specs.declared.place.Place.{Place}
 use Rattle.segment_machine.specs.declared.place.Place.TheVariants.{Spent, Idle, TailLoaded, Beaten, CursorLoaded, BehindCursor}
 use Rattle.segment_machine.specs.Actor.{is_bound}
 use Rattle.segment_machine.specs.State.{State}
-use Rattle.segment_machine.specs.Event.{Event, load_tail, link, move_tail, load_next}
-use Rattle.segment_machine.specs.Next.{next, behind, extended, after_link}
-use Rattle.segment_machine.specs.Ready.{Ready, MayFollow}
-use Rattle.segment_machine.specs.Learned.{Learned}
+use Rattle.segment_machine.specs.Event.{Event, publishing_event, walking_event, next, Ready, Learned}
+use Rattle.segment_machine.specs.Publishing.{load_tail, link, move_tail, after_link}
+use Rattle.segment_machine.specs.Walking.{load_next, behind, extended, MayFollow}
 use Rattle.segment_invariant.specs.Keeps.{happened, found_at}
 use Rattle.segment_invariant.specs.Body.{Anatomy, layout_of, order_of}
 use Rattle.segment_invariant.specs.Seen.{IsNoLater}
@@ -137,13 +136,13 @@ module _ (shape : Dimensions) (opened : Anatomy) (state : State) (kept : Kept sh
 
   -- ---- the tail is loaded
 
-  pub tail_loaded : Ready a load_tail → Goes load_tail
+  pub tail_loaded : Ready a (publishing_event load_tail) → Goes (publishing_event load_tail)
   tail_loaded (unbound, block) =
       let found : ℕ = word_at state.words 8 in
       let turns = turns_unbound a (TailLoaded found) unbound refl in
       let fits = kept.each id a mine turns.lived in
-      happens opened.version state id a load_tail eight_within shape opened (
-        loaded 8 (next a load_tail found)
+      happens opened.version state id a (publishing_event load_tail) eight_within shape opened (
+        loaded 8 (next a (publishing_event load_tail) found)
             (looks_on shape opened state kept id a mine records (TailLoaded found) (a.seen_tails ++ found ∷ []) a.seen_chain a.seen_words turns
             (saw_no_more (TailLoaded found) a.own (a.seen_tails ++ found ∷ []) turns) kept.anatomy.tail state.words kept.shown kept.list.linked kept.list.tail
             (λ seen before. before) (Contains-push a.seen_tails found, tail_stop) fits.sees.walked
@@ -154,7 +153,7 @@ module _ (shape : Dimensions) (opened : Anatomy) (state : State) (kept : Kept sh
 
   -- ---- the tail is moved on
 
-  moves_near : (old new : ℕ) → Ready a (move_tail old new) → AreNeighbours order old new × (is_plain a.place ≡ true)
+  moves_near : (old new : ℕ) → Ready a (publishing_event (move_tail old new)) → AreNeighbours order old new × (is_plain a.place ≡ true)
   moves_near old new (inl linked) = (subst (StandsRight shape kept.anatomy id a) linked (kept.standing id a mine), ap is_plain linked)
   moves_near old new (inr beaten) = (subst (StandsRight shape kept.anatomy id a) beaten (kept.standing id a mine), ap is_plain beaten)
 
@@ -176,7 +175,7 @@ module _ (shape : Dimensions) (opened : Anatomy) (state : State) (kept : Kept sh
       ))
       (λ miss. subst by (sym (ne_eqb found old miss)) (tail_stop, λ seen before. subst (IsNoLater order seen) (sym tail) before))
 
-  pub tail_moved_on : (old new : ℕ) → Ready a (move_tail old new) → Goes (move_tail old new)
+  pub tail_moved_on : (old new : ℕ) → Ready a (publishing_event (move_tail old new)) → Goes (publishing_event (move_tail old new))
   tail_moved_on old new ready =
       let found : ℕ = word_at state.words 8 in
       let v : ℕ = if found == old then new else found in
@@ -184,7 +183,7 @@ module _ (shape : Dimensions) (opened : Anatomy) (state : State) (kept : Kept sh
       let (stop, later) = onward old new near in
       let turns = turns_plain a Idle plain refl in
       let fits = kept.each id a mine turns.lived in
-      happens opened.version state id a (move_tail old new) eight_within shape opened (
+      happens opened.version state id a (publishing_event (move_tail old new)) eight_within shape opened (
         looks_on shape opened state kept id a mine records Idle (a.seen_tails ++ v ∷ []) a.seen_chain a.seen_words turns
             (saw_no_more Idle a.own (a.seen_tails ++ v ∷ []) turns) v (set state.words 8 v)
             (shown_tail shape state.words (layout_of kept.anatomy) v kept.shown)
@@ -198,7 +197,7 @@ module _ (shape : Dimensions) (opened : Anatomy) (state : State) (kept : Kept sh
 
   -- ---- a link finds another record
 
-  pub link_beaten : (tail at : ℕ) → Ready a (link tail at) → word_at state.words (tail + 3) ≢ 12 → Goes (link tail at)
+  pub link_beaten : (tail at : ℕ) → Ready a (publishing_event (link tail at)) → word_at state.words (tail + 3) ≢ 12 → Goes (publishing_event (link tail at))
   link_beaten tail at (own, made, placed, waits, here, asked, payload, may) other =
       let found : ℕ = word_at state.words (tail + 3) in
       let stop = (subst (StandsRight shape kept.anatomy id a) placed (kept.standing id a mine)).1 in
@@ -206,7 +205,7 @@ module _ (shape : Dimensions) (opened : Anatomy) (state : State) (kept : Kept sh
       let turns = turns_plain a (Beaten tail found) (ap is_plain placed) refl in
       let fits = kept.each id a mine turns.lived in
       let by : Bool → Type 0 = λ b. after_is (tail + 3) (if b then at else found) (after_link b a tail at found) in
-      happens opened.version state id a (link tail at) (stop_within shape opened state kept tail stop) shape opened (
+      happens opened.version state id a (publishing_event (link tail at)) (stop_within shape opened state kept tail stop) shape opened (
         subst by (sym (ne_eqb found 12 other))
             (loaded (tail + 3) (after_link false a tail at found)
             (looks_on shape opened state kept id a mine records (Beaten tail found) a.seen_tails a.seen_chain a.seen_words turns
@@ -242,7 +241,7 @@ module _ (shape : Dimensions) (opened : Anatomy) (state : State) (kept : Kept sh
     stands_behind place stands =
         stands_on shape kept.anatomy kept.anatomy id a (doing a d) (grounds_itself kept.anatomy id) follows place stands
 
-  pub next_loaded : (at : ℕ) → Ready a (load_next at) → Goes (load_next at)
+  pub next_loaded : (at : ℕ) → Ready a (walking_event (load_next at)) → Goes (walking_event (load_next at))
   next_loaded at (unbound, follow) =
       let found : ℕ = word_at state.words (at + 3) in
       let lives : a.place ≢ Spent = λ spent. cc (unbound, ap is_bound spent) in
@@ -267,8 +266,8 @@ module _ (shape : Dimensions) (opened : Anatomy) (state : State) (kept : Kept sh
         counts = λ known word named has. has;
         loaded = turns.sums;
       } in
-      happens opened.version state id a (load_next at) (stop_within shape opened state kept at stop) shape opened (
-        loaded (at + 3) (next a (load_next at) found)
+      happens opened.version state id a (walking_event (load_next at)) (stop_within shape opened state kept at stop) shape opened (
+        loaded (at + 3) (next a (walking_event (load_next at)) found)
             (looks_on shape opened state kept id a mine records place a.seen_tails chain a.seen_words turns more kept.anatomy.tail state.words
             kept.shown kept.list.linked kept.list.tail (λ seen before. before)
             (stands_behind d follows at found (λ goes. link_missed state.words order at kept.list.linked stop goes) a.place (kept.standing id a mine))

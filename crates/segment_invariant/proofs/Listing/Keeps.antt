@@ -14,10 +14,10 @@ use Rattle.segment_machine.specs.declared.actor.Own.{Own}
 use Rattle.segment_machine.specs.declared.place.Place.TheVariants.{TailLoaded}
 use Rattle.segment_machine.specs.Made.{IsPayload}
 use Rattle.segment_machine.specs.State.{State}
-use Rattle.segment_machine.specs.Event.{store_own_next, load_tail, link, move_tail, load_next, load_published}
-use Rattle.segment_machine.specs.Next.{after_link}
-use Rattle.segment_machine.specs.Ready.{Ready, MayPublish}
-use Rattle.segment_invariant.specs.Keeps.{ListingKeeps}
+use Rattle.segment_machine.specs.Publishing.{store_own_next, load_tail, link, move_tail, after_link, MayPublish}
+use Rattle.segment_machine.specs.Event.{publishing_event, walking_event, Ready}
+use Rattle.segment_machine.specs.Walking.{load_next, load_published}
+use Rattle.segment_invariant.specs.Keeps.{PublishingKeeps, WalkingKeeps}
 use Rattle.segment_invariant.specs.Body.{Anatomy}
 use Rattle.segment_invariant.specs.Kept.{Kept}
 use Rattle.segment_invariant.proofs.Lists.Elements.{at_from}
@@ -44,7 +44,7 @@ module _ (shape : Dimensions) (opened : Anatomy) (state : State) (kept : Kept sh
         of value k known refl payload_is tag room valued sparse.0 sparse.1 sparse.2
 
   -- a link puts its record on the list, or finds another one there
-  pub linked : (tail at : ℕ) → Ready a (link tail at) → Goes shape opened state kept id a mine records (link tail at)
+  pub linked : (tail at : ℕ) → Ready a (publishing_event (link tail at)) → Goes shape opened state kept id a mine records (publishing_event (link tail at))
   linked tail at (own, given, placed, waits, here, asked, payload, may) =
       let found : ℕ = word_at state.words (tail + 3) in
       dite (ℕ_discrete found 12)
@@ -52,7 +52,7 @@ module _ (shape : Dimensions) (opened : Anatomy) (state : State) (kept : Kept sh
       let (i, there) = at_from a.own own waits.0 in
       let is_stop = stop shape opened state kept id a mine records tail own given placed i there waits.1 asked ends in
       let lives = (turns shape opened state kept id a mine records tail own given placed i there waits.1 asked ends).lived in
-      happens opened.version state id a (link tail at) (stop_within shape opened state kept tail is_stop) shape opened (
+      happens opened.version state id a (publishing_event (link tail at)) (stop_within shape opened state kept tail is_stop) shape opened (
         subst (λ (p : Bool × ℕ). Kept shape opened (record {
           words = set state.words (tail + 3) (if p.0 then p.1 else found);
           cursors = state.cursors;
@@ -62,12 +62,13 @@ module _ (shape : Dimensions) (opened : Anatomy) (state : State) (kept : Kept sh
       ))
       (λ other. link_beaten shape opened state kept id a mine records tail at (own, given, placed, waits, here, asked, payload, may) other)
 
-pub listing_keeps : ListingKeeps
-listing_keeps (store_own_next at) is shape opened state id a kept mine records ready = own_next_stored shape opened state kept id a mine records at ready
-listing_keeps load_tail is shape opened state id a kept mine records ready = tail_loaded shape opened state kept id a mine records ready
-listing_keeps (link tail at) is shape opened state id a kept mine records ready = linked shape opened state kept id a mine records tail at ready
-listing_keeps (move_tail old new) is shape opened state id a kept mine records ready = tail_moved_on shape opened state kept id a mine records old new ready
-listing_keeps (load_next at) is shape opened state id a kept mine records ready = next_loaded shape opened state kept id a mine records at ready
-listing_keeps (load_published at index) is shape opened state id a kept mine records ready =
+pub publishing_keeps : PublishingKeeps
+publishing_keeps (store_own_next at) shape opened state id a kept mine records ready = own_next_stored shape opened state kept id a mine records at ready
+publishing_keeps load_tail shape opened state id a kept mine records ready = tail_loaded shape opened state kept id a mine records ready
+publishing_keeps (link tail at) shape opened state id a kept mine records ready = linked shape opened state kept id a mine records tail at ready
+publishing_keeps (move_tail old new) shape opened state id a kept mine records ready = tail_moved_on shape opened state kept id a mine records old new ready
+
+pub walking_keeps : WalkingKeeps
+walking_keeps (load_next at) shape opened state id a kept mine records ready = next_loaded shape opened state kept id a mine records at ready
+walking_keeps (load_published at index) shape opened state id a kept mine records ready =
     published_loaded shape opened state kept id a mine records ready.0 at index ready.1 ready.2
-listing_keeps event is shape opened state id a kept mine records ready = absurd is

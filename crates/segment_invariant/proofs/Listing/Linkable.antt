@@ -20,7 +20,7 @@ use Rattle.segment_machine.specs.declared.actor.Own.{Own}
 use Rattle.segment_machine.specs.declared.place.Place.TheVariants.{TailLoaded}
 use Rattle.segment_machine.specs.Made.{AreNameWords}
 use Rattle.segment_machine.specs.State.{State}
-use Rattle.segment_machine.specs.Next.{after_link}
+use Rattle.segment_machine.specs.Publishing.{after_link}
 use Rattle.segment_invariant.specs.Body.{Record, Sample, Body, held, histogram, sample, Piece, Listed, Anatomy, layout_of}
 use Rattle.segment_invariant.specs.Ledger.{form_at}
 use Rattle.segment_invariant.specs.Seen.{HasOwn, HasRecord, HasSample, IsFirst, Knows}

@@ -32,7 +32,8 @@ use Rattle.segment_machine.specs.declared.actor.Taken.{Taken}
 use Rattle.segment_machine.specs.declared.place.Place.TheVariants.{Spent, TailLoaded, Linked}
 use Rattle.segment_machine.specs.Actor.{all_published, all_given, all_owed}
 use Rattle.segment_machine.specs.State.{State}
-use Rattle.segment_machine.specs.Next.{without, own_at, published_as, owed_for}
+use Rattle.segment_machine.specs.Calls.{without}
+use Rattle.segment_machine.specs.Publishing.{own_at, published_as, owed_for}
 use Rattle.segment_invariant.specs.Body.{Record, Counts, Sample, Body, queue, plain, held, histogram, counts, sample, other, words_of, is_claimed, Piece, extent_of, Listed, listed, Anatomy, layout_of, order_of, free_of, claims_of}
 use Rattle.segment_invariant.specs.Seen.{Stands, Sees, IsNamed, IsNoLater}
 use Rattle.segment_invariant.specs.Kept.{StandsAs, IsListed, ListIsKept, StandsRight, HoldsOwn, Fits, CursorsAreKept, IsSetBy, ClaimedRight, Kept, AreAnswered}

@@ -7,9 +7,9 @@ use Rattle.segment_image.specs.Shape.{Dimensions}
 use Rattle.segment_machine.specs.declared.actor.Actor.{Actor}
 use Rattle.segment_machine.specs.declared.actor.Own.{Own}
 use Rattle.segment_machine.specs.State.{State}
-use Rattle.segment_machine.specs.Event.{store_own_next}
-use Rattle.segment_machine.specs.Next.{change_own}
-use Rattle.segment_machine.specs.Ready.{Ready}
+use Rattle.segment_machine.specs.Publishing.{store_own_next}
+use Rattle.segment_machine.specs.Event.{publishing_event, Ready}
+use Rattle.segment_machine.specs.Calls.{change_own}
 use Rattle.segment_invariant.specs.Body.{Anatomy, layout_of}
 use Rattle.segment_invariant.specs.Kept.{HoldsOwn, Kept}
 use Rattle.segment_invariant.proofs.Lists.Elements.{at_from, all_at}
@@ -19,7 +19,7 @@ use Rattle.segment_invariant.proofs.Listing.Events.{Goes}
 
 module _ (shape : Dimensions) (opened : Anatomy) (state : State) (kept : Kept shape opened state) (id : ℕ) (a : Actor)
     (mine : get_elem? state.actors id ≡ some a) (records : a.opener ≡ 0) where
-  pub own_next_stored : (at : ℕ) → Ready a (store_own_next at) → Goes shape opened state kept id a mine records (store_own_next at)
+  pub own_next_stored : (at : ℕ) → Ready a (publishing_event (store_own_next at)) → Goes shape opened state kept id a mine records (publishing_event (store_own_next at))
   own_next_stored at (x, (has, unended), place) =
       let (i, there) = at_from a.own x has in
       let fits = kept.each id a mine (has_lived shape opened state kept id a mine records i x there) in
@@ -31,7 +31,7 @@ module _ (shape : Dimensions) (opened : Anatomy) (state : State) (kept : Kept sh
       let size = length_shown shape state.words (layout_of kept.anatomy) kept.shown in
       let within = is.placed.within in
       let room = is.room in
-      happens opened.version state id a (store_own_next at) (omega (arith, place, size, within, room)) shape opened (
+      happens opened.version state id a (publishing_event (store_own_next at)) (omega (arith, place, size, within, room)) shape opened (
         subst (λ (s : ℕ × List Own). Kept shape opened (record {
           words = set state.words (s.0 + 3) 12;
           cursors = state.cursors;

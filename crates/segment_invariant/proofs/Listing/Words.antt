@@ -24,11 +24,10 @@ use Rattle.segment_machine.specs.declared.actor.Sighting.{Sighting}
 use Rattle.segment_machine.specs.declared.place.Place.TheVariants.{Spent}
 use Rattle.segment_machine.specs.Actor.{is_bound, word_seen}
 use Rattle.segment_machine.specs.State.{State}
-use Rattle.segment_machine.specs.Event.{load_published}
-use Rattle.segment_machine.specs.Next.{next, sight}
+use Rattle.segment_machine.specs.Walking.{load_published, IsFixed, EndsWithin}
+use Rattle.segment_machine.specs.Event.{walking_event, next}
+use Rattle.segment_machine.specs.Calls.{sight}
 use Rattle.segment_machine.specs.Made.{AreNameWords}
-use Rattle.segment_machine.specs.Ready.{IsFixed}
-use Rattle.segment_machine.specs.Learned.{EndsWithin}
 use Rattle.segment_invariant.specs.Body.{Record, Sample, Body, histogram, sample, other, record_words, spec_field, words_of, is_claimed, Piece, Listed, Anatomy, layout_of, order_of}
 use Rattle.segment_invariant.specs.Seen.{Stands, HasRecord, HasSample, IsFixedIn, WasFixed}
 use Rattle.segment_invariant.specs.Kept.{StandsAs, Kept}
@@ -143,7 +142,7 @@ module _ (shape : Dimensions) (opened : Anatomy) (state : State) (kept : Kept sh
     found_is = piece_word shape state.words anatomy kept.shown stands.0 _ index stands.1 (fixed_within body index fixed)
 
     -- it is loaded
-    reads : IsFixed a at index → is_claimed body ≡ true → EndsWithin a at index (slice_index (words_of body) index) → Goes shape opened state kept id a mine records (load_published at index)
+    reads : IsFixed a at index → is_claimed body ≡ true → EndsWithin a at index (slice_index (words_of body) index) → Goes shape opened state kept id a mine records (walking_event (load_published at index))
     reads known_fixed claimed ends =
         let found : ℕ = word_at state.words (at + index) in
         let s : Sighting = record { at = at + index; word = found } in
@@ -175,8 +174,8 @@ module _ (shape : Dimensions) (opened : Anatomy) (state : State) (kept : Kept sh
               no_counts a at (subst (IsFixed a at) eight known_fixed))) ∙ seen;
           loaded = turns.sums;
         } in
-        happens opened.version state id a (load_published at index) (omega (arith, lt, size, within)) shape opened (
-          loaded shape opened state kept id a mine records (at + index) (next a (load_published at index) found)
+        happens opened.version state id a (walking_event (load_published at index)) (omega (arith, lt, size, within)) shape opened (
+          loaded shape opened state kept id a mine records (at + index) (next a (walking_event (load_published at index)) found)
               (looks_on shape opened state kept id a mine records a.place a.seen_tails a.seen_chain words turns more anatomy.tail state.words
               kept.shown kept.list.linked kept.list.tail (λ seen before. before)
               (stands_on shape anatomy anatomy id a (doing a d) (grounds_itself anatomy id) follows a.place (kept.standing id a mine))
@@ -186,7 +185,7 @@ module _ (shape : Dimensions) (opened : Anatomy) (state : State) (kept : Kept sh
         )
 
   -- of a histogram
-  record_read : (at index : ℕ) (r : Record) → HasRecord anatomy.pieces at r → IsFixed a at index → Goes shape opened state kept id a mine records (load_published at index)
+  record_read : (at index : ℕ) (r : Record) → HasRecord anatomy.pieces at r → IsFixed a at index → Goes shape opened state kept id a mine records (walking_event (load_published at index))
   record_read at index r stands fixed =
       let (from, five, within) = block_within shape opened state kept at (histogram r) stands refl in
       let long = record_long r in
@@ -233,7 +232,7 @@ module _ (shape : Dimensions) (opened : Anatomy) (state : State) (kept : Kept sh
           let one : 1 ≡ 3 = seen_is at 2 3 (histogram r) stands (omega arith) tag in absurd (omega (arith, one))
 
   -- of a sample
-  sample_read : (at index : ℕ) (s : Sample) → HasSample anatomy.pieces at s → IsFixed a at index → Goes shape opened state kept id a mine records (load_published at index)
+  sample_read : (at index : ℕ) (s : Sample) → HasSample anatomy.pieces at s → IsFixed a at index → Goes shape opened state kept id a mine records (walking_event (load_published at index))
   sample_read at index s stands fixed =
       let (from, five, within) = block_within shape opened state kept at (sample s) stands refl in
       let sized = ap (λ (s : Dimensions). s.size) (kept.each id a mine lives).shaped in
@@ -255,7 +254,7 @@ module _ (shape : Dimensions) (opened : Anatomy) (state : State) (kept : Kept sh
 
   -- of a record of another type
   other_read : (at index size tag behind : ℕ) (payload : List ℕ) → Stands anatomy.pieces at none (other size tag behind payload)
-      → tag ≢ 1 → tag ≢ 3 → IsFixed a at index → Goes shape opened state kept id a mine records (load_published at index)
+      → tag ≢ 1 → tag ≢ 3 → IsFixed a at index → Goes shape opened state kept id a mine records (walking_event (load_published at index))
   other_read at index size tag behind payload stands first third fixed =
       let two = fixed_in fixed in
       reads at index (other size tag behind payload) stands two fixed refl (
@@ -271,7 +270,7 @@ module _ (shape : Dimensions) (opened : Anatomy) (state : State) (kept : Kept sh
       fixed_in (inr (inr (seen, least, most))) = absurd (third (seen_is at 2 3 (other size tag behind payload) stands (omega arith) seen))
 
   listed_read : (at index : ℕ) (l : Listed) (given : std.Option Made) → l.reference ≡ at → StandsAs anatomy.pieces l given → IsFixed a at index
-      → Goes shape opened state kept id a mine records (load_published at index)
+      → Goes shape opened state kept id a mine records (walking_event (load_published at index))
   listed_read at index l (Some (made.Histogram name spec)) is (r, stands, named, same) fixed =
       record_read at index r (subst (λ (n : ℕ). HasRecord anatomy.pieces n r) is stands) fixed
   listed_read at index l (Some (made.Sample of value)) is (s, stands, named, same) fixed =
@@ -279,7 +278,7 @@ module _ (shape : Dimensions) (opened : Anatomy) (state : State) (kept : Kept sh
   listed_read at index l None is (size, tag, behind, payload, stands, first, third, long) fixed =
       other_read at index size tag behind payload (subst (λ (n : ℕ). Stands anatomy.pieces n none (other size tag behind payload)) is stands) first third fixed
 
-  pub published_loaded : (at index : ℕ) → Contains a.seen_chain at → IsFixed a at index → Goes shape opened state kept id a mine records (load_published at index)
+  pub published_loaded : (at index : ℕ) → Contains a.seen_chain at → IsFixed a at index → Goes shape opened state kept id a mine records (walking_event (load_published at index))
   published_loaded at index has fixed =
       let (i, here) = at_from a.seen_chain at has in
       let (rest, is) = (kept.each id a mine lives).sees.walked in

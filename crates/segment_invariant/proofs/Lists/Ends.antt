@@ -7,7 +7,8 @@ use mathlib.Core.Option.{some, some-injective, some-ne-none}
 use lib.ListN.{get_elem?}
 use Rattle.segment_machine.specs.declared.actor.Made.{Made}
 use Rattle.segment_machine.specs.declared.actor.Own.{Own}
-use Rattle.segment_machine.specs.Next.{without, own_at, published_as}
+use Rattle.segment_machine.specs.Calls.{without}
+use Rattle.segment_machine.specs.Publishing.{own_at, published_as}
 
 -- ---- an element more at the end
 

@@ -17,7 +17,7 @@ use Rattle.segment_machine.specs.declared.place.Place.TheVariants.{Spent}
 use Rattle.segment_machine.specs.declared.actor.Actor.{Actor}
 use Rattle.segment_machine.specs.Entry.{is_counted, is_summed, is_noted, has_ended, AreWithin, is_of, tally_units, tally_sum, tally_noted}
 use Rattle.segment_machine.specs.Actor.{cost_of, cost_total}
-use Rattle.segment_machine.specs.Next.{change_last}
+use Rattle.segment_machine.specs.Calls.{change_last}
 use Rattle.segment_machine.specs.Note.{amounts, is_untouched}
 use Rattle.segment_invariant.specs.Kept.{AreInOrder, StandsRight, summed_cost, IsQuiet, Kept}
 use Rattle.segment_invariant.specs.Keeps.{NoteKeeps}

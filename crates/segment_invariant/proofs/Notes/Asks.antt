@@ -6,7 +6,7 @@ use lib.Seq.{set-get_or}
 use Rattle.segment_image.specs.Words.{word_at}
 use Rattle.segment_machine.specs.declared.actor.Made.{Made}
 use Rattle.segment_machine.specs.declared.actor.Own.{Own}
-use Rattle.segment_machine.specs.Next.{change_own}
+use Rattle.segment_machine.specs.Calls.{change_own}
 use Rattle.segment_machine.specs.Note.{asks}
 use Rattle.segment_invariant.specs.Body.{held}
 use Rattle.segment_invariant.specs.Kept.{HoldsOwn, Kept}

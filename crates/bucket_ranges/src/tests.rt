@@ -93,17 +93,32 @@ fn single_words(rt: HostRuntime) {
     };
     let disabled = SingleWord::Disabled { packed: Some(1) };
     let none = SingleWord::Disabled { packed: None };
-    for (word, form) in [
-        (0, Some(SingleWord::Empty)),
-        (4_294_967_298, Some(packed)),
-        ((1 << 63) + 1, Some(disabled)),
-        ((1 << 63) + 65_535, Some(none)),
-        ((1 << 63) + 3, None),
-        (65_536, None),
-        (4_294_967_296, None),
-        (3 * (1 << 32) + 1, None),
+    let frozen = SingleWord::Frozen {
+        bucket: 1,
+        units: 2,
+    };
+    for (version, word, form) in [
+        (1, 0, Some(SingleWord::Empty)),
+        (1, 4_294_967_298, Some(packed)),
+        (1, (1 << 63) + 1, Some(disabled)),
+        (1, (1 << 63) + 65_535, Some(none)),
+        (1, (1 << 63) + 3, None),
+        (1, (1 << 63) + 4_294_967_298, None),
+        (1, 65_536, None),
+        (1, 4_294_967_296, None),
+        (1, 3 * (1 << 32) + 1, None),
+        (2, 0, Some(SingleWord::Empty)),
+        (2, 4_294_967_298, Some(packed)),
+        (2, 1 << 63, Some(SingleWord::FrozenEmpty)),
+        (2, (1 << 63) + 4_294_967_298, Some(frozen)),
+        (2, (1 << 63) + 4_294_967_296, None),
+        (2, (1 << 63) + 3 * (1 << 32) + 1, None),
     ] {
-        assert_eq!(rt; SingleWord::of(word, 3), form, "word {word}");
+        assert_eq!(rt;
+            SingleWord::of(version, word, 3),
+            form,
+            "version {version}, word {word}"
+        );
     }
 }
 

@@ -5,7 +5,7 @@ use Rattle.std.specs.List.{filter}
 use Rattle.std.proofs.lemmas.Bool.{le-leb, leb-true, leb-false, cases_order}
 use Rattle.bucket_ranges.specs.Ranges.{clamped, AreBoundaries, IsBucketOf}
 use Rattle.bucket_ranges.proofs.Buckets.{ascends}
-use Rattle.segment_machine.specs.Promises.{KeysAreLeast}
+use Rattle.segment_machine.specs.Laws.{KeysAreLeast}
 
 -- the greatest number of a list that is not above a value, and no less than another
 abbrev greatest : ℕ → ℕ → List ℕ → ℕ

@@ -185,3 +185,14 @@ all_given actors cursor = flat_map (λ a. given_by cursor a.given) actors
 -- the units that were spent or are held for a histogram
 abbrev pub all_costs : List Actor → List ℕ → ℕ
 all_costs actors name = sum_by (λ a. cost_of a.costs name + cost_of a.held name) actors
+
+-- ---- what was accepted
+
+-- what had been accepted before a recorder was made, and what it has accepted itself
+abbrev pub accepted_by : Actor → List Entry
+accepted_by a = a.inherited ++ log_of a
+
+-- what had been accepted since the segment was opened, without the first entries of its opener, which stand in no redundant count
+-- that is kept here
+abbrev pub accepted_since : Actor → Actor → List Entry
+accepted_since opener a = drop (length opener.first) a.inherited ++ map (λ c. c.entry) a.log

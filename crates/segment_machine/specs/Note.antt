@@ -25,7 +25,7 @@ use Rattle.bucket_ranges.specs.Single.{single_of, units_packed, packed_bucket}
 use Rattle.segment_machine.specs.Form.{is_off}
 use Rattle.segment_machine.specs.Actor.{log_of, is_bound, looking, cost_total, bucket_key, has_buckets, word_seen, SawSingle, SawCount}
 use Rattle.segment_machine.specs.Made.{IsFirstNamed, IsFirstSample, SawSample, SawSpec, AreNameWords, SawOtherSpec}
-use Rattle.segment_machine.specs.Next.{change_last, change_own}
+use Rattle.segment_machine.specs.Calls.{change_last, change_own}
 
 pub data Note : Type 0 where
   -- a call that counts begins: entries of a histogram, and what it holds for them
@@ -166,7 +166,7 @@ MayNote a (knows known) =
     × ((letters : List ℕ) × AreNameWords known.name letters × SawSpec a known.spec (length letters) known.reference)
 MayNote a (declines mine) =
     Contains a.owed mine
-    × ((at : ℕ) × (letters : List ℕ) × IsFirstNamed a mine.name at × (at ≢ mine.reference) × AreNameWords mine.name letters
+    × ((at : ℕ) × (letters : List ℕ) × IsFirstNamed a mine.name at × AreNameWords mine.name letters
     × SawOtherSpec a mine.spec (length letters) at)
 MayNote a (takes name) =
     (a.place ≢ Spent) × (a.opener ≡ 0) × (a.running ≡ []) × (a.taking ≡ false) × Contains (map (λ known. known.name) a.names) name

@@ -1,22 +1,19 @@
--- Runs and states that would break what holds, each refused: what an actor may not do, and what no segment can be.
-use Rattle.std.specs.Prelude.{◌≡◌, true, ℕ, ℤ, pos, negsuc, List, [], ◌∷◌, map, slice_set, Some}
+-- Runs that would break what holds, each refused: what an actor may not do.
+use Rattle.std.specs.Prelude.{◌≡◌, true, ℕ, ℤ, pos, negsuc, List, [], ◌∷◌, map, Some}
 use Rattle.bucket_ranges.specs.declared.spec.Spec.TheVariants as spec
 use Rattle.segment_machine.specs.declared.actor.Actor.{Actor}
 use Rattle.segment_machine.specs.declared.actor.Made.TheVariants as made
 use Rattle.segment_machine.specs.declared.place.Look.{Look}
-use Rattle.segment_machine.specs.declared.place.Place.TheVariants.{Looking, Moving, CountLoaded, SampleLoaded}
+use Rattle.segment_machine.specs.declared.place.Place.TheVariants.{Looking, Moving}
 use Rattle.segment_machine.specs.Entry.{fresh, tally_noted}
-use Rattle.segment_machine.specs.Event.{Event, load_sum, swap_sum_mark, add_count, load_count, load_cursor, raise_single_mark}
-use Rattle.segment_machine.specs.Ready.{Ready}
+use Rattle.segment_machine.specs.Event.{Event, taking_event, counting_event, cursor_event, Ready}
+use Rattle.segment_machine.specs.Taking.{load_sum, swap_sum_mark, load_count, raise_single_mark}
+use Rattle.segment_machine.specs.Counting.{add_count}
+use Rattle.segment_machine.specs.Cursors.{load_cursor}
 use Rattle.segment_machine.specs.Made.{IsPayload}
 use Rattle.segment_machine.specs.Seats.{opener_of, newcomer, joined, MayJoin}
-use Rattle.segment_machine.specs.Promises.{accepted_by, accepted_since}
-use Rattle.segment_machine.specs.Consistent.{HoldsMade}
-use Rattle.segment_machine.specs.Seen.{WasSingle}
-use Rattle.segment_machine.specs.Kept.{StandsRight, CallsRight, LooksBack}
-use Rattle.segment_machine.specs.Examples.{shape, letter_a, one, whole, maker, packed_segment, run, takes_all}
-use Rattle.segment_machine.specs.Accounts.{letter_s, settled, mounted_anatomy}
-use Rattle.segment_machine.specs.Lives.{known_a}
+use Rattle.segment_machine.specs.Actor.{accepted_by, accepted_since}
+use Rattle.segment_machine.specs.Examples.{shape, letter_a, one, whole, maker, run, takes_all, letter_s, known_a}
 
 -- ---- who does it
 
@@ -41,19 +38,19 @@ look single counts = record { histogram = 16; single = Some single; counts = cou
 
 -- a unit of -5 counts in the sample of -5; one of 2^64 - 5, which is the same word, does not
 abbrev pub ValuesApart : Type 0
-ValuesApart = Ready (counting (negsuc 4)) (add_count 62 1) × (¬ (Ready (counting (pos 18446744073709551611)) (add_count 62 1)))
+ValuesApart = Ready (counting (negsuc 4)) (counting_event (add_count 62 1)) × (¬ (Ready (counting (pos 18446744073709551611)) (counting_event (add_count 62 1))))
 
 -- nothing is counted while units are moving
 abbrev pub MovesFirst : Type 0
-MovesFirst = ¬ (Ready (record (counting (negsuc 4)) { place = Moving (look 9223372036854775809 32) 1 2 }) (add_count 62 1))
+MovesFirst = ¬ (Ready (record (counting (negsuc 4)) { place = Moving (look 9223372036854775809 32) 1 2 }) (counting_event (add_count 62 1)))
 
 -- a cursor that is not there is not loaded
 abbrev pub CursorsThere : Type 0
-CursorsThere = Ready recorder (load_cursor 0) × (¬ (Ready recorder (load_cursor 1)))
+CursorsThere = Ready recorder (cursor_event (load_cursor 0)) × (¬ (Ready recorder (cursor_event (load_cursor 1))))
 
 -- no count is loaded where no sample was met
 abbrev pub SamplesMet : Type 0
-SamplesMet = Ready recorder (load_count 62) × (¬ (Ready recorder (load_count 63)))
+SamplesMet = Ready recorder (taking_event (load_count 62)) × (¬ (Ready recorder (taking_event (load_count 63))))
 
 -- a single mark is not raised to what was seen before the delta began
 abbrev pub WordsSince : Type 0
@@ -64,11 +61,11 @@ WordsSince = ¬ (Ready
       since_singles = 1;
       taking = true;
     })
-    (raise_single_mark 16 7))
+    (taking_event (raise_single_mark 16 7)))
 
 -- a delta that swaps twice has taken both differences: 2, and then 3 more
 abbrev pub swapping : List (Event × ℕ)
-swapping = (load_sum 16, 2) ∷ (swap_sum_mark 16 (pos 2), 0) ∷ (load_sum 16, 5) ∷ (swap_sum_mark 16 (pos 5), 2) ∷ []
+swapping = (taking_event (load_sum 16), 2) ∷ (taking_event (swap_sum_mark 16 (pos 2)), 0) ∷ (taking_event (load_sum 16), 5) ∷ (taking_event (swap_sum_mark 16 (pos 5)), 2) ∷ []
 
 abbrev pub SwapsAdd : Type 0
 SwapsAdd = map (λ t. t.sum) (run takes_all swapping).taken ≡ pos 5 ∷ []
@@ -96,30 +93,3 @@ abbrev pub FirstEntriesApart : Type 0
 FirstEntriesApart =
     let opener = record (opener_of shape 1 1) { first = one 1 ∷ one 0 ∷ []; log = whole (one 1) ∷ [] } in
     (tally_noted (accepted_by (newcomer opener 0)) letter_a ≡ 3) × (tally_noted (accepted_since opener (newcomer opener 0)) letter_a ≡ 1)
-
--- ---- states that are not kept
-
--- what was loaded as a count of a bucket is one of a bucket, and as one of a sample is one of a sample
-abbrev pub CountsLoaded : Type 0
-CountsLoaded =
-    (¬ (StandsRight shape (mounted_anatomy settled) 1 (record recorder { names = known_a ∷ [] }) (CountLoaded (look 9223372036854775809 32) 3 0)))
-    × (¬ (StandsRight shape (mounted_anatomy settled) 1 recorder (SampleLoaded 57 1)))
-
--- a unit that is logged is spent
-abbrev pub UnitsSpent : Type 0
-UnitsSpent = ¬ (CallsRight (mounted_anatomy settled) (record (maker (1 ∷ [])) { costs = [] }))
-
--- a count that was seen of a known record owes what was accepted, whether the counts reference was seen or not
-abbrev pub CountsOwe : Type 0
-CountsOwe =
-    let opener = record (opener_of shape 1 1) { made = 1; outstanding = 1 } in
-    let who = record recorder { log = whole (one 0) ∷ []; seen_counts = record { at = 36; word = 0 } ∷ [] } in
-    ¬ (LooksBack (mounted_anatomy settled) (opener ∷ who ∷ []) opener who)
-
--- a single word that was seen has a form
-abbrev pub WordsFormed : Type 0
-WordsFormed = ¬ (WasSingle 1 settled (record { at = 25; word = 65541 }))
-
--- a record's kind is one that is read
-abbrev pub KindsRead : Type 0
-KindsRead = ¬ (HoldsMade (slice_set (packed_segment 0 0 0 0 0) 20 5) (16 ∷ []) 16 (made.Histogram letter_a (spec.Linear 1 2 3)))

@@ -4,9 +4,7 @@ use mathlib.Core.Option.{some}
 use lib.ListN.{get_elem?}
 use Rattle.segment_image.specs.Words.{word_at}
 use Rattle.segment_machine.specs.declared.actor.Actor.{Actor}
-use Rattle.segment_machine.specs.Event.{Event, spot, after}
-use Rattle.segment_machine.specs.Ready.{Ready}
-use Rattle.segment_machine.specs.Next.{next}
+use Rattle.segment_machine.specs.Event.{Event, spot, after, Ready, next}
 use Rattle.segment_machine.specs.Note.{Note, Notes}
 
 -- the words of a segment, those of its shared cursors, and one record for each actor

@@ -1,29 +1,15 @@
-//! The laws of the machine: what follows from its definitions, and what they say of worked examples.
+//! The laws of the machine alone, and what its definitions say of worked examples.
 //!
-//! The functions do nothing. What each promises is a law of the definitions in `specs/`; the examples are in
-//! `specs/Examples.antt`.
+//! The functions do nothing. What each promises is a law of the definitions in `specs/`.
 
-ghost use Rattle.segment_machine.specs.Promises.{StepsChangeOne, KeysAreLeast};
-ghost use Rattle.segment_machine.specs.Follows.{NotesKeep, StepsFollow, TablesFollow};
-ghost use Rattle.segment_machine.specs.Lives.{RecorderIsJoined, LinksLengthen, DeltaOwes, SnapshotOwes};
-ghost use Rattle.segment_machine.specs.Refused.{ValuesApart, MovesFirst, CursorsThere, SamplesMet, WordsSince, SwapsAdd, RecordsAlone, DebtsStay, TailsStay, FirstEntriesApart, CountsLoaded, UnitsSpent, CountsOwe, WordsFormed, KindsRead};
-ghost use Rattle.segment_machine.specs.Accounts.{MountedAgrees, LimitAgrees, TakersAgree, SparseAgrees, BatchAgrees};
-ghost use Rattle.segment_machine.specs.Keeps.{OpeningIsKept, OpeningsAreKept, AllocatingKeeps, ListingKeeps, SplitsKeep, JoinsKeep, LendsKeep, KeptFlagsAreSet, KeptIsChain, KeptUnitsAreKept, KeptTransitIsLocal, KeptSumsAreAmounts, KeptTotalsAreCounted, KeptMarksAreTaken, KeptRecordsHold, KeptIsConsistent};
-ghost use Rattle.segment_machine.specs.Examples.{Keys, PackedThenMounted, StoppedInTransit, PackingLimit, DeltasAndMarks, TwoTakers, PackedRun, MountingRun, TakerRuns, TakingRun, SparseSamples, Batches, MountedIsConsistent, ListBreaks, RecordsBreak, TotalsBreak, MarksBreak, SumsBreak, TransitBreaks, FlagsBreak, UnitsBreak};
+ghost use Rattle.segment_machine.specs.Laws.{StepsChangeOne, KeysAreLeast};
+ghost use Rattle.segment_machine.specs.Examples.{Keys, PackedRun, MountingRun, TakerRuns, TakingRun, Batches};
+ghost use Rattle.segment_machine.specs.Lives.{RecorderIsJoined};
+ghost use Rattle.segment_machine.specs.Refused.{ValuesApart, MovesFirst, CursorsThere, SamplesMet, WordsSince, SwapsAdd, RecordsAlone, DebtsStay, TailsStay, FirstEntriesApart};
 
 /// A step changes one word and one actor at most.
 pub fn steps_change_one()
     ensures { StepsChangeOne }
-{}
-
-/// A step whose event and whose notes keep what holds keeps it, and its actor learns of the number that was found.
-pub fn steps_follow()
-    ensures { StepsFollow }
-{}
-
-/// A table, whose slots have values of a type, may do a step on a segment's words that is an event which keeps what holds.
-pub fn tables_follow<S>()
-    ensures { TablesFollow S }
 {}
 
 /// The key of a value is the least value of its bucket.
@@ -34,32 +20,6 @@ pub fn keys_are_least()
 /// The keys of values, with buckets and without.
 pub fn keys()
     ensures { Keys }
-{}
-
-/// Two packed units are moved to the counts, where the next sample is counted: the words become those of the segment, and the
-/// totals, the sum and the redundant count are those of the entries.
-pub fn packed_then_mounted()
-    ensures { PackedThenMounted }
-{}
-
-/// Stopped between disabling and moving, the totals and the units in transit are together what was counted.
-pub fn stopped_in_transit()
-    ensures { StoppedInTransit }
-{}
-
-/// 65,535 units are packed at most; in version 2 a frozen word keeps them.
-pub fn packing_limit()
-    ensures { PackingLimit }
-{}
-
-/// Marks are what deltas took, and which deltas are final.
-pub fn deltas_and_marks()
-    ensures { DeltasAndMarks }
-{}
-
-/// What one taker has taken another does not take again.
-pub fn two_takers()
-    ensures { TwoTakers }
 {}
 
 /// A sample that is packed goes through its events to the log.
@@ -83,105 +43,14 @@ pub fn taking_run()
     ensures { TakingRun }
 {}
 
-/// The keys of a sparse histogram are its values.
-pub fn sparse_samples()
-    ensures { SparseSamples }
-{}
-
 /// The entries of a batch and what it costs.
 pub fn batches()
     ensures { Batches }
 {}
 
-/// The segment that was packed and then mounted is consistent, with who recorded 1, 1 and 0.
-pub fn mounted_is_consistent()
-    ensures { MountedIsConsistent }
-{}
-
-/// The ledger of the segment that was packed and then mounted, settled and while its units are in transit: what the blocks hold and
-/// what is in transit is what the actors counted.
-pub fn mounted_agrees()
-    ensures { MountedAgrees }
-{}
-
-/// The ledger at the packing limit.
-pub fn limit_agrees()
-    ensures { LimitAgrees }
-{}
-
-/// The ledger beside deltas, of one taker and of two: the marks that blocks hold are what was taken.
-pub fn takers_agree()
-    ensures { TakersAgree }
-{}
-
-/// The ledger of a sparse histogram.
-pub fn sparse_agrees()
-    ensures { SparseAgrees }
-{}
-
-/// The ledger of a batch.
-pub fn batch_agrees()
-    ensures { BatchAgrees }
-{}
-
 /// A recorder that is made, lent units and joined: the opener has all units again, and has seen what the recorder saw.
 pub fn recorder_is_joined()
     ensures { RecorderIsJoined }
-{}
-
-/// A link that finds the end of the list makes the chain longer by its record.
-pub fn links_lengthen()
-    ensures { LinksLengthen }
-{}
-
-/// A delta of a packed word took what had been accepted.
-pub fn delta_owes()
-    ensures { DeltaOwes }
-{}
-
-/// A snapshot of a packed word has what had been accepted.
-pub fn snapshot_owes()
-    ensures { SnapshotOwes }
-{}
-
-/// The list is no chain where a word behind the free pointer is not 0.
-pub fn list_breaks()
-    ensures { ListBreaks }
-{}
-
-/// A record does not hold what it was given where it was published before its name was stored.
-pub fn records_break()
-    ensures { RecordsBreak }
-{}
-
-/// Totals are not what was counted where packed units were added to the counts and the single word still has them.
-pub fn totals_break()
-    ensures { TotalsBreak }
-{}
-
-/// Marks are not what was taken where two deltas took the same units.
-pub fn marks_break()
-    ensures { MarksBreak }
-{}
-
-/// Sums are not the amounts where a packed sample was left out.
-pub fn sums_break()
-    ensures { SumsBreak }
-{}
-
-/// Transit is not local where no bucket was packed.
-pub fn transit_breaks()
-    ensures { TransitBreaks }
-{}
-
-/// Flags are not set rightly where nobody has set the corrupt flag.
-pub fn flags_break()
-    ensures { FlagsBreak }
-{}
-
-/// Units are not kept where a unit was spent and is still in a share.
-pub fn units_break()
-    ensures { UnitsBreak }
 {}
 
 /// Two numbers that are one word do not count in one sample.
@@ -232,117 +101,4 @@ pub fn tails_stay()
 /// First entries were accepted, and stand in no redundant count that is kept.
 pub fn first_entries_apart()
     ensures { FirstEntriesApart }
-{}
-
-/// What was loaded is the count of a bucket, or of a sample.
-pub fn counts_loaded()
-    ensures { CountsLoaded }
-{}
-
-/// A unit that is logged is spent.
-pub fn units_spent()
-    ensures { UnitsSpent }
-{}
-
-/// A count that was seen of a known record owes what was accepted.
-pub fn counts_owe()
-    ensures { CountsOwe }
-{}
-
-/// A single word that was seen has a form.
-pub fn words_formed()
-    ensures { WordsFormed }
-{}
-
-/// A record's kind is one that is read.
-pub fn kinds_read()
-    ensures { KindsRead }
-{}
-
-/// A new segment with its opener is kept: what holds between any two events holds of it.
-pub fn opening_is_kept()
-    ensures { OpeningIsKept }
-{}
-
-/// So does it with any number of recorders that its opener has made.
-pub fn openings_are_kept()
-    ensures { OpeningsAreKept }
-{}
-
-/// Each event that allocates a block, stores into it or sets a flag keeps what holds, and its actor learns that the free pointer
-/// which it found is lawful and is no earlier than the one that it knew.
-pub fn allocating_keeps()
-    ensures { AllocatingKeeps }
-{}
-
-/// Each event that puts a record on the list or walks along it keeps what holds, and its actor learns that what it found is the end of
-/// the list or a record that lies within the segment.
-pub fn listing_keeps()
-    ensures { ListingKeeps }
-{}
-
-/// What holds between any two events holds on where an opener makes a recorder.
-pub fn splits_keep()
-    ensures { SplitsKeep }
-{}
-
-/// What holds between any two events holds on where an opener joins a recorder.
-pub fn joins_keep()
-    ensures { JoinsKeep }
-{}
-
-/// What holds between any two events holds on where an opener lends units to a recorder.
-pub fn lends_keep()
-    ensures { LendsKeep }
-{}
-
-/// The flags of a kept state are set exactly where an actor has set them.
-pub fn kept_flags_are_set()
-    ensures { KeptFlagsAreSet }
-{}
-
-/// The list of a kept state is the chain.
-pub fn kept_is_chain()
-    ensures { KeptIsChain }
-{}
-
-/// The units of a kept state are kept, and its sums are bounded by what was spent.
-pub fn kept_units_are_kept()
-    ensures { KeptUnitsAreKept }
-{}
-
-/// Units of a kept state are in transit in version 1 alone, and in the packed bucket alone.
-pub fn kept_transit_is_local()
-    ensures { KeptTransitIsLocal }
-{}
-
-/// The sums of a kept state are the amounts, and its redundant counts the units, of which nothing is left out or counted twice.
-pub fn kept_sums_are_amounts()
-    ensures { KeptSumsAreAmounts }
-{}
-
-/// The totals of a kept state, with the units in transit, are what was counted.
-pub fn kept_totals_are_counted()
-    ensures { KeptTotalsAreCounted }
-{}
-
-/// The marks of a kept state are what was taken, and no more than was counted.
-pub fn kept_marks_are_taken()
-    ensures { KeptMarksAreTaken }
-{}
-
-/// What holds between any two events holds on where a recorder notes that a call which counts begins or ends, that an amount became
-/// known, that a delta or a snapshot begins, what a block of its own is to hold, or which histogram it was answered.
-pub fn notes_keep()
-    ensures { NotesKeep }
-{}
-
-/// The records of a kept state hold what they were given, and have lawful forms.
-pub fn kept_records_hold()
-    ensures { KeptRecordsHold }
-{}
-
-/// A kept state is consistent, in all its parts.
-pub fn kept_is_consistent()
-    ensures { KeptIsConsistent }
 {}

@@ -1,13 +1,16 @@
-//! What the calls on a segment do, as plain data: the entries that they count, what each actor has done and seen, the
-//! atomic events, and what holds of the words and of all actors at every moment.
+//! What the calls on a segment do, as plain data: the entries that they count, what each actor has done and seen, and
+//! the atomic events.
 //!
 //! Nothing here runs. A segment is stepped in two ways, one event a call over plain words, and by threads over shared
 //! words; both are held to these definitions. An actor is one who calls: a thread's recorder, or an opener, who makes
 //! recorders and takes them back. What an actor has done and seen is an `Actor`, whose types are in this folder, since
-//! callers hold them as what a thread knows. The definitions are in `specs/`: entries and their tally (`Entry`), what
-//! becomes of an actor (`Actor`, `Note`, `Seats`), the events (`Form`, `Event`, `Ready`, `Next`), what holds at every moment
-//! (`Consistent`) and between any two events (`Body`, `Ledger`, `Seen`, `Kept`), what is promised (`Promises`), and worked
-//! examples, with those of what is refused (`Examples`, `Lives`, `Accounts`, `Refused`).
+//! callers hold them as what a thread knows. The definitions are in `specs/`: entries and their tally (`Entry`), the
+//! single word (`Form`), the events, a file for each family (`Allocating`, `Publishing`, `Walking`, `Counting`,
+//! `Packing`, `Taking`, `Cursors`) and one that puts them together (`Event`), what an actor notes (`Note`), how recorders
+//! are made and joined (`Seats`), one step (`State`) and the states that are reached (`Reached`). Worked examples are in
+//! `Examples`, `Lives` and `Refused`.
+//!
+//! What holds between any two events is in `segment_invariant`, what follows from it in `segment_promises`.
 #![tactic(auto)]
 
 mod actor;

@@ -6,7 +6,7 @@ use Rattle.segment_machine.specs.declared.entry.Counting.{Counting}
 use Rattle.segment_machine.specs.declared.place.Look.{Look}
 use Rattle.segment_machine.specs.Entry.{fresh, is_counted}
 use Rattle.segment_machine.specs.Actor.{Buckets}
-use Rattle.segment_machine.specs.Ready.{CountsIn}
+use Rattle.segment_machine.specs.Packing.{CountsIn}
 use Rattle.segment_machine.specs.Examples.{letter_a, one, mounts}
 use Rattle.segment_machine.proofs.laws.mounting_run.Goals as goal
 

@@ -1,11 +1,12 @@
 use Rattle.std.proofs.Common.{◌≡◌, ◌≢◌, ℕ, [], ◌∷◌, inl, refl, arith}
 use Rattle.alloc_core.specs.Layout.{IsShape}
 use Rattle.segment_machine.specs.declared.actor.Actor.{Actor}
-use Rattle.segment_machine.specs.Event.{load_flags, load_cursor}
-use Rattle.segment_machine.specs.Next.{next}
+use Rattle.segment_machine.specs.Allocating.{load_flags}
+use Rattle.segment_machine.specs.Event.{allocating_event, cursor_event, next}
+use Rattle.segment_machine.specs.Cursors.{load_cursor}
 use Rattle.segment_machine.specs.Seats.{opener_of, lender}
 use Rattle.segment_machine.specs.State.{State, IsStep}
-use Rattle.segment_machine.specs.Promises.{IsSplit, IsLent, IsJoin, IsReached, started, stepped, split, lent, joined_in}
+use Rattle.segment_machine.specs.Reached.{IsSplit, IsLent, IsJoin, IsReached, started, stepped, split, lent, joined_in}
 use Rattle.segment_machine.specs.Examples.{shape}
 use Rattle.segment_machine.specs.Lives as lives
 use Rattle.segment_machine.proofs.laws.recorder_is_joined.Goals as goal
@@ -14,7 +15,7 @@ abbrev opener : Actor
 opener = lender lives.split_opener 3
 
 abbrev loaded : Actor
-loaded = next lives.lent load_flags 0
+loaded = next lives.lent (allocating_event load_flags) 0
 
 -- the states one after the other
 abbrev made : State
@@ -38,7 +39,7 @@ apart n is e = omega (arith, is, e)
 lends : IsLent made 0 1 3 holding
 lends = (lives.split_opener, lives.recorder, apart 0 refl, refl, refl, (refl, refl, (λ e. cc e), omega arith), refl)
 
-loads : IsStep 1 holding 1 load_flags flagged
+loads : IsStep 1 holding 1 (allocating_event load_flags) flagged
 loads = record {
   actor = lives.lent;
   there = refl;
@@ -55,7 +56,7 @@ loads = record {
   actors_are = refl;
 }
 
-looks : IsStep 1 flagged 1 (load_cursor 0) looked
+looks : IsStep 1 flagged 1 (cursor_event (load_cursor 0)) looked
 looks = record {
   actor = loaded;
   there = refl;
@@ -78,8 +79,8 @@ joins = (opener, lives.looked, apart 0 refl, refl, refl, (refl, refl, omega arit
 reached : IsReached 1 lives.opened lives.joined_state
 reached =
     joined_in looked lives.joined_state 0 1
-    (stepped flagged looked 1 (load_cursor 0)
-    (stepped holding flagged 1 load_flags (lent made holding 0 1 3 (split lives.opened made 0 5 started splits) lends) loads) looks)
+    (stepped flagged looked 1 (cursor_event (load_cursor 0))
+    (stepped holding flagged 1 (allocating_event load_flags) (lent made holding 0 1 3 (split lives.opened made 0 5 started splits) lends) loads) looks)
     joins
 
 lawful : IsShape shape

@@ -2,7 +2,7 @@ use Rattle.std.proofs.Common.{◌≡◌, ℕ, zero, suc, ◌+◌, [], ◌∷◌,
 use Rattle.std.specs.Prelude.{negsuc}
 use Rattle.bucket_ranges.specs.declared.spec.Spec.TheVariants as spec
 use Rattle.segment_machine.specs.declared.actor.Known.{Known}
-use Rattle.segment_machine.specs.Accounts.{letter_s}
+use Rattle.segment_machine.specs.Examples.{letter_s}
 use Rattle.segment_machine.proofs.laws.samples_met.Goals as goal
 
 abbrev known_s : Known

@@ -1,6 +1,6 @@
 use Rattle.std.proofs.Common.{[], inl, refl, arith}
-use Rattle.segment_machine.specs.Lives.{known_a}
-use Rattle.segment_machine.proofs.Taking.{look, knows, takes, took_all}
+use Rattle.segment_machine.specs.Examples.{known_a}
+use Rattle.segment_machine.proofs.Delta.{look, knows, takes, took_all}
 use Rattle.segment_machine.proofs.laws.taking_run.Goals as goal
 
 pub returns : goal.returns

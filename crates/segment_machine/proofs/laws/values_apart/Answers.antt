@@ -6,7 +6,7 @@ use Rattle.bucket_ranges.specs.declared.spec.Spec.TheVariants as spec
 use Rattle.segment_machine.specs.declared.actor.Known.{Known}
 use Rattle.segment_machine.specs.declared.entry.Counting.{Counting}
 use Rattle.segment_machine.specs.Entry.{fresh}
-use Rattle.segment_machine.specs.Accounts.{letter_s}
+use Rattle.segment_machine.specs.Examples.{letter_s}
 use Rattle.segment_machine.proofs.laws.values_apart.Goals as goal
 
 abbrev known_s : Known

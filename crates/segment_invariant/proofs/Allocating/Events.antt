@@ -1,0 +1,169 @@
+-- Each event that allocates a block or sets a flag keeps what holds, and its actor learns of the free pointer.
+use Rattle.std.proofs.Common.{◌≡◌, ◌≢◌, ℕ, ◌-◌, ◌==◌, Bool, true, false, List, map, length, set, inl, inr, refl, sym, ap, ◌∙◌, subst, eq-eqb, ne_eqb, le-leb, arith}
+use Rattle.std.proofs.Math.Bool.{or-true}
+use Rattle.std.specs.Prelude.{bit_and, bit_or, nat_le, ◌&&◌, ◌||◌, fold, if◌then◌else◌}
+use Rattle.std.proofs.lemmas.Bool.{and_from}
+use mathlib.Core.Logic.{dite}
+use mathlib.Core.Option.{some}
+use native.Mathlib.Decide.{ℕ_discrete}
+use lib.ListN.{get_elem?}
+use lib.Seq.{set-get_or}
+use Rattle.atomic_table.proofs.Lists.{at_map}
+use Rattle.segment_image.specs.Shape.{Dimensions}
+use Rattle.segment_image.specs.Words.{word_at}
+use Rattle.alloc_core.specs.Laws.{Behind}
+use Rattle.alloc_core.specs.Alloc.{IsRise}
+use Rattle.alloc_core.specs.Planned.{room_at, is_pointer}
+use Rattle.alloc_core.proofs.Layouts.{free_word, shown_corrupt, shown_full, length_shown}
+use Rattle.alloc_core.proofs.Owners.{set_at}
+use Rattle.segment_machine.specs.declared.actor.Actor.{Actor}
+use Rattle.segment_machine.specs.declared.place.Place.TheVariants.{Spent, Idle, FlagsLoaded, FreeLoaded, Raised}
+use Rattle.segment_machine.specs.Actor.{is_bound}
+use Rattle.segment_machine.specs.State.{State}
+use Rattle.segment_machine.specs.Event.{Event, allocating_event, spot, Ready, Learned}
+use Rattle.segment_machine.specs.Allocating.{load_flags, load_free, exchange_free, set_flag, after_free}
+use Rattle.segment_invariant.specs.Body.{Anatomy, layout_of, free_of}
+use Rattle.segment_invariant.specs.Kept.{StandsRight, IsSetBy, Kept}
+use Rattle.segment_invariant.proofs.Lists.Elements.{any_there, column}
+use Rattle.segment_invariant.proofs.Blocks.Pieces.{raw_piece, stands_last, free_least, free_within}
+use Rattle.segment_invariant.proofs.Frames.OneActor.{is_plain, turns_plain, turns_unbound}
+use Rattle.segment_invariant.proofs.Frames.GoesOn.{after_word}
+use Rattle.segment_invariant.proofs.Allocating.Blocks.{waits, takes, flags_set}
+
+-- a flag that an actor sets is set
+set_now : (opened : Bool) (actors : List Actor) (id : ℕ) (a b : Actor) (flag : Actor → Bool) → get_elem? actors id ≡ some a → flag b ≡ true
+    → IsSetBy true opened (map flag (set actors id b))
+set_now opened actors id a b flag there is =
+    sym (or-true opened)
+    ∙ ap (λ now. opened || now)
+    (sym (any_there (map flag (set actors id b)) id false (at_map flag (set actors id b) id b (set_at actors id a b there) ∙ ap some is)))
+
+module _ (shape : Dimensions) (opened : Anatomy) (state : State) (kept : Kept shape opened state) (id : ℕ) (a : Actor)
+    (mine : get_elem? state.actors id ≡ some a) (records : a.opener ≡ 0) where
+  abbrev anatomy : Anatomy
+  anatomy = kept.anatomy
+
+  -- what an event leaves, and what its actor learns
+  abbrev pub Keeps : Event → Type 0
+  Keeps event =
+      Kept shape opened (after_word opened.version state id a event) × Learned a event (word_at state.words (spot (length state.words) event))
+
+  -- the words are those of the shape
+  pub words_long : length state.words ≡ shape.size
+  words_long = length_shown shape state.words (layout_of anatomy) kept.shown
+
+  -- an event that leaves its word as it is
+  leaves : (at v : ℕ) (b : Actor) → v ≡ word_at state.words at
+      → Kept shape opened (record { words = state.words; cursors = state.cursors; actors = set state.actors id b })
+      → Kept shape opened (record { words = set state.words at v; cursors = state.cursors; actors = set state.actors id b })
+  leaves at v b same =
+      subst (λ (words : List ℕ). Kept shape opened (record { words = words; cursors = state.cursors; actors = set state.actors id b }))
+      (sym (ap (set state.words at) same ∙ set-get_or state.words at 0))
+
+  -- the flags are loaded
+  flags_at : (clear : Bool) → is_bound a.place ≡ false
+      → Kept shape opened (record { words = state.words; cursors = state.cursors; actors = set state.actors id (record a { place = if clear then FlagsLoaded else Idle }) })
+  flags_at true turn =
+      let turns = turns_unbound a FlagsLoaded turn refl in
+      waits shape opened state kept id a mine records FlagsLoaded a.seen_free turns (kept.each id a mine turns.lived).sees.free tt
+  flags_at false turn =
+      let turns = turns_unbound a Idle turn refl in
+      waits shape opened state kept id a mine records Idle a.seen_free turns (kept.each id a mine turns.lived).sees.free tt
+
+  pub flags_loaded : Ready a (allocating_event load_flags) → Keeps (allocating_event load_flags)
+  flags_loaded ready = (leaves 6 (word_at state.words 6) _ refl (flags_at (bit_and (word_at state.words 6) 1 == 0) ready), tt)
+
+  -- the free pointer
+  free_is : word_at state.words 7 ≡ free_of anatomy
+  free_is = free_word shape state.words (layout_of anatomy) kept.shown
+
+  lawful_pointer : is_pointer shape (free_of anatomy) ≡ true
+  lawful_pointer =
+      let free : ℕ = free_of anatomy in
+      let from = free_least shape state.words anatomy kept.shown in
+      let within = free_within shape state.words anatomy kept.shown in
+      let room = kept.shown.sound.leaves in
+      and_from (nat_le 16 free && nat_le free shape.size) (nat_le 5 (room_at shape free))
+      (and_from (nat_le 16 free) (nat_le free shape.size) (le-leb 16 free from) (le-leb free shape.size within))
+      (le-leb 5 (room_at shape free) (omega (arith, room)))
+
+  -- what an actor that lives learns of it
+  pointer_learned : a.place ≢ Spent → Behind a.seen_free (word_at state.words 7) × (is_pointer a.shape (word_at state.words 7) ≡ true)
+  pointer_learned lives =
+      let fits = kept.each id a mine lives in (
+        subst (Behind a.seen_free) (sym free_is) fits.sees.free,
+        subst (λ (p : Dimensions × ℕ). is_pointer p.0 p.1 ≡ true) (λ i. (sym fits.shaped i, sym free_is i)) lawful_pointer,
+      )
+
+  pub free_loaded : Ready a (allocating_event load_free) → Keeps (allocating_event load_free)
+  free_loaded ready =
+      let found : ℕ = word_at state.words 7 in
+      let turns = turns_plain a (FreeLoaded found) (ap is_plain ready) refl in (
+        leaves 7 found _ refl (waits shape opened state kept id a mine records (FreeLoaded found) found turns (inl free_is) refl),
+        pointer_learned turns.lived,
+      )
+
+  -- an exchange of the free pointer
+  abbrev Exchanged : ℕ → ℕ → Bool → Type 0
+  Exchanged old new through =
+      let found = word_at state.words 7 in
+      Kept shape opened (record {
+        words = set state.words 7 (if through then new else found);
+        cursors = state.cursors;
+        actors = set state.actors id (after_free through a old new found);
+      })
+
+  exchanged : (new : ℕ) → a.place ≡ FreeLoaded (free_of anatomy) → IsRise shape (free_of anatomy) new → Exchanged (free_of anatomy) new true
+  exchanged new ready rise =
+      let old : ℕ = free_of anatomy in
+      let size : ℕ = new - old in
+      let from = free_least shape state.words anatomy kept.shown in
+      let five = rise.five in
+      let within = rise.within in
+      takes shape opened state kept id a mine records new (Raised old size) (turns_plain a (Raised old size) (ap is_plain ready) refl) rise (
+        record { from = from; five = omega (arith, five); within = omega (arith, five, within); one_page = rise.one_page },
+        stands_last anatomy.pieces (raw_piece old id size),
+      )
+
+  pub free_exchanged : (old new : ℕ) → Ready a (allocating_event (exchange_free old new)) → Keeps (allocating_event (exchange_free old new))
+  free_exchanged old new (ready, lawful, rise) =
+      let found : ℕ = word_at state.words 7 in
+      let turns = turns_plain a Idle (ap is_plain ready) refl in
+      let fits = kept.each id a mine turns.lived in
+      let seen : a.seen_free ≡ old = subst (StandsRight shape anatomy id a) ready (kept.standing id a mine) in
+      let learned = pointer_learned turns.lived in (
+        dite (ℕ_discrete found old)
+            (λ same.
+            let is : free_of anatomy ≡ old = sym free_is ∙ same in
+            subst (Exchanged old new) (sym (eq-eqb found old same))
+            (subst (λ n. Exchanged n new true) is
+            (exchanged new (ready ∙ ap FreeLoaded (sym is)) (subst (λ (p : Dimensions × ℕ). IsRise p.0 p.1 new) (λ i. (fits.shaped i, sym is i)) rise))))
+            (λ other. subst (Exchanged old new) (sym (ne_eqb found old other))
+            (leaves 7 found _ refl (waits shape opened state kept id a mine records Idle found turns (inl free_is) tt))),
+        (subst (λ n. Behind n found) seen learned.0, learned.1),
+      )
+
+  -- a flag is set: the corrupt one, and the full one
+  pub corrupt_set : is_bound a.place ≡ false → Keeps (allocating_event (set_flag 1))
+  corrupt_set turn =
+      let b : Actor = record a { place = Idle; spoiled = true } in (
+        flags_set shape opened state kept id a mine records true anatomy.full (bit_or (word_at state.words 6) 1) Idle true a.filled
+            (turns_unbound a Idle turn refl) (shown_corrupt shape state.words (layout_of anatomy) kept.shown)
+            (set_now opened.corrupt state.actors id a b (λ (x : Actor). x.spoiled) mine refl)
+            (kept.full ∙ ap (λ set. opened.full || fold ◌||◌ false set) (sym (column (λ (x : Actor). x.filled) state.actors id a b mine refl))) tt,
+        tt,
+      )
+
+  pub full_set : is_bound a.place ≡ false → Keeps (allocating_event (set_flag 2))
+  full_set turn =
+      let b : Actor = record a { place = Idle; filled = true } in (
+        flags_set shape opened state kept id a mine records anatomy.corrupt true (bit_or (word_at state.words 6) 2) Idle a.spoiled true
+            (turns_unbound a Idle turn refl) (shown_full shape state.words (layout_of anatomy) kept.shown)
+            (kept.corrupt ∙ ap (λ set. opened.corrupt || fold ◌||◌ false set) (sym (column (λ (x : Actor). x.spoiled) state.actors id a b mine refl)))
+            (set_now opened.full state.actors id a b (λ (x : Actor). x.filled) mine refl) tt,
+        tt,
+      )
+
+  pub flag_set : (flag : ℕ) → Ready a (allocating_event (set_flag flag)) → Keeps (allocating_event (set_flag flag))
+  flag_set flag (turn, inl corrupt) = subst (λ n. Keeps (allocating_event (set_flag n))) (sym corrupt) (corrupt_set turn)
+  flag_set flag (turn, inr (full, loaded)) = subst (λ n. Keeps (allocating_event (set_flag n))) (sym full) (full_set turn)

@@ -1,0 +1,17 @@
+pub mod Blocks
+pub mod Books
+pub mod Chain
+pub mod Firsts
+pub mod Flags
+pub mod Forms
+pub mod Held
+pub mod Keys
+pub mod Made
+pub mod Marks
+pub mod Records
+pub mod Specs
+pub mod Sums
+pub mod Totals
+pub mod Transit
+pub mod Units
+pub mod Whole

@@ -1,0 +1,192 @@
+-- The first record of a name, and of a value, on the list of a kept segment: by the words as by what each record was given.
+use Rattle.std.proofs.Common.{◌≡◌, ◌≢◌, true, ℕ, ◌<◌, ℤ, pos, negsuc, List, ◌∷◌, ◌++◌, map, refl, sym, ap, subst, ◌∙◌, arith, rules, Some, None}
+use Rattle.std.specs.Prelude as std
+use Rattle.std.specs.Int.{w64, cast_signed, cast_unsigned}
+use Rattle.std.specs.List.{All, Contains}
+use Rattle.std.proofs.lemmas.Bool.{ltb-true}
+use Rattle.std.proofs.lemmas.Int.{to_z-of_z}
+use Rattle.std.proofs.lemmas.List.{map-append}
+use Rattle.std.proofs.lemmas.List.Elements.{All-map, All-contains, Contains-append_left, Contains-append_right}
+use Rattle.atomic_table.proofs.Lists.{at_map}
+use Rattle.segment_image.specs.Shape.{Dimensions}
+use Rattle.segment_image.specs.Blocks.{field_at}
+use Rattle.bucket_ranges.specs.declared.spec.Spec.{Spec}
+use Rattle.bucket_ranges.specs.Reading.{name_of, is_i32}
+use Rattle.segment_machine.specs.declared.actor.Made.{Made}
+use Rattle.segment_machine.specs.declared.actor.Made.TheVariants as made
+use Rattle.segment_machine.specs.State.{State}
+use Rattle.segment_invariant.specs.Consistent.{IsHistogram, IsSample, IsSampleOf}
+use Rattle.segment_invariant.specs.Consistent as consistent
+use Rattle.segment_invariant.specs.Body.{Record, Sample, Listed, order_of, blank}
+use Rattle.segment_invariant.specs.Seen.{HasRecord, HasSample, IsNamed, IsFirst, IsFirstOf}
+use Rattle.segment_invariant.specs.Kept.{StandsAs, Kept}
+use Rattle.segment_invariant.proofs.Lists.Elements.{all_from, all_at, contains_at, split_map}
+use Rattle.segment_invariant.proofs.Blocks.Pieces.{piece_word}
+use Rattle.segment_invariant.proofs.Consistency.Records.{listed_there, each_given, record_word, sample_type, record_name}
+
+-- ---- lists and what they map to
+
+unmapped : {X Y : Type 0} (f : X → Y) (P : Y → Type 0) (l : List X) → All P (map f l) → All (λ x. P (f x)) l
+unmapped f P l all = all_from (λ x. P (f x)) l (λ i x there. all_at P (map f l) i (f x) all (at_map f l i x there))
+
+-- Of records and their references the same is told: so are the first ones of which it is told.
+module _ (records : List Listed) (P : Listed → Type 0) (Q : ℕ → Type 0)
+    (to : (l : Listed) → Contains records l → P l → Q l.reference) (from : (l : Listed) → Contains records l → Q l.reference → P l) where
+  abbrev references : List Listed → List ℕ
+  references records = map (λ (l : Listed). l.reference) records
+
+  first_listed : (front behind : List ℕ) (at : ℕ) → references records ≡ front ++ at ∷ behind → All (λ other. ¬ (Q other)) front → Q at
+      → (xs ys : List Listed) × (l : Listed) × (records ≡ xs ++ l ∷ ys) × All (λ l. ¬ (P l)) xs × P l × (l.reference ≡ at)
+  first_listed front behind at is none this =
+      let (xs, ys, l, split, before, here) = split_map (λ (l : Listed). l.reference) records front behind at is in
+      let others = unmapped (λ (l : Listed). l.reference) (λ other. ¬ (Q other)) xs (subst (All (λ other. ¬ (Q other))) (sym before) none) in
+      let among = λ (m : Listed) (there : Contains (xs ++ l ∷ ys) m). subst (λ (records : List Listed). Contains records m) (sym split) there in (
+        xs,
+        ys,
+        l,
+        split,
+        all_from (λ l. ¬ (P l)) xs (λ i x there holds.
+            all_at (λ l. ¬ (Q l.reference)) xs i x others there (to x (among x (Contains-append_left xs (l ∷ ys) x (contains_at xs i x there))) holds)),
+        from l (among l (Contains-append_right xs (l ∷ ys) l (0, omega arith, refl))) (subst Q (sym here) this),
+        here,
+      )
+
+  first_reference : (xs ys : List Listed) (l : Listed) → records ≡ xs ++ l ∷ ys → All (λ l. ¬ (P l)) xs → P l
+      → (references records ≡ references xs ++ l.reference ∷ references ys) × All (λ other. ¬ (Q other)) (references xs) × Q l.reference
+  first_reference xs ys l split none this =
+      let among = λ (m : Listed) (there : Contains (xs ++ l ∷ ys) m). subst (λ (records : List Listed). Contains records m) (sym split) there in (
+        ap references split ∙ map-append (λ (l : Listed). l.reference) xs (l ∷ ys),
+        All-map (λ other. ¬ (Q other)) (λ (l : Listed). l.reference) xs (all_from (λ l. ¬ (Q l.reference)) xs (λ i x there holds.
+            all_at (λ l. ¬ (P l)) xs i x none there (from x (among x (Contains-append_left xs (l ∷ ys) x (contains_at xs i x there))) holds))),
+        to l (among l (Contains-append_right xs (l ∷ ys) l (0, omega arith, refl))) this,
+      )
+
+-- ---- a kept state of a new segment
+
+-- a sample's value by its word
+value_word : (value : ℤ) → is_i32 value ≡ true → cast_signed w64 (cast_unsigned w64 value) ≡ value
+value_word (pos n) is = let low = ltb-true n 2147483648 is in to_z-of_z w64 (pos n) (search rules)
+value_word (negsuc n) is = let low = ltb-true n 2147483648 is in to_z-of_z w64 (negsuc n) (search rules)
+
+module _ (shape : Dimensions) (version id : ℕ) (state : State) (kept : Kept shape (blank version id shape.size) state) where
+  abbrev Named : List ℕ → Spec → ℕ → Record → Type 0
+  Named name spec at r = HasRecord kept.anatomy.pieces at r × (r.name ≡ name) × (r.spec ≡ spec)
+
+  abbrev Valued : ℕ → ℤ → ℕ → Sample → Type 0
+  Valued of value at s = HasSample kept.anatomy.pieces at s × (s.of ≡ of) × (s.value ≡ value)
+
+  pub standing_of : (l : Listed) → Contains kept.anatomy.records l → StandsAs kept.anatomy.pieces l l.made
+  standing_of l there = All-contains (λ l. StandsAs kept.anatomy.pieces l l.made) kept.anatomy.records l kept.list.standing there
+
+  -- a record says its name
+  pub says_name : (at : ℕ) (r : Record) → HasRecord kept.anatomy.pieces at r → name_of state.words at ≡ r.name
+  says_name at r there = record_name shape state.words kept.anatomy kept.shown kept.anatomy.version at r there (kept.records.lawful at r there)
+
+  pub is_named : (at : ℕ) (r : Record) → HasRecord kept.anatomy.pieces at r → consistent.IsNamed state.words r.name at
+  is_named at r there = (record_word shape state.words kept.anatomy kept.shown at r 2 there (omega arith), says_name at r there)
+
+  -- a sample says of what it is one
+  pub is_sample_of : (at : ℕ) (s : Sample) → HasSample kept.anatomy.pieces at s → IsSampleOf state.words s.of s.value at
+  is_sample_of at s (k, there) =
+      let word = λ (j : ℕ) (below : j < 8). piece_word shape state.words kept.anatomy kept.shown k _ j there (omega (arith, below)) in (
+        word 2 (omega arith),
+        word 4 (omega arith),
+        ap (cast_signed w64) (word 5 (omega arith)) ∙ value_word s.value (kept.records.valued at s (k, there)).valued,
+      )
+
+  -- what was given to the maker of a record of a name
+  pub given_name : (l : Listed) (name : List ℕ) → Contains kept.anatomy.records l → consistent.IsNamed state.words name l.reference
+      → (spec : Spec) × (r : Record) × (l.made ≡ Some (made.Histogram name spec)) × Named name spec l.reference r
+  given_name l name there named =
+      by_made l.made refl (standing_of l there) (each_given state.words (blank version id shape.size) kept.anatomy state.actors l kept.list refl there)
+    where
+      by_made : (m : std.Option Made) → l.made ≡ m → StandsAs kept.anatomy.pieces l m → m ≢ None
+          → (spec : Spec) × (r : Record) × (l.made ≡ Some (made.Histogram name spec)) × Named name spec l.reference r
+      by_made (Some (made.Histogram other spec)) is (r, has, mine, specified) given =
+          let same : other ≡ name = sym mine ∙ (sym (says_name l.reference r has) ∙ named.1) in
+          (spec, r, is ∙ ap (λ (name : List ℕ). Some (made.Histogram name spec)) same, (has, mine ∙ same, specified))
+      by_made (Some (made.Sample of value)) is (s, has, mine, valued) given =
+          let three = sample_type shape state.words kept.anatomy kept.shown l.reference s has in
+          let one = named.0 in
+          absurd (omega (arith, three, one))
+      by_made None is standing given = absurd (given refl)
+
+  -- and of a sample of a value
+  pub given_value : (l : Listed) (of : ℕ) (value : ℤ) → Contains kept.anatomy.records l → IsSampleOf state.words of value l.reference
+      → (s : Sample) × (l.made ≡ Some (made.Sample of value)) × Valued of value l.reference s
+  given_value l of value there valued =
+      by_made l.made refl (standing_of l there) (each_given state.words (blank version id shape.size) kept.anatomy state.actors l kept.list refl there)
+    where
+      by_made : (m : std.Option Made) → l.made ≡ m → StandsAs kept.anatomy.pieces l m → m ≢ None
+          → (s : Sample) × (l.made ≡ Some (made.Sample of value)) × Valued of value l.reference s
+      by_made (Some (made.Sample other number)) is (s, has, mine, numbered) given =
+          let says = is_sample_of l.reference s has in
+          let same : other ≡ of = sym mine ∙ (sym says.1 ∙ valued.1) in
+          let equal : number ≡ value = sym numbered ∙ (sym says.2 ∙ valued.2) in
+          (s, is ∙ (λ i. Some (made.Sample (same i) (equal i))), (has, mine ∙ same, numbered ∙ equal))
+      by_made (Some (made.Histogram name spec)) is (r, has, mine, specified) given =
+          let one = (is_named l.reference r has).0 in
+          let three = valued.0 in
+          absurd (omega (arith, three, one))
+      by_made None is standing given = absurd (given refl)
+
+  -- the words say what was given
+  name_given : (l : Listed) (name : List ℕ) → Contains kept.anatomy.records l → IsNamed name l → consistent.IsNamed state.words name l.reference
+  name_given l name there (spec, is) =
+      let (r, has, mine, specified) = subst (StandsAs kept.anatomy.pieces l) is (standing_of l there) in
+      subst (λ (name : List ℕ). consistent.IsNamed state.words name l.reference) mine (is_named l.reference r has)
+
+  value_given : (l : Listed) (of : ℕ) (value : ℤ) → Contains kept.anatomy.records l → l.made ≡ Some (made.Sample of value) → IsSampleOf state.words of value l.reference
+  value_given l of value there is =
+      let (s, has, mine, valued) = subst (StandsAs kept.anatomy.pieces l) is (standing_of l there) in
+      subst (λ (p : ℕ × ℤ). IsSampleOf state.words p.0 p.1 l.reference) (λ i. (mine i, valued i)) (is_sample_of l.reference s has)
+
+  -- a histogram's record on the list
+  pub listed_record : (at : ℕ) → Contains (order_of kept.anatomy) at → field_at state.words at 2 ≡ 1
+      → (l : Listed) × (name : List ℕ) × (spec : Spec) × (r : Record) × Contains kept.anatomy.records l × (l.reference ≡ at)
+      × (l.made ≡ Some (made.Histogram name spec)) × Named name spec at r
+  listed_record at there one =
+      let (l, among, place, standing) = listed_there state.words (blank version id shape.size) kept.anatomy state.actors at kept.list there in
+      let name : List ℕ = name_of state.words l.reference in
+      let (spec, r, made, has) = given_name l name among (subst (λ (at : ℕ). field_at state.words at 2 ≡ 1) (sym place) one, refl) in
+      (l, name, spec, r, among, place, made, subst (λ (at : ℕ). Named name spec at r) place has)
+
+  -- ---- the first ones
+
+  -- the histogram of a name is the first record of it
+  pub first_of_name : (name : List ℕ) (at : ℕ) → IsHistogram state.words (order_of kept.anatomy) name at
+      → (spec : Spec) × (r : Record) × IsFirst kept.anatomy.records name spec at × Named name spec at r
+  first_of_name name at is =
+      let (xs, ys, l, split, none, this, here) = first_listed kept.anatomy.records (IsNamed name) (consistent.IsNamed state.words name)
+      (λ l there. name_given l name there) (λ l there named. let (spec, r, made, has) = given_name l name there named in (spec, made))
+      is.front is.behind at is.stands is.first is.named in
+      let among = subst (λ (records : List Listed). Contains records l) (sym split) (Contains-append_right xs (l ∷ ys) l (0, omega arith, refl)) in
+      let (spec, r, made, has) = given_name l name among (name_given l name among this) in
+      (spec, r, (xs, ys, split ∙ (λ i. xs ++ record { reference = here i; made = made i } ∷ ys), none), subst (λ (at : ℕ). Named name spec at r) here has)
+
+  pub name_of_first : (name : List ℕ) (spec : Spec) (at : ℕ) → IsFirst kept.anatomy.records name spec at → IsHistogram state.words (order_of kept.anatomy) name at
+  name_of_first name spec at (xs, ys, split, none) =
+      let l : Listed = record { reference = at; made = Some (made.Histogram name spec) } in
+      let is = first_reference kept.anatomy.records (IsNamed name) (consistent.IsNamed state.words name)
+      (λ l there. name_given l name there) (λ l there named. let (spec, r, made, has) = given_name l name there named in (spec, made))
+      xs ys l split none (spec, refl) in
+      record { front = map (λ (l : Listed). l.reference) xs; behind = map (λ (l : Listed). l.reference) ys; stands = is.0; first = is.1; named = is.2 }
+
+  -- and the sample of a value the first record of it
+  pub first_of_value : (of : ℕ) (value : ℤ) (at : ℕ) → IsSample state.words (order_of kept.anatomy) of value at
+      → (s : Sample) × IsFirstOf kept.anatomy.records of value at × Valued of value at s
+  first_of_value of value at is =
+      let (xs, ys, l, split, none, this, here) = first_listed kept.anatomy.records (λ l. l.made ≡ Some (made.Sample of value)) (IsSampleOf state.words of value)
+      (λ l there. value_given l of value there) (λ l there valued. let (s, made, has) = given_value l of value there valued in made)
+      is.front is.behind at is.stands is.first is.valued in
+      let among = subst (λ (records : List Listed). Contains records l) (sym split) (Contains-append_right xs (l ∷ ys) l (0, omega arith, refl)) in
+      let (s, made, has) = given_value l of value among (value_given l of value among this) in
+      (s, (xs, ys, split ∙ (λ i. xs ++ record { reference = here i; made = made i } ∷ ys), none), subst (λ (at : ℕ). Valued of value at s) here has)
+
+  pub value_of_first : (of : ℕ) (value : ℤ) (at : ℕ) → IsFirstOf kept.anatomy.records of value at → IsSample state.words (order_of kept.anatomy) of value at
+  value_of_first of value at (xs, ys, split, none) =
+      let l : Listed = record { reference = at; made = Some (made.Sample of value) } in
+      let is = first_reference kept.anatomy.records (λ l. l.made ≡ Some (made.Sample of value)) (IsSampleOf state.words of value)
+      (λ l there. value_given l of value there) (λ l there valued. let (s, made, has) = given_value l of value there valued in made)
+      xs ys l split none refl in
+      record { front = map (λ (l : Listed). l.reference) xs; behind = map (λ (l : Listed). l.reference) ys; stands = is.0; first = is.1; valued = is.2 }

@@ -1,0 +1,45 @@
+-- The flags of a kept state are set exactly where an actor has set them.
+use Rattle.std.proofs.Common.{◌≡◌, ◌⊎◌, Bool, true, false, ◌||◌, ℕ, suc, ◌/◌, List, [], ◌∷◌, fold, inr, refl, sym, ap, subst, ◌∙◌, arith, ⊎_elim}
+use Rattle.std.specs.Prelude.{◌↔◌, bit_and}
+use Rattle.std.specs.List.{Contains}
+use Rattle.segment_image.specs.Words.{word_at}
+use Rattle.alloc_core.specs.Layout.{flags_of}
+use Rattle.alloc_core.proofs.Flags.{other_bits, corrupt_bit, full_bit}
+use Rattle.alloc_core.proofs.Layouts.{flags_word}
+use Rattle.segment_invariant.specs.Body.{layout_of}
+use Rattle.segment_invariant.specs.Kept.{IsSetBy}
+use Rattle.segment_invariant.specs.Keeps.{KeptFlagsAreSet}
+use Rattle.segment_invariant.proofs.Lists.Elements.{at_from, any_there}
+
+-- one of a list of truth values is true where all of them together are
+one_of : (list : List Bool) → fold ◌||◌ false list ≡ true → Contains list true
+one_of [] e = cc e
+one_of (true ∷ list) e = (0, omega arith, refl)
+one_of (false ∷ list) e = let (k, below, is) = one_of list e in (suc k, omega (arith, below), is)
+
+all_of : (list : List Bool) → Contains list true → fold ◌||◌ false list ≡ true
+all_of list there = let place = at_from list true there in any_there list place.0 false place.1
+
+-- a flag that was not set at the opening is set where an actor has set it
+set_by : (now : Bool) (set : List Bool) → IsSetBy now false set → (now ≡ true) ↔ Contains set true
+set_by now set is = (λ on. one_of set (sym is ∙ on), λ there. is ∙ all_of set there)
+
+-- a bit of the word is one of a word of flags that has none set, or an actor has set it
+bit_is : (bit word : ℕ) (now : Bool) (set : List Bool) → (bit_and 0 bit ≡ bit → ⊥) → (bit_and word bit ≡ bit) ↔ (now ≡ true) → IsSetBy now false set
+    → (bit_and word bit ≡ bit) ↔ ((bit_and 0 bit ≡ bit) ⊎ Contains set true)
+bit_is bit word now set none shows is = (
+  λ on. inr ((set_by now set is).0 (shows.0 on)),
+  λ either. ⊎_elim (λ before. absurd (none before)) (λ there. shows.1 ((set_by now set is).1 there)) either,
+)
+
+pub flags_are_set : KeptFlagsAreSet
+flags_are_set shape version id state lawful kept =
+    let anatomy = kept.anatomy in
+    let word : flags_of anatomy.corrupt anatomy.full anatomy.other_flags ≡ word_at state.words 6 = sym (flags_word shape state.words (layout_of anatomy) kept.shown) in
+    record {
+      corrupt = bit_is 1 (word_at state.words 6) anatomy.corrupt _ (λ e. omega (arith, e))
+          (subst (λ (n : ℕ). (bit_and n 1 ≡ 1) ↔ (anatomy.corrupt ≡ true)) word (corrupt_bit anatomy.corrupt anatomy.full anatomy.other_flags)) kept.corrupt;
+      full = bit_is 2 (word_at state.words 6) anatomy.full _ (λ e. omega (arith, e))
+          (subst (λ (n : ℕ). (bit_and n 2 ≡ 2) ↔ (anatomy.full ≡ true)) word (full_bit anatomy.corrupt anatomy.full anatomy.other_flags)) kept.full;
+      others = sym (ap (λ (n : ℕ). n / 4) word) ∙ (other_bits anatomy.corrupt anatomy.full anatomy.other_flags ∙ kept.same.2);
+    }

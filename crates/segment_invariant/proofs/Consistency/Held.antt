@@ -1,0 +1,142 @@
+-- What the words of a kept state's records say beside their spec: which counts are theirs, and that nobody counts in later ones.
+use Rattle.std.proofs.Common.{◌≡◌, ◌≢◌, ℕ, ◌+◌, ◌-◌, ◌*◌, ◌<◌, ◌≤◌, ℤ, List, length, inl, inr, sym, ap, subst, ◌∙◌, arith, Option, Some, None}
+use Rattle.std.specs.Prelude as std
+use Rattle.std.specs.Prelude.{slice_index, ◌==◌}
+use Rattle.std.specs.List.{All, Contains}
+use Rattle.std.proofs.lemmas.Bool.{cases_lt}
+use mathlib.Core.Option.{none}
+use Rattle.segment_image.specs.Shape.{Dimensions}
+use Rattle.segment_image.specs.Words.{word_at}
+use Rattle.segment_image.specs.Head.{head_of}
+use Rattle.segment_image.specs.Blocks.{field_at}
+use Rattle.bucket_ranges.specs.Reading.{name_of, record_buckets, sample_value}
+use Rattle.list_core.specs.Chain.{IsChain}
+use Rattle.list_core.proofs.Chains.{linked_of, no_queue}
+use Rattle.segment_machine.specs.declared.actor.Sighting.{Sighting}
+use Rattle.segment_machine.specs.declared.actor.Made.{Made}
+use Rattle.segment_machine.specs.declared.actor.Made.TheVariants as made
+use Rattle.segment_machine.specs.State.{State}
+use Rattle.segment_invariant.specs.Consistent.{new_opening}
+use Rattle.segment_machine.specs.Form.{Leads}
+use Rattle.segment_invariant.specs.Consistent.{IsHistogram, IsSample, CountsNothing}
+use Rattle.segment_invariant.specs.Body.{Record, record_words, Counts, Body, histogram, counts, sample, other, Listed, order_of, blank}
+use Rattle.segment_invariant.specs.Seen.{Stands, HasRecord, HasCounts, IsFirst, IsFirstOf, WasSingle}
+use Rattle.segment_invariant.specs.Kept.{StandsAs, Kept}
+use Rattle.segment_invariant.proofs.Blocks.Pieces.{piece_word, one_stands}
+use Rattle.segment_invariant.proofs.Consistency.Records.{record_word, listed_there}
+use Rattle.segment_invariant.proofs.Consistency.Specs.{buckets_are}
+use Rattle.segment_invariant.proofs.Consistency.Firsts.{listed_record, is_named, given_value, first_of_name, first_of_value}
+use Rattle.segment_invariant.proofs.Lists.FewTerms.{zero_index}
+use Rattle.segment_machine.proofs.SmallNumbers.{below_three}
+use Rattle.segment_invariant.proofs.Consistency.Totals.{count_word, mark_word}
+
+module _ (shape : Dimensions) (version id : ℕ) (state : State) (kept : Kept shape (blank version id shape.size) state) where
+  -- a block stands at one place
+  counts_there : (at : ℕ) (c d : Counts) → HasCounts kept.anatomy.pieces at c → HasCounts kept.anatomy.pieces at d → c ≡ d
+  counts_there at c d first second =
+      let bodies : counts c ≡ counts d = (one_stands shape state.words kept.anatomy kept.shown at none none (counts c) (counts d) first second).1 in
+      cc bodies
+
+  pub counts_ref : (at : ℕ) (r : Record) → HasRecord kept.anatomy.pieces at r → field_at state.words at 8 ≡ r.counts
+  counts_ref at r has = record_word shape state.words kept.anatomy kept.shown at r 8 has (omega arith)
+
+  -- counts and marks that are all 0, by their words
+  pub counts_nothing : (at : ℕ) (c : Counts) (n i : ℕ) → HasCounts kept.anatomy.pieces at c → length c.units ≡ n → length c.marks ≡ n
+      → All (λ n. n ≡ 0) c.units → All (λ n. n ≡ 0) c.marks → i < 2 * n → field_at state.words at (4 + i) ≡ 0
+  counts_nothing at c n i has units marks no_units no_marks below = elim (cases_lt i n) [
+    | inl low ↦ count_word shape version id state kept at c i has (omega (arith, units, low)) ∙ zero_index c.units i no_units
+    | inr high ↦
+        let place : 4 + i ≡ 4 + n + (i - n) = omega (arith, high) in
+        ap (field_at state.words at) place
+        ∙ (mark_word shape version id state kept at c n (i - n) has units (omega (arith, marks, high, below)) ∙ zero_index c.marks (i - n) no_marks)
+  ]
+
+  -- no two records name one counts block
+  pub own_counts : (a b : ℕ) → Contains (order_of kept.anatomy) a → Contains (order_of kept.anatomy) b → field_at state.words a 2 ≡ 1 → field_at state.words b 2 ≡ 1
+      → field_at state.words a 8 ≢ 0 → field_at state.words a 8 ≡ field_at state.words b 8 → a ≡ b
+  own_counts a b there here one also some_there same =
+      let (l, name, kind, r, among, place, made, (has, named, specified)) = listed_record shape version id state kept a there one in
+      let (m, mine, sort, q, within, spot, given, (stands, called, sorted)) = listed_record shape version id state kept b here also in
+      let first = counts_ref a r has in
+      let second = counts_ref b q stands in
+      let (c, mounted, of_it) = kept.records.mounted a r has (λ e. some_there (first ∙ e)) in
+      let equal : q.counts ≡ r.counts = sym second ∙ (sym same ∙ first) in
+      let (d, also_mounted, of_other) = kept.records.mounted b q stands (λ e. some_there (first ∙ (sym equal ∙ e))) in
+      let one_block = counts_there r.counts c d mounted (subst (λ (at : ℕ). HasCounts kept.anatomy.pieces at d) equal also_mounted) in
+      sym of_it.mine ∙ (ap (λ (c : Counts). c.of) one_block ∙ of_other.mine)
+
+  -- a counts block is no record
+  pub counts_unlisted : (at : ℕ) (c : Counts) → HasCounts kept.anatomy.pieces at c → ¬ (Contains (order_of kept.anatomy) at)
+  counts_unlisted at c stands there =
+      let (l, among, place, standing) = listed_there state.words (blank version id shape.size) kept.anatomy state.actors at kept.list there in
+      by_made l l.made standing place
+    where
+      differs : (body : Body) → (counts c ≢ body) → Stands kept.anatomy.pieces at none body → ⊥
+      differs body apart here = apart (one_stands shape state.words kept.anatomy kept.shown at none none (counts c) body stands here).1
+
+      by_made : (l : Listed) (m : std.Option Made) → StandsAs kept.anatomy.pieces l m → l.reference ≡ at → ⊥
+      by_made l (Some (made.Histogram name spec)) (r, here, named, specified) place =
+          differs (histogram r) (λ e. cc e) (subst (λ (at : ℕ). Stands kept.anatomy.pieces at none (histogram r)) place here)
+      by_made l (Some (made.Sample of value)) (s, here, mine, valued) place =
+          differs (sample s) (λ e. cc e) (subst (λ (at : ℕ). Stands kept.anatomy.pieces at none (sample s)) place here)
+      by_made l None (size, tag, next, payload, here, not_one, not_three, behind) place =
+          differs (other size tag next payload) (λ e. cc e) (subst (λ (at : ℕ). Stands kept.anatomy.pieces at none (other size tag next payload)) place here)
+
+  -- single words lead on from those that were seen
+  pub single_leads : (s : Sighting) (at : ℕ) → WasSingle kept.anatomy.version kept.anatomy.pieces s → s.at ≡ at + 9
+      → Leads version (record_buckets state.words at) s.word (word_at state.words s.at)
+  single_leads s at (place, r, has, there, formed, leads) same =
+      let spot : place ≡ at = omega (arith, there, same) in
+      let here = subst (λ (at : ℕ). HasRecord kept.anatomy.pieces at r) spot has in
+      let many = buckets_are shape state.words kept.anatomy kept.shown kept.anatomy.version at r here (kept.records.lawful at r here) in
+      let word : word_at state.words s.at ≡ r.single = ap (word_at state.words) same ∙ record_word shape state.words kept.anatomy kept.shown at r 9 here (omega arith) in
+      subst (λ (p : ℕ × ℕ × ℕ). Leads p.0 p.1 s.word p.2) (λ j. (kept.same.0 j, sym many j, sym word j)) leads
+
+  -- in a later sample of a value nothing is counted
+  pub later_sample : (at place : ℕ) → Contains (order_of kept.anatomy) at → field_at state.words at 2 ≡ 3
+      → IsSample state.words (order_of kept.anatomy) (field_at state.words at 4) (sample_value state.words at) place → place ≢ at
+      → (field_at state.words at 6 ≡ 0) × (field_at state.words at 7 ≡ 0)
+  later_sample at place there three is apart =
+      let (l, among, spot, standing) = listed_there state.words (blank version id shape.size) kept.anatomy state.actors at kept.list there in
+      let (s, made, (stands, mine, valued)) = given_value shape version id state kept l (field_at state.words at 4) (sample_value state.words at) among
+      (subst (λ (p : ℕ). field_at state.words p 2 ≡ 3) (sym spot) three, ap (λ (p : ℕ). field_at state.words p 4) spot, ap (sample_value state.words) spot) in
+      let here = subst (λ (at : ℕ). Stands kept.anatomy.pieces at none (sample s)) spot stands in
+      let (t, first, has) = first_of_value shape version id state kept (field_at state.words at 4) (sample_value state.words at) place is in
+      let nothing = kept.records.later_samples at place s here
+      (subst (λ (p : ℕ × ℤ). IsFirstOf kept.anatomy.records p.0 p.1 place) (λ j. (sym mine j, sym valued j)) first) apart in (
+        piece_word shape state.words kept.anatomy kept.shown here.0 _ 6 here.1 (omega arith) ∙ nothing.0,
+        piece_word shape state.words kept.anatomy kept.shown here.0 _ 7 here.1 (omega arith) ∙ nothing.1,
+      )
+
+  -- the list of a new segment has no record
+  pub none_before : (front : List ℕ) (at : ℕ) → IsChain (new_opening shape version id).words (head_of (new_opening shape version id).words) front
+      → ¬ (Contains front at)
+  none_before front at chain (k, below, is) =
+      let opened : List ℕ = (new_opening shape version id).words in
+      let first = chain.walk.linked 0 (omega (arith, below)) in
+      no_queue opened front 0 (linked_of opened front (head_of opened) chain) (omega (arith, below)) (sym first)
+
+  -- in a later record of a name nothing is counted
+  pub later_record : (at place : ℕ) → Contains (order_of kept.anatomy) at → field_at state.words at 2 ≡ 1
+      → IsHistogram state.words (order_of kept.anatomy) (name_of state.words at) place → place ≢ at → CountsNothing state.words at
+  later_record at place there one is apart =
+      let (l, name, kind, r, among, spot, made, (has, named, specified)) = listed_record shape version id state kept at there one in
+      let (first_kind, q, first, its) = first_of_name shape version id state kept (name_of state.words at) place is in
+      let mine : name_of state.words at ≡ r.name = (is_named shape version id state kept at r has).1 in
+      let nothing = kept.records.later at place r first_kind has (subst (λ (name : List ℕ). IsFirst kept.anatomy.records name first_kind place) mine first) apart in
+      λ i from below. six (λ i. field_at state.words at i ≡ 0) (word at r has 8 (omega arith) ∙ nothing.0) (word at r has 9 (omega arith) ∙ nothing.1)
+      (word at r has 10 (omega arith) ∙ nothing.2) (word at r has 11 (omega arith) ∙ nothing.3) (word at r has 12 (omega arith) ∙ nothing.4)
+      (word at r has 13 (omega arith) ∙ nothing.5) i from below
+    where
+      word : (at : ℕ) (r : Record) → HasRecord kept.anatomy.pieces at r → (j : ℕ) → j < 15 → field_at state.words at j ≡ slice_index (record_words r) j
+      word at r has j below = record_word shape state.words kept.anatomy kept.shown at r j has below
+
+      six : (holds : ℕ → Type 0) → holds 8 → holds 9 → holds 10 → holds 11 → holds 12 → holds 13 → (i : ℕ) → 8 ≤ i → i < 14 → holds i
+      six holds a b c d e f i from below =
+          let split : 8 + (i - 8) ≡ i = omega (arith, from) in
+          subst holds split (elim (cases_lt (i - 8) 3) [
+            | inl low ↦ below_three (λ k. holds (8 + k)) a b c (i - 8) low
+            | inr high ↦
+                let further : 11 + (i - 8 - 3) ≡ 8 + (i - 8) = omega (arith, high) in
+                subst holds further (below_three (λ k. holds (11 + k)) d e f (i - 8 - 3) (omega (arith, high, from, below)))
+          ])

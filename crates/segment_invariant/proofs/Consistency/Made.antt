@@ -1,0 +1,191 @@
+-- The records of a kept state hold what they were given.
+use Rattle.std.proofs.Common.{◌≡◌, Bool, true, false, if◌then◌else◌, ℕ, ◌+◌, ◌-◌, ◌<◌, ◌≤◌, ℤ, List, [], ◌∷◌, ◌++◌, map, length, inl, refl, sym, ap, subst, ◌∙◌, arith, Option, Some, None}
+use Rattle.std.specs.Prelude.{slice_index, ◌==◌, is_none}
+use Rattle.std.specs.List.{Contains}
+use Rattle.std.proofs.lemmas.Bool.{and_from, eq-eqb, eqb-true, le-leb, le-ltb, lt-ltb}
+use Rattle.std.proofs.lemmas.List.{map-append}
+use Rattle.std.proofs.lemmas.List.Elements.{All-contains, Contains-append_right}
+use Rattle.std.proofs.lemmas.List.Sorted.{Contains-permutation, IsPermutation-sym}
+use Rattle.atomic_table.proofs.Lists.{at_map}
+use Rattle.segment_image.specs.Shape.{Dimensions}
+use Rattle.segment_image.specs.Blocks.{field_at}
+use Rattle.alloc_core.specs.Layout.{IsShape}
+use Rattle.bucket_ranges.specs.declared.spec.Spec.{Spec}
+use Rattle.bucket_ranges.specs.declared.spec.Spec.TheVariants as spec
+use Rattle.bucket_ranges.specs.Spec.{spec_fault, distinct_values, spec_fields, spec_ranges, SameSpec}
+use Rattle.bucket_ranges.specs.Reading.{name_of, name_words, is_name, has_name, has_spec, is_kind, is_spec_named, inner_ranges, is_sparse, ascends_above}
+use Rattle.bucket_ranges.specs.Reading as reading
+use Rattle.bucket_ranges.proofs.Distinct.{Member, Ascends, ascends-from}
+use Rattle.bucket_ranges.proofs.Customs.{is_custom-from_checks, length-distinct, some_distinct, custom_boundaries-ascending}
+use Rattle.segment_machine.specs.declared.actor.Published.{Published}
+use Rattle.segment_machine.specs.declared.actor.Made.{Made}
+use Rattle.segment_machine.specs.declared.actor.Made.TheVariants as made
+use Rattle.segment_machine.specs.State.{State}
+use Rattle.segment_machine.specs.Made.{AreNameWords}
+use Rattle.segment_machine.specs.Actor.{all_published}
+use Rattle.segment_invariant.specs.Consistent.{HoldsMade}
+use Rattle.segment_invariant.specs.Body.{Record, Listed, listed, order_of, blank}
+use Rattle.segment_invariant.specs.Seen.{HasRecord, IsFirst, WasSingle}
+use Rattle.segment_invariant.specs.Kept.{StandsAs, Kept}
+use Rattle.segment_invariant.specs.Keeps.{KeptRecordsHold}
+use Rattle.segment_invariant.proofs.Lists.Elements.{at_from, contains_at, split_at}
+use Rattle.segment_invariant.proofs.Blocks.Pieces.{piece_word}
+use Rattle.segment_invariant.proofs.Consistency.Blocks.{claimed_piece}
+use Rattle.segment_invariant.proofs.Consistency.Chain.{shape_is, claimed_at}
+use Rattle.segment_invariant.proofs.Consistency.Records.{record_word, name_long, letters_part}
+use Rattle.segment_invariant.proofs.Consistency.Specs.{same_spelled, record_spec, ranges_part, ranges_fewer, buckets_are}
+use Rattle.segment_invariant.proofs.Consistency.Firsts.{standing_of, says_name, is_sample_of, listed_record, first_of_name, name_of_first}
+use Rattle.segment_invariant.proofs.Consistency.Books.{one_first, sample_first}
+use Rattle.segment_invariant.proofs.Consistency.Totals.{kind_word}
+use Rattle.segment_invariant.proofs.Consistency.Held.{counts_ref, own_counts, counts_unlisted, single_leads, later_record, later_sample, none_before}
+use Rattle.segment_invariant.proofs.Consistency.Forms.{formed_as}
+
+-- ---- lawful specs are named lawfully
+
+-- numbers that ascend, by a test
+test_ascends : (low : ℕ) (xs : List ℕ) → ((y : ℕ) → Member y xs → low < y) → Ascends xs → ascends_above low xs ≡ true
+test_ascends low [] above up = refl
+test_ascends low (x ∷ xs) above up = and_from _ _ (lt-ltb low x (above x (inl refl))) (test_ascends x xs up.0 up.1)
+
+spec_is_named : (kind : Spec) (inner : List ℕ) → spec_fault kind ≡ None → (slice_index (spec_fields kind) 0 ≡ 3 → inner ≡ spec_ranges kind)
+    → is_spec_named (slice_index (spec_fields kind) 0) (slice_index (spec_fields kind) 1) (slice_index (spec_fields kind) 2) (slice_index (spec_fields kind) 3) inner ≡ true
+spec_is_named (spec.Linear min max n) inner lawful ranges = ap is_none lawful
+spec_is_named spec.Boolean inner lawful ranges = refl
+spec_is_named spec.Sparse inner lawful ranges = refl
+spec_is_named (spec.Custom values) inner lawful ranges =
+    let distinct : List ℕ = distinct_values values in
+    let custom = is_custom-from_checks values lawful in
+    let some_there = some_distinct values custom in
+    let long = length-distinct values in
+    let few = custom.few in
+    let up : Ascends (0 ∷ (distinct ++ 2147483647 ∷ [])) = ascends-from (0 ∷ (distinct ++ 2147483647 ∷ [])) (custom_boundaries-ascending values custom) in
+    let last : length distinct + 1 - 2 ≡ length distinct - 1 = omega arith in
+    subst (λ (inner : List ℕ). is_spec_named 3 (slice_index distinct 0) (slice_index distinct (length distinct - 1)) (length distinct + 1) inner ≡ true) (sym (ranges refl))
+    (and_from _ _ (and_from _ _ (and_from _ _ (and_from _ _ (and_from _ _ (le-leb 2 (length distinct + 1) (omega (arith, some_there)))
+    (le-leb (length distinct + 1) 1000 (omega (arith, few, long))))
+    (eq-eqb (length distinct) (length distinct + 1 - 1) (omega arith)))
+    (test_ascends 0 (distinct ++ 2147483647 ∷ []) up.0 up.1))
+    (eq-eqb (slice_index distinct 0) (slice_index distinct 0) refl))
+    (eq-eqb (slice_index distinct (length distinct + 1 - 2)) (slice_index distinct (length distinct - 1)) (ap (slice_index distinct) last)))
+
+-- a spec has a kind that is read
+kind_named : (kind : Spec) → is_kind (slice_index (spec_fields kind) 0) ≡ true
+kind_named (spec.Linear min max n) = refl
+kind_named spec.Boolean = refl
+kind_named (spec.Custom values) = refl
+kind_named spec.Sparse = refl
+
+-- ---- a kept state of a new segment
+
+module _ (shape : Dimensions) (version id : ℕ) (state : State) (lawful : IsShape shape) (kept : Kept shape (blank version id shape.size) state) where
+  -- what a record of a histogram holds
+  holds_histogram : (at : ℕ) (r : Record) → HasRecord kept.anatomy.pieces at r
+      → HoldsMade state.words (order_of kept.anatomy) at (made.Histogram r.name r.spec)
+  holds_histogram at r has =
+      let right = kept.records.lawful at r has in
+      let word = λ (j : ℕ) (below : j < 15). record_word shape state.words kept.anatomy kept.shown at r j has below in
+      let named = says_name shape version id state kept at r has in
+      let letters = name_long shape state.words kept.anatomy kept.shown kept.anatomy.version r right in
+      let len = word 14 (omega arith) in
+      let long = ap name_words len in
+      let sized = right.sized in
+      let size = word 0 (omega arith) in
+      let ranges = ranges_part shape state.words kept.anatomy kept.shown kept.anatomy.version at r has right in
+      let spec_is = record_spec shape state.words kept.anatomy kept.shown kept.anatomy.version at r has right in
+      let many = buckets_are shape state.words kept.anatomy kept.shown kept.anatomy.version at r has right in
+      let page = ap (λ (s : Dimensions). s.page) (shape_is shape version id state lawful kept) in
+      let fits = right.fits in (
+        word 2 (omega arith),
+        and_from _ _ (le-leb (15 + name_words (field_at state.words at 14)) (field_at state.words at 0) (omega (arith, long, letters, size, sized)))
+            (ap is_name named ∙ right.named),
+        named,
+        ap is_kind (word 4 (omega arith)) ∙ kind_named r.spec,
+        and_from _ _ (le-leb (reading.record_words state.words at) (field_at state.words at 0)
+            (room at r has (field_at state.words at 4 == 3) (eqb-true (field_at state.words at 4) 3) (15 + name_words (field_at state.words at 14)) (field_at state.words at 7 - 1)
+            (omega (arith, long, letters))
+            (λ custom. ap (λ (n : ℕ). n - 1) (word 7 (omega arith)) ∙ ranges_fewer r.spec (sym (word 4 (omega arith)) ∙ custom))
+            (omega (arith, size, sized))))
+            ((λ j. is_spec_named (word 4 (omega arith) j) (word 5 (omega arith) j) (word 6 (omega arith) j) (word 7 (omega arith) j) (inner_ranges state.words at))
+            ∙ spec_is_named r.spec (inner_ranges state.words at) right.lawful ranges),
+        subst (λ (kind : Spec). SameSpec kind r.spec) (sym spec_is) (same_spelled r.spec),
+        omega (arith, fits, many, page),
+        subst (AreNameWords r.name) (sym (letters_part shape state.words kept.anatomy kept.shown kept.anatomy.version at r has right)) right.lettered,
+      )
+    where
+      room : (at : ℕ) (r : Record) → HasRecord kept.anatomy.pieces at r → (b : Bool) → (b ≡ true → field_at state.words at 4 ≡ 3) → (fields ranges : ℕ)
+          → fields ≤ 15 + length r.letters → (field_at state.words at 4 ≡ 3 → ranges ≡ length (spec_ranges r.spec))
+          → 15 + length r.letters + length (spec_ranges r.spec) ≤ field_at state.words at 0
+          → fields + (if b then ranges else 0) ≤ field_at state.words at 0
+      room at r has true custom fields ranges less are most = let e = are (custom refl) in omega (arith, e, less, most)
+      room at r has false custom fields ranges less are most = omega (arith, less, most)
+
+  -- what a record of the list holds
+  holds_given : (l : Listed) → Contains kept.anatomy.records l → (m : Made) → l.made ≡ Some m → HoldsMade state.words (order_of kept.anatomy) l.reference m
+  holds_given l there (made.Histogram name kind) is =
+      let (r, has, named, specified) = subst (StandsAs kept.anatomy.pieces l) is (standing_of shape version id state kept l there) in
+      subst (λ (p : List ℕ × Spec). HoldsMade state.words (order_of kept.anatomy) l.reference (made.Histogram p.0 p.1)) (λ j. (named j, specified j))
+      (holds_histogram l.reference r has)
+  holds_given l there (made.Sample of value) is =
+      let (s, has, mine, valued) = subst (StandsAs kept.anatomy.pieces l) is (standing_of shape version id state kept l there) in
+      let right = kept.records.valued l.reference s has in
+      let sized = right.sized in
+      let size = piece_word shape state.words kept.anatomy kept.shown has.0 _ 0 has.1 (omega arith) in
+      let among = at_from kept.anatomy.records l there in
+      let (front, behind, split, others) = split_at kept.anatomy.records among.0 l among.1 in
+      let here : kept.anatomy.records ≡ front ++ record { reference = l.reference; made = Some (made.Sample of value) } ∷ behind =
+      split ∙ ap (λ (m : Option Made). front ++ record { reference = l.reference; made = m } ∷ behind) is in
+      let (name, (xs, ys, before, none_first), its_name) = kept.records.sampled front behind l.reference of value here in
+      let first : IsFirst kept.anatomy.records s.name spec.Sparse of =
+      subst (IsFirst kept.anatomy.records s.name spec.Sparse) mine (sample_first shape version id state kept l.reference s has) in
+      let histogram_is = name_of_first shape version id state kept s.name spec.Sparse of first in
+      let (kind, r, again, (stands, called, sorted)) = first_of_name shape version id state kept s.name of histogram_is in
+      let sparse : r.spec ≡ spec.Sparse = sorted ∙ (one_first shape version id state kept s.name kind spec.Sparse of of again first).1 in
+      let references = λ (records : List Listed). map (λ (l : Listed). l.reference) records in
+      let says = is_sample_of shape version id state kept l.reference s has in (
+        (says.0, says.1 ∙ mine, says.2 ∙ valued),
+        omega (arith, size, sized),
+        subst (λ (v : ℤ). reading.is_i32 v ≡ true) valued right.valued,
+        (
+          s.name,
+          references front,
+          references behind,
+          histogram_is,
+          kind_word shape version id state kept of r stands ∙ ap (λ (kind : Spec). slice_index (spec_fields kind) 0 == 4) sparse,
+          ap references split ∙ map-append (λ (l : Listed). l.reference) front (l ∷ behind),
+          subst (λ (list : List ℕ). Contains list of) (sym (ap references before ∙ map-append (λ (l : Listed). l.reference) xs _))
+              (Contains-append_right (references xs) (of ∷ references ys) of (0, omega arith, refl)),
+        ),
+      )
+
+  -- a published record is on the list
+  published_listed : (p : Published) → Contains (all_published state.actors) p → Contains kept.anatomy.records (listed p)
+  published_listed p there =
+      let (front, all, permuted) = kept.list.once in
+      let place = at_from (all_published state.actors) p there in
+      let among = contains_at (map listed (all_published state.actors)) place.0 (listed p) (at_map listed (all_published state.actors) place.0 p place.1) in
+      subst (λ (records : List Listed). Contains records (listed p)) (sym all)
+      (Contains-permutation (map listed (all_published state.actors)) front (listed p) (IsPermutation-sym _ _ permuted) among)
+
+pub records_hold : KeptRecordsHold
+records_hold shape version id state lawful kept = record {
+  made = λ p there. holds_given shape version id state lawful kept (listed p) (published_listed shape version id state lawful kept p there) p.made refl;
+  still = λ front at is there. absurd (none_before shape version id state kept front at is there);
+  formed = λ at there one.
+      let (l, name, kind, r, among, place, made, (has, named, specified)) = listed_record shape version id state kept at there one in
+      formed_as shape version id state kept at r has;
+  own_counts = own_counts shape version id state kept;
+  claimed_counts = λ at there one some_there.
+      let (l, name, kind, r, among, place, made, (has, named, specified)) = listed_record shape version id state kept at there one in
+      let names_it = counts_ref shape version id state kept at r has in
+      let (c, mounted, of_it) = kept.records.mounted at r has (λ e. some_there (names_it ∙ e)) in (
+        subst (Contains _) (sym names_it) (claimed_at shape version id state lawful kept mounted.0 _ mounted.1 refl),
+        subst (λ (at : ℕ). ¬ (Contains (order_of kept.anatomy) at)) (sym names_it) (counts_unlisted shape version id state kept r.counts c mounted),
+      );
+  singles = λ who a alive lives s at seen there same. single_leads shape version id state kept s at
+      (All-contains (WasSingle kept.anatomy.version kept.anatomy.pieces) a.seen_singles s (kept.each who a alive lives).sees.singles seen) same;
+  later = λ at other there one is apart.
+      let (l, name, kind, r, among, place, made, (has, named, specified)) = listed_record shape version id state kept at there one in
+      let from = (claimed_piece shape state.words kept.anatomy kept.shown kept.blocks has.0 _ has.1 refl).from in
+      (λ below. cc (sym below ∙ le-ltb at 16 from), λ _. later_record shape version id state kept at other there one is apart);
+  later_samples = later_sample shape version id state kept;
+}

@@ -1,0 +1,148 @@
+-- The sums of a kept state are the amounts: of the records of a name only the first counts.
+use Rattle.std.proofs.Common.{◌≡◌, ◌≢◌, Bool, true, false, ℕ, ◌≤◌, ℤ, pos, nat_lt, if◌then◌else◌, List, refl, sym, ap, subst, ◌∙◌, ⊎_elim, arith}
+use Rattle.std.specs.Int.{w64, cast_signed}
+use Rattle.std.specs.Str.{bytes_eq}
+use Rattle.std.proofs.Math.IntN.{+ℤ_idl}
+use Rattle.std.proofs.lemmas.Bool.{le-ltb}
+use Rattle.std.proofs.lemmas.Slice.Eq.{bytes_eq-Decides}
+use mathlib.Core.Option.{some, none}
+use lib.ListN.{get_elem?}
+use Rattle.segment_image.specs.Shape.{Dimensions}
+use Rattle.segment_image.specs.Blocks.{field_at}
+use Rattle.bucket_ranges.specs.declared.spec.Spec.{Spec}
+use Rattle.segment_machine.specs.declared.actor.Own.{Own}
+use Rattle.segment_machine.specs.State.{State}
+use Rattle.segment_invariant.specs.Consistent.{new_opening}
+use Rattle.segment_invariant.specs.Consistent.{redundant_at_opening}
+use Rattle.segment_invariant.specs.Body.{Record, Body, queue, plain, held, histogram, counts, sample, other, is_claimed, Piece, blank}
+use Rattle.segment_invariant.specs.Ledger.{of_name, amount_of_name, sum_held, sum_mark_held, noted_held, all_held, all_amounts}
+use Rattle.segment_invariant.specs.Seen.{Stands, HasRecord, IsFirst}
+use Rattle.segment_invariant.specs.Kept.{Kept, CountsNothing}
+use Rattle.segment_invariant.specs.Keeps.{KeptSumsAreAmounts}
+use Rattle.segment_invariant.proofs.Blocks.Pieces.{one_piece}
+use Rattle.segment_invariant.proofs.Lists.FewTerms.{Elsewhere, sum_one, amounts_one}
+use Rattle.segment_invariant.proofs.Consistency.Blocks.{claimed_piece}
+use Rattle.segment_invariant.proofs.Consistency.Records.{record_word}
+use Rattle.segment_invariant.proofs.Consistency.Firsts.{first_of_name}
+
+-- ---- numbers of a name
+
+module _ (mine name : List ℕ) where
+  -- of the name it is the number
+  pub of_mine : (n : ℕ) → mine ≡ name → of_name mine name n ≡ n
+  of_mine n same = ap (λ (b : Bool). if b then n else 0) ((bytes_eq-Decides mine name).1 same)
+
+  pub amount_of_mine : (n : ℤ) → mine ≡ name → amount_of_name mine name n ≡ n
+  amount_of_mine n same = ap (λ (b : Bool). if b then n else pos 0) ((bytes_eq-Decides mine name).1 same)
+
+  -- of another it is nothing
+  pub nothing_of : (n : ℕ) → (mine ≡ name → n ≡ 0) → of_name mine name n ≡ 0
+  nothing_of n empty = by_test (bytes_eq mine name) (bytes_eq-Decides mine name).0
+    where
+      by_test : (b : Bool) → (b ≡ true → mine ≡ name) → (if b then n else 0) ≡ 0
+      by_test true same = empty (same refl)
+      by_test false same = refl
+
+  pub no_amount_of : (n : ℤ) → (mine ≡ name → n ≡ pos 0) → amount_of_name mine name n ≡ pos 0
+  no_amount_of n empty = by_test (bytes_eq mine name) (bytes_eq-Decides mine name).0
+    where
+      by_test : (b : Bool) → (b ≡ true → mine ≡ name) → (if b then n else pos 0) ≡ pos 0
+      by_test true same = empty (same refl)
+      by_test false same = refl
+
+-- what is so of a block's record of this name, where it is one
+abbrev pub OfRecord : List ℕ → Body → (Record → Type 0) → Type 0
+OfRecord name body is = (r : Record) → body ≡ histogram r → r.name ≡ name → is r
+
+-- a block holds no sum where its record of the name has empty
+no_sum : (name : List ℕ) (body : Body) → OfRecord name body (λ r. r.sum ≡ 0) → sum_held name body ≡ pos 0
+no_sum name (histogram r) empty = no_amount_of r.name name _ (λ same. ap (cast_signed w64) (empty r refl same))
+no_sum name (queue next) empty = refl
+no_sum name (plain words) empty = refl
+no_sum name (held block) empty = refl
+no_sum name (counts c) empty = refl
+no_sum name (sample s) empty = refl
+no_sum name (other size tag next payload) empty = refl
+
+no_sum_mark : (name : List ℕ) (body : Body) → OfRecord name body (λ r. r.sum_mark ≡ 0) → sum_mark_held name body ≡ pos 0
+no_sum_mark name (histogram r) empty = no_amount_of r.name name _ (λ same. ap (cast_signed w64) (empty r refl same))
+no_sum_mark name (queue next) empty = refl
+no_sum_mark name (plain words) empty = refl
+no_sum_mark name (held block) empty = refl
+no_sum_mark name (counts c) empty = refl
+no_sum_mark name (sample s) empty = refl
+no_sum_mark name (other size tag next payload) empty = refl
+
+no_noted : (name : List ℕ) (body : Body) → OfRecord name body (λ r. r.noted ≡ 0) → noted_held name body ≡ 0
+no_noted name (histogram r) empty = nothing_of r.name name r.noted (λ same. empty r refl same)
+no_noted name (queue next) empty = refl
+no_noted name (plain words) empty = refl
+no_noted name (held block) empty = refl
+no_noted name (counts c) empty = refl
+no_noted name (sample s) empty = refl
+no_noted name (other size tag next payload) empty = refl
+
+-- ---- a kept state of a new segment
+
+module _ (shape : Dimensions) (version id : ℕ) (state : State) (kept : Kept shape (blank version id shape.size) state) where
+  -- a published block has no owner
+  pub published_at : (j : ℕ) (p : Piece) (body : Body) → get_elem? kept.anatomy.pieces j ≡ some p → p.body ≡ body → is_claimed body ≡ true
+      → ((block : Own) → body ≢ held block) → Stands kept.anatomy.pieces p.at none body
+  published_at j p body there is claimed free =
+      ⊎_elim
+      (λ nobody. (j, there ∙ (λ i. some (record { at = p.at; owner = nobody i; body = is i }))))
+      (λ own. absurd (free own.0 (sym is ∙ own.1)))
+      (kept.blocks j p there (ap is_claimed is ∙ claimed)).2
+
+  -- another block has no record of the name that counts
+  pub other_nothing : (name : List ℕ) (spec : Spec) (at : ℕ) (r : Record) → IsFirst kept.anatomy.records name spec at → (has : HasRecord kept.anatomy.pieces at r)
+      → Elsewhere kept.anatomy.pieces (λ j. j ≢ has.0) (λ p. OfRecord name p.body CountsNothing)
+  other_nothing name spec at r first has j p there apart r' is named =
+      let here = published_at j p (histogram r') there is refl (λ block e. cc e) in
+      kept.records.later p.at at r' spec here (subst (λ (name : List ℕ). IsFirst kept.anatomy.records name spec at) (sym named) first)
+      (λ same. apart (one_piece shape state.words kept.anatomy kept.shown j has.0 p _ there has.1 (sym same)).0)
+
+  module _ (name : List ℕ) (spec : Spec) (at : ℕ) (r : Record) (first : IsFirst kept.anatomy.records name spec at) (has : HasRecord kept.anatomy.pieces at r)
+      (named : r.name ≡ name) where
+    -- all blocks together hold the sum of the first record, its mark, and its redundant units
+    pub sum_is : all_amounts (sum_held name) kept.anatomy.pieces ≡ cast_signed w64 r.sum
+    sum_is =
+        amounts_one (λ p. sum_held name p.body) kept.anatomy.pieces (pos 0) has.0 _ has.1
+        (λ j p there apart. no_sum name p.body (λ r' is same. (other_nothing name spec at r first has j p there apart r' is same).3))
+        ∙ (+ℤ_idl _ ∙ amount_of_mine r.name name _ named)
+
+    pub sum_mark_is : all_amounts (sum_mark_held name) kept.anatomy.pieces ≡ cast_signed w64 r.sum_mark
+    sum_mark_is =
+        amounts_one (λ p. sum_mark_held name p.body) kept.anatomy.pieces (pos 0) has.0 _ has.1
+        (λ j p there apart. no_sum_mark name p.body (λ r' is same. (other_nothing name spec at r first has j p there apart r' is same).4))
+        ∙ (+ℤ_idl _ ∙ amount_of_mine r.name name _ named)
+
+    pub noted_is : all_held (noted_held name) kept.anatomy.pieces ≡ r.noted
+    noted_is =
+        sum_one (λ p. noted_held name p.body) kept.anatomy.pieces has.0 _ has.1
+        (λ j p there apart. no_noted name p.body (λ r' is same. (other_nothing name spec at r first has j p there apart r' is same).5))
+        ∙ of_mine r.name name r.noted named
+
+  -- no record was there at the opening
+  not_before : (at : ℕ) (r : Record) → HasRecord kept.anatomy.pieces at r → redundant_at_opening (new_opening shape version id).words at ≡ 0
+  not_before at r (k, there) =
+      let behind = (claimed_piece shape state.words kept.anatomy kept.shown kept.blocks k _ there refl).from in
+      ap (λ (b : Bool). if b then field_at (new_opening shape version id).words at 13 else 0) (not_below at behind)
+    where
+      not_below : (at : ℕ) → 16 ≤ at → nat_lt at 16 ≡ false
+      not_below at from = le-ltb at 16 from
+
+pub sums_are_amounts : KeptSumsAreAmounts
+sums_are_amounts shape version id state lawful kept = record {
+  sum = λ name at is.
+      let (spec, r, first, (has, named, specified)) = first_of_name shape version id state kept name at is in
+      ap (cast_signed w64) (record_word shape state.words kept.anatomy kept.shown at r 11 has (omega arith))
+      ∙ (sym (sum_is shape version id state kept name spec at r first has named) ∙ kept.balanced.sums name);
+  redundant = λ name at is.
+      let (spec, r, first, (has, named, specified)) = first_of_name shape version id state kept name at is in
+      let word = record_word shape state.words kept.anatomy kept.shown at r 13 has (omega arith) in
+      let held = noted_is shape version id state kept name spec at r first has named in
+      let new = not_before shape version id state kept at r has in
+      let balance = kept.balanced.noted name in
+      omega (arith, word, held, new, balance);
+}

@@ -1,0 +1,58 @@
+-- What a record and its counts block hold of a bucket is at most what was counted there. So it needs nobody's past: it holds of counts
+-- that an actor comes to know only now.
+use Rattle.std.proofs.Common.{◌≡◌, ◌≢◌, ℕ, ◌+◌, ◌<◌, ◌≤◌, List, [], set, refl, sym, ap, ◌∙◌, arith}
+use Rattle.std.specs.Prelude.{slice_index}
+use mathlib.Core.Option.{some, some-injective}
+use lib.ListN.{get_elem?}
+use Rattle.atomic_table.proofs.Lists.{set_else}
+use Rattle.segment_image.specs.Shape.{Dimensions}
+use Rattle.bucket_ranges.specs.declared.spec.Spec.{Spec}
+use Rattle.bucket_ranges.specs.declared.spec.Spec.TheVariants as spec
+use Rattle.bucket_ranges.specs.Spec.{buckets_of}
+use Rattle.bucket_ranges.specs.Single.{units_packed}
+use Rattle.segment_machine.specs.Actor.{all_counted}
+use Rattle.segment_machine.specs.Entry.{tally_units}
+use Rattle.segment_machine.specs.State.{State}
+use Rattle.segment_invariant.specs.Body.{Record, Counts, Body, plain, histogram, counts, Piece, Anatomy}
+use Rattle.segment_invariant.specs.Ledger.{form_at, key_of_bucket, keyed, units_held, all_held}
+use Rattle.segment_invariant.specs.Seen.{HasRecord, HasCounts}
+use Rattle.segment_invariant.specs.Kept.{IsCountsOf, Kept}
+use Rattle.segment_invariant.proofs.Lists.Elements.{sum_at_least, sum_beside}
+use Rattle.segment_invariant.proofs.Consistency.Keys.{packed_within, packed_units}
+use Rattle.segment_invariant.proofs.Consistency.Sums.{of_mine}
+use Rattle.segment_invariant.proofs.Consistency.Books.{keyed_one}
+
+-- two blocks hold no more than all do
+pub two_held : (holds : Body → ℕ) (pieces : List Piece) (j k : ℕ) (p q : Piece) → holds (plain []) ≡ 0
+    → get_elem? pieces j ≡ some p → get_elem? pieces k ≡ some q → k ≢ j → holds p.body + holds q.body ≤ all_held holds pieces
+two_held holds pieces j k p q silent there here apart =
+    let blank : Piece = record { at = p.at; owner = p.owner; body = plain [] } in
+    let rest = sum_beside (λ (piece : Piece). holds piece.body) pieces j p blank there in
+    let least = sum_at_least (λ (piece : Piece). holds piece.body) (set pieces j blank) k q (set_else pieces j k blank apart ∙ here) in
+    omega (arith, rest, least, silent)
+
+-- a spec that has a bucket is not sparse
+pub not_sparse : (kind : Spec) (bucket : ℕ) → bucket < buckets_of kind → kind ≢ spec.Sparse
+not_sparse kind bucket below sparse = let none_there = ap buckets_of sparse in omega (arith, below, none_there)
+
+module _ (shape : Dimensions) (opened : Anatomy) (state : State) (kept : Kept shape opened state) where
+  pub held_most : (at : ℕ) (r : Record) (c : Counts) (bucket : ℕ) → HasRecord kept.anatomy.pieces at r → HasCounts kept.anatomy.pieces r.counts c
+      → IsCountsOf kept.anatomy.version at r c → bucket < buckets_of r.spec
+      → slice_index c.units bucket + units_packed (form_at kept.anatomy.version r) bucket
+      ≤ tally_units (all_counted state.actors) r.name (key_of_bucket r.spec bucket)
+  held_most at r c bucket (j, there) (k, here) of_it below =
+      let version : ℕ = kept.anatomy.version in
+      let key = key_of_bucket r.spec bucket in
+      let lawful = (kept.records.lawful at r (j, there)).lawful in
+      let bucketed = not_sparse r.spec bucket below in
+      let ledger = kept.balanced.units r.name key in
+      let apart : k ≢ j = λ same.
+      cc (ap (λ (p : Piece). p.body) (some-injective _ _ (sym here ∙ (ap (get_elem? kept.anatomy.pieces) same ∙ there)))) in
+      let both = two_held (units_held version r.name key) kept.anatomy.pieces j k _ _ refl there here apart in
+      let packed : units_held version r.name key (histogram r) ≡ units_packed (form_at version r) bucket =
+      of_mine r.name r.name _ refl
+      ∙ packed_units r.spec lawful bucketed bucket below (form_at version r) (λ b is. packed_within version (buckets_of r.spec) r.single b is) in
+      let counted : units_held version r.name key (counts c) ≡ slice_index c.units bucket =
+      of_mine c.name r.name _ of_it.named
+      ∙ (ap (λ (kind : Spec). keyed kind key c.units) of_it.same ∙ keyed_one r.spec c.units bucket lawful bucketed of_it.units below) in
+      omega (arith, ledger, both, packed, counted)

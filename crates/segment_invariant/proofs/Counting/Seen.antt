@@ -1,0 +1,112 @@
+-- What an actor has seen of a bucket is at most what was counted there, also where it comes to know the counts only now.
+use Rattle.std.proofs.Common.{◌≡◌, ◌≢◌, ℕ, ◌+◌, ◌-◌, ◌<◌, ◌≤◌, true, List, [], ◌∷◌, ◌++◌, length, Contains, inl, inr, refl, sym, ap, ◌∙◌, subst, arith, length-append}
+use Rattle.std.specs.Prelude.{slice_index, pos, Some}
+use Rattle.std.proofs.lemmas.List.{get_or-append_right, get_or_append_left}
+use Rattle.std.proofs.lemmas.List.Elements.{All-contains, All-drop, Contains-append_right}
+use mathlib.Core.Option.{some, some-injective}
+use lib.ListN.{get_elem?}
+use Rattle.segment_image.specs.Shape.{Dimensions}
+use Rattle.bucket_ranges.specs.Spec.{buckets_of}
+use Rattle.bucket_ranges.specs.Ranges.{boundaries_of}
+use Rattle.bucket_ranges.specs.Single.{single_of, units_packed}
+use Rattle.segment_machine.specs.declared.actor.Actor.{Actor}
+use Rattle.segment_machine.specs.declared.actor.Known.{Known}
+use Rattle.segment_machine.specs.declared.actor.Made.TheVariants as made
+use Rattle.segment_machine.specs.declared.place.Place.TheVariants.{Spent}
+use Rattle.segment_machine.specs.Form.{is_off, Leads}
+use Rattle.segment_machine.specs.Actor.{all_counted, bucket_key, SawSingle, SawCount}
+use Rattle.segment_machine.specs.Entry.{tally_units}
+use Rattle.segment_machine.specs.State.{State}
+use Rattle.segment_invariant.specs.Body.{Record, Counts, counts, words_of, Piece, Listed, Anatomy}
+use Rattle.segment_invariant.specs.Ledger.{form_at}
+use Rattle.segment_invariant.specs.Seen.{HasRecord, HasCounts, WasCounter, WasSingle, Knows}
+use Rattle.segment_invariant.specs.Kept.{StandsAs, Kept}
+use Rattle.segment_invariant.proofs.Blocks.Places.{counter_within}
+use Rattle.segment_invariant.proofs.Blocks.Pieces.{one_index}
+use Rattle.segment_invariant.proofs.Consistency.Keys.{same_boundaries, same_buckets}
+use Rattle.segment_invariant.proofs.Counting.Held.{held_most}
+
+-- a count stands behind the header of its block
+pub count_in : (c : Counts) (i : ℕ) → i < length c.units → slice_index (words_of (counts c)) (4 + i) ≡ slice_index c.units i
+count_in c i below =
+    let long = length-append c.units c.marks in
+    let back : 4 + i - 4 ≡ i = omega arith in
+    get_or-append_right (c.size ∷ 0xC8799269 ∷ 2 ∷ c.next ∷ []) (c.units ++ c.marks ++ c.rest) 4 (4 + i) 0 refl (omega arith)
+    ∙ (ap (slice_index (c.units ++ c.marks ++ c.rest)) back
+    ∙ (get_or_append_left (c.units ++ c.marks) c.rest 0 i (omega (arith, below, long)) ∙ get_or_append_left c.units c.marks 0 i below))
+
+-- a word that is off leads to itself alone
+off_leads : (version n old new : ℕ) → is_off old ≡ true → Leads version n old new → old ≡ new
+off_leads version n old new off (inl same) = same
+off_leads version n old new off (inr (inl empty)) = cc (sym (ap is_off empty) ∙ off)
+off_leads version n old new off (inr (inr (on, same, fewer))) = cc (sym on ∙ off)
+
+module _ (shape : Dimensions) (opened : Anatomy) (state : State) (kept : Kept shape opened state) (id : ℕ) (a : Actor)
+    (mine : get_elem? state.actors id ≡ some a) (lives : a.place ≢ Spent) where
+  -- a histogram that it knows stands as a record of that name and as many buckets, with the same keys
+  pub known_stands : (known : Known) → Contains a.names known
+      → (r : Record) × HasRecord kept.anatomy.pieces known.reference r × (r.name ≡ known.name) × (boundaries_of r.spec ≡ boundaries_of known.spec)
+      × (buckets_of r.spec ≡ buckets_of known.spec)
+  known_stands known has =
+      let knows = All-contains (Knows kept.anatomy) a.names known (kept.each id a mine lives).sees.names has in
+      let (front, behind, is, others) = knows.first in
+      let l : Listed = record { reference = known.reference; made = Some (made.Histogram known.name knows.first_spec) } in
+      let (r, stands, named, same) = All-contains (λ l. StandsAs kept.anatomy.pieces l l.made) kept.anatomy.records l kept.list.standing
+      (subst (λ (records : List Listed). Contains records l) (sym is) (Contains-append_right front (l ∷ behind) l (0, omega arith, refl))) in (
+        r,
+        stands,
+        named,
+        ap boundaries_of same ∙ same_boundaries knows.first_spec known.spec knows.same,
+        ap buckets_of same ∙ same_buckets knows.first_spec known.spec knows.same,
+      )
+
+  -- a single word that it saw off is that of the record
+  pub off_is : (at word : ℕ) (r : Record) → HasRecord kept.anatomy.pieces at r → SawSingle a (at + 9) word → is_off word ≡ true → word ≡ r.single
+  off_is at word r (k, there) saw off =
+      let singles = (kept.each id a mine lives).sees.singles in
+      let (place, q, (j, here), is, formed, leads) =
+      All-contains (WasSingle kept.anatomy.version kept.anatomy.pieces) _ (record { at = at + 9; word = word })
+      (All-drop (WasSingle kept.anatomy.version kept.anatomy.pieces) a.since_singles a.seen_singles singles) saw in
+      let index = one_index shape state.words kept.anatomy kept.shown k j _ _ 9 9 there here (omega arith) (omega arith) is in
+      let same = some-injective _ _ (sym there ∙ (ap (get_elem? kept.anatomy.pieces) index ∙ here)) in
+      let body = ap (λ (p : Piece). slice_index (words_of p.body) 9) same in
+      off_leads kept.anatomy.version (buckets_of q.spec) word q.single off leads ∙ sym body
+
+  -- a count that it saw is no more than the count is
+  pub count_most : (at bucket count : ℕ) (c : Counts) → HasCounts kept.anatomy.pieces at c → bucket < length c.units → SawCount a (at + 4 + bucket) count
+      → count ≤ slice_index c.units bucket
+  count_most at bucket count c (k, there) below saw =
+      let counters = (kept.each id a mine lives).sees.counters in
+      let (place, i, body, (j, here), is, counter, least) =
+      All-contains (WasCounter kept.anatomy.pieces) _ (record { at = at + 4 + bucket; word = count })
+      (All-drop (WasCounter kept.anatomy.pieces) a.since_counts a.seen_counts counters) saw in
+      let long = length-append c.units c.marks in
+      let all = length-append (c.units ++ c.marks) c.rest in
+      let where_is : at + (4 + bucket) ≡ place + i = omega (arith, is) in
+      let index = one_index shape state.words kept.anatomy kept.shown k j _ _ (4 + bucket) i there here (omega (arith, below, long, all)) (counter_within body i counter) where_is in
+      let same = some-injective _ _ (sym there ∙ (ap (get_elem? kept.anatomy.pieces) index ∙ here)) in
+      let spot : at ≡ place = ap (λ (p : Piece). p.at) same in
+      let word_is : i ≡ 4 + bucket = omega (arith, spot, where_is) in
+      let value : slice_index (words_of body) i ≡ slice_index c.units bucket =
+      (λ n. slice_index (words_of (sym same n).body) (word_is n)) ∙ count_in c bucket below in
+      omega (arith, least, value)
+
+  -- so what it saw of a bucket, where it saw the single word off and a count of the counts that the record names
+  pub seen_most : (known : Known) (bucket word place count : ℕ) → Contains a.names known → bucket < buckets_of known.spec
+      → SawSingle a (known.reference + 9) word → is_off word ≡ true
+      → ((r : Record) → HasRecord kept.anatomy.pieces known.reference r → r.counts ≡ place) → place ≢ 0 → SawCount a (place + 4 + bucket) count
+      → count + units_packed (single_of kept.anatomy.version (buckets_of known.spec) word) bucket
+      ≤ tally_units (all_counted state.actors) known.name (bucket_key (Some known) bucket)
+  seen_most known bucket word place count has below single off refers some_place saw =
+      let (r, stands, named, bounds, many) = known_stands known has in
+      let at_place = refers r stands in
+      let (c, mounted, of_it) = kept.records.mounted known.reference r stands (λ none_there. some_place (sym at_place ∙ none_there)) in
+      let units = of_it.units in
+      let counted = count_most r.counts bucket count c mounted (omega (arith, below, many, units)) (subst (λ n. SawCount a (n + 4 + bucket) count) (sym at_place) saw) in
+      let most = held_most shape opened state kept known.reference r c bucket stands mounted of_it (omega (arith, below, many)) in
+      let form : units_packed (single_of kept.anatomy.version (buckets_of known.spec) word) bucket ≡ units_packed (form_at kept.anatomy.version r) bucket =
+      (λ i. units_packed (single_of kept.anatomy.version (sym many i) (off_is known.reference word r stands single off i)) bucket) in
+      let tally : tally_units (all_counted state.actors) r.name (pos (slice_index (boundaries_of r.spec) bucket))
+      ≡ tally_units (all_counted state.actors) known.name (bucket_key (Some known) bucket) =
+      (λ i. tally_units (all_counted state.actors) (named i) (pos (slice_index (bounds i) bucket))) in
+      omega (arith, counted, most, form, tally)

@@ -1,0 +1,14 @@
+pub mod Anatomies
+pub mod Answers
+pub mod Books
+pub mod Deeds
+pub mod GoesOn
+pub mod Growth
+pub mod GrowthOfActors
+pub mod GrowthOfRecords
+pub mod GrowthOfStates
+pub mod OneActor
+pub mod Roles
+pub mod Spending
+pub mod Standing
+pub mod Together

@@ -1,0 +1,356 @@
+-- How a segment grows while records are put on its list: published blocks stay but for their nexts, the list becomes longer at its
+-- end, and what was seen stays true.
+use Rattle.std.proofs.Common.{◌≡◌, ◌≢◌, ◌⊎◌, ℕ, zero, suc, ◌+◌, ◌<◌, ◌≤◌, ℤ, pos, Bool, true, List, [], ◌++◌, map, length, All, inl, inr, ⊎_elim, refl, sym, ap, ◌∙◌, subst, arith, append_assoc, append-nil, length-append}
+use Rattle.std.specs.Prelude.{slice_index, Some, None}
+use Rattle.std.specs.Prelude as std
+use Rattle.std.proofs.lemmas.List.{get_or_append_left, map-append}
+use Rattle.std.proofs.lemmas.List.Elements.{All-weaker}
+use mathlib.Core.Option.{none}
+use Rattle.bucket_ranges.specs.declared.spec.Spec.{Spec}
+use Rattle.bucket_ranges.specs.Spec.{buckets_of}
+use Rattle.alloc_core.specs.Laws.{Behind}
+use Rattle.list_core.specs.Chain.{stops}
+use Rattle.list_core.specs.Laws.{IsStop, AreNeighbours}
+use Rattle.list_core.specs.Walk.{IsPrefix}
+use Rattle.list_core.proofs.Prefixes.{prefix_of_prefix}
+use Rattle.segment_machine.specs.declared.actor.Actor.{Actor}
+use Rattle.segment_machine.specs.declared.actor.Known.{Known}
+use Rattle.segment_machine.specs.declared.actor.Sighting.{Sighting}
+use Rattle.segment_machine.specs.declared.actor.Made.{Made}
+use Rattle.segment_machine.specs.declared.actor.Made.TheVariants as made
+use Rattle.segment_machine.specs.declared.actor.Own.{Own}
+use Rattle.bucket_ranges.specs.Single.{single_of}
+use Rattle.segment_machine.specs.Form.{Leads}
+use Rattle.segment_invariant.specs.Body.{Record, Counts, Sample, Body, queue, plain, held, histogram, counts, sample, other, words_of, is_claimed, Piece, Listed, Anatomy, order_of, free_of}
+use Rattle.segment_invariant.specs.Ledger.{all_held, all_amounts}
+use Rattle.segment_invariant.specs.Seen.{Stands, HasPlain, HasRecord, HasCounts, HasSample, IsNamed, IsFirst, IsFirstOf, IsFixedIn, IsCounterIn, WasFixed, WasCounter, WasInUse, WasSingle, IsNoLater, AreNoLater, Knows, Sees}
+use Rattle.segment_invariant.specs.Kept.{StandsAs}
+use Rattle.segment_invariant.proofs.Frames.Standing.{Grounds}
+
+-- ---- the next of a block
+
+-- a block with another next, where it has one
+abbrev pub with_next : Body → ℕ → Body
+with_next (queue next) n = queue n
+with_next (plain words) n = plain words
+with_next (held block) n = held block
+with_next (histogram r) n = histogram (record r { next = n })
+with_next (counts c) n = counts c
+with_next (sample s) n = sample (record s { next = n })
+with_next (other size tag next payload) n = other size tag n payload
+
+-- its other words are the same
+pub beside_next : (body : Body) (n i : ℕ) → i ≢ 3 → slice_index (words_of (with_next body n)) i ≡ slice_index (words_of body) i
+beside_next (plain words) n i ne = refl
+beside_next (held block) n i ne = refl
+beside_next (counts c) n i ne = refl
+beside_next body n zero ne = same_size body
+  where
+    same_size : (body : Body) → slice_index (words_of (with_next body n)) 0 ≡ slice_index (words_of body) 0
+    same_size (queue next) = refl
+    same_size (plain words) = refl
+    same_size (held block) = refl
+    same_size (histogram r) = refl
+    same_size (counts c) = refl
+    same_size (sample s) = refl
+    same_size (other size tag next payload) = refl
+beside_next (queue next) n (suc zero) ne = refl
+beside_next (queue next) n (suc (suc zero)) ne = refl
+beside_next (queue next) n (suc (suc (suc zero))) ne = absurd (ne refl)
+beside_next (queue next) n (suc (suc (suc (suc i)))) ne = refl
+beside_next (histogram r) n (suc zero) ne = refl
+beside_next (histogram r) n (suc (suc zero)) ne = refl
+beside_next (histogram r) n (suc (suc (suc zero))) ne = absurd (ne refl)
+beside_next (histogram r) n (suc (suc (suc (suc i)))) ne = refl
+beside_next (sample s) n (suc zero) ne = refl
+beside_next (sample s) n (suc (suc zero)) ne = refl
+beside_next (sample s) n (suc (suc (suc zero))) ne = absurd (ne refl)
+beside_next (sample s) n (suc (suc (suc (suc i)))) ne = refl
+beside_next (other size tag next payload) n (suc zero) ne = refl
+beside_next (other size tag next payload) n (suc (suc zero)) ne = refl
+beside_next (other size tag next payload) n (suc (suc (suc zero))) ne = absurd (ne refl)
+beside_next (other size tag next payload) n (suc (suc (suc (suc i)))) ne = refl
+
+-- a block with the next that it has
+pub same_next : (body : Body) → (n : ℕ) × (with_next body n ≡ body)
+same_next (queue next) = (next, refl)
+same_next (plain words) = (0, refl)
+same_next (held block) = (0, refl)
+same_next (histogram r) = (r.next, refl)
+same_next (counts c) = (0, refl)
+same_next (sample s) = (s.next, refl)
+same_next (other size tag next payload) = (next, refl)
+
+-- what is fixed, or a counter, is no next
+fixed_apart : (body : Body) (n i : ℕ) → IsFixedIn body i → (i ≢ 3) × IsFixedIn (with_next body n) i × (is_claimed body ≡ true)
+fixed_apart (histogram r) n i fixed = (λ e. not_next fixed e, fixed, refl)
+  where
+    not_next : IsFixedIn (histogram r) i → i ≢ 3
+    not_next (inl two) e = omega (arith, two, e)
+    not_next (inr (inl spec)) e = omega (arith, spec.0, e)
+    not_next (inr (inr (inl named))) e = omega (arith, named.0, e)
+    not_next (inr (inr (inr behind))) e = omega (arith, behind.0, e)
+fixed_apart (sample s) n i fixed = (λ e. not_next fixed e, fixed, refl)
+  where
+    not_next : IsFixedIn (sample s) i → i ≢ 3
+    not_next (inl two) e = omega (arith, two, e)
+    not_next (inr (inl four)) e = omega (arith, four, e)
+    not_next (inr (inr five)) e = omega (arith, five, e)
+fixed_apart (other size tag next payload) n i fixed = (λ e. omega (arith, fixed, e), fixed, refl)
+fixed_apart (queue next) n i fixed = absurd fixed
+fixed_apart (plain words) n i fixed = absurd fixed
+fixed_apart (held block) n i fixed = absurd fixed
+fixed_apart (counts c) n i fixed = absurd fixed
+
+counter_apart : (body : Body) (n i : ℕ) → IsCounterIn body i → (i ≢ 3) × IsCounterIn (with_next body n) i × (is_claimed body ≡ true)
+counter_apart (histogram r) n i counter = (λ e. ⊎_elim (λ a. omega (arith, a, e)) (λ b. omega (arith, b, e)) counter, counter, refl)
+counter_apart (counts c) n i counter = (λ e. let four = counter.0 in omega (arith, four, e), counter, refl)
+counter_apart (sample s) n i counter = (λ e. ⊎_elim (λ a. omega (arith, a, e)) (λ b. omega (arith, b, e)) counter, counter, refl)
+counter_apart (queue next) n i counter = absurd counter
+counter_apart (plain words) n i counter = absurd counter
+counter_apart (held block) n i counter = absurd counter
+counter_apart (other size tag next payload) n i counter = absurd counter
+
+-- ---- the list is longer at its end
+
+-- where stops of the chain stand stays
+pub stop_at : (chain more : List ℕ) (i : ℕ) → i ≤ length chain → slice_index (stops (chain ++ more)) i ≡ slice_index (stops chain) i
+stop_at chain more zero le = refl
+stop_at chain more (suc i) le = get_or_append_left chain more 0 i (omega (arith, le))
+
+pub longer_by : (chain more : List ℕ) → length chain ≤ length (chain ++ more)
+longer_by chain more = let e = length-append chain more in omega (arith, e)
+
+pub stop_longer : (chain more : List ℕ) (at : ℕ) → IsStop chain at → IsStop (chain ++ more) at
+stop_longer chain more at (k, le, is) = let long = longer_by chain more in (k, omega (arith, le, long), stop_at chain more k le ∙ is)
+
+pub neighbours_longer : (chain more : List ℕ) (at next : ℕ) → AreNeighbours chain at next → AreNeighbours (chain ++ more) at next
+neighbours_longer chain more at next (k, lt, is, then) =
+    let long = longer_by chain more in
+    (k, omega (arith, lt, long), stop_at chain more k (omega (arith, lt)) ∙ is, get_or_append_left chain more 0 k lt ∙ then)
+
+pub no_later_longer : (chain more : List ℕ) (seen present : ℕ) → IsNoLater chain seen present → IsNoLater (chain ++ more) seen present
+no_later_longer chain more seen present (i, j, le, within, is, then) =
+    let long = longer_by chain more in
+    (i, j, le, omega (arith, within, long), stop_at chain more i (omega (arith, le, within)) ∙ is, stop_at chain more j within ∙ then)
+
+-- the first record of a name, and of a value, stays the first
+pub first_longer : (records more : List Listed) (name : List ℕ) (spec : Spec) (at : ℕ) → IsFirst records name spec at → IsFirst (records ++ more) name spec at
+first_longer records more name spec at (front, behind, is, none_before) =
+    (front, behind ++ more, ap (λ (l : List Listed). l ++ more) is ∙ append_assoc front _ more, none_before)
+
+pub first_of_longer : (records more : List Listed) (of at : ℕ) (value : ℤ) → IsFirstOf records of value at → IsFirstOf (records ++ more) of value at
+first_of_longer records more of at value (front, behind, is, none_before) =
+    (front, behind ++ more, ap (λ (l : List Listed). l ++ more) is ∙ append_assoc front _ more, none_before)
+
+-- ---- how a segment grows
+
+-- the anatomy with other blocks, other flags and another tail, and the same records
+abbrev pub reshaped : Anatomy → List Piece → ℕ → Bool → Bool → ℕ → Anatomy
+reshaped anatomy pieces spare corrupt full tail =
+    record anatomy { pieces = pieces; spare = spare; corrupt = corrupt; full = full; tail = tail }
+
+-- a number that blocks in the making, one's own blocks and the queue block do not have
+abbrev pub IsSilent : {X : Type 0} → X → (Body → X) → Type 0
+IsSilent nothing holds =
+    ((words : List ℕ) → holds (plain words) ≡ nothing) × ((block : Own) → holds (held block) ≡ nothing)
+    × ((next : ℕ) → holds (queue next) ≡ nothing)
+
+-- What was published stays: a block without owner stands where it stood, and no other has come; and together they hold what they held.
+pub record Stays (old new : List Piece) : Type 0 where
+  pub there : (at : ℕ) (body : Body) → Stands old at none body → Stands new at none body
+  pub back : (at : ℕ) (body : Body) → Stands new at none body → Stands old at none body
+  pub held : (holds : Body → ℕ) → IsSilent 0 holds → all_held holds new ≡ all_held holds old
+  pub amounts : (holds : Body → ℤ) → IsSilent (pos 0) holds → all_amounts holds new ≡ all_amounts holds old
+
+-- Published blocks stay, but for their nexts; those that come beside them are `added`, and lie where no published one was. The list
+-- becomes longer at its end.
+pub record Grows (old new : Anatomy) (added : ℕ → Body → Type 0) : Type 0 where
+  pub version : new.version ≡ old.version
+  pub more : List Listed
+  pub records : new.records ≡ old.records ++ more
+  pub stays : (at : ℕ) (body : Body) → is_claimed body ≡ true → Stands old.pieces at none body
+      → (n : ℕ) × Stands new.pieces at none (with_next body n)
+  pub came : (at : ℕ) (body : Body) → is_claimed body ≡ true → Stands new.pieces at none body
+      → ((before : Body) × (n : ℕ) × Stands old.pieces at none before × (body ≡ with_next before n)) ⊎ added at body
+  pub apart : (at other i j : ℕ) (body before : Body) → added at body → Stands old.pieces other none before → i < length (words_of body)
+      → j < length (words_of before) → at + i ≢ other + j
+  pub bare : (at : ℕ) (c : Counts) → added at (counts c) → ⊥
+  pub first_came : (name : List ℕ) (spec : Spec) (at : ℕ) → IsFirst new.records name spec at
+      → IsFirst old.records name spec at ⊎ ((r : Record) × added at (histogram r) × All (λ l. ¬ (IsNamed name l)) old.records)
+  pub first_of_came : (of at : ℕ) (value : ℤ) → IsFirstOf new.records of value at
+      → IsFirstOf old.records of value at
+      ⊎ ((s : Sample) × added at (sample s) × All (λ (l : Listed). l.made ≢ Some (made.Sample of value)) old.records)
+
+-- where what was published stays, and the list too
+pub grows_not : (anatomy : Anatomy) (pieces : List Piece) (spare : ℕ) (corrupt full : Bool) (tail : ℕ) → Stays anatomy.pieces pieces
+    → Grows anatomy (reshaped anatomy pieces spare corrupt full tail) (λ at body. ⊥)
+grows_not anatomy pieces spare corrupt full tail stays = record {
+  version = refl;
+  more = [];
+  records = sym (append-nil anatomy.records);
+  stays = λ at body claimed there. let (n, is) = same_next body in (n, subst (Stands pieces at none) (sym is) (stays.there at body there));
+  came = λ at body claimed there. let (n, is) = same_next body in inl (body, n, stays.back at body there, sym is);
+  apart = λ at place i j body before none_added. absurd none_added;
+  bare = λ at c none_added. none_added;
+  first_came = λ name spec at first. inl first;
+  first_of_came = λ of at value first. inl first;
+}
+
+-- nothing is a record, counts or a sample with another next but such a one
+is_record : (before : Body) (n : ℕ) (r : Record) → histogram r ≡ with_next before n → (r0 : Record) × (before ≡ histogram r0) × (r ≡ record r0 { next = n })
+is_record (histogram r0) n r is = (r0, refl, cc is)
+is_record (queue next) n r is = absurd (cc is)
+is_record (plain words) n r is = absurd (cc is)
+is_record (held block) n r is = absurd (cc is)
+is_record (counts c) n r is = absurd (cc is)
+is_record (sample s) n r is = absurd (cc is)
+is_record (other size tag next payload) n r is = absurd (cc is)
+
+is_counts : (before : Body) (n : ℕ) (c : Counts) → counts c ≡ with_next before n → before ≡ counts c
+is_counts (counts c0) n c is = sym is
+is_counts (queue next) n c is = absurd (cc is)
+is_counts (plain words) n c is = absurd (cc is)
+is_counts (held block) n c is = absurd (cc is)
+is_counts (histogram r) n c is = absurd (cc is)
+is_counts (sample s) n c is = absurd (cc is)
+is_counts (other size tag next payload) n c is = absurd (cc is)
+
+is_sample : (before : Body) (n : ℕ) (s : Sample) → sample s ≡ with_next before n → (s0 : Sample) × (before ≡ sample s0) × (s ≡ record s0 { next = n })
+is_sample (sample s0) n s is = (s0, refl, cc is)
+is_sample (queue next) n s is = absurd (cc is)
+is_sample (plain words) n s is = absurd (cc is)
+is_sample (held block) n s is = absurd (cc is)
+is_sample (histogram r) n s is = absurd (cc is)
+is_sample (counts c) n s is = absurd (cc is)
+is_sample (other size tag next payload) n s is = absurd (cc is)
+
+module _ (old new : Anatomy) (added : ℕ → Body → Type 0) (grows : Grows old new added) where
+  pub order_grows : order_of new ≡ order_of old ++ map (λ (l : Listed). l.reference) grows.more
+  order_grows = ap (map (λ (l : Listed). l.reference)) grows.records ∙ map-append (λ (l : Listed). l.reference) old.records grows.more
+
+  -- what is on the list stays where it is
+  pub stop_grows : (at : ℕ) → IsStop (order_of old) at → IsStop (order_of new) at
+  stop_grows at stop = subst (λ (chain : List ℕ). IsStop chain at) (sym order_grows) (stop_longer (order_of old) _ at stop)
+
+  pub neighbours_grow : (at next : ℕ) → AreNeighbours (order_of old) at next → AreNeighbours (order_of new) at next
+  neighbours_grow at next near =
+      subst (λ (chain : List ℕ). AreNeighbours chain at next) (sym order_grows) (neighbours_longer (order_of old) _ at next near)
+
+  pub no_later_grows : (seen present : ℕ) → IsNoLater (order_of old) seen present → IsNoLater (order_of new) seen present
+  no_later_grows seen present later =
+      subst (λ (chain : List ℕ). IsNoLater chain seen present) (sym order_grows) (no_later_longer (order_of old) _ seen present later)
+
+  pub first_grows : (name : List ℕ) (spec : Spec) (at : ℕ) → IsFirst old.records name spec at → IsFirst new.records name spec at
+  first_grows name spec at first =
+      subst (λ (records : List Listed). IsFirst records name spec at) (sym grows.records) (first_longer old.records _ name spec at first)
+
+  -- records, counts and samples stay, and come from old ones
+  pub record_stays : (at : ℕ) (r : Record) → HasRecord old.pieces at r → (n : ℕ) × HasRecord new.pieces at (record r { next = n })
+  record_stays at r there = grows.stays at (histogram r) refl there
+
+  pub counts_stay : (at : ℕ) (c : Counts) → HasCounts old.pieces at c → HasCounts new.pieces at c
+  counts_stay at c there = (grows.stays at (counts c) refl there).1
+
+  pub record_came : (at : ℕ) (r : Record) → HasRecord new.pieces at r
+      → ((r0 : Record) × (n : ℕ) × HasRecord old.pieces at r0 × (r ≡ record r0 { next = n })) ⊎ added at (histogram r)
+  record_came at r there = ⊎_elim
+      (λ t. let is = is_record t.0 t.1 r t.3 in inl (is.0, t.1, subst (Stands old.pieces at none) is.1 t.2, is.2))
+      (λ new_one. inr new_one)
+      (grows.came at (histogram r) refl there)
+
+  pub counts_came : (at : ℕ) (c : Counts) → HasCounts new.pieces at c → HasCounts old.pieces at c ⊎ added at (counts c)
+  counts_came at c there = ⊎_elim
+      (λ t. inl (subst (Stands old.pieces at none) (is_counts t.0 t.1 c t.3) t.2))
+      (λ new_one. inr new_one)
+      (grows.came at (counts c) refl there)
+
+  pub sample_came : (at : ℕ) (s : Sample) → HasSample new.pieces at s
+      → ((s0 : Sample) × (n : ℕ) × HasSample old.pieces at s0 × (s ≡ record s0 { next = n })) ⊎ added at (sample s)
+  sample_came at s there = ⊎_elim
+      (λ t. let is = is_sample t.0 t.1 s t.3 in inl (is.0, t.1, subst (Stands old.pieces at none) is.1 t.2, is.2))
+      (λ new_one. inr new_one)
+      (grows.came at (sample s) refl there)
+
+  -- ---- so what was seen stays true
+
+  pub fixed_stays : (s : Sighting) → WasFixed old.pieces s → WasFixed new.pieces s
+  fixed_stays s (at, i, body, there, is, fixed, word) =
+      let (ne, still, claimed) = fixed_apart body 0 i fixed in
+      let (n, stands) = grows.stays at body claimed there in
+      (at, i, with_next body n, stands, is, (fixed_apart body n i fixed).1, beside_next body n i ne ∙ word)
+
+  pub counter_stays : (s : Sighting) → WasCounter old.pieces s → WasCounter new.pieces s
+  counter_stays s (at, i, body, there, is, counter, least) =
+      let (ne, still, claimed) = counter_apart body 0 i counter in
+      let (n, stands) = grows.stays at body claimed there in (
+        at,
+        i,
+        with_next body n,
+        stands,
+        is,
+        (counter_apart body n i counter).1,
+        subst (λ (m : ℕ). s.word ≤ m) (sym (beside_next body n i ne)) least,
+      )
+
+  pub single_stays : (s : Sighting) → WasSingle old.version old.pieces s → WasSingle new.version new.pieces s
+  single_stays s (at, r, there, is, formed, leads) =
+      let (n, stands) = record_stays at r there in (
+        at,
+        record r { next = n },
+        stands,
+        is,
+        subst (λ (version : ℕ). single_of version (buckets_of r.spec) s.word ≢ None) (sym grows.version) formed,
+        subst (λ (version : ℕ). Leads version (buckets_of r.spec) s.word r.single) (sym grows.version) leads,
+      )
+
+  pub in_use_stays : (s : Sighting) → WasInUse old.pieces s → WasInUse new.pieces s
+  in_use_stays s was at i c there is from below = ⊎_elim
+      (λ before. let (r, stands, off) = was at i c before is from below in
+      let (n, still) = record_stays c.of r stands in (record r { next = n }, still, off))
+      (λ fresh. absurd (grows.bare at c fresh))
+      (counts_came at c there)
+
+  pub known_stays : (known : Known) → Knows old known → Knows new known
+  known_stays known knows = record {
+    first_spec = knows.first_spec;
+    first = first_grows known.name knows.first_spec known.reference knows.first;
+    same = knows.same;
+  }
+
+  -- all that an actor has seen
+  pub sees_grow : (cursors : List ℕ) (a : Actor) → Behind a.seen_free (free_of new) → AreNoLater (order_of new) a.seen_tails new.tail
+      → Sees old cursors a → Sees new cursors a
+  sees_grow cursors a free tails sees = record {
+    free = free;
+    walked = subst (IsPrefix a.seen_chain) (sym order_grows) (prefix_of_prefix a.seen_chain (order_of old) _ sees.walked (_, refl));
+    tails = tails;
+    singles = All-weaker (WasSingle old.version old.pieces) (WasSingle new.version new.pieces) single_stays a.seen_singles sees.singles;
+    counters = All-weaker (WasCounter old.pieces) (WasCounter new.pieces) counter_stays a.seen_counts sees.counters;
+    in_use = All-weaker (WasInUse old.pieces) (WasInUse new.pieces) in_use_stays a.seen_counts sees.in_use;
+    fixed = All-weaker (WasFixed old.pieces) (WasFixed new.pieces) fixed_stays a.seen_words sees.fixed;
+    shared = All-weaker
+        (λ s. (s.at < length cursors) × IsNoLater (order_of old) s.word (slice_index cursors s.at))
+        (λ s. (s.at < length cursors) × IsNoLater (order_of new) s.word (slice_index cursors s.at))
+        (λ s t. (t.0, no_later_grows s.word (slice_index cursors s.at) t.1)) a.seen_cursors sees.shared;
+    names = All-weaker (Knows old) (Knows new) known_stays a.names sees.names;
+  }
+
+  -- a listed record stands as what it was given
+  pub stands_as_grows : (l : Listed) (given : std.Option Made) → StandsAs old.pieces l given → StandsAs new.pieces l given
+  stands_as_grows l (Some (made.Histogram name spec)) (r, stands, named, same) =
+      let (n, still) = grows.stays l.reference (histogram r) refl stands in (record r { next = n }, still, named, same)
+  stands_as_grows l (Some (made.Sample of value)) (s, stands, named, same) =
+      let (n, still) = grows.stays l.reference (sample s) refl stands in (record s { next = n }, still, named, same)
+  stands_as_grows l None (size, tag, next, payload, stands, first, third, long) =
+      let (n, still) = grows.stays l.reference (other size tag next payload) refl stands in (size, tag, n, payload, still, first, third, long)
+
+  -- what an actor stands on stays, where its words in the making do
+  pub grounds_grow : (id : ℕ) → ((at : ℕ) (words : List ℕ) → HasPlain old.pieces id at words → HasPlain new.pieces id at words) → Grounds old new id
+  grounds_grow id others = record {
+    version = grows.version;
+    stop = stop_grows;
+    near = neighbours_grow;
+    recorded = record_stays;
+    making = others;
+  }

@@ -1,0 +1,150 @@
+-- What holds of one actor stays true while a segment grows: of one that does nothing, and of one that publishes a record or walks.
+use Rattle.std.proofs.Common.{◌≡◌, ◌≢◌, ℕ, ◌+◌, ◌<◌, ◌≤◌, ℤ, List, ◌∷◌, ◌++◌, length, drop, All, Contains, inl, inr, ⊎_elim, refl, sym, ap, ◌∙◌, subst, arith}
+use Rattle.std.specs.Prelude.{Some}
+use Rattle.std.specs.Int.{w64, cast_signed}
+use Rattle.std.proofs.lemmas.List.Elements.{All-contains, All-drop, Contains-append_right}
+use mathlib.Core.Option.{some}
+use lib.ListN.{get_elem?}
+use Rattle.segment_image.specs.Shape.{Dimensions}
+use Rattle.bucket_ranges.specs.declared.spec.Spec.TheVariants as spec
+use Rattle.bucket_ranges.specs.Spec.{buckets_of}
+use Rattle.bucket_ranges.specs.Single.{single_of, packed_bucket, units_packed}
+use Rattle.segment_machine.specs.declared.entry.Entry.{Entry}
+use Rattle.segment_machine.specs.declared.place.Place.TheVariants.{SumLoaded}
+use Rattle.segment_machine.specs.declared.actor.Actor.{Actor}
+use Rattle.segment_machine.specs.declared.actor.Known.{Known}
+use Rattle.segment_machine.specs.declared.actor.Made.TheVariants as made
+use Rattle.segment_machine.specs.declared.actor.Own.{Own}
+use Rattle.segment_machine.specs.declared.actor.Sighting.{Sighting}
+use Rattle.segment_machine.specs.Entry.{tally_units}
+use Rattle.segment_machine.specs.Actor.{word_seen, counted_of, bucket_key, SawCount}
+use Rattle.segment_machine.specs.Note.{SawBucket}
+use Rattle.segment_machine.specs.Actor.{accepted_by}
+use Rattle.segment_invariant.specs.Body.{Record, Body, histogram, sample, words_of, Listed, Anatomy}
+use Rattle.segment_invariant.specs.Ledger.{form_at}
+use Rattle.segment_invariant.specs.Seen.{HasRecord, IsNamed, IsFirstOf, WasCounter, Sees}
+use Rattle.segment_invariant.specs.Kept.{HoldsOwn, CallsRight, HasKey, IsSettled, LooksBack, OwesPublished, Fits}
+use Rattle.segment_invariant.proofs.Blocks.Places.{counter_within}
+use Rattle.segment_invariant.proofs.Frames.OneActor.{Doing, doing, doing_of, finals_doing}
+use Rattle.segment_invariant.proofs.Frames.Growth.{Grows, first_of_longer, record_stays, record_came}
+
+-- ---- what holds of one actor
+
+-- What an actor has seen more: a longer front of the list, and words of records; none of them is a counts reference of a histogram
+-- that it knows. It has not loaded another sum.
+pub record SawMore (x : Actor) (c : Doing) : Type 0 where
+  pub chain : (at : ℕ) → Contains x.seen_chain at → Contains c.seen_chain at
+  pub words : (at word : ℕ) → word_seen x.seen_words at ≡ Some word → word_seen c.seen_words at ≡ Some word
+  pub counts : (known : Known) (word : ℕ) → Contains x.names known → word_seen c.seen_words (known.reference + 8) ≡ Some word
+      → word_seen x.seen_words (known.reference + 8) ≡ Some word
+  pub loaded : (reference : ℕ) (sum : ℤ) → c.place ≡ SumLoaded reference sum → x.place ≡ SumLoaded reference sum
+
+pub saw_itself : (x : Actor) → SawMore x (doing_of x)
+saw_itself x = record {
+  chain = λ at there. there;
+  words = λ at word there. there;
+  counts = λ known word named there. there;
+  loaded = λ reference sum is. is;
+}
+
+module _ (shape : Dimensions) (old new : Anatomy) (added : ℕ → Body → Type 0) (grows : Grows old new added) (actors : List Actor) (opener x : Actor) (c : Doing) (more : SawMore x c)
+    (keyed : (entry : Entry) → Contains (x.inherited ++ counted_of x) entry → 0 < entry.units → HasKey old.records entry.name entry.key)
+    (known_record : (known : Known) → Contains x.names known → (r : Record) × HasRecord old.pieces known.reference r)
+    (loaded_record : (reference : ℕ) (sum : ℤ) → x.place ≡ SumLoaded reference sum → (r : Record) × HasRecord old.pieces reference r)
+    (counters : All (WasCounter old.pieces) x.seen_counts) where
+  -- what was added stands where no record stood
+  no_record : (at : ℕ) (body : Body) (r : Record) → 0 < length (words_of body) → added at body → HasRecord old.pieces at r → ⊥
+  no_record at body r long new_one stands = grows.apart at at 0 0 body (histogram r) new_one stands long (omega arith) refl
+
+  no_name : (entry : Entry) → HasKey old.records entry.name entry.key → All (λ l. ¬ (IsNamed entry.name l)) old.records → ⊥
+  no_name entry (kind, at, (front, behind, is, others), key) absent =
+      let l : Listed = record { reference = at; made = Some (made.Histogram entry.name kind) } in
+      All-contains (λ l. ¬ (IsNamed entry.name l)) old.records l absent
+      (subst (λ (records : List Listed). Contains records l) (sym is) (Contains-append_right front (l ∷ behind) l (0, omega arith, refl)))
+      (kind, refl)
+
+  calls_grow : CallsRight old x → CallsRight new (doing x c)
+  calls_grow calls = record {
+    ordered = calls.ordered;
+    within = calls.within;
+    held = calls.held;
+    ended = calls.ended;
+    spent = calls.spent;
+    met = λ entry of counted some_units first. ⊎_elim
+        (λ before.
+        let (at, sampled, met, (tag, histogram_is, value, small)) = calls.met entry of counted some_units before in (
+          at,
+          subst (λ (records : List Listed). IsFirstOf records of entry.key at) (sym grows.records) (first_of_longer old.records grows.more of at entry.key sampled),
+          more.chain at met,
+          (more.words (at + 2) 3 tag, more.words (at + 4) of histogram_is, more.words (at + 5) _ value, small),
+        ))
+        (λ new_one. absurd (no_name entry (keyed entry counted some_units) new_one.2))
+        (grows.first_came entry.name spec.Sparse of first);
+    taking = calls.taking;
+  }
+
+  -- what it saw of a bucket it had seen
+  saw_before : (known : Known) (bucket total : ℕ) → Contains x.names known → SawBucket (doing x c) known bucket total → SawBucket x known bucket total
+  saw_before known bucket total named (word, single, inl on) = (word, single, inl on)
+  saw_before known bucket total named (word, single, inr (off, (place, count, seen, saw, is))) =
+      (word, single, inr (off, (place, count, more.counts known place named seen, saw, is)))
+
+  settled_before : (known : Known) (bucket : ℕ) → IsSettled new actors (doing x c) known bucket → IsSettled old actors x known bucket
+  settled_before known bucket (inl two) = inl (sym grows.version ∙ two)
+  settled_before known bucket (inr (inl alone)) = inr (inl alone)
+  settled_before known bucket (inr (inr apart)) = inr (inr (λ r there.
+      let (n, still) = record_stays old new added grows known.reference r there in
+      subst (λ (version : ℕ). packed_bucket (form_at version r) ≢ Some bucket) grows.version (apart (record r { next = n }) still)))
+
+  looks_grow : LooksBack old actors opener x → LooksBack new actors opener (doing x c)
+  looks_grow looks = record {
+    most = λ known bucket total named below saw.
+        looks.most known bucket total named below (saw_before known bucket total named saw);
+    packed = λ known bucket word named below saw on.
+        subst (λ (version : ℕ). tally_units (accepted_by x) known.name (bucket_key (Some known) bucket) ≤ units_packed (single_of version (buckets_of known.spec) word) bucket)
+        (sym grows.version) (looks.packed known bucket word named below saw on);
+    counted = λ known bucket count r named below there mounts saw settled. ⊎_elim
+        (λ t. let (r0, n, before, is) = t in
+        subst (λ (z : ℕ × Record). tally_units (accepted_by x) known.name (bucket_key (Some known) bucket) ≤ count + units_packed (form_at z.0 z.1) bucket)
+        (λ i. (sym grows.version i, sym is i))
+        (looks.counted known bucket count r0 named below before (λ none. mounts (ap (λ (z : Record). z.counts) is ∙ none))
+        (subst (λ (z : Record). SawCount x (z.counts + 4 + bucket) count) is saw) (settled_before known bucket settled)))
+        (λ new_one. let (r1, stood) = known_record known named in absurd (no_record known.reference (histogram r) r1 (omega arith) new_one stood))
+        (record_came old new added grows known.reference r there);
+    samples = λ known value at count named first saw. ⊎_elim
+        (λ before. looks.samples known value at count named before saw)
+        (λ new_one.
+        let seen : Sighting = record { at = at + 6; word = count } in
+        let was = All-contains (WasCounter old.pieces) (drop x.since_counts x.seen_counts) seen (All-drop (WasCounter old.pieces) x.since_counts x.seen_counts counters) saw in
+        let (place, i, body, stands, is, counter, least) = was in
+        absurd (grows.apart at place 6 i (sample new_one.0) body new_one.1 stands (omega arith) (counter_within body i counter) is))
+        (grows.first_of_came known.reference at value first);
+    rising = looks.rising;
+    noted = looks.noted;
+    sum = λ reference sum r stood alone there. ⊎_elim
+        (λ t. let (r0, n, before, is) = t in
+        looks.sum reference sum r0 (more.loaded reference sum stood) alone before
+        ∙ ap (λ (z : Record). cast_signed w64 z.sum) (sym is))
+        (λ new_one. let (r1, was) = loaded_record reference sum (more.loaded reference sum stood) in
+        absurd (no_record reference (histogram r) r1 (omega arith) new_one was))
+        (record_came old new added grows reference r there);
+  }
+
+  -- all that holds of it
+  pub fits_grow : (cursors : List ℕ) (id : ℕ) → Sees new cursors (doing x c) → All (HoldsOwn shape new.pieces id) c.own
+      → ((i j : ℕ) (y z : Own) → get_elem? c.own i ≡ some y → get_elem? c.own j ≡ some z → y.at ≡ z.at → i ≡ j)
+      → OwesPublished c.published c.owed
+      → Fits shape old cursors actors opener id x → Fits shape new cursors actors opener id (doing x c)
+  fits_grow cursors id sees own apart owes fits = record {
+    shaped = fits.shaped;
+    versioned = fits.versioned ∙ sym grows.version;
+    numbered = fits.numbered;
+    sees = sees;
+    own = own;
+    apart = apart;
+    owes = owes;
+    calls = calls_grow fits.calls;
+    looks = λ records. looks_grow (fits.looks records);
+    finals = finals_doing actors opener id x c fits.finals;
+    snapshots = fits.snapshots;
+  }

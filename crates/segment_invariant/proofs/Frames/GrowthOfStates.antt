@@ -1,0 +1,104 @@
+-- A kept state in which one actor puts a record on the list or walks along it: all that is kept, from what changes.
+use Rattle.std.proofs.Common.{◌≡◌, ◌≢◌, ℕ, suc, ◌<◌, ℤ, Bool, true, List, [], ◌∷◌, ◌++◌, map, filter, All, Contains, ⊎_elim, refl, sym, ap, ◌∙◌, subst, arith}
+use Rattle.std.specs.Prelude.{slice_index, Some}
+use Rattle.std.specs.Prelude as std
+use Rattle.std.proofs.lemmas.Bool.{and_parts}
+use Rattle.std.proofs.lemmas.List.Elements.{All-contains, Contains-append_left, Contains-append_right, Contains-append_cases}
+use mathlib.Core.Option.{some, some-injective}
+use mathlib.Core.Logic.{dite}
+use native.Mathlib.Decide.{ℕ_discrete}
+use lib.ListN.{get_elem?}
+use Rattle.segment_image.specs.Shape.{Dimensions}
+use Rattle.segment_machine.specs.declared.entry.Entry.{Entry}
+use Rattle.segment_machine.specs.declared.entry.Counting.{Counting}
+use Rattle.segment_machine.specs.declared.actor.Actor.{Actor}
+use Rattle.segment_machine.specs.declared.actor.Known.{Known}
+use Rattle.segment_machine.specs.declared.actor.Made.TheVariants as made
+use Rattle.segment_machine.specs.declared.actor.Own.{Own}
+use Rattle.segment_machine.specs.declared.place.Place.TheVariants.{Spent, SumLoaded}
+use Rattle.segment_machine.specs.Entry.{is_counted, has_ended, counted_among}
+use Rattle.segment_machine.specs.Actor.{log_of, counted_of, all_counted}
+use Rattle.segment_invariant.specs.Body.{Record, Body, Listed, Anatomy}
+use Rattle.segment_invariant.specs.Seen.{HasRecord, Knows, Sees}
+use Rattle.segment_machine.specs.State.{State}
+use Rattle.segment_invariant.specs.Kept.{StandsAs, HasKey, StandsRight, HoldsOwn, Fits, Kept, OwesPublished}
+use Rattle.segment_invariant.proofs.Lists.Elements.{row_in}
+use Rattle.segment_invariant.proofs.Frames.OneActor.{Doing, doing, lives_on}
+use Rattle.segment_invariant.proofs.Frames.Growth.{Grows}
+use Rattle.segment_invariant.proofs.Frames.GrowthOfActors.{SawMore, fits_grow}
+
+-- ---- entries that were accepted are counted
+
+ended_counted : (c : Counting) → has_ended c ≡ true → is_counted c ≡ true
+ended_counted c ended = (and_parts (is_counted c) _ (and_parts _ _ ended).0).0
+
+counted_all : (list : List Counting) → All (λ c. has_ended c ≡ true) list → (more : List Counting)
+    → counted_among (list ++ more) ≡ map (λ c. c.entry) list ++ counted_among more
+counted_all [] ended more = refl
+counted_all (c ∷ rest) ended more =
+    ap (λ (b : Bool). map (λ (d : Counting). d.entry) (std.cond b (c ∷ filter is_counted (rest ++ more)) (filter is_counted (rest ++ more))))
+    (ended_counted c (ended 0 c (omega arith)))
+    ∙ ap (λ (entries : List Entry). c.entry ∷ entries) (counted_all rest (λ k d lt. ended (suc k) d (omega (arith, lt))) more)
+
+-- ---- what a kept state says of its actors
+
+module _ (shape : Dimensions) (opened : Anatomy) (state : State) (kept : Kept shape opened state) where
+  -- what was accepted before an actor was made, and what it has counted, is counted
+  inherited_counted : (id : ℕ) (x : Actor) (entry : Entry) → get_elem? state.actors id ≡ some x → x.place ≢ Spent → Contains x.inherited entry
+      → Contains (all_counted state.actors) entry
+  inherited_counted id x entry there lives has = dite (ℕ_discrete id 0)
+      (λ first.
+      let opener : x ≡ kept.roles.opener = some-injective _ _ (sym there ∙ (ap (get_elem? state.actors) first ∙ kept.roles.stands)) in
+      let lt = (subst (λ (l : List Entry). Contains l entry) (ap (λ (z : Actor). z.inherited) opener ∙ kept.roles.rests.3) has).1 in
+      absurd (omega (arith, lt)))
+      (λ ne.
+      let opener : Actor = kept.roles.opener in
+      let (more, log, last) = kept.roles.heirs id x there (lives_on x (kept.roles.only id x there ne).0 lives) in
+      let logged : Contains (log_of opener) entry = subst (λ (l : List Entry). Contains l entry) (sym log) (Contains-append_left x.inherited more entry has) in
+      let ended = (kept.each 0 opener kept.roles.stands (λ spent. cc (sym kept.roles.idle ∙ spent))).calls.ended in
+      row_in counted_of state.actors 0 opener entry kept.roles.stands
+      (⊎_elim
+      (λ left. Contains-append_left opener.first _ entry left)
+      (λ right. Contains-append_right opener.first _ entry
+      (subst (λ (l : List Entry). Contains l entry) (sym (counted_all opener.log ended opener.running)) (Contains-append_left (map (λ c. c.entry) opener.log) _ entry right)))
+      (Contains-append_cases opener.first (map (λ c. c.entry) opener.log) entry logged)))
+
+  -- so it has a key
+  pub keyed : (id : ℕ) (x : Actor) → get_elem? state.actors id ≡ some x → x.place ≢ Spent
+      → (entry : Entry) → Contains (x.inherited ++ counted_of x) entry → 0 < entry.units → HasKey kept.anatomy.records entry.name entry.key
+  keyed id x there lives entry has units = kept.keys entry
+      (⊎_elim
+      (λ before. inherited_counted id x entry there lives before)
+      (λ own. row_in counted_of state.actors id x entry there own)
+      (Contains-append_cases x.inherited (counted_of x) entry has))
+      units
+
+  -- a histogram that it knows stands as a record, and so does one whose sum it has loaded
+  pub known_record : (id : ℕ) (x : Actor) → get_elem? state.actors id ≡ some x → x.place ≢ Spent
+      → (known : Known) → Contains x.names known → (r : Record) × HasRecord kept.anatomy.pieces known.reference r
+  known_record id x there lives known has =
+      let knows = All-contains (Knows kept.anatomy) x.names known (kept.each id x there lives).sees.names has in
+      let (front, behind, is, others) = knows.first in
+      let l : Listed = record { reference = known.reference; made = Some (made.Histogram known.name knows.first_spec) } in
+      let (r, stands, named, same) = All-contains (λ l. StandsAs kept.anatomy.pieces l l.made) kept.anatomy.records l kept.list.standing
+      (subst (λ (records : List Listed). Contains records l) (sym is) (Contains-append_right front (l ∷ behind) l (0, omega arith, refl))) in
+      (r, stands)
+
+  pub loaded_record : (id : ℕ) (x : Actor) (reference : ℕ) (sum : ℤ) → get_elem? state.actors id ≡ some x → x.place ≡ SumLoaded reference sum
+      → (r : Record) × HasRecord kept.anatomy.pieces reference r
+  loaded_record id x reference sum there is =
+      let (known, has, same) = subst (StandsRight shape kept.anatomy id x) is (kept.standing id x there) in
+      let (r, stands) = known_record id x there (λ spent. cc (sym is ∙ spent)) known has in
+      (r, subst (λ (at : ℕ). HasRecord kept.anatomy.pieces at r) same stands)
+
+  -- running calls, and what was seen since a delta or a snapshot began, where one actor goes on and the segment grows
+  module _ (new : Anatomy) (added : ℕ → Body → Type 0) (grows : Grows kept.anatomy new added) where
+    pub fits_on : (id : ℕ) (x : Actor) (d : Doing) → get_elem? state.actors id ≡ some x → x.place ≢ Spent → SawMore x d
+        → Sees new state.cursors (doing x d) → All (HoldsOwn shape new.pieces id) d.own
+        → ((i j : ℕ) (y z : Own) → get_elem? d.own i ≡ some y → get_elem? d.own j ≡ some z → y.at ≡ z.at → i ≡ j)
+        → OwesPublished d.published d.owed
+        → Fits shape new state.cursors state.actors kept.roles.opener id (doing x d)
+    fits_on id x d there lives more sees own apart owes =
+        let fits = kept.each id x there lives in
+        fits_grow shape kept.anatomy new added grows state.actors kept.roles.opener x d more (keyed id x there lives) (known_record id x there lives)
+        (λ reference sum is. loaded_record id x reference sum there is) fits.sees.counters state.cursors id sees own apart owes fits

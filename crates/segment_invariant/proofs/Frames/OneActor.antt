@@ -1,0 +1,257 @@
+-- Actors together, where one goes on with a call and neither counts, takes nor gives back anything: what all of them did is the same.
+use Rattle.std.proofs.Common.{◌⊎◌, ◌≡◌, ◌≢◌, ℕ, ◌+◌, ◌≤◌, ℤ, Bool, true, false, ◌&&◌, List, set, sum_by, inl, inr, ⊎_elim, refl, sym, ap, ◌∙◌, arith, eq-eqb}
+use Rattle.std.specs.Prelude.{if◌then◌else◌, ◌==◌, length}
+use Rattle.std.specs.List.{filter}
+use mathlib.Core.Option.{some}
+use lib.ListN.{get_elem?}
+use Rattle.atomic_table.proofs.Lists.{set_else}
+use Rattle.segment_image.specs.Shape.{Dimensions}
+use Rattle.segment_machine.specs.declared.actor.Known.{Known}
+use Rattle.segment_machine.specs.declared.actor.Actor.{Actor}
+use Rattle.segment_machine.specs.declared.actor.Claim.{Claim}
+use Rattle.segment_machine.specs.declared.actor.Moment.{Moment}
+use Rattle.segment_machine.specs.declared.actor.Own.{Own}
+use Rattle.segment_machine.specs.declared.actor.Published.{Published}
+use Rattle.segment_machine.specs.declared.actor.Sighting.{Sighting}
+use Rattle.segment_machine.specs.declared.place.Look.{Look}
+use Rattle.segment_machine.specs.declared.place.Place.{Place}
+use Rattle.segment_machine.specs.declared.place.Place.TheVariants.{Spent, Idle, FlagsLoaded, FreeLoaded, Raised, Sized, Marked, TailLoaded, Beaten, Linked, Looking, Losing, Moving, CountLoaded, SampleLoaded, SumLoaded, CursorLoaded, BehindCursor}
+use Rattle.segment_machine.specs.Entry.{tally_units, tally_sum, tally_noted}
+use Rattle.segment_machine.specs.Actor.{is_bound, cost_of, counted_of, summed_of, noted_of, units_of, all_counted, all_summed, all_noted, all_taken, taken_units, taken_sum, transit_at}
+use Rattle.segment_invariant.specs.Ledger.{moving_at, all_moving}
+use Rattle.segment_invariant.specs.Kept.{summed_cost, summed_costs, is_living, IsMoment, FinalsAreExact, Fits}
+use Rattle.segment_invariant.specs.Body.{Anatomy}
+use Rattle.segment_invariant.proofs.Lists.Elements.{rows, sum_same}
+use Rattle.segment_invariant.proofs.Frames.Deeds.{SameSums}
+use Rattle.segment_invariant.proofs.Frames.Together.{LoadedBefore, loaded_set}
+use Rattle.segment_invariant.proofs.Frames.Roles.{AllStood, SameRole, stood_set, fits_beside}
+
+-- ---- one actor
+
+-- what changes of an actor that goes on so: where it stands, its blocks, the flags that it set, and what it saw of the free pointer,
+-- the list and words that stay
+pub record Doing : Type 0 where
+  pub place : Place
+  pub own : List Own
+  pub claimed : List Claim
+  pub published : List Published
+  pub owed : List Known
+  pub spoiled : Bool
+  pub filled : Bool
+  pub seen_free : ℕ
+  pub seen_chain : List ℕ
+  pub seen_tails : List ℕ
+  pub seen_words : List Sighting
+
+-- the actor with that
+abbrev pub doing : Actor → Doing → Actor
+doing a d = record a {
+  place = d.place;
+  own = d.own;
+  claimed = d.claimed;
+  published = d.published;
+  owed = d.owed;
+  spoiled = d.spoiled;
+  filled = d.filled;
+  seen_free = d.seen_free;
+  seen_chain = d.seen_chain;
+  seen_tails = d.seen_tails;
+  seen_words = d.seen_words;
+}
+
+-- what it has of that
+abbrev pub doing_of : Actor → Doing
+doing_of a = record {
+  place = a.place;
+  own = a.own;
+  claimed = a.claimed;
+  published = a.published;
+  owed = a.owed;
+  spoiled = a.spoiled;
+  filled = a.filled;
+  seen_free = a.seen_free;
+  seen_chain = a.seen_chain;
+  seen_tails = a.seen_tails;
+  seen_words = a.seen_words;
+}
+
+-- the actor may stand there next: it lives on, moves no units but those that it moved, and has loaded no sum but the one that it had
+pub record TurnsTo (a : Actor) (p : Place) : Type 0 where
+  pub lived : a.place ≢ Spent
+  pub lives : p ≢ Spent
+  pub moves : (name : List ℕ) (key : ℤ) → moving_at a name key p ≡ moving_at a name key a.place
+  pub sums : (at : ℕ) (sum : ℤ) → p ≡ SumLoaded at sum → a.place ≡ SumLoaded at sum
+
+-- whether there is neither a sum nor units on their way, at a place where an actor lives
+abbrev pub is_plain : Place → Bool
+is_plain Spent = false
+is_plain (Moving look bucket units) = false
+is_plain (SumLoaded reference sum) = false
+is_plain _ = true
+
+plain_lives : (p : Place) → is_plain p ≡ true → p ≢ Spent
+plain_lives p plain spent = cc (plain, ap is_plain spent)
+
+-- an actor moves units, or has none in transit
+abbrev pub Still : Place → Type 0
+Still place = ((a : Actor) (name : List ℕ) (key : ℤ) → moving_at a name key place ≡ 0) × ((at i : ℕ) → transit_at place at i ≡ 0)
+
+pub moves_or_not : (place : Place) → ((look : Look) × (bucket units : ℕ) × (place ≡ Moving look bucket units)) ⊎ Still place
+moves_or_not (Moving look bucket units) = inl (look, bucket, units, refl)
+moves_or_not Spent = inr (λ a name key. refl, λ at i. refl)
+moves_or_not Idle = inr (λ a name key. refl, λ at i. refl)
+moves_or_not FlagsLoaded = inr (λ a name key. refl, λ at i. refl)
+moves_or_not (FreeLoaded free) = inr (λ a name key. refl, λ at i. refl)
+moves_or_not (Raised place size) = inr (λ a name key. refl, λ at i. refl)
+moves_or_not (Sized place size) = inr (λ a name key. refl, λ at i. refl)
+moves_or_not (Marked place size) = inr (λ a name key. refl, λ at i. refl)
+moves_or_not (TailLoaded tail) = inr (λ a name key. refl, λ at i. refl)
+moves_or_not (Beaten tail behind) = inr (λ a name key. refl, λ at i. refl)
+moves_or_not (Linked place tail) = inr (λ a name key. refl, λ at i. refl)
+moves_or_not (Looking look) = inr (λ a name key. refl, λ at i. refl)
+moves_or_not (Losing look place) = inr (λ a name key. refl, λ at i. refl)
+moves_or_not (CountLoaded look bucket count) = inr (λ a name key. refl, λ at i. refl)
+moves_or_not (SampleLoaded reference count) = inr (λ a name key. refl, λ at i. refl)
+moves_or_not (SumLoaded reference sum) = inr (λ a name key. refl, λ at i. refl)
+moves_or_not (CursorLoaded cursor place) = inr (λ a name key. refl, λ at i. refl)
+moves_or_not (BehindCursor cursor place next) = inr (λ a name key. refl, λ at i. refl)
+
+pub rests_at : (a : Actor) (name : List ℕ) (key : ℤ) (p : Place) → ((look : Look) (bucket units : ℕ) → p ≢ Moving look bucket units) → moving_at a name key p ≡ 0
+rests_at a name key p rests = ⊎_elim (λ moves. absurd (rests moves.0 moves.1 moves.2 moves.3)) (λ still. still.0 a name key) (moves_or_not p)
+
+plain_rests : (p : Place) → is_plain p ≡ true → (look : Look) (bucket units : ℕ) → p ≢ Moving look bucket units
+plain_rests p plain look bucket units moving = cc (plain, ap is_plain moving)
+
+plain_sums : (p : Place) (at : ℕ) (sum : ℤ) → is_plain p ≡ true → p ≢ SumLoaded at sum
+plain_sums p at sum plain is = cc (plain, ap is_plain is)
+
+-- to a plain place it may turn from one where it lives and moves nothing: from another plain one, and from any where it is free to go on
+turns_to : (a : Actor) (p : Place) → a.place ≢ Spent → ((look : Look) (bucket units : ℕ) → a.place ≢ Moving look bucket units)
+    → is_plain p ≡ true → TurnsTo a p
+turns_to a p lived rests plain = record {
+  lived = lived;
+  lives = plain_lives p plain;
+  moves = λ name key. rests_at a name key p (plain_rests p plain) ∙ sym (rests_at a name key a.place rests);
+  sums = λ at sum is. absurd (plain_sums p at sum plain is);
+}
+
+pub turns_plain : (a : Actor) (p : Place) → is_plain a.place ≡ true → is_plain p ≡ true → TurnsTo a p
+turns_plain a p was = turns_to a p (plain_lives a.place was) (plain_rests a.place was)
+
+pub turns_unbound : (a : Actor) (p : Place) → is_bound a.place ≡ false → is_plain p ≡ true → TurnsTo a p
+turns_unbound a p unbound =
+    turns_to a p (λ spent. cc (unbound, ap is_bound spent)) (λ look bucket units moving. cc (unbound, ap is_bound moving))
+
+-- it stays where it stands
+pub turns_not : (a : Actor) → a.place ≢ Spent → TurnsTo a a.place
+turns_not a lived = record { lived = lived; lives = lived; moves = λ name key. refl; sums = λ at sum is. is }
+
+-- what its sums have grown by it has spent, or holds
+pub summed_most : (name : List ℕ) (a : Actor) → summed_cost name a ≤ cost_of a.costs name + cost_of a.held name
+summed_most name a = by_test (length (filter (λ c. c.summed) a.running) == 0)
+  where
+    by_test : (b : Bool) → cost_of a.costs name + (if b then 0 else cost_of a.held name) ≤ cost_of a.costs name + cost_of a.held name
+    by_test true = omega arith
+    by_test false = omega arith
+
+-- ---- all actors
+
+-- the same actors have done the same
+pub record SameDeeds (old new : List Actor) : Type 0 where
+  pub counted : all_counted new ≡ all_counted old
+  pub summed : all_summed new ≡ all_summed old
+  pub noted : all_noted new ≡ all_noted old
+  pub taken : all_taken new ≡ all_taken old
+  pub units : sum_by units_of new ≡ sum_by units_of old
+  pub costs : (name : List ℕ) → summed_costs name new ≡ summed_costs name old
+  pub moving : (name : List ℕ) (key : ℤ) → all_moving name key new ≡ all_moving name key old
+  pub loaded : LoadedBefore old new
+  pub stood : AllStood old new
+  pub opener : get_elem? new 0 ≡ get_elem? old 0
+
+-- of an actor that lives it is no matter where it stands
+living_at : (a : Actor) (p : Place) → p ≢ Spent → is_living (record a { place = p }) ≡ is_living (record a { place = Idle })
+living_at a Spent lives = absurd (lives refl)
+living_at a Idle lives = refl
+living_at a FlagsLoaded lives = refl
+living_at a (FreeLoaded free) lives = refl
+living_at a (Raised at size) lives = refl
+living_at a (Sized at size) lives = refl
+living_at a (Marked at size) lives = refl
+living_at a (TailLoaded tail) lives = refl
+living_at a (Beaten tail behind) lives = refl
+living_at a (Linked at tail) lives = refl
+living_at a (Looking look) lives = refl
+living_at a (Losing look at) lives = refl
+living_at a (Moving look bucket units) lives = refl
+living_at a (CountLoaded look bucket count) lives = refl
+living_at a (SampleLoaded sample count) lives = refl
+living_at a (SumLoaded reference sum) lives = refl
+living_at a (CursorLoaded cursor at) lives = refl
+living_at a (BehindCursor cursor at behind) lives = refl
+
+-- a recorder that is not spent lives
+pub lives_on : (a : Actor) → a.opener ≡ 0 → a.place ≢ Spent → is_living a ≡ true
+lives_on a records lives = living_at a a.place lives ∙ ap (λ (b : Bool). b && true) (eq-eqb a.opener 0 records)
+
+-- the actor that goes on has the role that it had
+pub same_role : (a : Actor) (d : Doing) → TurnsTo a d.place → SameRole (doing a d) a
+same_role a d turns = record {
+  living = living_at a d.place turns.lives ∙ sym (living_at a a.place turns.lived);
+  opener = refl;
+  first = refl;
+  first_noted = refl;
+  made = refl;
+  outstanding = refl;
+  inherited = refl;
+}
+
+module _ (actors : List Actor) (id : ℕ) (a : Actor) (mine : get_elem? actors id ≡ some a) (d : Doing) (turns : TurnsTo a d.place) where
+  -- what all of them did is the same
+  pub same_deeds : id ≢ 0 → SameDeeds actors (set actors id (doing a d))
+  same_deeds records = record {
+    counted = rows counted_of actors id a (doing a d) mine refl;
+    summed = rows summed_of actors id a (doing a d) mine refl;
+    noted = rows noted_of actors id a (doing a d) mine refl;
+    taken = rows (λ (a : Actor). a.taken) actors id a (doing a d) mine refl;
+    units = sum_same units_of actors id a (doing a d) mine refl;
+    costs = λ name. sum_same (summed_cost name) actors id a (doing a d) mine refl;
+    moving = λ name key. sum_same (λ a. moving_at a name key a.place) actors id a (doing a d) mine (turns.moves name key);
+    loaded = loaded_set actors id a (doing a d) mine turns.sums;
+    stood = stood_set actors id a (doing a d) mine (same_role a d turns);
+    opener = set_else actors id 0 (doing a d) (λ same. records (sym same));
+  }
+
+-- ---- what holds of what all of them did
+
+module _ (old new : List Actor) (same : SameDeeds old new) where
+  pub same_sums : SameSums old new
+  same_sums = record {
+    counted = λ name key. ap (λ entries. tally_units entries name key) same.counted;
+    summed = λ name. ap (λ entries. tally_sum entries name) same.summed;
+    noted = λ name. ap (λ entries. tally_noted entries name) same.noted;
+    taken = λ name key. ap (λ taken. taken_units taken name key) same.taken;
+    taken_sums = λ name. ap (λ taken. taken_sum taken name) same.taken;
+    moving = same.moving;
+    costs = λ name. let costs = same.costs name in omega (arith, costs);
+  }
+
+  -- who fitted beside the others fits still
+  pub fits_same : (shape : Dimensions) (anatomy : Anatomy) (cursors : List ℕ) (opener : Actor) (id : ℕ) (a : Actor) → get_elem? old 0 ≡ some opener
+      → Fits shape anatomy cursors old opener id a → Fits shape anatomy cursors new opener id a
+  fits_same shape anatomy cursors opener id a first =
+      fits_beside shape anatomy cursors old new opener opener id a first (same.opener ∙ first) refl (refl, refl) same_sums same.stood
+
+-- the actor that goes on has the deltas, the snapshots and the log that it had
+moment_of_doing : (actors : List Actor) (opener : Actor) (id : ℕ) (a : Actor) (d : Doing) (m : Moment)
+    → IsMoment actors opener id a m → IsMoment actors opener id (doing a d) m
+moment_of_doing actors opener id a d m is = record { logged = is.logged; before = is.before; mine = is.mine; eldest = is.eldest }
+
+pub finals_doing : (actors : List Actor) (opener : Actor) (id : ℕ) (a : Actor) (d : Doing)
+    → FinalsAreExact actors opener id a → FinalsAreExact actors opener id (doing a d)
+finals_doing actors opener id a d finals = record {
+  deltas = finals.deltas;
+  snapshots = finals.snapshots;
+  moments = λ m is. moment_of_doing actors opener id a d m (finals.moments m is);
+  swapped = finals.swapped;
+}

@@ -1,0 +1,122 @@
+-- Where an actor stands, it stands right on while it knows no less, and while the blocks and the list stay that this rests on.
+use Rattle.std.proofs.Common.{◌≡◌, ◌≢◌, ℕ, ◌+◌, List, All, Contains, refl, sym, ◌∙◌, subst}
+use Rattle.std.specs.Prelude.{Some}
+use Rattle.std.proofs.lemmas.List.Elements.{All-weaker}
+use Rattle.segment_image.specs.Shape.{Dimensions}
+use Rattle.list_core.specs.Laws.{IsStop, AreNeighbours}
+use Rattle.segment_machine.specs.declared.place.Look.{Look}
+use Rattle.segment_machine.specs.declared.place.Place.{Place}
+use Rattle.segment_machine.specs.declared.place.Place.TheVariants.{Spent, Idle, FlagsLoaded, FreeLoaded, Raised, Sized, Marked, TailLoaded, Beaten, Linked, Looking, Losing, Moving, CountLoaded, SampleLoaded, SumLoaded, CursorLoaded, BehindCursor}
+use Rattle.segment_machine.specs.declared.actor.Actor.{Actor}
+use Rattle.segment_machine.specs.declared.actor.Known.{Known}
+use Rattle.segment_machine.specs.declared.actor.Own.{Own}
+use Rattle.segment_machine.specs.declared.actor.Sighting.{Sighting}
+use Rattle.segment_machine.specs.Actor.{word_seen}
+use Rattle.segment_invariant.specs.Body.{Record, Anatomy, order_of}
+use Rattle.segment_machine.specs.Seats.{spent}
+use Rattle.segment_invariant.specs.Seen.{HasPlain, HasOwn, HasRecord}
+use Rattle.segment_invariant.specs.Kept.{LooksRight, StandsRight, HoldsOwn}
+
+-- what it rests on of the segment: the list, which may become longer, records, whose nexts may change, and its words in the making
+pub record Grounds (old new : Anatomy) (id : ℕ) : Type 0 where
+  pub version : new.version ≡ old.version
+  pub stop : (at : ℕ) → IsStop (order_of old) at → IsStop (order_of new) at
+  pub near : (at next : ℕ) → AreNeighbours (order_of old) at next → AreNeighbours (order_of new) at next
+  pub recorded : (at : ℕ) (r : Record) → HasRecord old.pieces at r → (n : ℕ) × HasRecord new.pieces at (record r { next = n })
+  pub making : (at : ℕ) (words : List ℕ) → HasPlain old.pieces id at words → HasPlain new.pieces id at words
+
+pub grounds_itself : (anatomy : Anatomy) (id : ℕ) → Grounds anatomy anatomy id
+grounds_itself anatomy id = record {
+  version = refl;
+  stop = λ at there. there;
+  near = λ at next there. there;
+  recorded = λ at r there. (r.next, there);
+  making = λ at words there. there;
+}
+
+-- what it rests on of the actor: what it saw and knows, and its blocks, each of which has one of the same place and type
+pub record Follows (x y : Actor) : Type 0 where
+  pub saw : (y.seen_free ≡ x.seen_free) × (y.seen_tails ≡ x.seen_tails) × (y.seen_singles ≡ x.seen_singles)
+      × (y.seen_counts ≡ x.seen_counts) × (y.seen_cursors ≡ x.seen_cursors)
+  pub names : (known : Known) → Contains x.names known → Contains y.names known
+  pub words : (s : Sighting) → Contains x.seen_words s → Contains y.seen_words s
+  pub seen : (at word : ℕ) → word_seen x.seen_words at ≡ Some word → word_seen y.seen_words at ≡ Some word
+  pub chain : (at : ℕ) → Contains x.seen_chain at → Contains y.seen_chain at
+  pub own : (block : Own) → Contains x.own block → (still : Own) × Contains y.own still × (still.at ≡ block.at) × (still.tag ≡ block.tag)
+  pub spent : x ≡ spent → y ≡ spent
+
+pub follows_itself : (x : Actor) → Follows x x
+follows_itself x = record {
+  saw = (refl, refl, refl, refl, refl);
+  names = λ known there. there;
+  words = λ s there. there;
+  seen = λ at word there. there;
+  chain = λ at there. there;
+  own = λ block there. (block, there, refl, refl);
+  spent = λ is. is;
+}
+
+module _ (shape : Dimensions) (old new : Anatomy) (id : ℕ) (x y : Actor) (grounds : Grounds old new id) (follows : Follows x y) where
+  abbrev looks_on : (look : Look) → LooksRight x look → LooksRight y look
+  looks_on look right = record {
+    known = right.known;
+    knows = (follows.names right.known right.knows.0, right.knows.1, right.knows.2);
+    single = λ word is. subst (λ seen. Contains seen (record { at = look.histogram + 9; word = word })) (sym follows.saw.2) (right.single word is);
+    counts = λ some_counts. follows.words _ (right.counts some_counts);
+  }
+
+  counts_on : (s : Sighting) → Contains x.seen_counts s → Contains y.seen_counts s
+  counts_on s = subst (λ seen. Contains seen s) (sym follows.saw.3)
+
+  cursors_on : (s : Sighting) → Contains x.seen_cursors s → Contains y.seen_cursors s
+  cursors_on s = subst (λ seen. Contains seen s) (sym follows.saw.4)
+
+  pub stands_on : (place : Place) → StandsRight shape old id x place → StandsRight shape new id y place
+  stands_on Spent stands = follows.spent stands
+  stands_on Idle stands = tt
+  stands_on FlagsLoaded stands = tt
+  stands_on (FreeLoaded free) stands = follows.saw.0 ∙ stands
+  stands_on (Raised at size) stands = (stands.0, grounds.making at _ stands.1)
+  stands_on (Sized at size) stands = (stands.0, grounds.making at _ stands.1)
+  stands_on (Marked at size) stands = (stands.0, grounds.making at _ stands.1)
+  stands_on (TailLoaded tail) stands = (subst (λ tails. Contains tails tail) (sym follows.saw.1) stands.0, grounds.stop tail stands.1)
+  stands_on (Beaten tail behind) stands = grounds.near tail behind stands
+  stands_on (Linked at tail) stands = grounds.near tail at stands
+  stands_on (Looking look) stands = looks_on look stands
+  stands_on (Losing look at) (right, there, apart, (block, mine, place, tag)) =
+      let (still, has, same, kind) = follows.own block mine in
+      (looks_on look right, there, apart, (still, has, same ∙ place, kind ∙ tag))
+  stands_on (Moving look bucket units) (right, one, there, least, most, (r, stands, packed, off), apart) =
+      let (n, still) = grounds.recorded look.histogram r stands in (
+        looks_on look right,
+        grounds.version ∙ one,
+        there,
+        least,
+        most,
+        (record r { next = n }, still, packed, off),
+        subst (All (λ s. s.at ≢ look.counts + 4 + bucket)) (sym follows.saw.3) apart,
+      )
+  stands_on (CountLoaded look bucket count) ((right, there, off), below, saw) = ((looks_on look right, there, off), below, counts_on _ saw)
+  stands_on (SampleLoaded reference count) ((histogram, known, value, (named, refers, kind), met, (tag, of, valued, small)), saw) = (
+    (
+      histogram,
+      known,
+      value,
+      (follows.names known named, refers, kind),
+      follows.chain reference met,
+      (follows.seen _ _ tag, follows.seen _ _ of, follows.seen _ _ valued, small),
+    ),
+    counts_on _ saw,
+  )
+  stands_on (SumLoaded reference sum) (known, has, same) = (known, follows.names known has, same)
+  stands_on (CursorLoaded cursor at) stands = (grounds.stop at stands.0, cursors_on _ stands.1)
+  stands_on (BehindCursor cursor at next) stands = (grounds.near at next stands.0, cursors_on _ stands.1)
+
+-- ---- its blocks
+
+-- blocks of an actor that stand on are what they were
+pub own_stays : (shape : Dimensions) (old new : Anatomy) (id : ℕ) → ((own : Own) → HasOwn old.pieces id own → HasOwn new.pieces id own)
+    → (list : List Own) → All (HoldsOwn shape old.pieces id) list → All (HoldsOwn shape new.pieces id) list
+own_stays shape old new id stays list all = All-weaker (HoldsOwn shape old.pieces id) (HoldsOwn shape new.pieces id)
+    (λ own holds. record { stands = stays own holds.stands; placed = holds.placed; room = holds.room; tagged = holds.tagged; ends = holds.ends })
+    list all

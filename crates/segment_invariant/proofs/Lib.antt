@@ -1,0 +1,11 @@
+pub mod Allocating
+pub mod Blocks
+pub mod Consistency
+pub mod Counting
+pub mod Examples
+pub mod Frames
+pub mod Listing
+pub mod Lists
+pub mod Notes
+pub mod Openings
+pub mod Recorders

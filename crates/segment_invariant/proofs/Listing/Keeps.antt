@@ -1,0 +1,74 @@
+-- Each event of the list keeps what holds, and its actor learns that it found the end or a record.
+use Rattle.std.proofs.Common.{◌≡◌, ℕ, ◌+◌, Bool, set, refl, sym, subst, arith, eq-eqb}
+use Rattle.std.specs.Prelude.{Some, if◌then◌else◌}
+use mathlib.Core.Option.{some}
+use mathlib.Core.Logic.{dite}
+use native.Mathlib.Decide.{ℕ_discrete}
+use lib.ListN.{get_elem?}
+use Rattle.segment_image.specs.Shape.{Dimensions}
+use Rattle.segment_image.specs.Words.{word_at}
+use Rattle.segment_machine.specs.declared.actor.Actor.{Actor}
+use Rattle.segment_machine.specs.declared.actor.Made.{Made}
+use Rattle.segment_machine.specs.declared.actor.Made.TheVariants.{Histogram, Sample}
+use Rattle.segment_machine.specs.declared.actor.Own.{Own}
+use Rattle.segment_machine.specs.declared.place.Place.TheVariants.{TailLoaded}
+use Rattle.segment_machine.specs.Made.{IsPayload}
+use Rattle.segment_machine.specs.State.{State}
+use Rattle.segment_machine.specs.Publishing.{store_own_next, load_tail, link, move_tail, after_link, MayPublish}
+use Rattle.segment_machine.specs.Event.{publishing_event, Ready}
+use Rattle.segment_machine.specs.Walking.{load_next, load_published}
+use Rattle.segment_invariant.specs.Keeps.{PublishingKeeps, WalkingKeeps}
+use Rattle.segment_invariant.specs.Body.{Anatomy}
+use Rattle.segment_invariant.specs.Kept.{Kept}
+use Rattle.segment_invariant.proofs.Lists.Elements.{at_from}
+use Rattle.segment_invariant.proofs.Frames.GoesOn.{happens}
+use Rattle.segment_invariant.proofs.Listing.Linkable.{Onward, histogram_linked, sample_linked}
+use Rattle.segment_invariant.proofs.Listing.Events.{Goes, tail_loaded, tail_moved_on, link_beaten, next_loaded}
+use Rattle.segment_invariant.proofs.Listing.Links.{stop, turns}
+use Rattle.segment_invariant.proofs.Listing.OwnNext.{own_next_stored}
+use Rattle.segment_invariant.proofs.Listing.Words.{published_loaded}
+use Rattle.segment_invariant.proofs.Listing.Walks.{stop_within, reference_is}
+
+module _ (shape : Dimensions) (opened : Anatomy) (state : State) (kept : Kept shape opened state) (id : ℕ) (a : Actor)
+    (mine : get_elem? state.actors id ≡ some a) (records : a.opener ≡ 0) where
+  -- a record is published as what it is to hold
+  module _ (tail : ℕ) (own : Own) (placed : a.place ≡ TailLoaded tail) (i : ℕ) (there : get_elem? a.own i ≡ some own) (ended : own.next ≡ 12)
+      (ends : word_at state.words (tail + 3) ≡ 12) where
+    links_as : (given : Made) → (asked : own.made ≡ Some given) → IsPayload given own.payload → MayPublish a own given
+        → Onward shape opened state kept id a mine records tail own given placed i there ended asked ends
+    links_as (Histogram name spec) asked (letters, lettered, payload_is) (tag, named, lawful, fits) =
+        histogram_linked shape opened state kept id a mine records tail own (Histogram name spec) placed i there ended asked ends
+        name spec letters refl lettered payload_is tag named lawful fits
+    links_as (Sample of value) asked (k, payload_is) (tag, room, valued, (known, sparse)) =
+        sample_linked shape opened state kept id a mine records tail own (Sample of value) placed i there ended asked ends
+        of value k known refl payload_is tag room valued sparse.0 sparse.1 sparse.2
+
+  -- a link puts its record on the list, or finds another one there
+  pub linked : (tail at : ℕ) → Ready a (publishing_event (link tail at)) → Goes shape opened state kept id a mine records (publishing_event (link tail at))
+  linked tail at (own, given, placed, waits, here, asked, payload, may) =
+      let found : ℕ = word_at state.words (tail + 3) in
+      dite (ℕ_discrete found 12)
+      (λ ends.
+      let (i, there) = at_from a.own own waits.0 in
+      let is_stop = stop shape opened state kept id a mine records tail own given placed i there waits.1 asked ends in
+      let lives = (turns shape opened state kept id a mine records tail own given placed i there waits.1 asked ends).lived in
+      happens opened.version state id a (publishing_event (link tail at)) (stop_within shape opened state kept tail is_stop) shape opened (
+        subst (λ (p : Bool × ℕ). Kept shape opened (record {
+          words = set state.words (tail + 3) (if p.0 then p.1 else found);
+          cursors = state.cursors;
+          actors = set state.actors id (after_link p.0 a tail p.1 found);
+        })) (λ j. (sym (eq-eqb found 12 ends) j, here j)) (links_as tail own placed i there waits.1 ends given asked payload may),
+        reference_is shape opened state kept id a mine records found lives (0, omega arith, sym ends),
+      ))
+      (λ other. link_beaten shape opened state kept id a mine records tail at (own, given, placed, waits, here, asked, payload, may) other)
+
+pub publishing_keeps : PublishingKeeps
+publishing_keeps (store_own_next at) shape opened state id a kept mine records ready = own_next_stored shape opened state kept id a mine records at ready
+publishing_keeps load_tail shape opened state id a kept mine records ready = tail_loaded shape opened state kept id a mine records ready
+publishing_keeps (link tail at) shape opened state id a kept mine records ready = linked shape opened state kept id a mine records tail at ready
+publishing_keeps (move_tail old new) shape opened state id a kept mine records ready = tail_moved_on shape opened state kept id a mine records old new ready
+
+pub walking_keeps : WalkingKeeps
+walking_keeps (load_next at) shape opened state id a kept mine records ready = next_loaded shape opened state kept id a mine records at ready
+walking_keeps (load_published at index) shape opened state id a kept mine records ready =
+    published_loaded shape opened state kept id a mine records ready.0 at index ready.1 ready.2

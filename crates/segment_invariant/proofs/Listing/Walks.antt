@@ -1,0 +1,201 @@
+-- Events that put nothing on the list: the tail is loaded and moved on, a next is loaded, and a link finds another record.
+use Rattle.std.proofs.Common.{◌≡◌, ◌≢◌, ◌⊎◌, ℕ, zero, suc, ◌+◌, ◌<◌, ◌≤◌, ◌==◌, true, List, ◌++◌, length, set, get_or, All, inl, inr, refl, sym, ap, ◌∙◌, subst, arith, eq-eqb}
+use Rattle.std.specs.Prelude as std
+use Rattle.std.specs.Prelude.{slice_index, Some, None, nat_le, if◌then◌else◌, IsPermutation}
+use Rattle.std.proofs.lemmas.Bool.{le-leb, and_from, or_left, or_right}
+use Rattle.std.proofs.lemmas.List.{length-map}
+use Rattle.std.proofs.lemmas.List.Elements.{All-weaker}
+use mathlib.Core.Option.{some, none}
+use lib.ListN.{get_elem?}
+use Rattle.atomic_table.proofs.Lists.{at_map}
+use Rattle.segment_image.specs.Shape.{Dimensions}
+use Rattle.segment_image.specs.Words.{word_at}
+use Rattle.alloc_core.specs.Layout.{IsShown}
+use Rattle.alloc_core.specs.Laws.{Behind}
+use Rattle.alloc_core.proofs.Layouts.{length_shown}
+use Rattle.list_core.specs.Chain.{is_reference, IsLinked}
+use Rattle.list_core.specs.Laws.{IsStop}
+use Rattle.list_core.specs.Walk.{IsPrefix}
+use Rattle.segment_machine.specs.declared.actor.Actor.{Actor}
+use Rattle.segment_machine.specs.declared.actor.Claim.{Claim}
+use Rattle.segment_machine.specs.declared.actor.Own.{Own}
+use Rattle.segment_machine.specs.declared.actor.Made.{Made}
+use Rattle.segment_machine.specs.declared.actor.Made.TheVariants as made
+use Rattle.segment_machine.specs.declared.actor.Sighting.{Sighting}
+use Rattle.segment_machine.specs.declared.place.Place.{Place}
+use Rattle.segment_machine.specs.declared.place.Place.TheVariants.{Spent}
+use Rattle.segment_machine.specs.State.{State}
+use Rattle.segment_machine.specs.Calls.{IsReference}
+use Rattle.segment_invariant.specs.Body.{Body, histogram, sample, other, words_of, is_claimed, Piece, Listed, Anatomy, layout_of, order_of, free_of, claims_of}
+use Rattle.segment_invariant.specs.Seen.{Stands, WasFixed, IsNoLater, AreNoLater, Sees}
+use Rattle.segment_invariant.specs.Kept.{StandsAs, StandsRight, HoldsOwn, IsSetBy, StandStill, Kept}
+use Rattle.segment_invariant.proofs.Lists.Elements.{rows, column, there_below, index_at, all_at}
+use Rattle.segment_invariant.proofs.Blocks.Pieces.{piece_from, piece_ends, free_within}
+use Rattle.segment_invariant.proofs.Frames.OneActor.{Doing, doing, doing_of, TurnsTo}
+use Rattle.segment_invariant.proofs.Frames.Anatomies.{sees_along}
+use Rattle.segment_invariant.proofs.Frames.GoesOn.{goes_on}
+use Rattle.segment_invariant.proofs.Allocating.Claimers.{AllClaimedRight, stays_same, still_same}
+use Rattle.segment_invariant.proofs.Frames.Growth.{reshaped, Stays, with_next, grows_not}
+use Rattle.segment_invariant.proofs.Frames.GrowthOfActors.{SawMore}
+use Rattle.segment_invariant.proofs.Frames.GrowthOfStates.{fits_on}
+
+-- ---- the stops of a kept list
+
+-- a listed record stands as a claimed block without owner, whose fourth word is its next
+pub listed_stands : (pieces : List Piece) (l : Listed) (given : std.Option Made) → StandsAs pieces l given
+    → (body : Body) × Stands pieces l.reference none body × (is_claimed body ≡ true)
+    × ((n : ℕ) → words_of (with_next body n) ≡ set (words_of body) 3 n)
+listed_stands pieces l (Some (made.Histogram name spec)) s = (histogram s.0, s.1, refl, λ n. refl)
+listed_stands pieces l (Some (made.Sample of value)) s = (sample s.0, s.1, refl, λ n. refl)
+listed_stands pieces l None s = (other s.0 s.1 s.2 s.3, s.4, refl, λ n. refl)
+
+module _ (shape : Dimensions) (opened : Anatomy) (state : State) (kept : Kept shape opened state) where
+  abbrev anatomy : Anatomy
+  anatomy = kept.anatomy
+
+  abbrev order : List ℕ
+  order = order_of kept.anatomy
+
+  -- a stop is the queue block, or stands so
+  pub stop_stands : (at : ℕ) → IsStop order at → (at ≡ 12) ⊎ ((body : Body) × Stands anatomy.pieces at none body × (is_claimed body ≡ true)
+      × ((n : ℕ) → words_of (with_next body n) ≡ set (words_of body) 3 n))
+  stop_stands at (zero, le, is) = inl (sym is)
+  stop_stands at (suc k, le, is) =
+      let (l, there) = there_below anatomy.records k (omega (arith, le, length-map anatomy.records (λ (l : Listed). l.reference))) in
+      let named : l.reference ≡ at = sym (index_at order k l.reference 0 (at_map (λ (l : Listed). l.reference) anatomy.records k l there)) ∙ is in
+      let (body, stands, claimed, nexts) = listed_stands anatomy.pieces l l.made (all_at (λ l. StandsAs anatomy.pieces l l.made) anatomy.records k l kept.list.standing there) in
+      inr (body, subst (λ (n : ℕ). Stands anatomy.pieces n none body) named stands, claimed, nexts)
+
+  -- such a block ends within the words
+  pub block_within : (at : ℕ) (body : Body) → Stands anatomy.pieces at none body → is_claimed body ≡ true
+      → ((at ≡ 12) ⊎ (16 ≤ at)) × (5 ≤ length (words_of body)) × (at + length (words_of body) ≤ shape.size)
+  block_within at body (k, there) claimed =
+      let ends = piece_ends shape state.words anatomy kept.shown k _ there in
+      let free = free_within shape state.words anatomy kept.shown in
+      let five = (kept.blocks k _ there claimed).1 in
+      (piece_from shape state.words anatomy kept.shown k _ there, five, omega (arith, ends, free))
+
+  -- it is a reference that a list can have
+  pub stop_reference : (at : ℕ) → IsStop order at → is_reference shape.size at ≡ true
+  stop_reference at stop = elim (stop_stands at stop) [
+    | inl queue ↦ or_left (at == 12) _ (eq-eqb at 12 queue)
+    | inr stands ↦
+        let (from, five, within) = block_within at stands.0 stands.1 stands.2 in
+        elim from [
+          | inl queue ↦ or_left (at == 12) _ (eq-eqb at 12 queue)
+          | inr least ↦ or_right (at == 12) _
+              (and_from (nat_le 16 at) _ (le-leb 16 at least) (le-leb (at + 5) shape.size (omega (arith, five, within))))
+        ]
+  ]
+
+  -- its next lies within the words
+  pub stop_within : (at : ℕ) → IsStop order at → at + 3 < length state.words
+  stop_within at stop =
+      let size = length_shown shape state.words (layout_of anatomy) kept.shown in
+      let wide = kept.shown.sound.lawful.wide in
+      let one = kept.shown.sound.lawful.one in
+      elim (stop_stands at stop) [
+        | inl queue ↦ omega (arith, queue, size, wide, one)
+        | inr stands ↦ let (from, five, within) = block_within at stands.0 stands.1 stands.2 in omega (arith, five, within, size)
+      ]
+
+  -- the word of the tail
+  pub tail_word : word_at state.words 8 ≡ anatomy.tail
+  tail_word = ap (λ (ws : List ℕ). get_or ws 8 0) kept.shown.shows
+
+  -- ---- an actor that sees more of the list
+
+  module _ (id : ℕ) (a : Actor) (mine : get_elem? state.actors id ≡ some a) (records : a.opener ≡ 0) where
+    -- where it stands, its blocks, the tail, the chain and the words that it saw
+    abbrev pub walking : Place → List Own → List ℕ → List ℕ → List Sighting → Doing
+    walking place own tails chain words =
+        record (doing_of a) { place = place; own = own; seen_tails = tails; seen_chain = chain; seen_words = words }
+
+    -- a stop is a reference that it may find
+    pub reference_is : (at : ℕ) → a.place ≢ Spent → IsStop order at → IsReference a at
+    reference_is at lives stop =
+        subst (λ (s : Dimensions). is_reference s.size at ≡ true) (sym (kept.each id a mine lives).shaped) (stop_reference at stop)
+
+    -- it goes on so, where the words of the header but the tail, and all but its own blocks, stay
+    pub walks_on : (place : Place) (own : List Own) (tails chain : List ℕ) (words : List Sighting) → TurnsTo a place
+        → SawMore a (walking place own tails chain words)
+        → (pieces : List Piece) (present : ℕ) (words' : List ℕ)
+        → Stays anatomy.pieces pieces
+        → ((who at : ℕ) (body : Body) → who ≢ id → Stands anatomy.pieces at (some who) body → Stands pieces at (some who) body)
+        → StandStill anatomy.pieces pieces
+        → AllClaimedRight pieces
+        → claims_of pieces ≡ claims_of anatomy.pieces
+        → free_of (reshaped anatomy pieces anatomy.spare anatomy.corrupt anatomy.full present) ≡ free_of anatomy
+        → IsShown shape words' (layout_of (reshaped anatomy pieces anatomy.spare anatomy.corrupt anatomy.full present))
+        → IsLinked words' order
+        → IsStop order present
+        → ((seen : ℕ) → IsNoLater order seen anatomy.tail → IsNoLater order seen present)
+        → StandsRight shape (reshaped anatomy pieces anatomy.spare anatomy.corrupt anatomy.full present) id (doing a (walking place own tails chain words)) place
+        → IsPrefix chain order
+        → AreNoLater order tails present
+        → All (WasFixed pieces) words
+        → All (HoldsOwn shape pieces id) own
+        → ((i j : ℕ) (x y : Own) → get_elem? own i ≡ some x → get_elem? own j ≡ some y → x.at ≡ y.at → i ≡ j)
+        → Kept shape opened (record { words = words'; cursors = state.cursors; actors = set state.actors id (doing a (walking place own tails chain words)) })
+    walks_on place own tails chain words turns more pieces present words' stays others still blocks claims free shown linked stop later stands prefix no_later fixed holds apart =
+        let d : Doing = walking place own tails chain words in
+        let new : Anatomy = reshaped anatomy pieces anatomy.spare anatomy.corrupt anatomy.full present in
+        let fits = kept.each id a mine turns.lived in
+        let old_sees : Sees new state.cursors a =
+        sees_along anatomy pieces anatomy.spare anatomy.corrupt anatomy.full present stays state.cursors a
+        (subst (Behind a.seen_free) (sym free) fits.sees.free) (All-weaker (λ place. IsNoLater order place anatomy.tail) (λ place. IsNoLater order place present) later a.seen_tails fits.sees.tails) fits.sees in
+        let sees : Sees new state.cursors (doing a d) = record {
+          free = old_sees.free;
+          walked = prefix;
+          tails = no_later;
+          singles = old_sees.singles;
+          counters = old_sees.counters;
+          in_use = old_sees.in_use;
+          fixed = fixed;
+          shared = old_sees.shared;
+          names = old_sees.names;
+        } in
+        let on = fits_on shape opened state kept new (λ at body. ⊥)
+        (grows_not anatomy pieces anatomy.spare anatomy.corrupt anatomy.full present stays) id a d mine turns.lived more sees holds apart fits.owes in
+        goes_on shape opened state kept id a mine records d turns pieces anatomy.spare anatomy.corrupt anatomy.full present words'
+        (record {
+          shown = shown;
+          stays = stays;
+          others = others;
+          still = still;
+          blocks = blocks;
+          linked = linked;
+          published = refl;
+          owed = refl;
+          claims = subst (λ (p : List Claim × List Claim). IsPermutation p.0 (claims_of opened.pieces ++ p.1))
+              (λ i. (sym claims i, sym (rows (λ (b : Actor). b.claimed) state.actors id a (doing a d) mine refl) i)) kept.claims;
+          free = λ seen behind_it. subst (Behind seen) (sym free) behind_it;
+          tail = stop;
+          tail_later = later;
+          corrupt = subst (IsSetBy anatomy.corrupt opened.corrupt) (sym (column (λ (b : Actor). b.spoiled) state.actors id a (doing a d) mine refl)) kept.corrupt;
+          full = subst (IsSetBy anatomy.full opened.full) (sym (column (λ (b : Actor). b.filled) state.actors id a (doing a d) mine refl)) kept.full;
+          stands = stands;
+          sees = sees;
+          own = holds;
+          apart = apart;
+          calls = on.calls;
+          looks = on.looks records;
+        })
+
+    -- where no block changes
+    pub looks_on : (place : Place) (tails chain : List ℕ) (words : List Sighting) → TurnsTo a place
+        → SawMore a (walking place a.own tails chain words)
+        → (present : ℕ) (words' : List ℕ)
+        → IsShown shape words' (layout_of (record anatomy { tail = present }))
+        → IsLinked words' order
+        → IsStop order present
+        → ((seen : ℕ) → IsNoLater order seen anatomy.tail → IsNoLater order seen present)
+        → StandsRight shape (record anatomy { tail = present }) id (doing a (walking place a.own tails chain words)) place
+        → IsPrefix chain order
+        → AreNoLater order tails present
+        → All (WasFixed anatomy.pieces) words
+        → Kept shape opened (record { words = words'; cursors = state.cursors; actors = set state.actors id (doing a (walking place a.own tails chain words)) })
+    looks_on place tails chain words turns more present words' shown linked stop later stands prefix no_later fixed =
+        let fits = kept.each id a mine turns.lived in
+        walks_on place a.own tails chain words turns more anatomy.pieces present words' (stays_same anatomy.pieces)
+        (λ who at body ne has. has) (still_same anatomy.pieces) kept.blocks refl refl shown linked stop later stands prefix no_later fixed fits.own fits.apart

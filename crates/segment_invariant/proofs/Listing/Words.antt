@@ -1,0 +1,291 @@
+-- A word of a published record that never changes is loaded: its type, its spec, its name, or what a sample is of.
+use Rattle.std.proofs.Common.{◌≡◌, ◌≢◌, ℕ, suc, ◌+◌, ◌-◌, ◌%◌, ◌<◌, ◌==◌, Bool, true, false, List, [], ◌∷◌, ◌++◌, length, replicate, Contains, inl, inr, refl, sym, ap, ◌∙◌, subst, arith, length-append, eq-eqb, ne_eqb, div-add-mod', mod-lt}
+use Rattle.std.specs.Prelude.{slice_index, if◌then◌else◌, Some, None}
+use Rattle.std.specs.Prelude as std
+use Rattle.std.proofs.lemmas.List.{length-replicate}
+use Rattle.std.proofs.lemmas.List.Elements.{All-contains, All-push, Contains-append_left}
+use mathlib.Core.Option.{some, none, some-injective}
+use mathlib.Core.Logic.{dite}
+use native.Mathlib.Decide.{ℕ_discrete}
+use lib.ListN.{get_elem?}
+use Rattle.atomic_table.proofs.Lists.{at_longer}
+use Rattle.segment_image.specs.Shape.{Dimensions}
+use Rattle.segment_image.specs.Words.{word_at}
+use Rattle.segment_image.proofs.ReadWords.{length-bytes_of_words}
+use Rattle.alloc_core.proofs.Layouts.{length_shown}
+use Rattle.bucket_ranges.specs.Spec.{spec_ranges}
+use Rattle.bucket_ranges.specs.declared.spec.Spec.{Spec}
+use Rattle.bucket_ranges.specs.declared.spec.Spec.TheVariants.{Linear, Boolean, Custom, Sparse}
+use Rattle.bucket_ranges.specs.Reading.{name_words}
+use Rattle.segment_machine.specs.declared.actor.Actor.{Actor}
+use Rattle.segment_machine.specs.declared.actor.Made.{Made}
+use Rattle.segment_machine.specs.declared.actor.Made.TheVariants as made
+use Rattle.segment_machine.specs.declared.actor.Sighting.{Sighting}
+use Rattle.segment_machine.specs.declared.place.Place.TheVariants.{Spent}
+use Rattle.segment_machine.specs.Actor.{is_bound, word_seen}
+use Rattle.segment_machine.specs.State.{State}
+use Rattle.segment_machine.specs.Walking.{load_published, IsFixed, EndsWithin}
+use Rattle.segment_machine.specs.Event.{walking_event, next}
+use Rattle.segment_machine.specs.Calls.{sight}
+use Rattle.segment_machine.specs.Made.{AreNameWords}
+use Rattle.segment_invariant.specs.Body.{Record, Sample, Body, histogram, sample, other, record_words, spec_field, words_of, is_claimed, Piece, Listed, Anatomy, layout_of, order_of}
+use Rattle.segment_invariant.specs.Seen.{Stands, HasRecord, HasSample, IsFixedIn, WasFixed}
+use Rattle.segment_invariant.specs.Kept.{StandsAs, Kept}
+use Rattle.segment_invariant.proofs.Lists.Elements.{at_from, all_at, from_map}
+use Rattle.segment_invariant.proofs.Blocks.Places.{fixed_within}
+use Rattle.segment_invariant.proofs.Blocks.Pieces.{piece_word, one_index}
+use Rattle.segment_invariant.proofs.Frames.OneActor.{Doing, turns_not, doing}
+use Rattle.segment_invariant.proofs.Frames.GoesOn.{happens}
+use Rattle.segment_invariant.proofs.Frames.GrowthOfActors.{SawMore}
+use Rattle.segment_invariant.proofs.Frames.Standing.{grounds_itself, Follows, stands_on}
+use Rattle.segment_invariant.proofs.Frames.GrowthOfStates.{known_record}
+use Rattle.segment_invariant.proofs.Listing.Walks.{block_within, walking, looks_on}
+use Rattle.segment_invariant.proofs.Listing.Events.{Goes, loaded}
+
+-- ---- the words of a record
+
+-- the words of a name are as many as its length says
+pub letters_long : (name letters : List ℕ) → AreNameWords name letters → name_words (length name) ≡ length letters
+letters_long name letters (k, few, are) =
+    let n : ℕ = length name in
+    let bytes = length-bytes_of_words letters in
+    let all = ap length are in
+    let e = length-append name (replicate {A = ℕ} k 0) in
+    let f = length-replicate {A = ℕ} k 0 in
+    let d = div-add-mod' (n + 7) 8 in
+    let m : (n + 7) % 8 < 8 = mod-lt (n + 7) (omega arith) in
+    omega (arith, few, bytes, all, e, f, d, m)
+
+-- a record has its header and its fields, its name, its ranges and what stands behind them
+pub record_long : (r : Record) → length (record_words r) ≡ 15 + (length r.letters + (length (spec_ranges r.spec) + length r.rest))
+record_long r =
+    let e = length-append (r.letters ++ spec_ranges r.spec) r.rest in
+    let f = length-append r.letters (spec_ranges r.spec) in
+    omega (arith, e, f)
+
+-- of a custom spec the last number is one more than its ranges are
+pub ranges_long : (s : Spec) → spec_field s 0 ≡ 3 → length (spec_ranges s) ≡ spec_field s 3 - 1
+ranges_long (Linear min max n) kind = absurd (omega (arith, kind))
+ranges_long Boolean kind = absurd (omega (arith, kind))
+ranges_long (Custom values) kind = omega arith
+ranges_long Sparse kind = absurd (omega (arith, kind))
+
+-- ---- words that were seen
+
+-- a word that was seen is among the sightings
+pub word_contains : (list : List Sighting) (at word : ℕ) → word_seen list at ≡ Some word → Contains list (record { at = at; word = word })
+word_contains [] at word is = absurd (cc is)
+word_contains (s ∷ rest) at word is = dite (ℕ_discrete s.at at)
+    (λ here.
+    let now : Some s.word ≡ Some word = sym (ap (λ (b : Bool). if b then Some s.word else word_seen rest at) (eq-eqb s.at at here)) ∙ is in
+    let same : s.word ≡ word = cc now in
+    (0, omega arith, λ i. record { at = here i; word = same i }))
+    (λ apart.
+    let (k, lt, found) = word_contains rest at word (sym (ap (λ (b : Bool). if b then Some s.word else word_seen rest at) (ne_eqb s.at at apart)) ∙ is) in
+    (suc k, omega (arith, lt), found))
+
+-- one more sighting changes none of the words that were seen, and no other
+pub word_still : (list : List Sighting) (at word : ℕ) (more : List Sighting) → word_seen list at ≡ Some word → word_seen (list ++ more) at ≡ Some word
+word_still [] at word more is = absurd (cc is)
+word_still (s ∷ rest) at word more is = dite (ℕ_discrete s.at at)
+    (λ here.
+    ap (λ (b : Bool). if b then Some s.word else word_seen (rest ++ more) at) (eq-eqb s.at at here)
+    ∙ (sym (ap (λ (b : Bool). if b then Some s.word else word_seen rest at) (eq-eqb s.at at here)) ∙ is))
+    (λ apart.
+    ap (λ (b : Bool). if b then Some s.word else word_seen (rest ++ more) at) (ne_eqb s.at at apart)
+    ∙ word_still rest at word more (sym (ap (λ (b : Bool). if b then Some s.word else word_seen rest at) (ne_eqb s.at at apart)) ∙ is))
+
+word_else : (list : List Sighting) (at where_at found : ℕ) → where_at ≢ at → word_seen (list ++ sight where_at found) at ≡ word_seen list at
+word_else [] at where_at found ne = ap (λ (b : Bool). if b then Some found else None) (ne_eqb where_at at ne)
+word_else (s ∷ rest) at where_at found ne = ap (λ (o : std.Option ℕ). if s.at == at then Some s.word else o) (word_else rest at where_at found ne)
+
+-- a counts reference is not among the words that are fixed for an actor
+no_counts : (a : Actor) (at : ℕ) → IsFixed a at 8 → ⊥
+no_counts a at (inl two) = omega (arith, two)
+no_counts a at (inr (inl (tag, inl field))) = let below = field.1 in omega (arith, below)
+no_counts a at (inr (inl (tag, inr (inl len)))) = omega (arith, len)
+no_counts a at (inr (inl (tag, inr (inr (len, seen, from, within))))) = omega (arith, from)
+no_counts a at (inr (inr (tag, least, most))) = omega (arith, most)
+
+-- a word that was seen of a block is that of the block
+module _ (shape : Dimensions) (opened : Anatomy) (state : State) (kept : Kept shape opened state) where
+  abbrev blocks : List Piece
+  blocks = kept.anatomy.pieces
+
+  pub seen_stays : (at j word : ℕ) (body : Body) → Stands blocks at none body → j < length (words_of body)
+      → WasFixed blocks (record { at = at + j; word = word }) → slice_index (words_of body) j ≡ word
+  seen_stays at j word body (k, there) lt (at', i, body', (k', there'), is, fixed, value) =
+      let index = one_index shape state.words kept.anatomy kept.shown k k' _ _ j i there there' lt (fixed_within body' i fixed) is in
+      let same = some-injective _ _ (sym there ∙ (ap (get_elem? blocks) index ∙ there')) in
+      let place : at ≡ at' = ap (λ (p : Piece). p.at) same in
+      let word_is : j ≡ i = omega (arith, place, is) in
+      ap (λ (p : ℕ × Body). slice_index (words_of p.1) p.0) (λ i. (word_is i, (ap (λ (p : Piece). p.body) same) i)) ∙ value
+
+  -- so of a word that an actor saw
+  pub sighted : (id : ℕ) (a : Actor) → get_elem? state.actors id ≡ some a → a.place ≢ Spent
+      → (at j word : ℕ) (body : Body) → Stands blocks at none body → j < length (words_of body)
+      → word_seen a.seen_words (at + j) ≡ Some word → slice_index (words_of body) j ≡ word
+  sighted id a mine lives at j word body stands lt seen =
+      seen_stays at j word body stands lt
+      (All-contains (WasFixed blocks) a.seen_words _ (kept.each id a mine lives).sees.fixed (word_contains a.seen_words (at + j) word seen))
+
+module _ (shape : Dimensions) (opened : Anatomy) (state : State) (kept : Kept shape opened state) (id : ℕ) (a : Actor)
+    (mine : get_elem? state.actors id ≡ some a) (records : a.opener ≡ 0) (unbound : is_bound a.place ≡ false) where
+  abbrev anatomy : Anatomy
+  anatomy = kept.anatomy
+
+  lives : a.place ≢ Spent
+  lives spent = cc (unbound, ap is_bound spent)
+
+  seen_is : (at j word : ℕ) (body : Body) → Stands anatomy.pieces at none body → j < length (words_of body)
+      → word_seen a.seen_words (at + j) ≡ Some word → slice_index (words_of body) j ≡ word
+  seen_is = sighted shape opened state kept id a mine lives
+
+  module _ (at index : ℕ) (body : Body) (stands : Stands anatomy.pieces at none body) (fixed : IsFixedIn body index) where
+    found_is : word_at state.words (at + index) ≡ slice_index (words_of body) index
+    found_is = piece_word shape state.words anatomy kept.shown stands.0 _ index stands.1 (fixed_within body index fixed)
+
+    -- it is loaded
+    reads : IsFixed a at index → is_claimed body ≡ true → EndsWithin a at index (slice_index (words_of body) index) → Goes shape opened state kept id a mine records (walking_event (load_published at index))
+    reads known_fixed claimed ends =
+        let found : ℕ = word_at state.words (at + index) in
+        let s : Sighting = record { at = at + index; word = found } in
+        let words : List Sighting = a.seen_words ++ sight (at + index) found in
+        let fits = kept.each id a mine lives in
+        let turns = turns_not a lives in
+        let lt = fixed_within body index fixed in
+        let size = length_shown shape state.words (layout_of anatomy) kept.shown in
+        let (from, five, within) = block_within shape opened state kept at body stands claimed in
+        let d : Doing = walking shape opened state kept id a mine records a.place a.own a.seen_tails a.seen_chain words in
+        let follows : Follows a (doing a d) = record {
+          saw = (refl, refl, refl, refl, refl);
+          names = λ known has. has;
+          words = λ t has. Contains-append_left a.seen_words (sight (at + index) found) t has;
+          seen = λ x word seen. word_still a.seen_words x word (sight (at + index) found) seen;
+          chain = λ x has. has;
+          own = λ block has. (block, has, refl, refl);
+          spent = λ spent. absurd (lives (ap (λ (b : Actor). b.place) spent));
+        } in
+        let more : SawMore a d = record {
+          chain = λ x has. has;
+          words = λ x word seen. word_still a.seen_words x word (sight (at + index) found) seen;
+          counts = λ known word named seen.
+              let (r, (k, there)) = known_record shape opened state kept id a mine lives known named in
+              sym (word_else a.seen_words (known.reference + 8) (at + index) found (λ same.
+              let one = one_index shape state.words anatomy kept.shown stands.0 k _ _ index 8 stands.1 there lt (omega arith) same in
+              let place = ap (λ (p : Piece). p.at) (some-injective _ _ (sym stands.1 ∙ (ap (get_elem? anatomy.pieces) one ∙ there))) in
+              let eight : index ≡ 8 = omega (arith, same, place) in
+              no_counts a at (subst (IsFixed a at) eight known_fixed))) ∙ seen;
+          loaded = turns.sums;
+        } in
+        happens opened.version state id a (walking_event (load_published at index)) (omega (arith, lt, size, within)) shape opened (
+          loaded shape opened state kept id a mine records (at + index) (next a (walking_event (load_published at index)) found)
+              (looks_on shape opened state kept id a mine records a.place a.seen_tails a.seen_chain words turns more anatomy.tail state.words
+              kept.shown kept.list.linked kept.list.tail (λ seen before. before)
+              (stands_on shape anatomy anatomy id a (doing a d) (grounds_itself anatomy id) follows a.place (kept.standing id a mine))
+              fits.sees.walked fits.sees.tails
+              (All-push (WasFixed anatomy.pieces) a.seen_words s fits.sees.fixed (at, index, body, stands, refl, fixed, sym found_is))),
+          subst (EndsWithin a at index) (sym found_is) ends,
+        )
+
+  -- of a histogram
+  record_read : (at index : ℕ) (r : Record) → HasRecord anatomy.pieces at r → IsFixed a at index → Goes shape opened state kept id a mine records (walking_event (load_published at index))
+  record_read at index r stands fixed =
+      let (from, five, within) = block_within shape opened state kept at (histogram r) stands refl in
+      let long = record_long r in
+      let sized = ap (λ (s : Dimensions). s.size) (kept.each id a mine lives).shaped in
+      let letters = letters_long r.name r.letters (kept.records.lawful at r stands).lettered in
+      let name_is : (len : ℕ) → word_seen a.seen_words (at + 14) ≡ Some len → length r.name ≡ len =
+      λ len seen. seen_is at 14 len (histogram r) stands (omega arith) seen in
+      let kind_is : (kind : ℕ) → word_seen a.seen_words (at + 4) ≡ Some kind → spec_field r.spec 0 ≡ kind =
+      λ kind seen. seen_is at 4 kind (histogram r) stands (omega arith) seen in
+      let number_is : (n : ℕ) → word_seen a.seen_words (at + 7) ≡ Some n → spec_field r.spec 3 ≡ n =
+      λ n seen. seen_is at 7 n (histogram r) stands (omega arith) seen in
+      let in_words : IsFixedIn (histogram r) index = fixed_in at index r stands fixed in
+      reads at index (histogram r) stands in_words fixed refl (
+        λ two tag. omega (arith, within, long, sized),
+        λ two tag. let one : 1 ≡ 3 = ap (slice_index (record_words r)) (sym two) ∙ tag in omega (arith, one),
+        λ fourteen.
+            let len : slice_index (record_words r) index ≡ length r.name = ap (slice_index (record_words r)) fourteen in
+            let many : name_words (slice_index (record_words r) index) ≡ length r.letters = ap name_words len ∙ letters in
+            omega (arith, within, long, sized, many),
+        λ len seven custom named.
+            let number : slice_index (record_words r) index ≡ spec_field r.spec 3 = ap (slice_index (record_words r)) seven in
+            let many : name_words len ≡ length r.letters = ap name_words (sym (name_is len named)) ∙ letters in
+            let ranges = ranges_long r.spec (kind_is 3 custom) in
+            omega (arith, within, long, sized, many, number, ranges),
+      )
+    where
+      fixed_in : (at index : ℕ) (r : Record) → HasRecord anatomy.pieces at r → IsFixed a at index → IsFixedIn (histogram r) index
+      fixed_in at index r stands (inl two) = inl two
+      fixed_in at index r stands (inr (inl (tag, inl field))) = inr (inl field)
+      fixed_in at index r stands (inr (inl (tag, inr (inl fourteen)))) = inr (inr (inr (omega (arith, fourteen), omega (arith, fourteen))))
+      fixed_in at index r stands (inr (inl (tag, inr (inr (len, named, from, inl letter))))) =
+          let long = record_long r in
+          let letters = letters_long r.name r.letters (kept.records.lawful at r stands).lettered in
+          let many : name_words len ≡ length r.letters = ap name_words (sym (seen_is at 14 len (histogram r) stands (omega arith) named)) ∙ letters in
+          inr (inr (inr (omega (arith, from), omega (arith, letter, long, many))))
+      fixed_in at index r stands (inr (inl (tag, inr (inr (len, named, from, inr (n, kind, number, range)))))) =
+          let long = record_long r in
+          let letters = letters_long r.name r.letters (kept.records.lawful at r stands).lettered in
+          let many : name_words len ≡ length r.letters = ap name_words (sym (seen_is at 14 len (histogram r) stands (omega arith) named)) ∙ letters in
+          let n_is : spec_field r.spec 3 ≡ n = seen_is at 7 n (histogram r) stands (omega arith) number in
+          let ranges = ranges_long r.spec (seen_is at 4 3 (histogram r) stands (omega arith) kind) in
+          inr (inr (inr (omega (arith, from), omega (arith, range, long, many, n_is, ranges))))
+      fixed_in at index r stands (inr (inr (tag, least, most))) =
+          let one : 1 ≡ 3 = seen_is at 2 3 (histogram r) stands (omega arith) tag in absurd (omega (arith, one))
+
+  -- of a sample
+  sample_read : (at index : ℕ) (s : Sample) → HasSample anatomy.pieces at s → IsFixed a at index → Goes shape opened state kept id a mine records (walking_event (load_published at index))
+  sample_read at index s stands fixed =
+      let (from, five, within) = block_within shape opened state kept at (sample s) stands refl in
+      let sized = ap (λ (s : Dimensions). s.size) (kept.each id a mine lives).shaped in
+      let (in_words, few) = fixed_in fixed in
+      reads at index (sample s) stands in_words fixed refl (
+        λ two tag. let three : 3 ≡ 1 = ap (slice_index (words_of (sample s))) (sym two) ∙ tag in omega (arith, three),
+        λ two tag. omega (arith, within, sized),
+        λ fourteen. absurd (omega (arith, fourteen, few)),
+        λ len seven. absurd (omega (arith, seven, few)),
+      )
+    where
+      fixed_in : IsFixed a at index → IsFixedIn (sample s) index × (index < 6)
+      fixed_in (inl two) = (inl two, omega (arith, two))
+      fixed_in (inr (inl (tag, behind))) =
+          let three : 3 ≡ 1 = seen_is at 2 1 (sample s) stands (omega arith) tag in absurd (omega (arith, three))
+      fixed_in (inr (inr (tag, least, most))) = dite (ℕ_discrete index 4)
+          (λ four. (inr (inl four), most))
+          (λ ne. (inr (inr (omega (arith, ne, least, most))), most))
+
+  -- of a record of another type
+  other_read : (at index size tag behind : ℕ) (payload : List ℕ) → Stands anatomy.pieces at none (other size tag behind payload)
+      → tag ≢ 1 → tag ≢ 3 → IsFixed a at index → Goes shape opened state kept id a mine records (walking_event (load_published at index))
+  other_read at index size tag behind payload stands first third fixed =
+      let two = fixed_in fixed in
+      reads at index (other size tag behind payload) stands two fixed refl (
+        λ is found. absurd (first (ap (slice_index (words_of (other size tag behind payload))) (sym two) ∙ found)),
+        λ is found. absurd (third (ap (slice_index (words_of (other size tag behind payload))) (sym two) ∙ found)),
+        λ fourteen. absurd (omega (arith, fourteen, two)),
+        λ len seven. absurd (omega (arith, seven, two)),
+      )
+    where
+      fixed_in : IsFixed a at index → index ≡ 2
+      fixed_in (inl two) = two
+      fixed_in (inr (inl (seen, more))) = absurd (first (seen_is at 2 1 (other size tag behind payload) stands (omega arith) seen))
+      fixed_in (inr (inr (seen, least, most))) = absurd (third (seen_is at 2 3 (other size tag behind payload) stands (omega arith) seen))
+
+  listed_read : (at index : ℕ) (l : Listed) (given : std.Option Made) → l.reference ≡ at → StandsAs anatomy.pieces l given → IsFixed a at index
+      → Goes shape opened state kept id a mine records (walking_event (load_published at index))
+  listed_read at index l (Some (made.Histogram name spec)) is (r, stands, named, same) fixed =
+      record_read at index r (subst (λ (n : ℕ). HasRecord anatomy.pieces n r) is stands) fixed
+  listed_read at index l (Some (made.Sample of value)) is (s, stands, named, same) fixed =
+      sample_read at index s (subst (λ (n : ℕ). HasSample anatomy.pieces n s) is stands) fixed
+  listed_read at index l None is (size, tag, behind, payload, stands, first, third, long) fixed =
+      other_read at index size tag behind payload (subst (λ (n : ℕ). Stands anatomy.pieces n none (other size tag behind payload)) is stands) first third fixed
+
+  pub published_loaded : (at index : ℕ) → Contains a.seen_chain at → IsFixed a at index → Goes shape opened state kept id a mine records (walking_event (load_published at index))
+  published_loaded at index has fixed =
+      let (i, here) = at_from a.seen_chain at has in
+      let (rest, is) = (kept.each id a mine lives).sees.walked in
+      let there : get_elem? (order_of anatomy) i ≡ some at = subst (λ (l : List ℕ). get_elem? l i ≡ some at) (sym is) (at_longer a.seen_chain rest i at here) in
+      let (l, listed, named) = from_map (λ (l : Listed). l.reference) anatomy.records i at there in
+      listed_read at index l l.made named (all_at (λ l. StandsAs anatomy.pieces l l.made) anatomy.records i l kept.list.standing listed) fixed

@@ -1,0 +1,11 @@
+pub mod Actors
+pub mod Amounts
+pub mod Asks
+pub mod Begins
+pub mod Deltas
+pub mod Ends
+pub mod Keeps
+pub mod Knows
+pub mod Letters
+pub mod Names
+pub mod Notes

@@ -1,0 +1,148 @@
+-- What holds of an actor beside the others holds on where it notes something.
+use Rattle.std.proofs.Common.{◌≡◌, ◌≢◌, ℕ, ◌+◌, ◌≤◌, max, true, List, ◌∷◌, [], ◌++◌, map, length, drop, All, Contains, inr, ⊎_elim, refl, sym, subst, arith}
+use Rattle.std.proofs.lemmas.List.Elements.{Contains-append_left, Contains-append_right, Contains-append_cases}
+use Rattle.bucket_ranges.specs.declared.spec.Spec.TheVariants as spec
+use Rattle.segment_machine.specs.declared.actor.Taken.{Taken}
+use Rattle.segment_machine.specs.Entry.{has_ended, AreWithin, tally_noted}
+use Rattle.segment_machine.specs.Made.{SawSample}
+use Rattle.segment_image.specs.Shape.{Dimensions}
+use Rattle.segment_machine.specs.declared.actor.Actor.{Actor}
+use Rattle.segment_machine.specs.declared.actor.Moment.{Moment}
+use Rattle.segment_machine.specs.declared.actor.Sighting.{Sighting}
+use Rattle.segment_machine.specs.Actor.{log_of, counted_of, cost_of}
+use Rattle.segment_invariant.specs.Consistent.{IsWithinCounts}
+use Rattle.segment_invariant.specs.Body.{Anatomy}
+use Rattle.segment_invariant.specs.Seen.{Knows, IsFirst, IsFirstOf}
+use Rattle.segment_invariant.specs.Kept.{AreInOrder, CallsRight, LooksBack, IsQuiet, IsMoment, FinalsAreExact, OwesPublished, Fits}
+use Rattle.segment_invariant.proofs.Lists.Elements.{none_in}
+use Rattle.std.proofs.lemmas.List.{drop_all}
+use Rattle.segment_invariant.proofs.Frames.Together.{ended_began}
+use Rattle.segment_invariant.proofs.Notes.Notes.{Noting, noting, SameCounts, counted_before}
+
+-- ---- it fits
+
+module _ (shape : Dimensions) (anatomy : Anatomy) (cursors : List ℕ) (actors : List Actor) (opener : Actor) (id : ℕ) (a : Actor) (n : Noting) where
+  pub noting_fits : Fits shape anatomy cursors actors opener id a → All (Knows anatomy) n.names → OwesPublished a.published n.owed → CallsRight anatomy (noting a n)
+      → LooksBack anatomy actors opener (noting a n) → FinalsAreExact actors opener id (noting a n) → All (IsWithinCounts actors) n.snapshots
+      → Fits shape anatomy cursors actors opener id (noting a n)
+  noting_fits fit names owes calls looks finals snapshots = record {
+    shaped = fit.shaped;
+    versioned = fit.versioned;
+    numbered = fit.numbered;
+    sees = record {
+      free = fit.sees.free;
+      walked = fit.sees.walked;
+      tails = fit.sees.tails;
+      singles = fit.sees.singles;
+      counters = fit.sees.counters;
+      in_use = fit.sees.in_use;
+      fixed = fit.sees.fixed;
+      shared = fit.sees.shared;
+      names = names;
+    };
+    own = fit.own;
+    apart = fit.apart;
+    owes = owes;
+    calls = calls;
+    looks = λ records. looks;
+    finals = finals;
+    snapshots = snapshots;
+  }
+
+-- ---- what it looks back at
+
+-- it has the log that it had, knows what it knew, and looks at what it looked at
+abbrev pub looking_on : Actor → Noting → Noting
+looking_on a n = record n { log = a.log; names = a.names; since_singles = a.since_singles; since_counts = a.since_counts }
+
+-- or it looks anew
+abbrev pub looking_anew : Actor → Noting → Noting
+looking_anew a n = record n { since_singles = length a.seen_singles; since_counts = length a.seen_counts }
+
+module _ (anatomy : Anatomy) (actors : List Actor) (opener a : Actor) (n : Noting) where
+  pub looks_on : LooksBack anatomy actors opener a → LooksBack anatomy actors opener (noting a (looking_on a n))
+  looks_on looks = record {
+    most = looks.most;
+    packed = looks.packed;
+    counted = looks.counted;
+    samples = looks.samples;
+    rising = looks.rising;
+    noted = looks.noted;
+    sum = looks.sum;
+  }
+
+  nothing_single : (s : Sighting) → Contains (drop (length a.seen_singles) a.seen_singles) s → ⊥
+  nothing_single s there = none_in s (subst (λ (list : List Sighting). Contains list s) (drop_all (length a.seen_singles) a.seen_singles (omega arith)) there)
+
+  nothing_counted : (s : Sighting) → Contains (drop (length a.seen_counts) a.seen_counts) s → ⊥
+  nothing_counted s there = none_in s (subst (λ (list : List Sighting). Contains list s) (drop_all (length a.seen_counts) a.seen_counts (omega arith)) there)
+
+  pub looks_anew : LooksBack anatomy actors opener a → LooksBack anatomy actors opener (noting a (looking_anew a n))
+  looks_anew looks = record {
+    most = λ known bucket total has below saw. absurd (nothing_single _ saw.1);
+    packed = λ known bucket word has below saw. absurd (nothing_single _ saw);
+    counted = λ known bucket count r has below there mounts saw. absurd (nothing_counted _ saw);
+    samples = λ known value at count has first saw. absurd (nothing_counted _ saw);
+    rising = λ s t before behind. absurd (nothing_counted t behind);
+    noted = λ known count has saw. absurd (nothing_counted _ saw);
+    sum = looks.sum;
+  }
+
+-- ---- what it took
+
+-- it takes and answers nothing more
+abbrev pub taking_on : Actor → Noting → Noting
+taking_on a n = record n { taken = a.taken; taking = a.taking; snapshots = a.snapshots }
+
+module _ (actors : List Actor) (opener : Actor) (id : ℕ) (a : Actor) (n : Noting) where
+  abbrev later : Actor
+  later = noting a (taking_on a n)
+
+  -- where its log is no shorter, and quiet where it was not
+  module _ (longer : length (log_of a) ≤ length (log_of later))
+      (quiet : (name : List ℕ) (k : ℕ) → k ≤ length (log_of a) → IsQuiet later name k → IsQuiet a name k) where
+    moments_on : (m : Moment) → IsMoment actors opener id a m → IsMoment actors opener id later m
+    moments_on m is = record {
+      logged = (let low = is.logged in omega (arith, low, longer));
+      before = is.before;
+      mine = is.mine;
+      eldest = is.eldest;
+    }
+
+    pub finals_on : FinalsAreExact actors opener id a → FinalsAreExact actors opener id later
+    finals_on exact = record {
+      deltas = λ t there none youngest rests. exact.deltas t there none youngest
+          (quiet t.name t.moment.log (exact.moments t.moment (ended_began a t there)).logged rests);
+      snapshots = λ s there none youngest rests. exact.snapshots s there none youngest
+          (quiet s.name s.moment.log (exact.moments s.moment (inr (s, there, refl))).logged rests);
+      moments = λ m of. moments_on m (exact.moments m of);
+      swapped = exact.swapped;
+    }
+
+-- ---- its calls
+
+module _ (anatomy : Anatomy) (a : Actor) (n : Noting) where
+  pub calls_by : CallsRight anatomy a → SameCounts a (noting a n) → AreInOrder n.running
+      → (n.running ≢ [] → (name : List ℕ) × (cost : ℕ)
+      × (n.held ≡ record { name = name; units = cost } ∷ []) × AreWithin name cost (map (λ c. c.entry) n.running)
+      × Contains (map (λ known. known.name) n.names) name)
+      → length n.held ≤ 1 → All (λ c. has_ended c ≡ true) n.log → ((name : List ℕ)
+      → max (tally_noted a.first name) (cost_of a.first_noted name) + tally_noted (map (λ c. c.entry) n.log) name ≤ cost_of n.costs name)
+      → (n.taking ≡ true → (n.running ≡ []) × ((before : List Taken) × (last : Taken) × (n.taken ≡ before ++ last ∷ [])))
+      → CallsRight anatomy (noting a n)
+  calls_by calls same ordered within held ended spent taking = record {
+    ordered = ordered;
+    within = within;
+    held = held;
+    ended = ended;
+    spent = spent;
+    met = λ entry of there some_units first. ⊎_elim
+        (λ before. calls.met entry of (Contains-append_left a.inherited (counted_of a) entry before) some_units first)
+        (λ counted.
+        let (e, was, named, keyed, units) = counted_before a (noting a n) same entry counted some_units in
+        subst (λ key. (at : ℕ) × IsFirstOf anatomy.records of key at × Contains a.seen_chain at × SawSample a of key at) keyed
+        (calls.met e of (Contains-append_right a.inherited (counted_of a) e was) units
+        (subst (λ name. IsFirst anatomy.records name spec.Sparse of) (sym named) first)))
+        (Contains-append_cases a.inherited (counted_of (noting a n)) entry there);
+    taking = taking;
+  }

@@ -1,0 +1,102 @@
+-- A delta may begin: what holds is kept.
+use Rattle.std.proofs.Common.{◌≡◌, ◌≢◌, ℕ, ◌-◌, ◌<◌, ℤ, pos, Bool, true, false, true≢false, List, [], ◌∷◌, ◌++◌, length, take, Contains, inl, inr, ⊎_elim, refl, sym, ap, ◌∙◌, subst, arith}
+use Rattle.std.specs.Prelude.{if◌then◌else◌, ◌+ℤ◌}
+use Rattle.std.specs.Str.{bytes_eq}
+use Rattle.std.proofs.Math.IntN.{+ℤ_idr}
+use Rattle.std.proofs.Math.Seq.{take-append_seam}
+use Rattle.std.proofs.lemmas.List.{length_push, same_from_push}
+use Rattle.std.proofs.lemmas.List.Elements.{Contains-append_cases}
+use Rattle.std.proofs.lemmas.List.Sums.{sum_by_push}
+use mathlib.Core.Option.{some}
+use lib.ListN.{get_elem?}
+use Rattle.atomic_table.proofs.Lists.{set_else}
+use Rattle.segment_invariant.proofs.Frames.Answers.{answered_set}
+use Rattle.segment_machine.specs.declared.actor.Actor.{Actor}
+use Rattle.segment_machine.specs.declared.actor.Moment.{Moment}
+use Rattle.segment_machine.specs.declared.actor.Taken.{Taken}
+use Rattle.segment_machine.specs.Actor.{units_listed, taken_sum}
+use Rattle.segment_machine.specs.Note.{takes, moment_of, nothing_taken}
+use Rattle.segment_invariant.specs.Kept.{is_living, ended_deltas, IsMoment, FinalsAreExact}
+use Rattle.segment_invariant.specs.Keeps.{NoteKeeps}
+use Rattle.segment_invariant.proofs.Lists.Elements.{one_in}
+use Rattle.segment_invariant.proofs.Lists.FewTerms.{if_nothing}
+use Rattle.segment_invariant.proofs.Lists.Sums.{amounts_total}
+use Rattle.segment_invariant.proofs.Frames.OneActor.{lives_on}
+use Rattle.segment_invariant.proofs.Frames.GoesOn.{not_opener}
+use Rattle.segment_invariant.proofs.Notes.Notes.{Noting, noting, noting_of, SameCounts, SameTakes, notes_on}
+use Rattle.segment_invariant.proofs.Notes.Actors.{noting_fits, looks_anew, calls_by}
+
+module _ (a : Actor) (name : List ℕ) where
+  abbrev begun : Taken
+  begun = nothing_taken a name
+
+  abbrev taker : Noting
+  taker = record (noting_of a) {
+    since_singles = length a.seen_singles;
+    since_counts = length a.seen_counts;
+    taking = true;
+    taken = a.taken ++ begun ∷ [];
+  }
+
+  takes_counts : SameCounts a (noting a taker)
+  takes_counts = record { counted = λ name key. refl; summed = λ name. refl; noted = λ name. refl; costs = λ name. omega arith; units = refl }
+
+  takes_same : SameTakes a (noting a taker)
+  takes_same = record {
+    taken = λ of key.
+        let all = sum_by_push (λ (t : Taken). if bytes_eq t.name of then units_listed t.counts key else 0) a.taken begun in
+        let none = if_nothing {X = ℕ} (bytes_eq name of) 0 0 refl in
+        omega (arith, all, none);
+    taken_sums = λ of.
+        amounts_total (λ (t : Taken). if bytes_eq t.name of then t.sum else pos 0) a.taken (begun ∷ [])
+        ∙ (ap (λ (z : ℤ). taken_sum a.taken of +ℤ (pos 0 +ℤ z)) (if_nothing (bytes_eq name of) (pos 0) (pos 0) refl) ∙ +ℤ_idr (taken_sum a.taken of));
+    from = λ t has. ⊎_elim (λ old. inl old) (λ new. inr (ap (λ (t : Taken). t.counts) (sym (one_in begun t new)))) (Contains-append_cases a.taken (begun ∷ []) t has);
+  }
+
+  -- the deltas that have ended are all that it had
+  ended_before : a.taking ≡ false → (t : Taken) → Contains (ended_deltas (noting a taker)) t → Contains (ended_deltas a) t
+  ended_before rests t has =
+      let long = length_push a.taken begun in
+      let count : length (a.taken ++ begun ∷ []) - 1 ≡ length a.taken = omega (arith, long) in
+      let same : take (length (a.taken ++ begun ∷ []) - 1) (a.taken ++ begun ∷ []) ≡ a.taken =
+      ap (λ (k : ℕ). take k (a.taken ++ begun ∷ [])) count ∙ take-append_seam a.taken (begun ∷ []) in
+      subst (λ (b : Bool). Contains (if b then take (length a.taken - 1) a.taken else a.taken) t) (sym rests) (subst (λ (list : List Taken). Contains list t) same has)
+
+  module _ (actors : List Actor) (opener : Actor) (id : ℕ) (rests : a.taking ≡ false) (younger : a.made < opener.made)
+      (eldest : a.outstanding ≡ 0 → (other : ℕ) (c : Actor) → get_elem? actors other ≡ some c → is_living c ≡ true → other ≢ id → a.made < c.made) where
+    begins_now : IsMoment actors opener id (noting a taker) (moment_of a)
+    begins_now = record { logged = omega arith; before = younger; mine = λ records. (refl, refl); eldest = eldest }
+
+    moment_still : (m : Moment) → IsMoment actors opener id a m → IsMoment actors opener id (noting a taker) m
+    moment_still m is = record { logged = is.logged; before = is.before; mine = is.mine; eldest = is.eldest }
+
+    takes_finals : FinalsAreExact actors opener id a → FinalsAreExact actors opener id (noting a taker)
+    takes_finals exact = record {
+      deltas = λ t there. exact.deltas t (ended_before rests t there);
+      snapshots = exact.snapshots;
+      moments = λ m of. ⊎_elim
+          (λ took. ⊎_elim
+          (λ old. moment_still m (exact.moments m (inl (took.0, old, took.2))))
+          (λ new. subst (IsMoment actors opener id (noting a taker)) (ap (λ (t : Taken). t.moment) (one_in begun took.0 new) ∙ took.2) begins_now)
+          (Contains-append_cases a.taken (begun ∷ []) took.0 took.1))
+          (λ answered. moment_still m (exact.moments m (inr answered)))
+          of;
+      swapped = λ before last goes is swapped alone.
+          absurd (true≢false (sym swapped ∙ ap (λ (t : Taken). t.swapped) (sym (same_from_push a.taken before begun last is).1)));
+    }
+
+pub takes_kept : (name : List ℕ) → NoteKeeps (takes name)
+takes_kept name shape opened state id a kept mine records (lived, recorder, runs, rests, known) =
+    let n : Noting = taker a name in
+    let lives = lives_on a records lived in
+    let nothing = not_opener shape opened state kept id a mine records in
+    notes_on shape opened state kept id a mine records n lived (takes_counts a name) (takes_same a name) (λ name key. refl) (λ known has. has)
+    (answered_set kept.anatomy.records state.actors id a (noting a n) mine refl refl)
+    (λ fit. noting_fits shape kept.anatomy state.cursors _ kept.roles.opener id a n fit fit.sees.names fit.owes
+    (calls_by kept.anatomy a n fit.calls (takes_counts a name) fit.calls.ordered fit.calls.within fit.calls.held fit.calls.ended fit.calls.spent
+    (λ taking. (runs, (a.taken, nothing_taken a name, refl))))
+    (looks_anew kept.anatomy _ kept.roles.opener a n (fit.looks records))
+    (takes_finals a name _ kept.roles.opener id rests (kept.roles.younger id a mine lives)
+    (λ none other c there alive ne. kept.roles.eldest id other a c mine (sym (set_else state.actors id other (noting a n) ne) ∙ there) lives alive (λ same. ne (sym same)) none)
+    fit.finals)
+    fit.snapshots)

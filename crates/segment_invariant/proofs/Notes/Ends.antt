@@ -1,0 +1,235 @@
+-- A call that counts may note that it has ended, accepted or refused: what holds is kept.
+use Rattle.std.proofs.Common.{◌≡◌, ◌≢◌, ◌⊎◌, ℕ, ◌+◌, ◌-◌, ◌≤◌, Bool, true, false, cond, List, [], ◌∷◌, ◌++◌, map, length, drop, take, All, Contains, inl, inr, ⊎_elim, refl, sym, ap, ◌∙◌, subst, arith, append-nil, append_assoc, length-append, take-append-drop, set}
+use Rattle.std.specs.Prelude.{if◌then◌else◌, ◌==◌}
+use Rattle.std.specs.List.{filter}
+use Rattle.std.proofs.Math.Seq.{take-nil}
+use Rattle.std.proofs.lemmas.List.{map-append, drop-append-le}
+use Rattle.std.proofs.lemmas.List.Elements.{All-nil, All-contains, All-append, Contains-append_right, Contains-append_cases}
+use Rattle.std.proofs.lemmas.List.Sums.{sum_by-append, sum_by-cons}
+use Rattle.std.specs.Str.{bytes_eq}
+use mathlib.Core.Option.{some}
+use lib.ListN.{get_elem?}
+use Rattle.segment_image.specs.Shape.{Dimensions}
+use Rattle.segment_invariant.proofs.Frames.Answers.{answered_set}
+use Rattle.segment_machine.specs.declared.entry.Entry.{Entry}
+use Rattle.segment_machine.specs.declared.entry.Counting.{Counting}
+use Rattle.segment_machine.specs.declared.place.Place.TheVariants.{Spent}
+use Rattle.segment_machine.specs.declared.actor.Actor.{Actor}
+use Rattle.segment_machine.specs.declared.actor.Cost.{Cost}
+use Rattle.segment_machine.specs.Entry.{is_counted, is_summed, has_ended, is_of, tally_units, tally_sum, tally_noted, counted_among, summed_among, noted_among}
+use Rattle.segment_machine.specs.Actor.{log_of, cost_of, cost_total, is_bound}
+use Rattle.segment_machine.specs.Note.{ends, refused, is_untouched, units_running, spent_by, noted}
+use Rattle.segment_machine.specs.State.{State}
+use Rattle.segment_invariant.specs.Body.{Anatomy}
+use Rattle.segment_invariant.specs.Kept.{AreInOrder, CallsRight, summed_cost, IsQuiet, Kept}
+use Rattle.segment_invariant.specs.Keeps.{NoteKeeps}
+use Rattle.segment_invariant.proofs.Lists.Elements.{none_at, all_of}
+use Rattle.segment_invariant.proofs.Frames.OneActor.{summed_most}
+use Rattle.segment_invariant.proofs.Lists.Maps.{all_left, contains_map}
+use Rattle.segment_invariant.proofs.Lists.Countings.{noted_total, untouched_counts, untouched_sums, untouched_notes, untouched_summed}
+use Rattle.segment_invariant.proofs.Notes.Notes.{Noting, noting, noting_of, SameCounts, notes_on}
+use Rattle.segment_invariant.proofs.Notes.Actors.{noting_fits, looks_anew, finals_on, calls_by}
+use Rattle.segment_invariant.proofs.Notes.Begins.{takes_nothing}
+use Rattle.segment_invariant.proofs.Frames.Spending.{by_name, held_covers}
+
+-- ---- its log is longer
+
+log_more : (a : Actor) (ended : List Counting) → a.first ++ map (λ (c : Counting). c.entry) (a.log ++ ended) ≡ log_of a ++ map (λ (c : Counting). c.entry) ended
+log_more a ended =
+    ap (λ (list : List Entry). a.first ++ list) (map-append (λ (c : Counting). c.entry) a.log ended)
+    ∙ sym (append_assoc a.first (map (λ (c : Counting). c.entry) a.log) (map (λ (c : Counting). c.entry) ended))
+
+-- it was quiet where nothing was counted since, neither before nor by the call that ended
+quiet_before : (a : Actor) (ended : List Counting) (name : List ℕ) (k : ℕ) → ((c : Counting) → Contains a.running c → Contains ended c ⊎ (is_untouched c ≡ true))
+    → k ≤ length (log_of a) → All (λ entry. is_of name entry ≡ false) (drop k (a.first ++ map (λ (c : Counting). c.entry) (a.log ++ ended))) → IsQuiet a name k
+quiet_before a ended name k running low quiet =
+    let rests : Entry → Type 0 = λ entry. is_of name entry ≡ false in
+    let entries = map (λ (c : Counting). c.entry) ended in
+    let all : All rests (drop k (log_of a) ++ entries) =
+    subst (All rests) (ap (drop k) (log_more a ended) ∙ drop-append-le k (log_of a) entries low) quiet in
+    let holds : Counting → Type 0 = λ c. (is_of name c.entry ≡ false) ⊎ (is_untouched c ≡ true) in (
+      all_left rests (drop k (log_of a)) entries all,
+      all_of holds a.running (λ c has. ⊎_elim
+          (λ done. inl (All-contains rests (drop k (log_of a) ++ entries) c.entry all
+          (Contains-append_right (drop k (log_of a)) entries c.entry (contains_map (λ (c : Counting). c.entry) ended c done))))
+          (λ nothing. inr nothing)
+          (running c has)),
+    )
+
+-- nothing runs any more
+none_ordered : AreInOrder []
+none_ordered = record {
+  one_by_one = λ i j x y below first. absurd (none_at i x first);
+  counted_first = All-nil (λ (c : Counting). c.summed ≡ true → is_counted c ≡ true);
+  summed_next = All-nil (λ (c : Counting). c.noted ≡ true → is_summed c ≡ true);
+}
+
+unbound_lives : (a : Actor) → is_bound a.place ≡ false → a.place ≢ Spent
+unbound_lives a unbound spent = cc (unbound, ap is_bound spent)
+
+-- A call that has ended so many of its entries, and spent so much, is gone: what holds is kept.
+module _ (a : Actor) (share : ℕ) (spent : List Cost) (ended : List Counting) where
+  abbrev gone : Noting
+  gone = record (noting_of a) {
+    since_singles = length a.seen_singles;
+    since_counts = length a.seen_counts;
+    share = share;
+    log = a.log ++ ended;
+    running = [];
+    costs = a.costs ++ spent;
+    held = [];
+  }
+
+  module _ (counts : SameCounts a (noting a gone)) (done : All (λ c. has_ended c ≡ true) ended)
+      (running : (c : Counting) → Contains a.running c → Contains ended c ⊎ (is_untouched c ≡ true))
+      (pays : (anatomy : Anatomy) → CallsRight anatomy a → (name : List ℕ) → tally_noted (map (λ (c : Counting). c.entry) ended) name ≤ cost_of spent name) where
+    ends_with : (shape : Dimensions) (opened : Anatomy) (state : State) (id : ℕ) (kept : Kept shape opened state) (mine : get_elem? state.actors id ≡ some a)
+        → a.opener ≡ 0 → a.place ≢ Spent → Kept shape opened (record state { actors = set state.actors id (noting a gone) })
+    ends_with shape opened state id kept mine records lived =
+        let longer = ap length (log_more a ended) in
+        let long = length-append (log_of a) (map (λ (c : Counting). c.entry) ended) in
+        notes_on shape opened state kept id a mine records gone lived counts (takes_nothing a gone) (λ name key. refl) (λ known has. has)
+        (answered_set kept.anatomy.records state.actors id a (noting a gone) mine refl refl)
+        (λ fit. noting_fits shape kept.anatomy state.cursors _ kept.roles.opener id a gone fit fit.sees.names fit.owes
+        (calls_by kept.anatomy a gone fit.calls counts none_ordered (λ some_run. absurd (some_run refl)) (omega arith)
+        (All-append (λ (c : Counting). has_ended c ≡ true) a.log ended fit.calls.ended done)
+        (λ name.
+        let logs = ap (λ (entries : List Entry). tally_noted entries name) (map-append (λ (c : Counting). c.entry) a.log ended) in
+        let both = noted_total name (map (λ (c : Counting). c.entry) a.log) (map (λ (c : Counting). c.entry) ended) in
+        let costs = sum_by-append (λ (cost : Cost). if bytes_eq cost.name name then cost.units else 0) a.costs spent in
+        let before = fit.calls.spent name in
+        let now = pays kept.anatomy fit.calls name in
+        omega (arith, logs, both, costs, before, now))
+        (λ taking. (refl, (fit.calls.taking taking).1)))
+        (looks_anew kept.anatomy _ kept.roles.opener a gone (fit.looks records))
+        (finals_on _ kept.roles.opener id a gone (omega (arith, longer, long)) (λ of k within quiet. quiet_before a ended of k running within quiet.0) fit.finals)
+        fit.snapshots)
+
+-- ---- it is accepted
+
+ends_counts : (a : Actor) → SameCounts a (noted a ends)
+ends_counts a = record {
+  counted = λ name key. ap (λ list. tally_units (a.first ++ counted_among list) name key) (append-nil (a.log ++ a.running));
+  summed = λ name. ap (λ list. tally_sum (a.first ++ summed_among list) name) (append-nil (a.log ++ a.running));
+  noted = λ name. ap (λ list. tally_noted (noted_among list) name) (append-nil (a.log ++ a.running));
+  costs = λ name.
+      let all : cost_of (a.costs ++ a.held) name ≡ cost_of a.costs name + cost_of a.held name =
+      sum_by-append (λ (cost : Cost). if bytes_eq cost.name name then cost.units else 0) a.costs a.held in
+      let most = summed_most name a in
+      omega (arith, all, most);
+  units =
+      let all = sum_by-append (λ (cost : Cost). cost.units) a.costs a.held in
+      omega (arith, all);
+}
+
+pub ends_kept : NoteKeeps ends
+ends_kept shape opened state id a kept mine records (unbound, done) =
+    ends_with a a.share a.held a.running (ends_counts a) done (λ c has. inl has) (λ anatomy calls. held_covers anatomy a calls) shape opened state id kept mine records (unbound_lives a unbound)
+
+-- ---- it is refused
+
+module _ (a : Actor) (added : ℕ) where
+  abbrev done : List Counting
+  done = take added a.running
+
+  abbrev left : List Counting
+  left = drop added a.running
+
+  -- all that ran is what has ended, and what nothing has happened of
+  ran : (a.log ++ done) ++ left ≡ a.log ++ a.running
+  ran = append_assoc a.log done left ∙ ap (λ (list : List Counting). a.log ++ list) (take-append-drop added a.running)
+
+  -- a call of which nothing runs has spent nothing
+  none_spent : (held : List Cost) → cost_total (map (λ (cost : Cost). record cost { units = units_running [] cost.name }) held) ≡ 0
+  none_spent [] = refl
+  none_spent (h ∷ hs) =
+      let all = sum_by-cons (λ (cost : Cost). cost.units) (record h { units = units_running [] h.name })
+      (map (λ (cost : Cost). record cost { units = units_running [] cost.name }) hs) in
+      let rest = none_spent hs in
+      omega (arith, all, rest)
+
+  -- it has spent no more than it held
+  spends : (anatomy : Anatomy) → CallsRight anatomy a → cost_total (spent_by added a) ≤ cost_total a.held
+  spends anatomy calls = by_running a.running refl
+    where
+      by_running : (r : List Counting) → a.running ≡ r → cost_total (spent_by added a) ≤ cost_total a.held
+      by_running [] runs =
+          let nothing : done ≡ [] = ap (take added) runs ∙ take-nil added in
+          let same = ap (λ (list : List Counting). cost_total (map (λ (cost : Cost). record cost { units = units_running list cost.name }) a.held)) nothing in
+          let none = none_spent a.held in
+          omega (arith, same, none)
+      by_running (c ∷ cs) runs =
+          let (name, cost, holds, within, known) = calls.within (λ none. cc (sym runs ∙ none)) in
+          let held_is : cost_total a.held ≡ 0 + cost = ap cost_total holds in
+          let spent_is : cost_total (spent_by added a) ≡ 0 + units_running done name =
+          ap (λ (held : List Cost). cost_total (map (λ (cost : Cost). record cost { units = units_running done cost.name }) held)) holds in
+          let all : units_running a.running name ≡ units_running done name + units_running left name =
+          ap (λ (list : List Counting). units_running list name) (sym (take-append-drop added a.running))
+          ∙ (ap (λ (list : List Entry). tally_noted list name) (map-append (λ (c : Counting). c.entry) done left)
+          ∙ noted_total name (map (λ (c : Counting). c.entry) done) (map (λ (c : Counting). c.entry) left)) in
+          let most = within.units in
+          omega (arith, held_is, spent_is, all, most)
+
+  -- what it has spent covers what has ended, for each name
+  pays : (anatomy : Anatomy) → CallsRight anatomy a → (name : List ℕ) → tally_noted (map (λ (c : Counting). c.entry) done) name ≤ cost_of (spent_by added a) name
+  pays anatomy calls name = by_running a.running refl
+    where
+      by_running : (r : List Counting) → a.running ≡ r → tally_noted (map (λ (c : Counting). c.entry) done) name ≤ cost_of (spent_by added a) name
+      by_running [] runs =
+          let none = ap (λ (list : List Counting). tally_noted (map (λ (c : Counting). c.entry) list) name) (ap (take added) runs ∙ take-nil added) in
+          omega (arith, none)
+      by_running (c ∷ cs) runs =
+          let (other, cost, holds, within, known) = calls.within (λ none. cc (sym runs ∙ none)) in
+          let named : Entry → Type 0 = λ e. e.name ≡ other in
+          let entries : List Entry = map (λ (c : Counting). c.entry) done in
+          let all : All named entries = all_left named entries (map (λ (c : Counting). c.entry) left)
+          (subst (All named) (ap (map (λ (c : Counting). c.entry)) (sym (take-append-drop added a.running)) ∙ map-append (λ (c : Counting). c.entry) done left) within.of_name) in
+          subst (λ (held : List Cost). tally_noted entries name ≤ cost_of (map (λ (cost : Cost). record cost { units = units_running done cost.name }) held) name)
+          (sym holds) (by_name other name entries (units_running done other) all (omega arith))
+
+  module _ (untouched : All (λ c. is_untouched c ≡ true) left) (unsummed : All (λ c. c.summed ≡ false) done) where
+    each_left : (c : Counting) → Contains left c → is_untouched c ≡ true
+    each_left c has = All-contains (λ (c : Counting). is_untouched c ≡ true) left c untouched has
+
+    each : (c : Counting) → Contains a.running c → Contains done c ⊎ (is_untouched c ≡ true)
+    each c has = ⊎_elim (λ first. inl first) (λ rest. inr (each_left c rest))
+        (Contains-append_cases done left c (subst (λ (list : List Counting). Contains list c) (sym (take-append-drop added a.running)) has))
+
+    -- no amount was added
+    none_summed : filter (λ (c : Counting). c.summed) a.running ≡ []
+    none_summed = filter_none a.running (λ c has. ⊎_elim
+        (λ first. All-contains (λ (c : Counting). c.summed ≡ false) done c unsummed first)
+        (λ rest. untouched_summed c rest)
+        (each c has))
+      where
+        filter_none : (list : List Counting) → ((c : Counting) → Contains list c → c.summed ≡ false) → filter (λ (c : Counting). c.summed) list ≡ []
+        filter_none [] off = refl
+        filter_none (c ∷ cs) off =
+            ap (λ (b : Bool). cond b (c ∷ filter (λ (c : Counting). c.summed) cs) (filter (λ (c : Counting). c.summed) cs)) (off c (0, omega arith, refl))
+            ∙ filter_none cs (λ d has. off d (Contains-append_right (c ∷ []) cs d has))
+
+    refused_counts : cost_total (spent_by added a) ≤ cost_total a.held → SameCounts a (noted a (refused added))
+    refused_counts spent = record {
+      counted = λ name key. sym (untouched_counts a.first (a.log ++ done) left each_left name key)
+          ∙ ap (λ list. tally_units (a.first ++ counted_among list) name key) ran;
+      summed = λ name. sym (untouched_sums a.first (a.log ++ done) left each_left name)
+          ∙ ap (λ list. tally_sum (a.first ++ summed_among list) name) ran;
+      noted = λ name. sym (untouched_notes [] (a.log ++ done) left each_left name)
+          ∙ ap (λ list. tally_noted (noted_among list) name) ran;
+      costs = λ name.
+          let all : cost_of (a.costs ++ spent_by added a) name ≡ cost_of a.costs name + cost_of (spent_by added a) name =
+          sum_by-append (λ (cost : Cost). if bytes_eq cost.name name then cost.units else 0) a.costs (spent_by added a) in
+          let before : summed_cost name a ≡ cost_of a.costs name + 0 =
+          ap (λ (list : List Counting). cost_of a.costs name + (if length list == 0 then 0 else cost_of a.held name)) none_summed in
+          omega (arith, all, before);
+      units =
+          let all = sum_by-append (λ (cost : Cost). cost.units) a.costs (spent_by added a) in
+          omega (arith, all, spent);
+    }
+
+pub refused_kept : (added : ℕ) → NoteKeeps (refused added)
+refused_kept added shape opened state id a kept mine records (unbound, ended, untouched, unsummed) =
+    let lived = unbound_lives a unbound in
+    ends_with a (a.share + (cost_total a.held - cost_total (spent_by added a))) (spent_by added a) (take added a.running)
+    (refused_counts a added untouched unsummed (spends a added kept.anatomy (kept.each id a mine lived).calls))
+    ended (each a added untouched unsummed) (pays a added) shape opened state id kept mine records lived

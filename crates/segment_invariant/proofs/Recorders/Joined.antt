@@ -1,0 +1,302 @@
+-- What an opener has that has joined a recorder: what both had.
+use Rattle.std.proofs.Common.{◌≡◌, ℕ, ◌+◌, ◌<◌, ◌≤◌, max, ℤ, pos, ◌+ℤ◌, Bool, true, false, true≢false, ◌||◌, List, [], ◌∷◌, ◌++◌, map, length, ⊎_elim, refl, sym, ap, ap₂, ◌∙◌, subst, append_assoc, append-nil, eqb-true, ltb-true, ltb-false, arith}
+use Rattle.std.proofs.Math.Bool.{or-false}
+use Rattle.std.specs.Prelude.{fold, if◌then◌else◌, ◌==◌, nat_lt, slice_index, unwrap_or, Option, Some, IsPermutation}
+use Rattle.std.specs.Str.{bytes_eq}
+use Rattle.std.specs.List.{filter, Contains}
+use Rattle.std.proofs.lemmas.List.{map-append}
+use Rattle.std.proofs.lemmas.List.Elements.{filter-append, All-append, All-contains, Contains-append_left, Contains-append_right, Contains-append_cases}
+use Rattle.std.proofs.lemmas.List.Sums.{sum_by-append}
+use Rattle.std.proofs.lemmas.List.Sorted.{IsPermutation-refl}
+use native.Mathlib.Decide.{dec_le}
+use Rattle.alloc_core.specs.Laws.{Behind}
+use Rattle.list_core.specs.Walk.{IsPrefix}
+use Rattle.segment_machine.specs.declared.actor.Known.{Known}
+use Rattle.segment_machine.specs.declared.entry.Entry.{Entry}
+use Rattle.segment_machine.specs.declared.entry.Counting.{Counting}
+use Rattle.segment_machine.specs.declared.place.Place.TheVariants.{Idle}
+use Rattle.segment_machine.specs.declared.actor.Actor.{Actor}
+use Rattle.segment_machine.specs.declared.actor.Cost.{Cost}
+use Rattle.segment_machine.specs.declared.actor.Given.{Given}
+use Rattle.segment_machine.specs.declared.actor.Taken.{Taken}
+use Rattle.segment_machine.specs.Entry.{is_counted, is_summed, is_noted, has_ended, tally_sum, tally_noted}
+use Rattle.segment_machine.specs.Actor.{is_bound, word_seen, log_of, counted_of, summed_of, given_by, cost_of, cost_total}
+use Rattle.segment_machine.specs.Seats.{joined, spent, longer, shifted_taken, shifted}
+use Rattle.segment_machine.specs.Made.{SawSample}
+use Rattle.segment_invariant.specs.Ledger.{moving_at}
+use Rattle.segment_invariant.specs.Kept.{summed_cost, CallsRight}
+use mathlib.Core.Option.{none, some-injective}
+use lib.ListN.{get_elem?}
+use Rattle.segment_image.specs.Shape.{Dimensions}
+use Rattle.alloc_core.specs.Layout.{IsShown}
+use Rattle.segment_machine.specs.declared.actor.Sighting.{Sighting}
+use Rattle.segment_invariant.specs.Body.{Body, words_of, Piece, Anatomy, layout_of, order_of, free_of}
+use Rattle.segment_invariant.specs.Seen.{WasSingle, WasCounter, WasInUse, WasFixed, IsNoLater, IsFirstOf, Knows, Sees}
+use Rattle.segment_invariant.proofs.Frames.OneActor.{rests_at}
+use Rattle.segment_invariant.proofs.Blocks.Places.{fixed_within}
+use Rattle.segment_invariant.proofs.Blocks.Pieces.{one_index}
+use Rattle.segment_invariant.proofs.Lists.Maps.{map_after, front_of_front}
+use Rattle.segment_invariant.proofs.Frames.Deeds.{Deeds, timeless}
+use Rattle.segment_invariant.proofs.Lists.Countings.{noted_total}
+
+-- ---- entries
+
+abbrev entries : (Counting → Bool) → List Counting → List Entry
+entries test list = map (λ c. c.entry) (filter test list)
+
+entries_append : (test : Counting → Bool) (log more : List Counting) → entries test (log ++ more) ≡ entries test log ++ entries test more
+entries_append test log more = ap (map (λ (c : Counting). c.entry)) (filter-append test log more) ∙ map-append (λ (c : Counting). c.entry) (filter test log) (filter test more)
+
+-- of two who run nothing, the second without first entries, the entries of both logs
+entries_joined : (test : Counting → Bool) (first nothing : List Entry) (log more run last : List Counting) → run ≡ [] → last ≡ [] → nothing ≡ []
+    → first ++ entries test ((log ++ more) ++ run) ≡ (first ++ entries test (log ++ run)) ++ (nothing ++ entries test (more ++ last))
+entries_joined test first nothing log more run last idle rests without =
+    subst (λ (r : List Counting). first ++ entries test ((log ++ more) ++ r) ≡ (first ++ entries test (log ++ r)) ++ (nothing ++ entries test (more ++ last))) (sym idle)
+    (subst (λ (l : List Counting). first ++ entries test ((log ++ more) ++ []) ≡ (first ++ entries test (log ++ [])) ++ (nothing ++ entries test (more ++ l))) (sym rests)
+    (subst (λ (n : List Entry). first ++ entries test ((log ++ more) ++ []) ≡ (first ++ entries test (log ++ [])) ++ (n ++ entries test (more ++ []))) (sym without)
+    (ap (λ (list : List Counting). first ++ entries test list) (append-nil (log ++ more))
+    ∙ ap (λ (list : List Entry). first ++ list) (entries_append test log more)
+    ∙ sym (append_assoc first (entries test log) (entries test more))
+    ∙ ap₂ (λ (x y : List Counting). (first ++ entries test x) ++ entries test y) (sym (append-nil log)) (sym (append-nil more)))))
+
+-- ---- what both did together
+
+rows_same : {X : Type 0} (x y z : List X) → x ≡ y ++ z → x ++ [] ≡ y ++ (z ++ [])
+rows_same {X} x y z e = append-nil x ∙ e ∙ ap (λ (list : List X). y ++ list) (sym (append-nil z))
+
+rows_permuted : {X : Type 0} (x y z : List X) → x ≡ y ++ z → IsPermutation (x ++ []) (y ++ (z ++ []))
+rows_permuted {X} x y z e = subst (IsPermutation (x ++ [])) (rows_same x y z e) (IsPermutation-refl (x ++ []))
+
+given_joined : (k : ℕ) (xs ys : List Given) → given_by k (xs ++ ys) ≡ given_by k xs ++ given_by k ys
+given_joined k xs ys =
+    ap (map (λ (g : Given). g.reference)) (filter-append (λ (g : Given). g.cursor == k) xs ys) ∙ map-append (λ (g : Given). g.reference) _ _
+
+-- of what was taken, what does not depend on when
+taken_joined : {Y : Type 0} (n : ℕ) (g : Taken → Y) → ((t : Taken) → g (record t { moment = shifted n t.moment }) ≡ g t) → (xs ys : List Taken)
+    → map g (xs ++ shifted_taken n ys) ≡ map g xs ++ map g ys
+taken_joined {Y} n g same xs ys =
+    map-append g xs (shifted_taken n ys)
+    ∙ ap (λ (list : List Y). map g xs ++ list) (map_after (λ (t : Taken). record t { moment = shifted n t.moment }) g same ys)
+
+-- who runs nothing has in a sum what it has spent
+rests_cost : (name : List ℕ) (a : Actor) → a.running ≡ [] → summed_cost name a ≡ cost_of a.costs name
+rests_cost name a rests =
+    let nothing : (if length (filter (λ c. c.summed) a.running) == 0 then 0 else cost_of a.held name) ≡ 0 =
+    ap (λ (run : List Counting). if length (filter (λ c. c.summed) run) == 0 then 0 else cost_of a.held name) rests in
+    omega (arith, nothing)
+
+-- a recorder that may be joined, and an opener that joins it
+pub record Joins (a b : Actor) : Type 0 where
+  pub idle : a.place ≡ Idle
+  pub free : is_bound b.place ≡ false
+  pub runs : a.running ≡ []
+  pub rests : b.running ≡ []
+  pub holds : b.held ≡ []
+  pub begins : b.first ≡ []
+  pub owes : b.owed ≡ []
+
+module _ (a b : Actor) (may : Joins a b) where
+  joined_counted : counted_of (joined a b) ≡ counted_of a ++ counted_of b
+  joined_counted = entries_joined is_counted a.first b.first a.log b.log a.running b.running may.runs may.rests may.begins
+
+  joined_summed : summed_of (joined a b) ≡ summed_of a ++ summed_of b
+  joined_summed = entries_joined is_summed a.first b.first a.log b.log a.running b.running may.runs may.rests may.begins
+
+  joined_moving : (name : List ℕ) (key : ℤ) → moving_at (joined a b) name key a.place + 0 ≡ moving_at a name key a.place + moving_at b name key b.place
+  joined_moving name key =
+      let now = ap (moving_at (joined a b) name key) may.idle in
+      let was = ap (moving_at a name key) may.idle in
+      let nothing = rests_at b name key b.place (λ look bucket units moving. cc (may.free, ap is_bound moving)) in
+      omega (arith, now, was, nothing)
+
+  pub joined_deeds : Deeds (a ∷ b ∷ []) (joined a b ∷ spent ∷ [])
+  joined_deeds = record {
+    counted = rows_permuted _ _ _ joined_counted;
+    summed = λ name. ap (λ (list : List Entry). tally_sum list name) (rows_same (summed_of (joined a b)) (summed_of a) (summed_of b) joined_summed);
+    noted = rows_permuted _ _ _ (entries_joined is_noted [] [] a.log b.log a.running b.running may.runs may.rests refl);
+    claimed = rows_permuted _ _ _ refl;
+    published = rows_permuted _ _ _ refl;
+    names = rows_permuted _ _ _ refl;
+    owed = rows_permuted _ _ _ (sym (ap (λ (more : List Known). a.owed ++ more) may.owes ∙ append-nil a.owed));
+    given = λ k. rows_permuted _ _ _ (given_joined k a.given b.given);
+    taken = rows_permuted _ _ _ (taken_joined (length (log_of a)) timeless (λ t. refl) a.taken b.taken);
+    taken_sums = λ name.
+        let amount : Taken → ℤ = λ t. if bytes_eq t.name name then t.sum else pos 0 in
+        ap (fold ◌+ℤ◌ (pos 0))
+        (ap (map amount) (append-nil (a.taken ++ shifted_taken (length (log_of a)) b.taken))
+        ∙ taken_joined (length (log_of a)) amount (λ t. refl) a.taken b.taken
+        ∙ sym (map-append amount a.taken b.taken)
+        ∙ ap (λ (list : List Taken). map amount (a.taken ++ list)) (sym (append-nil b.taken)));
+    moving = λ name key. let same = joined_moving name key in omega (arith, same);
+    costs = λ name.
+        let now = rests_cost name (joined a b) may.runs in
+        let first = rests_cost name a may.runs in
+        let second = rests_cost name b may.rests in
+        let all = sum_by-append (λ (cost : Cost). if bytes_eq cost.name name then cost.units else 0) a.costs b.costs in
+        omega (arith, now, first, second, all);
+    units = (
+        let all = sum_by-append (λ (cost : Cost). cost.units) a.costs b.costs in
+        let nothing : cost_total b.held ≡ 0 = ap cost_total may.holds in
+        omega (arith, all, nothing));
+    spoiled = or-false (a.spoiled || b.spoiled);
+    filled = or-false (a.filled || b.filled);
+  }
+
+-- ---- what both have seen
+
+-- the later of two free pointers lies behind the present one
+later_free : (m n free : ℕ) → Behind m free → Behind n free → Behind (max m n) free
+later_free m n free first second = later (dec_le m n)
+  where
+    later : Dec (m ≤ n) → Behind (max m n) free
+    later (yes below) = subst (λ (seen : ℕ). Behind seen free) (let e : n ≡ max m n = omega (arith, below) in e) second
+    later (no above) = subst (λ (seen : ℕ). Behind seen free) (let e : m ≡ max m n = omega (arith, above) in e) first
+
+-- the longer of two fronts of a list is one, and has both in it
+module _ (chain xs ys : List ℕ) (first : IsPrefix xs chain) (second : IsPrefix ys chain) where
+  pub longer_front : IsPrefix (longer xs ys) chain
+  longer_front = front (nat_lt (length xs) (length ys))
+    where
+      front : (b : Bool) → IsPrefix (if b then ys else xs) chain
+      front true = second
+      front false = first
+
+  pub longer_first : (x : ℕ) → Contains xs x → Contains (longer xs ys) x
+  longer_first x there = has (nat_lt (length xs) (length ys)) refl
+    where
+      has : (b : Bool) → nat_lt (length xs) (length ys) ≡ b → Contains (if b then ys else xs) x
+      has true e =
+          let below = ltb-true (length xs) (length ys) e in
+          let front = front_of_front xs first.0 ys second.0 (sym first.1 ∙ second.1) (omega (arith, below)) in
+          subst (λ (list : List ℕ). Contains list x) (sym front.1) (Contains-append_left xs front.0 x there)
+      has false e = there
+
+  pub longer_second : (x : ℕ) → Contains ys x → Contains (longer xs ys) x
+  longer_second x there = has (nat_lt (length xs) (length ys)) refl
+    where
+      has : (b : Bool) → nat_lt (length xs) (length ys) ≡ b → Contains (if b then ys else xs) x
+      has true e = there
+      has false e =
+          let front = front_of_front ys second.0 xs first.0 (sym second.1 ∙ first.1) (ltb-false (length xs) (length ys) e) in
+          subst (λ (list : List ℕ). Contains list x) (sym front.1) (Contains-append_left ys front.0 x there)
+
+pub joined_sees : (anatomy : Anatomy) (cursors : List ℕ) (a b : Actor) → Sees anatomy cursors a → Sees anatomy cursors b → Sees anatomy cursors (joined a b)
+joined_sees anatomy cursors a b mine theirs = record {
+  free = later_free a.seen_free b.seen_free (free_of anatomy) mine.free theirs.free;
+  walked = longer_front (order_of anatomy) a.seen_chain b.seen_chain mine.walked theirs.walked;
+  tails = All-append (λ place. IsNoLater (order_of anatomy) place anatomy.tail) a.seen_tails b.seen_tails mine.tails theirs.tails;
+  singles = All-append (WasSingle anatomy.version anatomy.pieces) a.seen_singles b.seen_singles mine.singles theirs.singles;
+  counters = All-append (WasCounter anatomy.pieces) a.seen_counts b.seen_counts mine.counters theirs.counters;
+  in_use = All-append (WasInUse anatomy.pieces) a.seen_counts b.seen_counts mine.in_use theirs.in_use;
+  fixed = All-append (WasFixed anatomy.pieces) a.seen_words b.seen_words mine.fixed theirs.fixed;
+  shared = All-append (λ (s : Sighting). (s.at < length cursors) × IsNoLater (order_of anatomy) s.word (slice_index cursors s.at)) a.seen_cursors b.seen_cursors mine.shared theirs.shared;
+  names = All-append (Knows anatomy) a.names b.names mine.names theirs.names;
+}
+
+-- ---- words that were seen
+
+-- a word that was seen first is still seen first where more is seen
+seen_before : (xs ys : List Sighting) (at word : ℕ) → word_seen xs at ≡ Some word → word_seen (xs ++ ys) at ≡ Some word
+seen_before [] ys at word e = absurd (cc e)
+seen_before (s ∷ xs) ys at word e = here (s.at == at) (seen_before xs ys at word) e
+  where
+    here : (b : Bool) → (word_seen xs at ≡ Some word → word_seen (xs ++ ys) at ≡ Some word)
+        → (if b then Some s.word else word_seen xs at) ≡ Some word → (if b then Some s.word else word_seen (xs ++ ys) at) ≡ Some word
+    here true behind e = e
+    here false behind e = behind e
+
+-- a word that was seen was seen there
+seen_there : (xs : List Sighting) (at word : ℕ) → word_seen xs at ≡ Some word → (s : Sighting) × Contains xs s × (s.at ≡ at) × (s.word ≡ word)
+seen_there [] at word e = absurd (cc e)
+seen_there (s ∷ xs) at word e = here (s.at == at) refl (seen_there xs at word) e
+  where
+    here : (b : Bool) → (s.at == at) ≡ b
+        → (word_seen xs at ≡ Some word → (t : Sighting) × Contains xs t × (t.at ≡ at) × (t.word ≡ word))
+        → (if b then Some s.word else word_seen xs at) ≡ Some word
+        → (t : Sighting) × Contains (s ∷ xs) t × (t.at ≡ at) × (t.word ≡ word)
+    here true same behind e = (s, Contains-append_left (s ∷ []) xs s (0, omega arith, refl), eqb-true s.at at same, ap (λ (o : Option ℕ). unwrap_or o 0) e)
+    here false apart behind e =
+        let found = behind e in
+        (found.0, Contains-append_right (s ∷ []) xs found.0 found.1, found.2, found.3)
+
+-- and behind what else was seen there, if that was the same
+seen_behind : (xs ys : List Sighting) (at word : ℕ) → ((s : Sighting) → Contains xs s → s.at ≡ at → s.word ≡ word)
+    → word_seen ys at ≡ Some word → word_seen (xs ++ ys) at ≡ Some word
+seen_behind [] ys at word same e = e
+seen_behind (s ∷ xs) ys at word same e = here (s.at == at) refl
+    (seen_behind xs ys at word (λ t there. same t (Contains-append_right (s ∷ []) xs t there)) e)
+  where
+    here : (b : Bool) → (s.at == at) ≡ b → word_seen (xs ++ ys) at ≡ Some word → (if b then Some s.word else word_seen (xs ++ ys) at) ≡ Some word
+    here true found behind = ap Some (same s (Contains-append_left (s ∷ []) xs s (0, omega arith, refl)) (eqb-true s.at at found))
+    here false apart behind = behind
+
+-- at one place one word was seen
+one_word : (shape : Dimensions) (words : List ℕ) (anatomy : Anatomy) → IsShown shape words (layout_of anatomy) → (s t : Sighting)
+    → WasFixed anatomy.pieces s → WasFixed anatomy.pieces t → s.at ≡ t.at → s.word ≡ t.word
+one_word shape words anatomy shown s t first second same =
+    let p : Piece = record { at = first.0; owner = none; body = first.2 } in
+    let q : Piece = record { at = second.0; owner = none; body = second.2 } in
+    let place : first.0 + first.1 ≡ second.0 + second.1 = sym first.4 ∙ same ∙ second.4 in
+    let index = one_index shape words anatomy shown first.3.0 second.3.0 p q first.1 second.1 first.3.1 second.3.1
+    (fixed_within first.2 first.1 first.5) (fixed_within second.2 second.1 second.5) place in
+    let piece : p ≡ q = some-injective p q (sym first.3.1 ∙ ap (get_elem? anatomy.pieces) index ∙ second.3.1) in
+    let begins = ap (λ (piece : Piece). piece.at) piece in
+    let offset : first.1 ≡ second.1 = omega (arith, place, begins) in
+    sym first.6 ∙ ap₂ (λ (body : Body) (i : ℕ). slice_index (words_of body) i) (ap (λ (piece : Piece). piece.body) piece) offset ∙ second.6
+
+-- ---- what both have sampled
+
+module _ (shape : Dimensions) (words : List ℕ) (anatomy : Anatomy) (shown : IsShown shape words (layout_of anatomy)) (cursors : List ℕ)
+    (a b : Actor) (mine : Sees anatomy cursors a) (theirs : Sees anatomy cursors b) where
+  -- a word that the recorder saw the opener sees then
+  joined_word : (at word : ℕ) → word_seen b.seen_words at ≡ Some word → word_seen (a.seen_words ++ b.seen_words) at ≡ Some word
+  joined_word at word e =
+      let there = seen_there b.seen_words at word e in
+      seen_behind a.seen_words b.seen_words at word
+      (λ s has here. one_word shape words anatomy shown s there.0
+      (All-contains (WasFixed anatomy.pieces) a.seen_words s mine.fixed has)
+      (All-contains (WasFixed anatomy.pieces) b.seen_words there.0 theirs.fixed there.1)
+      (here ∙ sym there.2) ∙ there.3) e
+
+  -- an entry of either has a sample that the opener met then
+  abbrev Met : Actor → Entry → ℕ → Type 0
+  Met c entry of = (at : ℕ) × IsFirstOf anatomy.records of entry.key at × Contains c.seen_chain at × SawSample c of entry.key at
+
+  first_met : (entry : Entry) (of : ℕ) → Met a entry of → Met (joined a b) entry of
+  first_met entry of met = (
+    met.0,
+    met.1,
+    longer_first (order_of anatomy) a.seen_chain b.seen_chain mine.walked theirs.walked met.0 met.2,
+    (seen_before a.seen_words b.seen_words _ _ met.3.0, seen_before a.seen_words b.seen_words _ _ met.3.1, seen_before a.seen_words b.seen_words _ _ met.3.2, met.3.3),
+  )
+
+  second_met : (entry : Entry) (of : ℕ) → Met b entry of → Met (joined a b) entry of
+  second_met entry of met = (
+    met.0,
+    met.1,
+    longer_second (order_of anatomy) a.seen_chain b.seen_chain mine.walked theirs.walked met.0 met.2,
+    (joined_word _ _ met.3.0, joined_word _ _ met.3.1, joined_word _ _ met.3.2, met.3.3),
+  )
+
+  pub joined_calls : Joins a b → a.taking ≡ false → CallsRight anatomy a → CallsRight anatomy b → CallsRight anatomy (joined a b)
+  joined_calls may takes first second = record {
+    ordered = first.ordered;
+    within = λ some_run. absurd (some_run may.runs);
+    held = first.held;
+    ended = All-append (λ (c : Counting). has_ended c ≡ true) a.log b.log first.ended second.ended;
+    spent = λ name.
+        let logs = ap (λ (entries : List Entry). tally_noted entries name) (map-append (λ (c : Counting). c.entry) a.log b.log) in
+        let both = noted_total name (map (λ (c : Counting). c.entry) a.log) (map (λ (c : Counting). c.entry) b.log) in
+        let costs = sum_by-append (λ (cost : Cost). if bytes_eq cost.name name then cost.units else 0) a.costs b.costs in
+        let one = first.spent name in
+        let two = second.spent name in
+        omega (arith, logs, both, costs, one, two);
+    met = λ entry of there units is. ⊎_elim
+        (λ old. first_met entry of (first.met entry of (Contains-append_left a.inherited (counted_of a) entry old) units is))
+        (λ now. ⊎_elim
+        (λ own. first_met entry of (first.met entry of (Contains-append_right a.inherited (counted_of a) entry own) units is))
+        (λ other. second_met entry of (second.met entry of (Contains-append_right b.inherited (counted_of b) entry other) units is))
+        (Contains-append_cases (counted_of a) (counted_of b) entry (subst (λ (list : List Entry). Contains list entry) (joined_counted a b may) now)))
+        (Contains-append_cases a.inherited (counted_of (joined a b)) entry there);
+    taking = λ e. absurd (true≢false (sym e ∙ takes));
+  }

@@ -1,0 +1,103 @@
+-- An actor whose share, or whose recorders, are other ones has seen and done what it had.
+use Rattle.std.proofs.Common.{◌≡◌, ℕ, List, false, true≢false, sym, ◌∙◌, arith}
+use Rattle.segment_image.specs.Shape.{Dimensions}
+use Rattle.segment_machine.specs.declared.actor.Actor.{Actor}
+use Rattle.segment_invariant.specs.Body.{Anatomy}
+use Rattle.segment_invariant.specs.Seen.{Sees}
+use Rattle.segment_invariant.specs.Kept.{CallsRight, LooksBack, FinalsAreExact, Fits}
+
+-- with another share and other recorders
+abbrev pub turned : Actor → (share made outstanding : ℕ) → Actor
+turned a share made outstanding = record a { share = share; made = made; outstanding = outstanding }
+
+module _ (anatomy : Anatomy) (a : Actor) (share made outstanding : ℕ) where
+  pub turned_sees : (cursors : List ℕ) → Sees anatomy cursors a → Sees anatomy cursors (turned a share made outstanding)
+  turned_sees cursors sees = record {
+    free = sees.free;
+    walked = sees.walked;
+    tails = sees.tails;
+    singles = sees.singles;
+    counters = sees.counters;
+    in_use = sees.in_use;
+    fixed = sees.fixed;
+    shared = sees.shared;
+    names = sees.names;
+  }
+
+  pub turned_calls : CallsRight anatomy a → CallsRight anatomy (turned a share made outstanding)
+  turned_calls calls = record {
+    ordered = calls.ordered;
+    within = calls.within;
+    held = calls.held;
+    ended = calls.ended;
+    spent = calls.spent;
+    met = calls.met;
+    taking = calls.taking;
+  }
+
+-- with another share alone, an actor fits as before
+module _ (shape : Dimensions) (anatomy : Anatomy) (cursors : List ℕ) (actors : List Actor) (opener : Actor) (id : ℕ) (a : Actor) (share : ℕ) where
+  shared_looks : LooksBack anatomy actors opener a → LooksBack anatomy actors opener (record a { share = share })
+  shared_looks looks = record {
+    most = looks.most;
+    packed = looks.packed;
+    counted = looks.counted;
+    samples = looks.samples;
+    rising = looks.rising;
+    noted = looks.noted;
+    sum = looks.sum;
+  }
+
+  shared_finals : FinalsAreExact actors opener id a → FinalsAreExact actors opener id (record a { share = share })
+  shared_finals exact = record {
+    deltas = exact.deltas;
+    snapshots = exact.snapshots;
+    moments = λ m of. let is = exact.moments m of in record { logged = is.logged; before = is.before; mine = is.mine; eldest = is.eldest };
+    swapped = exact.swapped;
+  }
+
+  pub shared_fits : Fits shape anatomy cursors actors opener id a → Fits shape anatomy cursors actors opener id (record a { share = share })
+  shared_fits fit = record {
+    shaped = fit.shaped;
+    versioned = fit.versioned;
+    numbered = fit.numbered;
+    sees = turned_sees anatomy a share a.made a.outstanding cursors fit.sees;
+    own = fit.own;
+    apart = fit.apart;
+    owes = fit.owes;
+    calls = turned_calls anatomy a share a.made a.outstanding fit.calls;
+    looks = λ records. shared_looks (fit.looks records);
+    finals = shared_finals fit.finals;
+    snapshots = fit.snapshots;
+  }
+
+-- with other recorders, an opener that takes nothing fits as before
+module _ (shape : Dimensions) (anatomy : Anatomy) (cursors : List ℕ) (actors : List Actor) (opener : Actor) (id : ℕ) (a : Actor)
+    (share made outstanding : ℕ) (opens : a.opener ≡ 1) (rests : a.taking ≡ false) where
+  opener_finals : FinalsAreExact actors opener id a → FinalsAreExact actors opener id (turned a share made outstanding)
+  opener_finals exact = record {
+    deltas = exact.deltas;
+    snapshots = exact.snapshots;
+    moments = λ m of. let is = exact.moments m of in record {
+      logged = is.logged;
+      before = is.before;
+      mine = λ records. absurd (omega (arith, records, opens));
+      eldest = is.eldest;
+    };
+    swapped = λ before last taking. absurd (true≢false (sym taking ∙ rests));
+  }
+
+  pub opener_fits : Fits shape anatomy cursors actors opener id a → Fits shape anatomy cursors actors opener id (turned a share made outstanding)
+  opener_fits fit = record {
+    shaped = fit.shaped;
+    versioned = fit.versioned;
+    numbered = fit.numbered;
+    sees = turned_sees anatomy a share made outstanding cursors fit.sees;
+    own = fit.own;
+    apart = fit.apart;
+    owes = fit.owes;
+    calls = turned_calls anatomy a share made outstanding fit.calls;
+    looks = λ records. absurd (omega (arith, records, opens));
+    finals = opener_finals fit.finals;
+    snapshots = fit.snapshots;
+  }

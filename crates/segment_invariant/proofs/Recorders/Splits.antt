@@ -1,0 +1,329 @@
+-- A recorder that is made keeps what holds.
+use Rattle.std.proofs.Common.{◌≡◌, ◌≢◌, ◌⊎◌, ℕ, ◌+◌, ◌-◌, ◌<◌, ◌≤◌, Bool, true, ◌&&◌, true≢false, List, [], ◌∷◌, ◌++◌, map, set, length, inl, inr, ⊎_elim, refl, sym, ap, ◌∙◌, subst, subst₂, append-nil, arith}
+use Rattle.std.specs.Prelude.{if◌then◌else◌}
+use mathlib.Core.Option.{some}
+use lib.ListN.{get_elem?}
+use Rattle.std.specs.List.{flat_map, Contains, All}
+use Rattle.std.proofs.Math.Bool.{or-false}
+use Rattle.std.proofs.lemmas.Bool.{and_parts}
+use Rattle.std.proofs.lemmas.List.{drop_all}
+use Rattle.std.proofs.lemmas.List.Elements.{All-nil, All-contains, Contains-append_left, Contains-append_right, Contains-append_cases}
+use Rattle.std.proofs.lemmas.List.Sums.{sum_by-append}
+use Rattle.std.proofs.lemmas.List.Sorted.{IsPermutation-refl}
+use Rattle.atomic_table.proofs.Lists.{at_longer, set_here}
+use Rattle.segment_image.specs.Shape.{Dimensions}
+use Rattle.segment_machine.specs.declared.entry.Entry.{Entry}
+use Rattle.segment_machine.specs.declared.entry.Counting.{Counting}
+use Rattle.segment_machine.specs.declared.place.Place.TheVariants.{Spent, SumLoaded}
+use Rattle.segment_machine.specs.declared.actor.Actor.{Actor}
+use Rattle.segment_machine.specs.declared.actor.Given.{Given}
+use Rattle.segment_machine.specs.declared.actor.Sighting.{Sighting}
+use Rattle.segment_machine.specs.Entry.{is_counted, is_summed, is_noted, has_ended, counted_among}
+use Rattle.segment_machine.specs.Actor.{log_of, counted_of, all_counted, all_noted, all_published, all_given, all_names, all_owed}
+use Rattle.segment_invariant.specs.Consistent.{IsWithinCounts}
+use Rattle.segment_machine.specs.State.{State}
+use Rattle.segment_machine.specs.Seats.{MaySplit, parent, newcomer}
+use Rattle.segment_invariant.specs.Keeps.{SplitsKeep}
+use Rattle.segment_invariant.specs.Body.{Anatomy, order_of}
+use Rattle.segment_invariant.specs.Seen.{Sees, Knows}
+use Rattle.segment_invariant.specs.Kept.{is_living, HoldsOwn, CallsRight, IsAlone, LooksBack, FinalsAreExact, RolesAreKept, StandsRight, Fits, Kept}
+use Rattle.segment_invariant.proofs.Lists.Elements.{none_in, none_at, contains_filter, sum_at_least, sum_beside, below_length}
+use Rattle.segment_invariant.proofs.Frames.OneActor.{lives_on}
+use Rattle.segment_invariant.proofs.Lists.Maps.{each_of_more, contains_map, contains_mapped, one_at}
+use Rattle.segment_invariant.proofs.Frames.Deeds.{Deeds, took, deeds_more, sums_of}
+use Rattle.segment_invariant.proofs.Frames.Together.{LoadedBefore, IsLater, fits}
+use Rattle.segment_invariant.proofs.Frames.Books.{GivenInOrder, books_of, books_by, kept_by}
+use Rattle.segment_invariant.proofs.Frames.Roles.{opens_nothing, opens_first}
+use Rattle.segment_invariant.proofs.Recorders.Shares.{opener_fits}
+
+-- ---- what both did together
+
+split_deeds : (a : Actor) (units : ℕ) → units ≤ a.share → Deeds (a ∷ []) (parent a units ∷ newcomer a units ∷ [])
+split_deeds a units enough = record {
+  counted = IsPermutation-refl (all_counted (a ∷ []));
+  summed = λ name. refl;
+  noted = IsPermutation-refl (all_noted (a ∷ []));
+  claimed = IsPermutation-refl (flat_map (λ (c : Actor). c.claimed) (a ∷ []));
+  published = IsPermutation-refl (all_published (a ∷ []));
+  names = IsPermutation-refl (all_names (a ∷ []));
+  owed = IsPermutation-refl (all_owed (a ∷ []));
+  given = λ k. IsPermutation-refl (all_given (a ∷ []) k);
+  taken = IsPermutation-refl (flat_map took (a ∷ []));
+  taken_sums = λ name. refl;
+  moving = λ name key. omega arith;
+  costs = λ name. omega arith;
+  units = omega (arith, enough);
+  spoiled = or-false a.spoiled;
+  filled = or-false a.filled;
+}
+
+-- ---- the newcomer
+
+-- what stands in an opener's log has been counted
+logged_counted : (a : Actor) (entry : Entry) → All (λ c. has_ended c ≡ true) a.log → Contains (log_of a) entry
+    → Contains (a.inherited ++ counted_of a) entry
+logged_counted a entry ended there = Contains-append_right a.inherited (counted_of a) entry (⊎_elim
+    (λ first. Contains-append_left a.first _ entry first)
+    (λ later. Contains-append_right a.first _ entry (counted later))
+    (Contains-append_cases a.first (map (λ (c : Counting). c.entry) a.log) entry there))
+  where
+    counted : Contains (map (λ (c : Counting). c.entry) a.log) entry → Contains (counted_among (a.log ++ a.running)) entry
+    counted there =
+        let c = contains_mapped (λ (c : Counting). c.entry) a.log entry there in
+        let done = All-contains (λ (c : Counting). has_ended c ≡ true) a.log c.0 ended c.1 in
+        let passes = (and_parts (is_counted c.0) (is_summed c.0) (and_parts (is_counted c.0 && is_summed c.0) (is_noted c.0) done).0).0 in
+        subst (Contains (counted_among (a.log ++ a.running))) c.2
+        (contains_map (λ (c : Counting). c.entry) _ c.0
+        (contains_filter is_counted (a.log ++ a.running) c.0 (Contains-append_left a.log a.running c.0 c.1) passes))
+
+module _ (anatomy : Anatomy) (cursors : List ℕ) (actors : List Actor) (later a : Actor) (units : ℕ) where
+  abbrev fresh : Actor
+  fresh = newcomer a units
+
+  fresh_sees : Sees anatomy cursors a → Sees anatomy cursors fresh
+  fresh_sees sees = record {
+    free = sees.free;
+    walked = sees.walked;
+    tails = sees.tails;
+    singles = sees.singles;
+    counters = sees.counters;
+    in_use = sees.in_use;
+    fixed = sees.fixed;
+    shared = sees.shared;
+    names = All-nil (Knows anatomy);
+  }
+
+  fresh_calls : CallsRight anatomy a → CallsRight anatomy fresh
+  fresh_calls calls = record {
+    ordered = record {
+      one_by_one = λ i j x y below first. absurd (none_at i x first);
+      counted_first = All-nil (λ (c : Counting). c.summed ≡ true → is_counted c ≡ true);
+      summed_next = All-nil (λ (c : Counting). c.noted ≡ true → is_summed c ≡ true);
+    };
+    within = λ some_run. absurd (some_run refl);
+    held = omega arith;
+    ended = All-nil (λ (c : Counting). has_ended c ≡ true);
+    spent = λ name. omega arith;
+    met = λ entry of there. calls.met entry of
+        (logged_counted a entry calls.ended (subst (λ (list : List Entry). Contains list entry) (append-nil (log_of a)) there));
+    taking = λ e. absurd (true≢false (sym e));
+  }
+
+  fresh_looks : LooksBack anatomy actors later fresh
+  fresh_looks = record {
+    most = λ known bucket total has. absurd (none_in known has);
+    packed = λ known bucket word has. absurd (none_in known has);
+    counted = λ known bucket count r has. absurd (none_in known has);
+    samples = λ known value at count has. absurd (none_in known has);
+    rising = λ s t before since. absurd (none_in t (subst (λ (list : List Sighting). Contains list t) (drop_all (length a.seen_counts) a.seen_counts (omega arith)) since));
+    noted = λ known count has. absurd (none_in known has);
+    sum = λ reference sum r stands. absurd (cc stands);
+  }
+
+  fresh_finals : (id : ℕ) → FinalsAreExact actors later id fresh
+  fresh_finals id = record {
+    deltas = λ t there. absurd (none_in t there);
+    snapshots = λ s there. absurd (none_in s there);
+    moments = λ m of. absurd (⊎_elim (λ t. none_in t.0 t.1) (λ s. none_in s.0 s.1) of);
+    swapped = λ before last taking. absurd (true≢false (sym taking));
+  }
+
+  fresh_fits : (shape : Dimensions) (old : List Actor) (opener : Actor) (id k : ℕ) → Fits shape anatomy cursors old opener k a
+      → Fits shape anatomy cursors actors later id fresh
+  fresh_fits shape old opener id k fit = record {
+    shaped = fit.shaped;
+    versioned = fit.versioned;
+    numbered = fit.numbered;
+    sees = fresh_sees fit.sees;
+    own = All-nil (HoldsOwn shape anatomy.pieces id);
+    apart = λ i j x y first. absurd (none_at i x first);
+    owes = All-nil _;
+    calls = fresh_calls fit.calls;
+    looks = λ records. fresh_looks;
+    finals = fresh_finals id;
+    snapshots = All-nil (IsWithinCounts actors);
+  }
+
+-- ---- the state after it
+
+module _ (shape : Dimensions) (opened : Anatomy) (old : State) (kept : Kept shape opened old) (units : ℕ)
+    (may : MaySplit kept.roles.opener units) where
+  abbrev opener : Actor
+  opener = kept.roles.opener
+
+  abbrev later : Actor
+  later = parent opener units
+
+  abbrev made : Actor
+  made = newcomer opener units
+
+  abbrev split : List Actor
+  split = set old.actors 0 later ++ made ∷ []
+
+  deeds : Deeds old.actors split
+  deeds = deeds_more old.actors opener later made kept.roles.stands (split_deeds opener units may.2)
+
+  first : get_elem? split 0 ≡ some later
+  first = at_longer (set old.actors 0 later) (made ∷ []) 0 later (set_here old.actors 0 later (below_length old.actors 0 opener kept.roles.stands))
+
+  -- who was made before was made earlier
+  earlier : (k : ℕ) (c : Actor) → get_elem? old.actors k ≡ some c → is_living c ≡ true → c.made < made.made
+  earlier k c at lives = kept.roles.younger k c at lives
+
+  apart : (i : ℕ) (a : Actor) → get_elem? split i ≡ some a → (j : ℕ) (b : Actor) → get_elem? split j ≡ some b
+      → is_living a ≡ true → is_living b ≡ true → i ≢ j → a.made ≢ b.made
+  apart = each_of_more
+      (λ i a. (j : ℕ) (b : Actor) → get_elem? split j ≡ some b → is_living a ≡ true → is_living b ≡ true → i ≢ j → a.made ≢ b.made)
+      old.actors 0 later made
+      (λ j b at lives. absurd (opens_nothing later kept.roles.opens lives))
+      (each_of_more (λ j b. is_living made ≡ true → is_living b ≡ true → length old.actors ≢ j → made.made ≢ b.made) old.actors 0 later made
+      (λ lives alive. absurd (opens_nothing later kept.roles.opens alive))
+      (λ lives alive ne. absurd (ne refl))
+      (λ j b within front at lives alive ne same. let below = earlier j b at alive in omega (arith, below, same)))
+      (λ i a within front here. each_of_more (λ j b. is_living a ≡ true → is_living b ≡ true → i ≢ j → a.made ≢ b.made) old.actors 0 later made
+      (λ lives alive. absurd (opens_nothing later kept.roles.opens alive))
+      (λ lives alive ne same. let below = earlier i a here lives in omega (arith, below, same))
+      (λ j b inside away at. kept.roles.apart i j a b here at))
+
+  -- none lives where none is outstanding
+  nobody : opener.outstanding ≡ 0 → (k : ℕ) (c : Actor) → get_elem? old.actors k ≡ some c → is_living c ≡ true → ⊥
+  nobody none k c at lives =
+      let one : Actor → ℕ = λ c. if is_living c then 1 else 0 in
+      let all = kept.roles.living in
+      let least = sum_at_least one old.actors k c at in
+      let this : one c ≡ 1 = ap (λ (b : Bool). if b then 1 else 0) lives in
+      omega (arith, all, least, this, none)
+
+  eldest : (i : ℕ) (a : Actor) → get_elem? split i ≡ some a → (j : ℕ) (b : Actor) → get_elem? split j ≡ some b
+      → is_living a ≡ true → is_living b ≡ true → i ≢ j → a.outstanding ≡ 0 → a.made < b.made
+  eldest = each_of_more
+      (λ i a. (j : ℕ) (b : Actor) → get_elem? split j ≡ some b → is_living a ≡ true → is_living b ≡ true → i ≢ j → a.outstanding ≡ 0 → a.made < b.made)
+      old.actors 0 later made
+      (λ j b at lives. absurd (opens_nothing later kept.roles.opens lives))
+      (each_of_more (λ j b. is_living made ≡ true → is_living b ≡ true → length old.actors ≢ j → made.outstanding ≡ 0 → made.made < b.made) old.actors 0 later made
+      (λ lives alive. absurd (opens_nothing later kept.roles.opens alive))
+      (λ lives alive ne. absurd (ne refl))
+      (λ j b within front at lives alive ne none. absurd (nobody none j b at alive)))
+      (λ i a within front here. each_of_more (λ j b. is_living a ≡ true → is_living b ≡ true → i ≢ j → a.outstanding ≡ 0 → a.made < b.made) old.actors 0 later made
+      (λ lives alive. absurd (opens_nothing later kept.roles.opens alive))
+      (λ lives alive ne none. earlier i a here lives)
+      (λ j b inside away at. kept.roles.eldest i j a b here at))
+
+  roles : RolesAreKept split
+  roles = record {
+    opener = later;
+    stands = first;
+    opens = kept.roles.opens;
+    idle = kept.roles.idle;
+    rests = kept.roles.rests;
+    only = each_of_more (λ k c. k ≢ 0 → (c.opener ≡ 0) × (c.first ≡ []) × (c.first_noted ≡ [])) old.actors 0 later made
+        (λ away. absurd (away refl))
+        (λ away. (refl, refl, refl))
+        (λ k c within front at away. kept.roles.only k c at away);
+    living = (
+        let one : Actor → ℕ = λ c. if is_living c then 1 else 0 in
+        let all = sum_by-append one (set old.actors 0 later) (made ∷ []) in
+        let now = sum_beside one old.actors 0 opener later kept.roles.stands in
+        let was = kept.roles.living in
+        omega (arith, all, now, was));
+    few = (let below = may.3 in omega (arith, below));
+    younger = each_of_more (λ k c. is_living c ≡ true → c.made < later.made) old.actors 0 later made
+        (λ lives. absurd (opens_nothing later kept.roles.opens lives))
+        (λ lives. omega arith)
+        (λ k c within front at lives. let below = earlier k c at lives in omega (arith, below));
+    apart = λ i j a b here at. apart i a here j b at;
+    eldest = λ i j a b here at. eldest i a here j b at;
+    heirs = each_of_more
+        (λ k c. is_living c ≡ true
+        → (more : List Entry) × (log_of later ≡ c.inherited ++ more) × (c.outstanding ≡ 0 → c.made + 1 ≡ later.made → more ≡ []))
+        old.actors 0 later made
+        (λ lives. absurd (opens_nothing later kept.roles.opens lives))
+        (λ lives. ([], sym (append-nil (log_of opener)), λ none last. refl))
+        (λ k c within front at lives.
+        let was = kept.roles.heirs k c at lives in
+        (was.0, was.1, λ none last. let below = earlier k c at lives in absurd (omega (arith, below, last))));
+  }
+
+  ordered : (k : ℕ) (c : Actor) → get_elem? split k ≡ some c → c.opener ≡ 0 → GivenInOrder (order_of kept.anatomy) c.given
+  ordered = each_of_more (λ k c. c.opener ≡ 0 → GivenInOrder (order_of kept.anatomy) c.given) old.actors 0 later made
+      (λ records. let opens = kept.roles.opens in absurd (omega (arith, records, opens)))
+      (λ records i j k l x y below here. absurd (none_at i x here))
+      (λ k c within front at. kept.cursors.ordered k c at)
+
+  given : (k : ℕ) (c : Actor) → get_elem? split k ≡ some c → All (λ g. Contains (order_of kept.anatomy) g.reference) c.given
+  given = each_of_more (λ k c. All (λ g. Contains (order_of kept.anatomy) g.reference) c.given) old.actors 0 later made
+      (kept.cursors.given 0 opener kept.roles.stands)
+      (All-nil (λ (g : Given). Contains (order_of kept.anatomy) g.reference))
+      (λ k c within front at. kept.cursors.given k c at)
+
+  standing : (k : ℕ) (c : Actor) → get_elem? split k ≡ some c → StandsRight shape kept.anatomy k c c.place
+  standing = each_of_more (λ k c. StandsRight shape kept.anatomy k c c.place) old.actors 0 later made
+      (subst (StandsRight shape kept.anatomy 0 later) (sym kept.roles.idle) tt)
+      tt
+      (λ k c within front at. kept.standing k c at)
+
+  since : IsLater old.actors split opener later
+  since = record {
+    first = (refl, refl);
+    more = omega arith;
+    last = λ n below e. absurd (omega (arith, below, e));
+    lives = each_of_more
+        (λ k c. is_living c ≡ true
+        → ((b : Actor) × (get_elem? old.actors k ≡ some b) × (is_living b ≡ true) × (b.made ≡ c.made)) ⊎ (opener.made ≤ c.made))
+        old.actors 0 later made
+        (λ lives. absurd (opens_nothing later kept.roles.opens lives))
+        (λ lives. inr (omega arith))
+        (λ k c within front at lives. inl (c, at, lives, refl));
+  }
+
+  -- no recorder that lived is the last any more
+  not_alone : (k : ℕ) (c : Actor) → get_elem? old.actors k ≡ some c → is_living c ≡ true → IsAlone split c → ⊥
+  not_alone k c at lives alone =
+      let same = ap (λ (x : Actor). x.made) (one_at split 0 alone.0 later alone.1 first) in
+      let below = earlier k c at lives in
+      let last = alone.3 in
+      omega (arith, same, below, last)
+
+  each : (k : ℕ) (c : Actor) → get_elem? split k ≡ some c → c.place ≢ Spent → Fits shape kept.anatomy old.cursors split later k c
+  each = each_of_more (λ k c. c.place ≢ Spent → Fits shape kept.anatomy old.cursors split later k c) old.actors 0 later made
+      (λ live. opener_fits shape kept.anatomy old.cursors split later 0 opener (opener.share - units) (opener.made + 1) (opener.outstanding + 1)
+      kept.roles.opens kept.roles.rests.2
+      (fits shape kept.anatomy old.cursors old.actors split opener later 0 opener (sums_of old.actors split deeds) since
+      (λ either. absurd (⊎_elim
+      (λ records. let opens = kept.roles.opens in omega (arith, records, opens))
+      (λ taking. true≢false (sym taking ∙ kept.roles.rests.2))
+      either))
+      (kept.each 0 opener kept.roles.stands live)))
+      (λ live. fresh_fits kept.anatomy old.cursors split later opener units shape old.actors opener (length old.actors) 0
+      (kept.each 0 opener kept.roles.stands opener_lives))
+      (λ k c within front at live. fits shape kept.anatomy old.cursors old.actors split opener later k c (sums_of old.actors split deeds) since
+      (λ either alone. absurd (not_alone k c at (lives_on c (kept.roles.only k c at front).0 live) alone))
+      (kept.each k c at live))
+    where
+      opener_lives : opener.place ≢ Spent
+      opener_lives e = cc (sym kept.roles.idle ∙ e)
+
+  loaded : LoadedBefore old.actors split
+  loaded at sum = each_of_more
+      (λ k c. c.place ≡ SumLoaded at sum → (j : ℕ) × (d : Actor) × (get_elem? old.actors j ≡ some d) × (d.place ≡ SumLoaded at sum))
+      old.actors 0 later made
+      (λ stands. (0, opener, kept.roles.stands, stands))
+      (λ stands. absurd (cc stands))
+      (λ k c within front is stands. (k, c, is, stands))
+
+  pub split_kept : Kept shape opened (record old { actors = split })
+  unfolding roles
+  split_kept = kept_by shape opened kept.anatomy old.words old.cursors split
+      (books_by shape opened kept.anatomy old.words old.cursors old.actors split deeds loaded (books_of shape opened old kept))
+      roles kept.first_noted ordered given standing each
+
+pub splits_keep : SplitsKeep
+splits_keep shape opened old new id units kept splitting =
+    let a = splitting.0 in
+    let may = splitting.2 in
+    let opener = opens_first old.actors kept.roles id a splitting.1 may.1 in
+    subst (Kept shape opened) (sym splitting.3)
+    (subst₂
+    (λ (k : ℕ) (c : Actor). Kept shape opened (record old { actors = set old.actors k (parent c units) ++ newcomer c units ∷ [] }))
+    (sym opener.0) opener.1
+    (split_kept shape opened old kept units (subst (λ (c : Actor). MaySplit c units) (sym opener.1) may)))

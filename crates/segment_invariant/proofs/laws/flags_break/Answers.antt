@@ -1,0 +1,11 @@
+use Rattle.std.proofs.Common.{◌≡◌, ℕ, zero, suc, ◌<◌, true, false, [], ◌∷◌, refl, sym, true≢false, ⊎_elim, arith}
+use Rattle.std.specs.Prelude.{slice_index_or}
+use Rattle.segment_invariant.proofs.laws.flags_break.Goals as goal
+
+-- nobody is among one who has not
+nobody : (k : ℕ) → k < 1 → slice_index_or (false ∷ []) k true ≡ true → ⊥
+nobody zero below e = true≢false (sym e)
+nobody (suc k) below e = absurd (omega (arith, below))
+
+pub returns : goal.returns
+returns c flags = ⊎_elim (λ e. absurd (omega (arith, e))) (λ set. nobody set.0 set.1 set.2) (flags.corrupt.0 refl)

@@ -1,0 +1,5 @@
+use Rattle.segment_invariant.proofs.Consistency.Sums as implied
+use Rattle.segment_invariant.proofs.laws.kept_sums_are_amounts.Goals as goal
+
+pub returns : goal.returns
+returns c = implied.sums_are_amounts

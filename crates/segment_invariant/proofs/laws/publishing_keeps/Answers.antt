@@ -1,0 +1,5 @@
+use Rattle.segment_invariant.proofs.Listing.Keeps as events
+use Rattle.segment_invariant.proofs.laws.publishing_keeps.Goals as goal
+
+pub returns : goal.returns
+returns c = events.publishing_keeps

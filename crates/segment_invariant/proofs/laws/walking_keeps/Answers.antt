@@ -1,0 +1,5 @@
+use Rattle.segment_invariant.proofs.Listing.Keeps as events
+use Rattle.segment_invariant.proofs.laws.walking_keeps.Goals as goal
+
+pub returns : goal.returns
+returns c = events.walking_keeps

@@ -1,0 +1,156 @@
+-- What is to be shown of what holds between any two events: it holds of a new segment, each event keeps it, recorders that are made
+-- and joined keep it, and it has the parts of consistency in it.
+use Rattle.std.specs.Prelude.{◌≡◌, ◌⊎◌, ℕ, zero, suc, [], take, drop, length, slice_set, ⊤}
+use mathlib.Core.Option.{some}
+use lib.ListN.{get_elem?}
+use Rattle.segment_image.specs.declared.layout.TheConstants.{VERSION_WORD}
+use Rattle.segment_image.specs.Shape.{Dimensions}
+use Rattle.segment_image.specs.Words.{word_at}
+use Rattle.alloc_core.specs.Layout.{IsShape}
+use Rattle.segment_machine.specs.declared.actor.Actor.{Actor}
+use Rattle.segment_machine.specs.Event.{Event, allocating_event, publishing_event, walking_event, spot, after, next, Ready, Learned}
+use Rattle.segment_machine.specs.Allocating.{AllocatingEvent}
+use Rattle.segment_machine.specs.Publishing.{PublishingEvent}
+use Rattle.segment_machine.specs.Walking.{WalkingEvent}
+use Rattle.segment_machine.specs.State.{State, memory}
+use Rattle.segment_invariant.specs.Consistent.{ListIsChain, FlagsAreSet, UnitsAreKept, RecordsHold, TotalsAreCounted, MarksAreTaken, SumsAreAmounts, TransitIsLocal, IsConsistent, new_opening}
+use Rattle.segment_machine.specs.Reached.{new_state, IsState, IsSplit, IsJoin, IsLent}
+use Rattle.segment_invariant.specs.Body.{Anatomy, blank, order_of}
+use Rattle.segment_invariant.specs.Kept.{Kept}
+use Rattle.segment_machine.specs.Note.{Note, begins, amounts, asks, knows, takes, looks, ends, refused, MayNote, noted, declines}
+
+-- ---- at the opening
+
+-- a new segment with its opener is kept
+abbrev pub OpeningIsKept : Type 0
+OpeningIsKept = (shape : Dimensions) (version id cursors : ℕ) → IsShape shape → (version ≡ 1) ⊎ (version ≡ 2)
+    → Kept shape (blank version id shape.size) (new_state shape version id cursors)
+
+-- from one state the first actor has made so many recorders, one after the other, each with units of its own
+abbrev pub HasMade : ℕ → State → State → Type 0
+HasMade zero old new = old ≡ new
+HasMade (suc n) old new = (mid : State) × (units : ℕ) × HasMade n old mid × IsSplit mid 0 units new
+
+-- a new segment is kept with any number of recorders
+abbrev pub OpeningsAreKept : Type 0
+OpeningsAreKept = (shape : Dimensions) (version id cursors recorders : ℕ) (state : State) → IsShape shape → (version ≡ 1) ⊎ (version ≡ 2)
+    → HasMade recorders (new_state shape version id cursors) state → Kept shape (blank version id shape.size) state
+
+-- ---- at events
+
+-- what an event finds
+abbrev pub found_at : State → Event → ℕ
+found_at state event = word_at (memory state) (spot (length state.words) event)
+
+-- the state after an event of an actor
+abbrev pub happened : ℕ → State → ℕ → Actor → Event → State
+happened version state id a event =
+    let size = length state.words in
+    let words = after size version event (memory state) in
+    record { words = take size words; cursors = drop size words; actors = slice_set state.actors id (next a event (found_at state event)) }
+
+-- an event that a recorder may do keeps what holds, and its actor learns of the number that it found
+abbrev pub EventKeeps : Event → Type 0
+EventKeeps event = (shape : Dimensions) (opened : Anatomy) (state : State) (id : ℕ) (a : Actor) → Kept shape opened state
+    → get_elem? state.actors id ≡ some a → a.opener ≡ 0 → Ready a event
+    → Kept shape opened (happened opened.version state id a event) × Learned a event (found_at state event)
+
+-- the events that allocate a block and set flags
+abbrev pub AllocatingKeeps : Type 0
+AllocatingKeeps = (event : AllocatingEvent) → EventKeeps (allocating_event event)
+
+-- the events that put a record on the list
+abbrev pub PublishingKeeps : Type 0
+PublishingKeeps = (event : PublishingEvent) → EventKeeps (publishing_event event)
+
+-- the events that walk along it
+abbrev pub WalkingKeeps : Type 0
+WalkingKeeps = (event : WalkingEvent) → EventKeeps (walking_event event)
+
+-- ---- at notes
+
+-- a note that a recorder may make keeps what holds
+abbrev pub NoteKeeps : Note → Type 0
+NoteKeeps note = (shape : Dimensions) (opened : Anatomy) (state : State) (id : ℕ) (a : Actor) → Kept shape opened state
+    → get_elem? state.actors id ≡ some a → a.opener ≡ 0 → MayNote a note
+    → Kept shape opened (record state { actors = slice_set state.actors id (noted a note) })
+
+-- the notes by which no delta and no snapshot is answered: calls that count begin and end, deltas and snapshots begin, blocks get what
+-- they are to hold, and a `hist` is answered, or refused once its record is linked
+abbrev pub IsPlainNote : Note → Type 0
+IsPlainNote (begins name cost entries) = ⊤
+IsPlainNote (amounts amount) = ⊤
+IsPlainNote (asks at made) = ⊤
+IsPlainNote (knows known) = ⊤
+IsPlainNote (declines mine) = ⊤
+IsPlainNote (takes name) = ⊤
+IsPlainNote looks = ⊤
+IsPlainNote ends = ⊤
+IsPlainNote (refused added) = ⊤
+IsPlainNote _ = ⊥
+
+abbrev pub NotesKeep : Type 0
+NotesKeep = (note : Note) → IsPlainNote note → NoteKeeps note
+
+-- ---- at seats
+
+-- a recorder is made, joined, and lent units
+abbrev pub SplitsKeep : Type 0
+SplitsKeep = (shape : Dimensions) (opened : Anatomy) (old new : State) (id units : ℕ) → Kept shape opened old → IsSplit old id units new → Kept shape opened new
+
+abbrev pub JoinsKeep : Type 0
+JoinsKeep = (shape : Dimensions) (opened : Anatomy) (old new : State) (id other : ℕ) → Kept shape opened old → IsJoin old id other new → Kept shape opened new
+
+abbrev pub LendsKeep : Type 0
+LendsKeep = (shape : Dimensions) (opened : Anatomy) (old new : State) (id other units : ℕ) → Kept shape opened old → IsLent old id other units new
+    → Kept shape opened new
+
+-- ---- what it has in it
+
+-- the list of a kept state is the chain, its flags are set rightly, and its units are kept
+abbrev pub KeptIsChain : Type 0
+KeptIsChain = (shape : Dimensions) (version id : ℕ) (state : State) → IsShape shape → (kept : Kept shape (blank version id shape.size) state)
+    → ListIsChain (new_opening shape version id).words [] state.words state.cursors state.actors (order_of kept.anatomy)
+
+abbrev pub KeptFlagsAreSet : Type 0
+KeptFlagsAreSet = (shape : Dimensions) (version id : ℕ) (state : State) → IsShape shape → Kept shape (blank version id shape.size) state
+    → FlagsAreSet (new_opening shape version id).words state.words state.actors
+
+abbrev pub KeptUnitsAreKept : Type 0
+KeptUnitsAreKept = (shape : Dimensions) (version id : ℕ) (state : State) → IsShape shape → (kept : Kept shape (blank version id shape.size) state)
+    → UnitsAreKept state.words state.actors (order_of kept.anatomy)
+
+-- its units in transit are local
+abbrev pub KeptTransitIsLocal : Type 0
+KeptTransitIsLocal = (shape : Dimensions) (version id : ℕ) (state : State) → IsShape shape → (kept : Kept shape (blank version id shape.size) state)
+    → TransitIsLocal (word_at (new_opening shape version id).words VERSION_WORD) state.words state.actors
+
+-- its marks are what was taken
+abbrev pub KeptMarksAreTaken : Type 0
+KeptMarksAreTaken = (shape : Dimensions) (version id : ℕ) (state : State) → IsShape shape → (kept : Kept shape (blank version id shape.size) state)
+    → MarksAreTaken (word_at (new_opening shape version id).words VERSION_WORD) state.words state.actors (order_of kept.anatomy)
+
+-- its sums are the amounts
+abbrev pub KeptSumsAreAmounts : Type 0
+KeptSumsAreAmounts = (shape : Dimensions) (version id : ℕ) (state : State) → IsShape shape → (kept : Kept shape (blank version id shape.size) state)
+    → SumsAreAmounts (new_opening shape version id).words state.words state.actors (order_of kept.anatomy)
+
+-- its records hold what they were given
+abbrev pub KeptRecordsHold : Type 0
+KeptRecordsHold = (shape : Dimensions) (version id : ℕ) (state : State) → IsShape shape → (kept : Kept shape (blank version id shape.size) state)
+    → RecordsHold (new_opening shape version id).words [] state.words state.actors (order_of kept.anatomy)
+
+-- its totals are what was counted
+abbrev pub KeptTotalsAreCounted : Type 0
+KeptTotalsAreCounted = (shape : Dimensions) (version id : ℕ) (state : State) → IsShape shape → (kept : Kept shape (blank version id shape.size) state)
+    → TotalsAreCounted (word_at (new_opening shape version id).words VERSION_WORD) state.words state.actors (order_of kept.anatomy)
+
+-- a kept state is consistent, in all its parts
+abbrev pub KeptIsConsistent : Type 0
+KeptIsConsistent = (shape : Dimensions) (version id : ℕ) (state : State) → IsShape shape → Kept shape (blank version id shape.size) state
+    → IsConsistent (new_opening shape version id) state
+
+-- every state that is reached, in whatever order actors step, is kept
+abbrev pub StatesAreKept : Type 0
+StatesAreKept = (shape : Dimensions) (version id cursors : ℕ) (state : State) → IsState shape version id cursors state
+    → Kept shape (blank version id shape.size) state

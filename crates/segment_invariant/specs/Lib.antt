@@ -1,0 +1,9 @@
+pub mod Body
+pub mod Ledger
+pub mod Seen
+pub mod Consistent
+pub mod Kept
+pub mod Keeps
+pub mod Examples
+pub mod Accounts
+pub mod Refused

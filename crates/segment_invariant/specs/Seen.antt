@@ -1,0 +1,131 @@
+-- What an actor has seen, and that it lies behind the present. All that is said here stays true whatever others do, since a
+-- segment only grows: blocks keep their places, words that are fixed stay, counters rise, single words lead on, the list becomes
+-- longer at its end.
+use Rattle.std.specs.Prelude.{◌≡◌, ◌≢◌, ◌⊎◌, true, ℕ, ◌+◌, ◌<◌, ◌≤◌, ℤ, List, ◌∷◌, ◌++◌, length, slice_index, Some, None}
+use Rattle.std.specs.List.{All}
+use mathlib.Core.Option.{Option, some, none}
+use lib.ListN.{get_elem?}
+use Rattle.bucket_ranges.specs.declared.spec.Spec.{Spec}
+use Rattle.bucket_ranges.specs.Spec.{buckets_of, SameSpec}
+use Rattle.alloc_core.specs.Laws.{Behind}
+use Rattle.list_core.specs.Chain.{stops}
+use Rattle.list_core.specs.Walk.{IsPrefix}
+use Rattle.segment_image.specs.declared.layout.TheConstants.{BLOCK_HEADER, BLOCK_TYPE, HISTOGRAM_COUNTS, HISTOGRAM_KIND, HISTOGRAM_NAME_LENGTH, HISTOGRAM_REDUNDANT, HISTOGRAM_SINGLE, HISTOGRAM_SINGLE_MARK, SAMPLE_COUNT, SAMPLE_HISTOGRAM, SAMPLE_MARK, SAMPLE_VALUE}
+use Rattle.segment_machine.specs.declared.actor.Actor.{Actor}
+use Rattle.segment_machine.specs.declared.actor.Known.{Known}
+use Rattle.segment_machine.specs.declared.actor.Made.TheVariants as made
+use Rattle.segment_machine.specs.declared.actor.Own.{Own}
+use Rattle.segment_machine.specs.declared.actor.Sighting.{Sighting}
+use Rattle.bucket_ranges.specs.Single.{single_of}
+use Rattle.segment_machine.specs.Form.{is_off, Leads}
+use Rattle.segment_invariant.specs.Body.{Record, Counts, Sample, Body, plain, held, histogram, counts, sample, other, words_of, Piece, Listed, Anatomy, order_of, free_of}
+
+-- ---- blocks by their places
+
+-- a block of this owner and kind begins at a word
+abbrev pub Stands : List Piece → ℕ → Option ℕ → Body → Type 0
+Stands pieces at owner body = (k : ℕ) × (get_elem? pieces k ≡ some (record { at = at; owner = owner; body = body }))
+
+abbrev pub HasPlain : List Piece → ℕ → ℕ → List ℕ → Type 0
+HasPlain pieces id at words = Stands pieces at (some id) (plain words)
+
+abbrev pub HasOwn : List Piece → ℕ → Own → Type 0
+HasOwn pieces id own = Stands pieces own.at (some id) (held own)
+
+abbrev pub HasRecord : List Piece → ℕ → Record → Type 0
+HasRecord pieces at r = Stands pieces at none (histogram r)
+
+abbrev pub HasCounts : List Piece → ℕ → Counts → Type 0
+HasCounts pieces at c = Stands pieces at none (counts c)
+
+abbrev pub HasSample : List Piece → ℕ → Sample → Type 0
+HasSample pieces at s = Stands pieces at none (sample s)
+
+-- ---- the first record of a name, and of a value
+
+-- a listed record is one of a histogram of a name
+abbrev pub IsNamed : List ℕ → Listed → Type 0
+IsNamed name l = (spec : Spec) × (l.made ≡ Some (made.Histogram name spec))
+
+-- the histogram of a name is the first record of it on the list
+abbrev pub IsFirst : List Listed → List ℕ → Spec → ℕ → Type 0
+IsFirst records name spec at =
+    (front behind : List Listed)
+    × (records ≡ front ++ record { reference = at; made = Some (made.Histogram name spec) } ∷ behind)
+    × All (λ l. ¬ (IsNamed name l)) front
+
+-- the sample of a value is the first record of it on the list
+abbrev pub IsFirstOf : List Listed → ℕ → ℤ → ℕ → Type 0
+IsFirstOf records of value at =
+    (front behind : List Listed)
+    × (records ≡ front ++ record { reference = at; made = Some (made.Sample of value) } ∷ behind)
+    × All (λ l. l.made ≢ Some (made.Sample of value)) front
+
+-- ---- words that are seen
+
+-- a word of a block that never changes any more
+abbrev pub IsFixedIn : Body → ℕ → Type 0
+IsFixedIn (histogram r) i =
+    (i ≡ BLOCK_TYPE) ⊎ ((HISTOGRAM_KIND ≤ i) × (i < HISTOGRAM_COUNTS)) ⊎ ((i ≡ HISTOGRAM_COUNTS) × (r.counts ≢ 0))
+    ⊎ ((HISTOGRAM_NAME_LENGTH ≤ i) × (i < length (words_of (histogram r))))
+IsFixedIn (sample s) i = (i ≡ BLOCK_TYPE) ⊎ (i ≡ SAMPLE_HISTOGRAM) ⊎ (i ≡ SAMPLE_VALUE)
+IsFixedIn (other size tag next payload) i = i ≡ BLOCK_TYPE
+IsFixedIn _ i = ⊥
+
+-- a word of a block that only rises: a count, a mark or a redundant count
+abbrev pub IsCounterIn : Body → ℕ → Type 0
+IsCounterIn (histogram r) i = (i ≡ HISTOGRAM_SINGLE_MARK) ⊎ (i ≡ HISTOGRAM_REDUNDANT)
+IsCounterIn (counts c) i = (BLOCK_HEADER ≤ i) × (i < BLOCK_HEADER + (length c.units + length c.marks))
+IsCounterIn (sample s) i = (i ≡ SAMPLE_COUNT) ⊎ (i ≡ SAMPLE_MARK)
+IsCounterIn _ i = ⊥
+
+-- a word that was seen is that of a block, and will be
+abbrev pub WasFixed : List Piece → Sighting → Type 0
+WasFixed pieces s =
+    (at i : ℕ) × (body : Body) × Stands pieces at none body × (s.at ≡ at + i) × IsFixedIn body i
+    × (slice_index (words_of body) i ≡ s.word)
+
+-- a counter that was seen is at least as much by now
+abbrev pub WasCounter : List Piece → Sighting → Type 0
+WasCounter pieces s =
+    (at i : ℕ) × (body : Body) × Stands pieces at none body × (s.at ≡ at + i) × IsCounterIn body i
+    × (s.word ≤ slice_index (words_of body) i)
+
+-- counts that were seen are in use: the single word of their record is off
+abbrev pub WasInUse : List Piece → Sighting → Type 0
+WasInUse pieces s =
+    (at i : ℕ) (c : Counts) → HasCounts pieces at c → s.at ≡ at + i → BLOCK_HEADER ≤ i → i < BLOCK_HEADER + (length c.units + length c.marks)
+    → (r : Record) × HasRecord pieces c.of r × (is_off r.single ≡ true)
+
+-- a single word that was seen has a form, and leads to the present one
+abbrev pub WasSingle : ℕ → List Piece → Sighting → Type 0
+WasSingle version pieces s =
+    (at : ℕ) × (r : Record) × HasRecord pieces at r × (s.at ≡ at + HISTOGRAM_SINGLE) × (single_of version (buckets_of r.spec) s.word ≢ None)
+    × Leads version (buckets_of r.spec) s.word r.single
+
+-- one place on the list is no later than another
+abbrev pub IsNoLater : List ℕ → ℕ → ℕ → Type 0
+IsNoLater chain seen present =
+    (i j : ℕ) × (i ≤ j) × (j ≤ length chain) × (slice_index (stops chain) i ≡ seen) × (slice_index (stops chain) j ≡ present)
+
+-- so are some places
+abbrev pub AreNoLater : List ℕ → List ℕ → ℕ → Type 0
+AreNoLater chain seen present = All (λ place. IsNoLater chain place present) seen
+
+-- what an actor knows of a histogram
+pub record Knows (anatomy : Anatomy) (known : Known) : Type 0 where
+  pub first_spec : Spec
+  pub first : IsFirst anatomy.records known.name first_spec known.reference
+  pub same : SameSpec first_spec known.spec
+
+-- all that an actor has seen
+pub record Sees (anatomy : Anatomy) (cursors : List ℕ) (a : Actor) : Type 0 where
+  pub free : Behind a.seen_free (free_of anatomy)
+  pub walked : IsPrefix a.seen_chain (order_of anatomy)
+  pub tails : AreNoLater (order_of anatomy) a.seen_tails anatomy.tail
+  pub singles : All (WasSingle anatomy.version anatomy.pieces) a.seen_singles
+  pub counters : All (WasCounter anatomy.pieces) a.seen_counts
+  pub in_use : All (WasInUse anatomy.pieces) a.seen_counts
+  pub fixed : All (WasFixed anatomy.pieces) a.seen_words
+  pub shared : All (λ s. (s.at < length cursors) × IsNoLater (order_of anatomy) s.word (slice_index cursors s.at)) a.seen_cursors
+  pub names : All (Knows anatomy) a.names

@@ -1,0 +1,230 @@
+//! What holds between any two events holds of a new segment and is kept by all that is proved so far; and what is in it.
+//!
+//! The functions do nothing. What each promises is a law of the definitions in `specs/`: that something is kept in
+//! `specs/Keeps.antt`, worked examples in `specs/Examples.antt`, `specs/Accounts.antt` and `specs/Refused.antt`.
+
+ghost use Rattle.segment_invariant.specs.Examples.{PackedThenMounted, StoppedInTransit, PackingLimit, DeltasAndMarks, TwoTakers, SparseSamples, MountedIsConsistent, ListBreaks, RecordsBreak, TotalsBreak, MarksBreak, SumsBreak, TransitBreaks, FlagsBreak, UnitsBreak};
+ghost use Rattle.segment_invariant.specs.Accounts.{MountedAgrees, LimitAgrees, TakersAgree, SparseAgrees, BatchAgrees};
+ghost use Rattle.segment_invariant.specs.Refused.{CountsLoaded, UnitsSpent, CountsOwe, WordsFormed, KindsRead};
+ghost use Rattle.segment_invariant.specs.Keeps.{OpeningIsKept, OpeningsAreKept, AllocatingKeeps, PublishingKeeps, WalkingKeeps, SplitsKeep, JoinsKeep, LendsKeep, KeptFlagsAreSet, KeptIsChain, KeptUnitsAreKept, KeptTransitIsLocal, KeptSumsAreAmounts, KeptTotalsAreCounted, KeptMarksAreTaken, NotesKeep, KeptRecordsHold, KeptIsConsistent};
+
+/// Two packed units are moved to the counts, where the next sample is counted: the words become those of the segment, and the
+/// totals, the sum and the redundant count are those of the entries.
+pub fn packed_then_mounted()
+    ensures { PackedThenMounted }
+{}
+
+/// Stopped between disabling and moving, the totals and the units in transit are together what was counted.
+pub fn stopped_in_transit()
+    ensures { StoppedInTransit }
+{}
+
+/// 65,535 units are packed at most; in version 2 a frozen word keeps them.
+pub fn packing_limit()
+    ensures { PackingLimit }
+{}
+
+/// Marks are what deltas took, and which deltas are final.
+pub fn deltas_and_marks()
+    ensures { DeltasAndMarks }
+{}
+
+/// What one taker has taken another does not take again.
+pub fn two_takers()
+    ensures { TwoTakers }
+{}
+
+/// The keys of a sparse histogram are its values.
+pub fn sparse_samples()
+    ensures { SparseSamples }
+{}
+
+/// The segment that was packed and then mounted is consistent, with who recorded 1, 1 and 0.
+pub fn mounted_is_consistent()
+    ensures { MountedIsConsistent }
+{}
+
+/// The ledger of the segment that was packed and then mounted, settled and while its units are in transit: what the blocks hold and
+/// what is in transit is what the actors counted.
+pub fn mounted_agrees()
+    ensures { MountedAgrees }
+{}
+
+/// The ledger at the packing limit.
+pub fn limit_agrees()
+    ensures { LimitAgrees }
+{}
+
+/// The ledger beside deltas, of one taker and of two: the marks that blocks hold are what was taken.
+pub fn takers_agree()
+    ensures { TakersAgree }
+{}
+
+/// The ledger of a sparse histogram.
+pub fn sparse_agrees()
+    ensures { SparseAgrees }
+{}
+
+/// The ledger of a batch.
+pub fn batch_agrees()
+    ensures { BatchAgrees }
+{}
+
+/// The list is no chain where a word behind the free pointer is not 0.
+pub fn list_breaks()
+    ensures { ListBreaks }
+{}
+
+/// A record does not hold what it was given where it was published before its name was stored.
+pub fn records_break()
+    ensures { RecordsBreak }
+{}
+
+/// Totals are not what was counted where packed units were added to the counts and the single word still has them.
+pub fn totals_break()
+    ensures { TotalsBreak }
+{}
+
+/// Marks are not what was taken where two deltas took the same units.
+pub fn marks_break()
+    ensures { MarksBreak }
+{}
+
+/// Sums are not the amounts where a packed sample was left out.
+pub fn sums_break()
+    ensures { SumsBreak }
+{}
+
+/// Transit is not local where no bucket was packed.
+pub fn transit_breaks()
+    ensures { TransitBreaks }
+{}
+
+/// Flags are not set rightly where nobody has set the corrupt flag.
+pub fn flags_break()
+    ensures { FlagsBreak }
+{}
+
+/// Units are not kept where a unit was spent and is still in a share.
+pub fn units_break()
+    ensures { UnitsBreak }
+{}
+
+/// What was loaded is the count of a bucket, or of a sample.
+pub fn counts_loaded()
+    ensures { CountsLoaded }
+{}
+
+/// A unit that is logged is spent.
+pub fn units_spent()
+    ensures { UnitsSpent }
+{}
+
+/// A count that was seen of a known record owes what was accepted.
+pub fn counts_owe()
+    ensures { CountsOwe }
+{}
+
+/// A single word that was seen has a form.
+pub fn words_formed()
+    ensures { WordsFormed }
+{}
+
+/// A record's kind is one that is read.
+pub fn kinds_read()
+    ensures { KindsRead }
+{}
+
+/// A new segment with its opener is kept: what holds between any two events holds of it.
+pub fn opening_is_kept()
+    ensures { OpeningIsKept }
+{}
+
+/// So does it with any number of recorders that its opener has made.
+pub fn openings_are_kept()
+    ensures { OpeningsAreKept }
+{}
+
+/// Each event that allocates a block, stores into it or sets a flag keeps what holds, and its actor learns that the free pointer
+/// which it found is lawful and is no earlier than the one that it knew.
+pub fn allocating_keeps()
+    ensures { AllocatingKeeps }
+{}
+
+/// Each event that puts a record on the list keeps what holds, and its actor learns that what it found is the end of the list or a
+/// record that lies within the segment.
+pub fn publishing_keeps()
+    ensures { PublishingKeeps }
+{}
+
+/// Each event that walks along the list keeps what holds, and its actor learns that what it found is the end of the list or a
+/// record, which with its name and its ranges lies within the segment.
+pub fn walking_keeps()
+    ensures { WalkingKeeps }
+{}
+
+/// What holds between any two events holds on where an opener makes a recorder.
+pub fn splits_keep()
+    ensures { SplitsKeep }
+{}
+
+/// What holds between any two events holds on where an opener joins a recorder.
+pub fn joins_keep()
+    ensures { JoinsKeep }
+{}
+
+/// What holds between any two events holds on where an opener lends units to a recorder.
+pub fn lends_keep()
+    ensures { LendsKeep }
+{}
+
+/// The flags of a kept state are set exactly where an actor has set them.
+pub fn kept_flags_are_set()
+    ensures { KeptFlagsAreSet }
+{}
+
+/// The list of a kept state is the chain.
+pub fn kept_is_chain()
+    ensures { KeptIsChain }
+{}
+
+/// The units of a kept state are kept, and its sums are bounded by what was spent.
+pub fn kept_units_are_kept()
+    ensures { KeptUnitsAreKept }
+{}
+
+/// Units of a kept state are in transit in version 1 alone, and in the packed bucket alone.
+pub fn kept_transit_is_local()
+    ensures { KeptTransitIsLocal }
+{}
+
+/// The sums of a kept state are the amounts, and its redundant counts the units, of which nothing is left out or counted twice.
+pub fn kept_sums_are_amounts()
+    ensures { KeptSumsAreAmounts }
+{}
+
+/// The totals of a kept state, with the units in transit, are what was counted.
+pub fn kept_totals_are_counted()
+    ensures { KeptTotalsAreCounted }
+{}
+
+/// The marks of a kept state are what was taken, and no more than was counted.
+pub fn kept_marks_are_taken()
+    ensures { KeptMarksAreTaken }
+{}
+
+/// What holds between any two events holds on where a recorder notes that a call which counts begins or ends, that an amount became
+/// known, that a delta or a snapshot begins, what a block of its own is to hold, or which histogram it was answered.
+pub fn notes_keep()
+    ensures { NotesKeep }
+{}
+
+/// The records of a kept state hold what they were given, and have lawful forms.
+pub fn kept_records_hold()
+    ensures { KeptRecordsHold }
+{}
+
+/// A kept state is consistent, in all its parts.
+pub fn kept_is_consistent()
+    ensures { KeptIsConsistent }
+{}

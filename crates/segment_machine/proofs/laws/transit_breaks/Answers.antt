@@ -1,9 +1,0 @@
-use Rattle.std.proofs.Common.{ℕ, Option, ap, arith}
-use Rattle.std.specs.Prelude.{unwrap_or}
-use Rattle.segment_machine.proofs.laws.transit_breaks.Goals as goal
-
-pub returns : goal.returns
-returns c transit =
-    let e = (transit 16 1 (omega arith)).1 in
-    let zero_is_one = ap (λ (bucket : Option ℕ). unwrap_or bucket 0) e in
-    absurd (omega (arith, zero_is_one))

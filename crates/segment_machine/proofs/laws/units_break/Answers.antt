@@ -1,5 +1,0 @@
-use Rattle.std.proofs.Common.{arith}
-use Rattle.segment_machine.proofs.laws.units_break.Goals as goal
-
-pub returns : goal.returns
-returns c units = let e = units.pool in absurd (omega (arith, e))

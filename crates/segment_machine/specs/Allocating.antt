@@ -1,0 +1,97 @@
+-- Allocating: the flags, the free pointer, and the words of a block of its own.
+-- An event is read here in one place: what it acts on, when it is ready, what becomes of its actor, and what this learns.
+use Rattle.std.specs.Prelude.{◌≡◌, ◌⊎◌, Bool, true, false, ℕ, ◌+◌, ◌-◌, ◌<◌, ◌≤◌, List, [], ◌∷◌, ◌++◌, length, None, ◌==◌, if◌then◌else◌, replicate, bit_and, ⊤}
+use Rattle.alloc_core.specs.Planned.{is_pointer}
+use Rattle.alloc_core.specs.Alloc.{IsRise}
+use Rattle.segment_image.specs.declared.layout.TheConstants.{BLOCK_HEADER, CLAIMED_COOKIE, FLAG_CORRUPT, FLAG_FULL, TYPE_HISTOGRAM, TYPE_SAMPLE, WASTED_COOKIE}
+use Rattle.segment_machine.specs.declared.place.Place.{Place}
+use Rattle.segment_machine.specs.declared.place.Place.TheVariants.{FlagsLoaded, FreeLoaded, Raised, Sized, Marked, Idle}
+use Rattle.segment_machine.specs.declared.actor.Actor.{Actor}
+use Rattle.segment_machine.specs.declared.actor.Own.{Own}
+use Rattle.alloc_core.specs.Laws.{Behind}
+use Rattle.alloc_core.specs.Event as atomic
+use Rattle.segment_machine.specs.Operation.{Operation, single}
+use Rattle.segment_machine.specs.Calls.{MayTurn, Fills, change_own}
+
+pub data AllocatingEvent : Type 0 where
+  load_flags : AllocatingEvent
+  load_free : AllocatingEvent
+  exchange_free : (old new : ℕ) → AllocatingEvent
+  store_size : (at size : ℕ) → AllocatingEvent
+  store_cookie : (at cookie : ℕ) → AllocatingEvent
+  store_type : (at tag : ℕ) → AllocatingEvent
+  store_payload : (at index value : ℕ) → AllocatingEvent
+  set_flag : (flag : ℕ) → AllocatingEvent
+
+-- ---- what they act on
+
+abbrev pub operation : ℕ → ℕ → AllocatingEvent → Operation
+operation size version load_flags = single atomic.load_flags
+operation size version load_free = single atomic.load_free
+operation size version (exchange_free old new) = single (atomic.exchange_free old new)
+operation size version (store_size at words) = single (atomic.store_size at words)
+operation size version (store_cookie at cookie) = single (atomic.store_cookie at cookie)
+operation size version (store_type at tag) = single (atomic.store_type at tag)
+operation size version (store_payload at index value) = single (atomic.store_payload at index value)
+operation size version (set_flag flag) = single (atomic.set_flag flag)
+
+-- ---- when they are ready
+
+abbrev pub Ready : Actor → AllocatingEvent → Type 0
+Ready a load_flags = MayTurn a
+Ready a load_free = a.place ≡ FlagsLoaded
+Ready a (exchange_free old new) =
+    (a.place ≡ FreeLoaded old) × (is_pointer a.shape old ≡ true) × IsRise a.shape old new
+Ready a (store_size at size) = a.place ≡ Raised at size
+Ready a (store_cookie at cookie) =
+    ((size : ℕ) × (a.place ≡ Sized at size)) × ((cookie ≡ CLAIMED_COOKIE) ⊎ (cookie ≡ WASTED_COOKIE))
+Ready a (store_type at tag) = ((size : ℕ) × (a.place ≡ Marked at size)) × (TYPE_HISTOGRAM ≤ tag) × (tag ≤ TYPE_SAMPLE)
+Ready a (store_payload at index value) =
+    (own : Own) × Fills a own × (own.at ≡ at) × (length own.payload ≤ index) × (BLOCK_HEADER + index < own.size)
+Ready a (set_flag flag) = MayTurn a × ((flag ≡ FLAG_CORRUPT) ⊎ ((flag ≡ FLAG_FULL) × ((free : ℕ) × (a.place ≡ FreeLoaded free))))
+
+-- ---- what becomes of the actor
+
+-- the size of the words that an allocation has taken
+abbrev pub size_at : Place → ℕ
+size_at (Raised at size) = size
+size_at (Sized at size) = size
+size_at (Marked at size) = size
+size_at _ = 0
+
+-- a block whose header has just been completed
+abbrev pub new_own : ℕ → ℕ → ℕ → Own
+new_own at size tag = record { at = at; size = size; tag = tag; next = 0; payload = []; made = None }
+
+-- payload words, with another stored behind them at an index
+abbrev pub stored : List ℕ → ℕ → ℕ → List ℕ
+stored payload index value = payload ++ replicate (index - length payload) 0 ++ value ∷ []
+
+-- after an exchange of the free pointer, which went through or not
+abbrev pub after_free : Bool → Actor → ℕ → ℕ → ℕ → Actor
+after_free true a old new found = record a { place = Raised old (new - old); seen_free = new }
+after_free false a old new found = record a { place = Idle; seen_free = found }
+
+abbrev pub next : Actor → AllocatingEvent → ℕ → Actor
+next a load_flags found = record a { place = if bit_and found FLAG_CORRUPT == 0 then FlagsLoaded else Idle }
+next a load_free found = record a { place = FreeLoaded found; seen_free = found }
+next a (exchange_free old new) found = after_free (found == old) a old new found
+next a (store_size at size) found = record a { place = Sized at size }
+next a (store_cookie at cookie) found =
+    record a { place = if cookie == CLAIMED_COOKIE then Marked at (size_at a.place) else Idle }
+next a (store_type at tag) found = record a {
+  place = Idle;
+  own = a.own ++ new_own at (size_at a.place) tag ∷ [];
+  claimed = a.claimed ++ record { at = at; size = size_at a.place } ∷ [];
+}
+next a (store_payload at index value) found =
+    record a { own = change_own at (λ own. record own { payload = stored own.payload index value }) a.own }
+next a (set_flag flag) found =
+    if flag == FLAG_CORRUPT then record a { place = Idle; spoiled = true } else record a { place = Idle; filled = true }
+
+-- ---- what it learns
+
+abbrev pub Learned : Actor → AllocatingEvent → ℕ → Type 0
+Learned a load_free found = Behind a.seen_free found × (is_pointer a.shape found ≡ true)
+Learned a (exchange_free old new) found = Behind old found × (is_pointer a.shape found ≡ true)
+Learned a _ found = ⊤

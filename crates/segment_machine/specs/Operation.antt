@@ -1,0 +1,25 @@
+-- What can happen to a word.
+use Rattle.std.specs.Prelude.{ℕ, ◌+◌, ◌%◌, ◌^◌, max}
+use Rattle.alloc_core.specs.Event as atomic
+
+-- What can happen to a word: what an allocation or a publish does, or a sum modulo 2^64, the greater of it and another number,
+-- or another number in its place.
+pub data Operation : Type 0 where
+  single : atomic.Event → Operation
+  add : (at amount : ℕ) → Operation
+  raise : (at least : ℕ) → Operation
+  swap : (at value : ℕ) → Operation
+
+-- the word that it acts on
+abbrev pub spot_of : Operation → ℕ
+spot_of (single event) = atomic.spot event
+spot_of (add at amount) = at
+spot_of (raise at least) = at
+spot_of (swap at value) = at
+
+-- what becomes of that word
+abbrev pub change_of : Operation → ℕ → ℕ
+change_of (single event) found = atomic.change event found
+change_of (add at amount) found = (found + amount) % 2 ^ 64
+change_of (raise at least) found = max found least
+change_of (swap at value) found = value

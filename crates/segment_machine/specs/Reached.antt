@@ -1,0 +1,58 @@
+-- The states that are reached: a new segment, and from there steps, recorders that are made and joined, and units that are lent, in
+-- whatever order.
+use Rattle.std.specs.Prelude.{◌≡◌, ◌≢◌, ◌⊎◌, ℕ, ◌+◌, ◌≤◌, [], ◌∷◌, ◌++◌, slice_set, replicate}
+use mathlib.Core.Option.{some}
+use lib.ListN.{get_elem?}
+use Rattle.segment_image.specs.declared.layout.TheConstants.{QUEUE}
+use Rattle.segment_image.specs.Shape.{Dimensions}
+use Rattle.alloc_core.specs.Layout.{IsShape, render, fresh}
+use Rattle.segment_machine.specs.declared.actor.Actor.{Actor}
+use Rattle.segment_machine.specs.Event.{Event}
+use Rattle.segment_machine.specs.State.{State, IsStep}
+use Rattle.segment_machine.specs.Seats.{opener_of, MaySplit, parent, newcomer, MayLend, lender, borrower, MayJoin, joined, spent}
+
+-- ---- the states that are reached
+
+-- a new segment with so many shared cursors, and its opener
+abbrev pub new_state : Dimensions → ℕ → ℕ → ℕ → State
+new_state shape version id cursors = record {
+  words = render shape (fresh shape version id);
+  cursors = replicate cursors QUEUE;
+  actors = opener_of shape version cursors ∷ [];
+}
+
+-- an opener makes a recorder, and joins one
+abbrev pub IsSplit : State → ℕ → ℕ → State → Type 0
+IsSplit old id units new =
+    (a : Actor) × (get_elem? old.actors id ≡ some a) × MaySplit a units
+    × (new ≡ record old { actors = slice_set old.actors id (parent a units) ++ newcomer a units ∷ [] })
+
+abbrev pub IsJoin : State → ℕ → ℕ → State → Type 0
+IsJoin old id other new =
+    (a b : Actor) × (id ≢ other) × (get_elem? old.actors id ≡ some a) × (get_elem? old.actors other ≡ some b) × MayJoin a b
+    × (new ≡ record old { actors = slice_set (slice_set old.actors id (joined a b)) other spent })
+
+-- an opener lends units to a recorder
+abbrev pub IsLent : State → ℕ → ℕ → ℕ → State → Type 0
+IsLent old id other units new =
+    (a b : Actor) × (id ≢ other) × (get_elem? old.actors id ≡ some a) × (get_elem? old.actors other ≡ some b) × MayLend a b units
+    × (new ≡ record old { actors = slice_set (slice_set old.actors id (lender a units)) other (borrower b units) })
+
+-- from one state steps, recorders that are made and joined, and units that are lent lead to another, in whatever order
+pub data IsReached (version : ℕ) (start : State) : State → Type 0 where
+  started : IsReached version start start
+  stepped : (old new : State) (id : ℕ) (event : Event) → IsReached version start old → IsStep version old id event new → IsReached version start new
+  split : (old new : State) (id units : ℕ) → IsReached version start old → IsSplit old id units new → IsReached version start new
+  lent : (old new : State) (id other units : ℕ) → IsReached version start old → IsLent old id other units new → IsReached version start new
+  joined_in : (old new : State) (id other : ℕ) → IsReached version start old → IsJoin old id other new → IsReached version start new
+
+-- a state of a new segment of version 1 or 2
+abbrev pub IsState : Dimensions → ℕ → ℕ → ℕ → State → Type 0
+IsState shape version id cursors state =
+    IsShape shape × ((version ≡ 1) ⊎ (version ≡ 2)) × (cursors ≤ 8) × IsReached version (new_state shape version id cursors) state
+
+-- ---- after the joins
+
+-- the opener has joined all recorders that it has made
+abbrev pub IsJoined : State → Actor → Type 0
+IsJoined state a = (get_elem? state.actors 0 ≡ some a) × (a.outstanding ≡ 0)

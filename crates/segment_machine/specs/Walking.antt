@@ -1,0 +1,83 @@
+-- Walking: a next, and a word of a published record that never changes.
+-- An event is read here in one place: what it acts on, when it is ready, what becomes of its actor, and what this learns.
+use Rattle.std.specs.Prelude.{◌≡◌, ◌⊎◌, not, ℕ, ◌+◌, ◌-◌, ◌<◌, ◌≤◌, List, [], ◌∷◌, ◌++◌, length, Some, ◌&&◌, ◌==◌, if◌then◌else◌, slice_index}
+use Rattle.std.specs.List.{Contains}
+use Rattle.bucket_ranges.specs.Reading.{name_words}
+use Rattle.segment_image.specs.declared.layout.TheConstants.{BLOCK_TYPE, HISTOGRAM_BUCKETS, HISTOGRAM_COUNTS, HISTOGRAM_KIND, HISTOGRAM_NAME, HISTOGRAM_NAME_LENGTH, KIND_CUSTOM, QUEUE, SAMPLE_COUNT, SAMPLE_HISTOGRAM, SAMPLE_LEAST, TYPE_HISTOGRAM, TYPE_SAMPLE, BLOCK_NEXT}
+use Rattle.segment_machine.specs.declared.place.Place.{Place}
+use Rattle.segment_machine.specs.declared.place.Place.TheVariants.{CursorLoaded, BehindCursor, Idle}
+use Rattle.segment_machine.specs.declared.actor.Actor.{Actor}
+use Rattle.segment_machine.specs.Actor.{word_seen}
+use Rattle.list_core.specs.Chain.{stops}
+use Rattle.alloc_core.specs.Event as atomic
+use Rattle.segment_machine.specs.Operation.{Operation, single}
+use Rattle.segment_machine.specs.Calls.{MayTurn, sight, IsReference}
+
+pub data WalkingEvent : Type 0 where
+  load_next : (at : ℕ) → WalkingEvent
+  load_published : (at index : ℕ) → WalkingEvent
+
+-- ---- what they act on
+
+abbrev pub operation : ℕ → ℕ → WalkingEvent → Operation
+operation size version (load_next at) = single (atomic.load (at + BLOCK_NEXT))
+operation size version (load_published at index) = single (atomic.load (at + index))
+
+-- ---- when they are ready
+
+-- the words of a histogram's record that never change, as far as the actor knows it: its spec, the length of its name, and, once
+-- it knows that, its name; of a custom one also the ranges behind it
+abbrev pub IsFixedBehind : Actor → ℕ → ℕ → Type 0
+IsFixedBehind a at index =
+    ((HISTOGRAM_KIND ≤ index) × (index < HISTOGRAM_COUNTS)) ⊎ (index ≡ HISTOGRAM_NAME_LENGTH)
+    ⊎ ((len : ℕ) × (word_seen a.seen_words (at + HISTOGRAM_NAME_LENGTH) ≡ Some len) × (HISTOGRAM_NAME ≤ index)
+    × ((index < HISTOGRAM_NAME + name_words len)
+    ⊎ ((n : ℕ) × (word_seen a.seen_words (at + HISTOGRAM_KIND) ≡ Some KIND_CUSTOM) × (word_seen a.seen_words (at + HISTOGRAM_BUCKETS) ≡ Some n)
+    × (index < HISTOGRAM_NAME + name_words len + (n - 1)))))
+
+-- a word of a published record that never changes: its type; of a histogram those above; of a sample its histogram and its value
+abbrev pub IsFixed : Actor → ℕ → ℕ → Type 0
+IsFixed a at index =
+    (index ≡ BLOCK_TYPE) ⊎ ((word_seen a.seen_words (at + BLOCK_TYPE) ≡ Some TYPE_HISTOGRAM) × IsFixedBehind a at index)
+    ⊎ ((word_seen a.seen_words (at + BLOCK_TYPE) ≡ Some TYPE_SAMPLE) × (SAMPLE_HISTOGRAM ≤ index) × (index < SAMPLE_COUNT))
+
+-- it has met a record, or the queue block; or a shared cursor that it loaded stands there
+abbrev pub MayFollow : Actor → ℕ → Type 0
+MayFollow a at = (at ≡ QUEUE) ⊎ Contains a.seen_chain at ⊎ ((cursor : ℕ) × (a.place ≡ CursorLoaded cursor at))
+
+abbrev pub Ready : Actor → WalkingEvent → Type 0
+Ready a (load_next at) = MayTurn a × MayFollow a at
+Ready a (load_published at index) = MayTurn a × Contains a.seen_chain at × IsFixed a at index
+
+-- ---- what becomes of the actor
+
+-- the chain so far as it was seen, after the next of the block at a word was loaded
+abbrev pub extended : List ℕ → ℕ → ℕ → List ℕ
+extended chain at found =
+    if (slice_index (stops chain) (length chain) == at) && not (found == QUEUE) then chain ++ found ∷ [] else chain
+
+-- the place after a next was loaded: a shared cursor's is noted
+abbrev pub behind : Place → ℕ → ℕ → Place
+behind (CursorLoaded cursor at) from found =
+    if from == at then (if found == QUEUE then Idle else BehindCursor cursor at found) else CursorLoaded cursor at
+behind place from found = place
+
+abbrev pub next : Actor → WalkingEvent → ℕ → Actor
+next a (load_next at) found = record a { place = behind a.place at found; seen_chain = extended a.seen_chain at found }
+next a (load_published at index) found = record a { seen_words = a.seen_words ++ sight (at + index) found }
+
+-- ---- what it learns
+
+-- what a word of a published record says of where its words end: a histogram's has 15 words at least, its name and its ranges
+-- lie behind them, a sample's has 8 words
+abbrev pub EndsWithin : Actor → ℕ → ℕ → ℕ → Type 0
+EndsWithin a at index found =
+    (index ≡ BLOCK_TYPE → found ≡ TYPE_HISTOGRAM → at + HISTOGRAM_NAME ≤ a.shape.size)
+    × (index ≡ BLOCK_TYPE → found ≡ TYPE_SAMPLE → at + SAMPLE_LEAST ≤ a.shape.size)
+    × (index ≡ HISTOGRAM_NAME_LENGTH → at + HISTOGRAM_NAME + name_words found ≤ a.shape.size)
+    × ((len : ℕ) → index ≡ HISTOGRAM_BUCKETS → word_seen a.seen_words (at + HISTOGRAM_KIND) ≡ Some KIND_CUSTOM → word_seen a.seen_words (at + HISTOGRAM_NAME_LENGTH) ≡ Some len
+    → at + HISTOGRAM_NAME + name_words len + (found - 1) ≤ a.shape.size)
+
+abbrev pub Learned : Actor → WalkingEvent → ℕ → Type 0
+Learned a (load_next at) found = IsReference a found
+Learned a (load_published at index) found = EndsWithin a at index found

@@ -1,0 +1,196 @@
+-- What follows at once for those who step a segment.
+use Rattle.std.proofs.Common.{◌≡◌, ℕ, suc, Bool, true, false, eqb, ◌+◌, List, [], ◌∷◌, take, drop, length, get_or, set, refl, sym, ap, subst, ◌∙◌, arith}
+use Rattle.std.specs.Prelude.{if◌then◌else◌}
+use Rattle.std.specs.List.{Contains}
+use Rattle.std.proofs.lemmas.List.{take-append-drop, set-set}
+use Rattle.std.proofs.lemmas.List.Elements.{Contains-append_left, Contains-append_right}
+use Rattle.std.proofs.Math.Seq.{take-append_seam, drop-append_seam}
+use mathlib.Core.Option.{some}
+use lib.ListN.{get_elem?}
+use Rattle.atomic_table.specs.Table as table
+use Rattle.atomic_table.proofs.Lists.{set_again}
+use Rattle.alloc_core.proofs.Owners.{set_at}
+use Rattle.alloc_core.proofs.Layouts.{length_shown}
+use Rattle.segment_image.specs.Shape.{Dimensions}
+use Rattle.segment_machine.specs.declared.actor.Actor.{Actor}
+use Rattle.segment_machine.specs.declared.place.Place.TheVariants.{Idle}
+use Rattle.segment_machine.specs.Event.{Event, allocating_event, publishing_event, walking_event, counting_event, taking_event, packing_event, cursor_event, spot, change, after, next}
+use Rattle.segment_machine.specs.Allocating.{load_flags, load_free, exchange_free, store_size, store_cookie, store_type, store_payload, set_flag, after_free}
+use Rattle.segment_machine.specs.Publishing.{store_own_next, load_tail, link, move_tail, after_link}
+use Rattle.segment_machine.specs.Walking.{load_next, load_published}
+use Rattle.segment_machine.specs.Counting.{load_counts, add_count, add_sum, add_redundant}
+use Rattle.segment_machine.specs.Taking.{load_count, raise_mark, load_sum, swap_sum_mark, load_redundant, raise_single_mark}
+use Rattle.segment_machine.specs.Packing.{load_single, pack, mount_counts, purge_block, disable, add_moved, after_pack, after_mount, after_disable}
+use Rattle.segment_machine.specs.Cursors.{load_cursor, move_cursor, after_cursor}
+use Rattle.segment_machine.specs.Note.{Note, Notes, noted, begins, amounts, asks, knows, takes, has_taken, looks, answers, ends, refused, declines}
+use Rattle.segment_machine.specs.State.{State, memory}
+use Rattle.segment_invariant.specs.Body.{Anatomy, layout_of}
+use Rattle.segment_invariant.specs.Kept.{Kept}
+use Rattle.segment_invariant.specs.Keeps.{found_at, happened}
+use Rattle.segment_invariant.specs.Keeps.{NoteKeeps}
+use Rattle.segment_promises.specs.Follows.{StepsFollow, Told, TablesFollow}
+
+-- ---- notes
+
+-- a note makes no opener of a recorder
+still_records : (a : Actor) (note : Note) → (noted a note).opener ≡ a.opener
+still_records a (begins name cost entries) = refl
+still_records a (amounts amount) = refl
+still_records a (asks at made) = refl
+still_records a (knows known) = refl
+still_records a (declines mine) = refl
+still_records a (takes name) = refl
+still_records a has_taken = refl
+still_records a looks = refl
+still_records a (answers answered) = refl
+still_records a ends = refl
+still_records a (refused added) = refl
+
+-- what holds of all but the first of a list
+behind_first : (note : Note) (notes : List Note) (holds : Note → Type 0) → ((n : Note) → Contains (note ∷ notes) n → holds n)
+    → (n : Note) → Contains notes n → holds n
+behind_first note notes holds all n (k, below, is) = all n (suc k, omega (arith, below), is)
+
+-- the state with another record of an actor
+abbrev with_actor : State → ℕ → Actor → State
+with_actor state id a = record state { actors = set state.actors id a }
+
+-- notes that keep what holds keep it one after the other
+notes_keep : (shape : Dimensions) (opened : Anatomy) (notes : List Note) (state : State) (id : ℕ) (a b : Actor) → Kept shape opened state
+    → get_elem? state.actors id ≡ some a → a.opener ≡ 0 → Notes a notes b → ((note : Note) → Contains notes note → NoteKeeps note)
+    → Kept shape opened (with_actor state id b) × (b.opener ≡ 0)
+notes_keep shape opened [] state id a b kept there records same keep = (
+  subst (λ actors. Kept shape opened (record state { actors = actors }))
+      (sym (set_again state.actors id a there) ∙ ap (λ x. set state.actors id x) same) kept,
+  sym (ap (λ (x : Actor). x.opener) same) ∙ records,
+)
+notes_keep shape opened (note ∷ notes) state id a b kept there records (may, more) keep =
+    let first = keep note (0, omega arith, refl) shape opened state id a kept there records may in
+    let after_it = notes_keep shape opened notes (with_actor state id (noted a note)) id (noted a note) b first
+    (set_at state.actors id a (noted a note) there) (still_records a note ∙ records) more (behind_first note notes NoteKeeps keep) in (
+      subst (λ actors. Kept shape opened (record state { actors = actors })) (set-set state.actors id (noted a note) b) after_it.0,
+      after_it.1,
+    )
+
+-- ---- steps
+
+-- nor does what becomes of an actor whose exchange went through or not
+module _ (a : Actor) where
+  freed : (b : Bool) (old new found : ℕ) → (after_free b a old new found).opener ≡ a.opener
+  freed true old new found = refl
+  freed false old new found = refl
+
+  flagged : (b : Bool) → (if b then record a { place = Idle; spoiled = true } else record a { place = Idle; filled = true }).opener ≡ a.opener
+  flagged true = refl
+  flagged false = refl
+
+  linked : (b : Bool) (tail at found : ℕ) → (after_link b a tail at found).opener ≡ a.opener
+  linked true tail at found = refl
+  linked false tail at found = refl
+
+  packed : (b : Bool) (histogram new found : ℕ) → (after_pack b a histogram new found).opener ≡ a.opener
+  packed true histogram new found = refl
+  packed false histogram new found = refl
+
+  mounted : (b : Bool) (histogram at found : ℕ) → (after_mount b a histogram at found).opener ≡ a.opener
+  mounted true histogram at found = refl
+  mounted false histogram at found = refl
+
+  disabled : (b : Bool) (histogram old found : ℕ) → (after_disable b a histogram old found).opener ≡ a.opener
+  disabled true histogram old found = refl
+  disabled false histogram old found = refl
+
+  gave : (b : Bool) (cursor new found : ℕ) → (after_cursor b a cursor new found).opener ≡ a.opener
+  gave true cursor new found = refl
+  gave false cursor new found = refl
+
+-- nor does an event
+acts_on : (a : Actor) (event : Event) (found : ℕ) → (next a event found).opener ≡ a.opener
+acts_on a (allocating_event load_flags) found = refl
+acts_on a (allocating_event load_free) found = refl
+acts_on a (allocating_event (exchange_free old new)) found = freed a (eqb found old) old new found
+acts_on a (allocating_event (store_size at size)) found = refl
+acts_on a (allocating_event (store_cookie at cookie)) found = refl
+acts_on a (allocating_event (store_type at tag)) found = refl
+acts_on a (allocating_event (store_payload at index value)) found = refl
+acts_on a (allocating_event (set_flag flag)) found = flagged a (eqb flag 1)
+acts_on a (publishing_event (store_own_next at)) found = refl
+acts_on a (publishing_event load_tail) found = refl
+acts_on a (publishing_event (link tail at)) found = linked a (eqb found 12) tail at found
+acts_on a (publishing_event (move_tail old new)) found = refl
+acts_on a (walking_event (load_next at)) found = refl
+acts_on a (walking_event (load_published at index)) found = refl
+acts_on a (counting_event (load_counts histogram)) found = refl
+acts_on a (counting_event (add_count at units)) found = refl
+acts_on a (counting_event (add_sum histogram amount)) found = refl
+acts_on a (counting_event (add_redundant histogram units)) found = refl
+acts_on a (taking_event (load_count at)) found = refl
+acts_on a (taking_event (raise_mark at least)) found = refl
+acts_on a (taking_event (load_sum histogram)) found = refl
+acts_on a (taking_event (swap_sum_mark histogram sum)) found = refl
+acts_on a (taking_event (load_redundant histogram)) found = refl
+acts_on a (packing_event (load_single histogram)) found = refl
+acts_on a (packing_event (pack histogram old new)) found = packed a (eqb found old) histogram new found
+acts_on a (packing_event (mount_counts histogram at)) found = mounted a (eqb found 0) histogram at found
+acts_on a (packing_event (purge_block at)) found = refl
+acts_on a (packing_event (disable histogram old)) found = disabled a (eqb found old) histogram old found
+acts_on a (packing_event (add_moved counts bucket units)) found = refl
+acts_on a (taking_event (raise_single_mark histogram least)) found = refl
+acts_on a (cursor_event (load_cursor cursor)) found = refl
+acts_on a (cursor_event (move_cursor cursor old new)) found = gave a (eqb found old) cursor new found
+
+-- the words and cursors of a state are the front and the back of its memory
+words_of_memory : (s : State) (n : ℕ) (m : List ℕ) → length s.words ≡ n → memory s ≡ m → take n m ≡ s.words
+words_of_memory s n m size is = sym (ap (λ (p : ℕ). take p m) size) ∙ (ap (take (length s.words)) (sym is) ∙ take-append_seam s.words s.cursors)
+
+cursors_of_memory : (s : State) (n : ℕ) (m : List ℕ) → length s.words ≡ n → memory s ≡ m → drop n m ≡ s.cursors
+cursors_of_memory s n m size is = sym (ap (λ (p : ℕ). drop p m) size) ∙ (ap (drop (length s.words)) (sym is) ∙ drop-append_seam s.words s.cursors)
+
+pub steps_follow : StepsFollow
+steps_follow shape opened old new id event step event_keeps notes_kept kept =
+    let before = notes_keep shape opened step.before old id step.actor step.at kept step.there step.is_recorder step.notes_before
+    (λ n c. notes_kept n (Contains-append_left step.before step.behind n c)) in
+    let did = event_keeps shape opened (with_actor old id step.at) id step.at before.0 (set_at old.actors id step.actor step.at step.there) before.1 step.ready in
+    let size = length old.words in
+    let all = after size opened.version event (memory old) in
+    let acted : Actor = next step.at event (found_at old event) in
+    let mid : State = record { words = take size all; cursors = drop size all; actors = set (set old.actors id step.at) id acted } in
+    let there = set_at (set old.actors id step.at) id step.at acted (set_at old.actors id step.actor step.at step.there) in
+    let behind = notes_keep shape opened step.behind mid id acted step.then_is did.0 there (acts_on step.at event (found_at old event) ∙ before.1) step.notes_behind
+    (λ n c. notes_kept n (Contains-append_right step.before step.behind n c)) in
+    let actors = set-set (set old.actors id step.at) id acted step.then_is ∙ (set-set old.actors id step.at step.then_is ∙ sym step.actors_are) in (
+      subst (Kept shape opened)
+          (λ i. record {
+            words = words_of_memory new size all step.size step.memory_is i;
+            cursors = cursors_of_memory new size all step.size step.memory_is i;
+            actors = actors i;
+          })
+          behind.0,
+      did.1,
+    )
+
+-- ---- tables
+
+pub tables_follow : (S : Type 0) → TablesFollow S
+tables_follow S shape opened event slots id me word event_keeps word_is records ready s run wide mine small =
+    let seg : State = run.segment in
+    let size : length seg.words ≡ shape.size = length_shown shape seg.words (layout_of run.kept.anatomy) run.kept.shown in
+    let at : word ≡ suc (spot (length seg.words) event) = word_is ∙ (ap (λ (n : ℕ). spot n event + 1) (sym size) ∙ omega arith) in
+    let found : get_or s.words word 0 ≡ found_at seg event = (λ i. get_or (run.words i) (at i) 0) in
+    let there : get_elem? seg.actors id ≡ some me.0 = ap (λ list. get_elem? list id) (sym run.views) ∙ mine in
+    let did = event_keeps shape opened seg id me.0 run.kept there records ready in
+    let n : ℕ = found_at seg event in
+    let all = after (length seg.words) opened.version event (memory seg) in (
+      next me.0 event n,
+      table.keeps,
+      tt,
+      record {
+        anchor = run.anchor;
+        segment = happened opened.version seg id me.0 event;
+        words = (λ i. set (run.words i) (at i) (change opened.version event (found i)))
+            ∙ ap (λ list. run.anchor ∷ list) (sym (take-append-drop (length seg.words) all));
+        views = ap (λ list. set list id (next me.0 event n)) run.views;
+        kept = did.0;
+      },
+      subst (λ (x : ℕ). Told event me x (next me.0 event n, me.1)) (sym found) (refl, refl, did.1),
+    )

@@ -1,0 +1,5 @@
+use Rattle.segment_promises.proofs.Steps.{tables_follow}
+use Rattle.segment_promises.proofs.laws.tables_follow.Goals as goal
+
+pub returns : goal.returns
+returns c _ = tables_follow _

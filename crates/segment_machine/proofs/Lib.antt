@@ -1,3 +1,4 @@
 pub mod Delta
 pub mod Keys
 pub mod SmallNumbers
+pub mod Stages

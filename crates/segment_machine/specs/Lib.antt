@@ -17,6 +17,7 @@ pub mod Taking
 pub mod Cursors
 pub mod Event
 pub mod Note
+pub mod Stages
 pub mod State
 pub mod Seats
 pub mod Reached

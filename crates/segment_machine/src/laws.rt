@@ -3,6 +3,7 @@
 //! The functions do nothing. What each promises is a law of the definitions in `specs/`.
 
 ghost use Rattle.segment_machine.specs.Laws.{StepsChangeOne, KeysAreLeast};
+ghost use Rattle.segment_machine.specs.Stages.{AllocationsAgree, PublishesAgree, WalksAgree};
 ghost use Rattle.segment_machine.specs.Examples.{Keys, PackedRun, MountingRun, TakerRuns, TakingRun, Batches};
 ghost use Rattle.segment_machine.specs.Lives.{RecorderIsJoined};
 ghost use Rattle.segment_machine.specs.Refused.{ValuesApart, MovesFirst, CursorsThere, SamplesMet, WordsSince, SwapsAdd, RecordsAlone, DebtsStay, TailsStay, FirstEntriesApart};
@@ -15,6 +16,22 @@ pub fn steps_change_one()
 /// The key of a value is the least value of its bucket.
 pub fn keys_are_least()
     ensures { KeysAreLeast }
+{}
+
+/// An actor goes along with an allocation that is stepped by itself: while the two agree, the event that is next is one that the actor
+/// may do, and behind it they agree again.
+pub fn allocations_agree()
+    ensures { AllocationsAgree }
+{}
+
+/// An actor goes along with a publish, which never strays.
+pub fn publishes_agree()
+    ensures { PublishesAgree }
+{}
+
+/// An actor goes along with a walk from the start: what the walk has given is the front of the chain that the actor has seen.
+pub fn walks_agree()
+    ensures { WalksAgree }
 {}
 
 /// The keys of values, with buckets and without.

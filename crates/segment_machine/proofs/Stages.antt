@@ -1,0 +1,3 @@
+pub mod Allocations
+pub mod Publishes
+pub mod Walks

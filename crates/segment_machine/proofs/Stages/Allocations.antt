@@ -1,0 +1,144 @@
+-- An actor goes along with an allocation.
+use Rattle.std.proofs.Common.{◌≡◌, ℕ, ◌-◌, ◌≤◌, ◌==◌, Bool, true, false, ◌++◌, [], ◌∷◌, inl, inr, refl, sym, ap, ◌∙◌, subst, true≢false, eqb-true, Some}
+use Rattle.std.specs.Prelude.{bit_and, if◌then◌else◌}
+use Rattle.std.specs.List.{Contains}
+use Rattle.std.proofs.lemmas.List.Elements.{Contains-push}
+use Rattle.segment_image.specs.Shape.{Dimensions}
+use Rattle.alloc_core.specs.declared.alloc.Purpose.{Purpose}
+use Rattle.alloc_core.specs.declared.alloc.Purpose.TheVariants as purpose
+use Rattle.alloc_core.specs.declared.alloc.Stage.{Stage}
+use Rattle.alloc_core.specs.declared.alloc.Stage.TheVariants.{LoadFlags, LoadFree, ExchangeFree, StoreSize, StoreCookie, StoreType, SetFull, Claimed, Full, Corrupt}
+use Rattle.alloc_core.specs.declared.planned.Planned.{Planned}
+use Rattle.alloc_core.specs.declared.planned.Planned.TheVariants as plan
+use Rattle.alloc_core.specs.Alloc.{Allocation, cookie_of, event_at, stage_of_plan, stage_of_cookie, stage_after, seen_after, IsRise, IsAimed}
+use Rattle.alloc_core.specs.Event as atomic
+use Rattle.alloc_core.specs.Planned.{planned, is_pointer}
+use Rattle.alloc_core.proofs.Lawful.{moved_lawful}
+use Rattle.segment_machine.specs.declared.actor.Actor.{Actor}
+use Rattle.segment_machine.specs.declared.place.Place.{Place}
+use Rattle.segment_machine.specs.declared.place.Place.TheVariants.{Idle, FlagsLoaded, FreeLoaded, Raised, Sized, Marked}
+use Rattle.segment_machine.specs.Operation.{single}
+use Rattle.segment_machine.specs.Actor.{is_bound}
+use Rattle.segment_machine.specs.Allocating.{AllocatingEvent, load_flags, load_free, exchange_free, store_size, store_cookie, store_type, store_payload, set_flag, operation, Ready, next, Learned, after_free, new_own, size_at}
+use Rattle.segment_machine.specs.Stages.{allocates, StandsAt, AllocationsAgree}
+
+-- an actor stays in its segment
+shape_exchanged : (hit : Bool) (a : Actor) (old new found : ℕ) → (after_free hit a old new found).shape ≡ a.shape
+shape_exchanged true a old new found = refl
+shape_exchanged false a old new found = refl
+
+shape_set : (corrupt : Bool) (a : Actor)
+    → (if corrupt then record a { place = Idle; spoiled = true } else record a { place = Idle; filled = true }).shape ≡ a.shape
+shape_set true a = refl
+shape_set false a = refl
+
+shape_stays : (a : Actor) (act : AllocatingEvent) (found : ℕ) → (next a act found).shape ≡ a.shape
+shape_stays a load_flags found = refl
+shape_stays a load_free found = refl
+shape_stays a (exchange_free old new) found = shape_exchanged (found == old) a old new found
+shape_stays a (store_size at size) found = refl
+shape_stays a (store_cookie at cookie) found = refl
+shape_stays a (store_type at tag) found = refl
+shape_stays a (store_payload at index value) found = refl
+shape_stays a (set_flag flag) found = shape_set (flag == 1) a
+
+module _ (a : Actor) (allocation : Allocation) (same : allocation.shape ≡ a.shape) (least : 1 ≤ allocation.tag) (most : allocation.tag ≤ 3) where
+  -- the allocation behind an event at a stage that found a number
+  abbrev behind : ℕ → Stage → Allocation
+  behind found stage = record allocation { seen = seen_after allocation found stage; stage = stage_after allocation found stage }
+
+  flags_loaded : (clear : Bool) (now : Allocation)
+      → StandsAt (record a { place = if clear then FlagsLoaded else Idle }) now (if clear then LoadFree else Corrupt)
+  flags_loaded true now = refl
+  flags_loaded false now = refl
+
+  planned_so : (found : ℕ) (stage : Stage) → is_pointer a.shape found ≡ true → (way : Planned)
+      → StandsAt (next a load_free found) (record allocation { seen = found; stage = stage }) (stage_of_plan found way)
+  planned_so found stage lawful (plan.Claim size end) = (refl, lawful)
+  planned_so found stage lawful (plan.Waste room) = (refl, lawful)
+  planned_so found stage lawful plan.Full = refl
+
+  free_loaded : (found : ℕ) (stage : Stage) → is_pointer a.shape found ≡ true → (good : Bool) → good ≡ true → (way : Planned)
+      → StandsAt (next a load_free found) (record allocation { seen = found; stage = stage }) (if good then stage_of_plan found way else Corrupt)
+  free_loaded found stage lawful true e way = planned_so found stage lawful way
+  free_loaded found stage lawful false e way = absurd (true≢false (sym e))
+
+  exchanged : (end found : ℕ) (way : Purpose) (now : Allocation) (hit : Bool) → (found == allocation.seen) ≡ hit
+      → StandsAt (after_free hit a allocation.seen end found) now (if hit then StoreSize found (end - found) way else LoadFlags)
+  exchanged end found way now true e = ap (λ (at : ℕ). Raised at (end - at)) (sym (eqb-true found allocation.seen e))
+  exchanged end found way now false e = refl
+
+  unbound : (place : Place) → a.place ≡ place → is_bound place ≡ false → is_bound a.place ≡ false
+  unbound place stands free = ap is_bound stands ∙ free
+
+  cookie_stored : (at size found : ℕ) (way : Purpose) (now : Allocation) → a.place ≡ Sized at size
+      → Ready a (store_cookie at (cookie_of way)) × StandsAt (next a (store_cookie at (cookie_of way)) found) now (stage_of_cookie at size way)
+  cookie_stored at size found purpose.Claim now stands = (((size, stands), inl refl), ap (λ (place : Place). Marked at (size_at place)) stands)
+  cookie_stored at size found purpose.Waste now stands = (((size, stands), inr refl), refl)
+
+  goes : (size version : ℕ) (event : atomic.Event) (stage : Stage) → IsAimed allocation stage → StandsAt a allocation stage
+      → event_at allocation stage ≡ Some event
+      → (act : AllocatingEvent) × (allocates allocation stage ≡ Some act) × (operation size version act ≡ single event) × Ready a act
+      × ((found : ℕ) → Learned a act found → StandsAt (next a act found) (behind found stage) (stage_after allocation found stage))
+  goes size version event LoadFlags aimed stands is =
+      (load_flags, refl, cc is, stands, λ found learned. flags_loaded (bit_and found 1 == 0) (behind found LoadFlags))
+  goes size version event LoadFree aimed stands is = (
+    load_free,
+    refl,
+    cc is,
+    stands,
+    λ found learned. free_loaded found (stage_after allocation found LoadFree) learned.1 (is_pointer allocation.shape found)
+        (ap (λ (shape : Dimensions). is_pointer shape found) same ∙ learned.1) (planned found allocation.size allocation.shape),
+  )
+  goes size version event (ExchangeFree end way) aimed stands is = (
+    exchange_free allocation.seen end,
+    refl,
+    cc is,
+    (stands.0, stands.1, subst (λ (shape : Dimensions). IsRise shape allocation.seen end) same aimed.1),
+    λ found learned. exchanged end found way (behind found (ExchangeFree end way)) (found == allocation.seen) refl,
+  )
+  goes size version event (StoreSize at words way) aimed stands is = (store_size at words, refl, cc is, stands, λ found learned. refl)
+  goes size version event (StoreCookie at words way) aimed stands is = (
+    store_cookie at (cookie_of way),
+    refl,
+    cc is,
+    (cookie_stored at words 0 way allocation stands).0,
+    λ found learned. (cookie_stored at words found way (behind found (StoreCookie at words way)) stands).1,
+  )
+  goes size version event (StoreType at words) aimed stands is = (
+    store_type at allocation.tag,
+    refl,
+    cc is,
+    ((words, stands), least, most),
+    λ found learned. (
+      refl,
+      subst (λ (n : ℕ). Contains (a.own ++ new_own at (size_at a.place) allocation.tag ∷ []) (new_own at n allocation.tag)) (ap size_at stands) (Contains-push _ _),
+    ),
+  )
+  goes size version event SetFull aimed stands is = (
+    set_flag 2,
+    refl,
+    cc is,
+    (unbound (FreeLoaded allocation.seen) stands refl, inr (refl, (allocation.seen, stands))),
+    λ found learned. (refl, refl),
+  )
+  goes size version event (Claimed at words) aimed stands is = cc is
+  goes size version event Full aimed stands is = cc is
+  goes size version event Corrupt aimed stands is = cc is
+
+pub allocations_agree : AllocationsAgree
+allocations_agree size version a allocation event goes_along is =
+    let (act, acts, acted, ready, stands) = goes a allocation goes_along.shape goes_along.least goes_along.most size version event allocation.stage
+    goes_along.lawful.aimed goes_along.stands is in (
+      act,
+      acts,
+      acted,
+      ready,
+      λ found learned. record {
+        lawful = moved_lawful allocation found goes_along.lawful;
+        shape = goes_along.shape ∙ sym (shape_stays a act found);
+        least = goes_along.least;
+        most = goes_along.most;
+        stands = stands found learned;
+      },
+    )

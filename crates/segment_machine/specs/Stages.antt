@@ -1,0 +1,128 @@
+-- An allocation, a publish and a walk are stepped by themselves, an event at a time. Here an actor goes along with each: while the
+-- two agree, the event that is next is one that the actor may do, and behind it they agree again.
+use Rattle.std.specs.Prelude.{◌≡◌, true, false, ℕ, ◌+◌, ◌<◌, ◌≤◌, List, length, slice_index, Option, Some, None}
+use Rattle.std.specs.List.{Contains}
+use Rattle.segment_image.specs.declared.layout.TheConstants.{BLOCK_NEXT, FLAG_FULL, QUEUE, TYPE_HISTOGRAM, TYPE_SAMPLE}
+use Rattle.alloc_core.specs.declared.alloc.Stage.{Stage as AllocStage}
+use Rattle.alloc_core.specs.declared.alloc.Stage.TheVariants.{LoadFlags, LoadFree, ExchangeFree, StoreSize, StoreCookie, StoreType, SetFull, Claimed, Full, Corrupt}
+use Rattle.alloc_core.specs.Alloc.{Allocation, cookie_of, IsLawful}
+use Rattle.alloc_core.specs.Alloc as alloc
+use Rattle.alloc_core.specs.Event as atomic
+use Rattle.alloc_core.specs.Planned.{is_pointer}
+use Rattle.list_core.specs.declared.publish.Stage.{Stage as PublishStage}
+use Rattle.list_core.specs.declared.publish.Stage.TheVariants.{StoreOwnNext, LoadTail, Link, MoveTail, Published, Strayed}
+use Rattle.list_core.specs.Publish.{Publishing}
+use Rattle.list_core.specs.Publish as publish
+use Rattle.list_core.specs.Walk.{IsPrefix, said_of, given_after, stands_behind}
+use Rattle.segment_machine.specs.declared.actor.Actor.{Actor}
+use Rattle.segment_machine.specs.declared.actor.Made.{Made}
+use Rattle.segment_machine.specs.declared.actor.Own.{Own}
+use Rattle.segment_machine.specs.declared.place.Place.TheVariants.{Idle, FlagsLoaded, FreeLoaded, Raised, Sized, Marked, TailLoaded, Beaten, Linked}
+use Rattle.segment_machine.specs.Operation.{single}
+use Rattle.segment_machine.specs.Calls.{MayTurn}
+use Rattle.segment_machine.specs.Made.{IsPayload}
+use Rattle.segment_machine.specs.Allocating.{AllocatingEvent, load_flags, load_free, exchange_free, store_size, store_cookie, store_type, set_flag, new_own}
+use Rattle.segment_machine.specs.Allocating as allocating
+use Rattle.segment_machine.specs.Publishing.{PublishingEvent, store_own_next, load_tail, link, move_tail, own_at, MayPublish}
+use Rattle.segment_machine.specs.Publishing as publishing
+use Rattle.segment_machine.specs.Walking.{load_next}
+use Rattle.segment_machine.specs.Walking as walking
+
+-- ---- an allocation
+
+-- the event that is next at a stage
+abbrev pub allocates : Allocation → AllocStage → Option AllocatingEvent
+allocates allocation LoadFlags = Some load_flags
+allocates allocation LoadFree = Some load_free
+allocates allocation (ExchangeFree next purpose) = Some (exchange_free allocation.seen next)
+allocates allocation (StoreSize at size purpose) = Some (store_size at size)
+allocates allocation (StoreCookie at size purpose) = Some (store_cookie at (cookie_of purpose))
+allocates allocation (StoreType at size) = Some (store_type at allocation.tag)
+allocates allocation SetFull = Some (set_flag FLAG_FULL)
+allocates allocation (Claimed at size) = None
+allocates allocation Full = None
+allocates allocation Corrupt = None
+
+-- where the actor stands at a stage: it has loaded and stored what the allocation has; in the end it has a block of its own, or it
+-- has set the full flag
+abbrev pub StandsAt : Actor → Allocation → AllocStage → Type 0
+StandsAt a allocation LoadFlags = MayTurn a
+StandsAt a allocation LoadFree = a.place ≡ FlagsLoaded
+StandsAt a allocation (ExchangeFree next purpose) =
+    (a.place ≡ FreeLoaded allocation.seen) × (is_pointer a.shape allocation.seen ≡ true)
+StandsAt a allocation (StoreSize at size purpose) = a.place ≡ Raised at size
+StandsAt a allocation (StoreCookie at size purpose) = a.place ≡ Sized at size
+StandsAt a allocation (StoreType at size) = a.place ≡ Marked at size
+StandsAt a allocation SetFull = a.place ≡ FreeLoaded allocation.seen
+StandsAt a allocation (Claimed at size) = (a.place ≡ Idle) × Contains a.own (new_own at size allocation.tag)
+StandsAt a allocation Full = (a.place ≡ Idle) × (a.filled ≡ true)
+StandsAt a allocation Corrupt = a.place ≡ Idle
+
+-- an actor goes along with an allocation of a block that it may have
+pub record Allocates (a : Actor) (allocation : Allocation) : Type 0 where
+  pub lawful : IsLawful allocation
+  pub shape : allocation.shape ≡ a.shape
+  pub least : TYPE_HISTOGRAM ≤ allocation.tag
+  pub most : allocation.tag ≤ TYPE_SAMPLE
+  pub stands : StandsAt a allocation allocation.stage
+
+abbrev pub AllocationsAgree : Type 0
+AllocationsAgree = (size version : ℕ) (a : Actor) (allocation : Allocation) (event : atomic.Event)
+    → Allocates a allocation → alloc.next_event allocation ≡ Some event
+    → (act : AllocatingEvent) × (allocates allocation allocation.stage ≡ Some act) × (allocating.operation size version act ≡ single event)
+    × allocating.Ready a act
+    × ((found : ℕ) → allocating.Learned a act found → Allocates (allocating.next a act found) (alloc.moved allocation found))
+
+-- ---- a publish
+
+-- the event that is next at a stage
+abbrev pub publishes : ℕ → PublishStage → Option PublishingEvent
+publishes reference StoreOwnNext = Some (store_own_next reference)
+publishes reference LoadTail = Some load_tail
+publishes reference (Link tail) = Some (link tail reference)
+publishes reference (MoveTail old new linked) = Some (move_tail old new)
+publishes reference Published = None
+publishes reference Strayed = None
+
+-- the actor's own block at a reference holds this, and may be published so; its next is this
+abbrev pub Offers : Actor → ℕ → Made → ℕ → Type 0
+Offers a reference made next =
+    (own : Own) × (own_at a.own reference ≡ Some own) × (own.next ≡ next) × (own.made ≡ Some made) × IsPayload made own.payload
+    × MayPublish a own made
+
+-- Where the actor stands at a stage: its block waits until it is linked, and the tail that it loaded, or the record that beat it, is
+-- that of the publish; in the end it has published. It never strays.
+abbrev pub PublishesAt : Actor → ℕ → Made → PublishStage → Type 0
+PublishesAt a reference made StoreOwnNext = MayTurn a × Offers a reference made 0
+PublishesAt a reference made LoadTail = MayTurn a × Offers a reference made QUEUE
+PublishesAt a reference made (Link tail) = (a.place ≡ TailLoaded tail) × Offers a reference made QUEUE
+PublishesAt a reference made (MoveTail old new true) =
+    (a.place ≡ Linked new old) × Contains a.published (record { reference = reference; made = made })
+PublishesAt a reference made (MoveTail old new false) = (a.place ≡ Beaten old new) × Offers a reference made QUEUE
+PublishesAt a reference made Published = (a.place ≡ Idle) × Contains a.published (record { reference = reference; made = made })
+PublishesAt a reference made Strayed = ⊥
+
+abbrev pub PublishesAgree : Type 0
+PublishesAgree = (size version : ℕ) (a : Actor) (made : Made) (p : Publishing) (event : atomic.Event)
+    → PublishesAt a p.reference made p.stage → publish.next_event p ≡ Some event
+    → (act : PublishingEvent) × (publishes p.reference p.stage ≡ Some act) × (publishing.operation size version act ≡ single event)
+    × publishing.Ready a act
+    × ((found : ℕ) → publishing.Learned a act found
+    → let then_is = publish.moved a.shape.size p found in PublishesAt (publishing.next a act found) then_is.reference made then_is.stage)
+
+-- ---- a walk
+
+-- a walk has given these records: the front of the chain that the actor has seen
+abbrev pub Walks : Actor → List ℕ → Type 0
+Walks a given = MayTurn a × IsPrefix given a.seen_chain
+
+-- behind records that it passed before the actor meets what it met there
+abbrev pub MeetsAgain : Actor → List ℕ → ℕ → Type 0
+MeetsAgain a given found = length given < length a.seen_chain → found ≡ slice_index a.seen_chain (length given)
+
+abbrev pub WalksAgree : Type 0
+WalksAgree = (size version : ℕ) (a : Actor) (given : List ℕ) → Walks a given
+    → let act = load_next (stands_behind given) in
+    (walking.operation size version act ≡ single (atomic.load (stands_behind given + BLOCK_NEXT))) × walking.Ready a act
+    × ((found : ℕ) → walking.Learned a act found → MeetsAgain a given found
+    → Walks (walking.next a act found) (given_after given (said_of a.shape.size found)))

@@ -9,6 +9,7 @@ pub mod GrowthOfRecords
 pub mod GrowthOfStates
 pub mod OneActor
 pub mod Roles
+pub mod Shown
 pub mod Spending
 pub mod Standing
 pub mod Together

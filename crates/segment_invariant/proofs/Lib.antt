@@ -4,8 +4,9 @@ pub mod Consistency
 pub mod Counting
 pub mod Examples
 pub mod Frames
-pub mod Listing
 pub mod Lists
 pub mod Notes
 pub mod Openings
+pub mod Publishing
 pub mod Recorders
+pub mod Walking

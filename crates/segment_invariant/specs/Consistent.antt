@@ -25,7 +25,7 @@ use Rattle.segment_machine.specs.declared.actor.Claim.{Claim}
 use Rattle.segment_machine.specs.declared.actor.Made.{Made}
 use Rattle.segment_machine.specs.declared.actor.Made.TheVariants.{Histogram, Sample}
 use Rattle.segment_machine.specs.declared.actor.Published.{Published}
-use Rattle.segment_machine.specs.declared.actor.Sighting.{Sighting}
+use Rattle.segment_machine.specs.declared.seen.Sighting.{Sighting}
 use Rattle.segment_machine.specs.declared.actor.Taken.{Taken}
 use Rattle.segment_machine.specs.Entry.{has_ended, tally_units, tally_sum, tally_noted}
 use Rattle.segment_machine.specs.Form.{is_off, Leads}
@@ -84,11 +84,11 @@ places_of claims = map (λ claim. claim.at) claims
 
 -- what an actor has seen of the free pointer, the chain, the tail and the shared cursors is the present one, or lies behind it
 pub record SawBefore (words cursors chain : List ℕ) (a : Actor) : Type 0 where
-  pub free : Behind a.seen_free (word_at words FREE_WORD)
-  pub walked : IsPrefix a.seen_chain chain
-  pub tail : (seen i j : ℕ) → Contains a.seen_tails seen → i ≤ length chain → j ≤ length chain → slice_index (stops chain) i ≡ seen
+  pub free : Behind a.seen.free (word_at words FREE_WORD)
+  pub walked : IsPrefix a.seen.chain chain
+  pub tail : (seen i j : ℕ) → Contains a.seen.tails seen → i ≤ length chain → j ≤ length chain → slice_index (stops chain) i ≡ seen
       → slice_index (stops chain) j ≡ word_at words TAIL_WORD → i ≤ j
-  pub cursor : (s : Sighting) → Contains a.seen_cursors s → (i j : ℕ) → i ≤ length chain → j ≤ length chain
+  pub cursor : (s : Sighting) → Contains a.seen.cursors s → (i j : ℕ) → i ≤ length chain → j ≤ length chain
       → slice_index (stops chain) i ≡ s.word → slice_index (stops chain) j ≡ slice_index cursors s.at → i ≤ j
 
 pub record ListIsChain (opened : List ℕ) (first : List Claim) (words cursors : List ℕ) (actors : List Actor) (chain : List ℕ) : Type 0 where
@@ -187,7 +187,7 @@ pub record RecordsHold (opened : List ℕ) (first : List Claim) (words : List �
   pub claimed_counts : (at : ℕ) → Contains chain at → field_at words at BLOCK_TYPE ≡ TYPE_HISTOGRAM → field_at words at HISTOGRAM_COUNTS ≢ 0
       → Contains (places_of (all_claims first actors)) (field_at words at HISTOGRAM_COUNTS) × (¬ (Contains chain (field_at words at HISTOGRAM_COUNTS)))
   -- the single word leads on from each one that an actor has seen
-  pub singles : Each actors (λ a. (s : Sighting) (at : ℕ) → Contains a.seen_singles s → Contains chain at → s.at ≡ at + HISTOGRAM_SINGLE
+  pub singles : Each actors (λ a. (s : Sighting) (at : ℕ) → Contains a.seen.singles s → Contains chain at → s.at ≡ at + HISTOGRAM_SINGLE
       → Leads (word_at opened VERSION_WORD) (record_buckets words at) s.word (word_at words s.at))
   -- in a record that is not the first of its name nobody counts, nor in a sample that is not the first of its value
   pub later : (at other : ℕ) → Contains chain at → field_at words at BLOCK_TYPE ≡ TYPE_HISTOGRAM
@@ -252,7 +252,7 @@ pub record MarksAreTaken (version : ℕ) (words : List ℕ) (actors : List Actor
   -- the sum mark is the sum of what was taken of the sum
   pub sum : (name : List ℕ) (at : ℕ) → IsHistogram words chain name at → sum_mark_of words at ≡ taken_sum (all_taken actors) name
   -- counts, marks and redundant counts that an actor saw are at most the present ones
-  pub seen : Each actors (λ a. All (λ s. s.word ≤ word_at words s.at) a.seen_counts)
+  pub seen : Each actors (λ a. All (λ s. s.word ≤ word_at words s.at) a.seen.counts)
   -- and a bucket of a snapshot is at most what is counted there
   pub snapshots : Each actors (λ a. All (IsWithinCounts actors) a.snapshots)
 

@@ -16,7 +16,7 @@ use Rattle.segment_machine.specs.State.{State, memory}
 use Rattle.segment_invariant.specs.Consistent.{ListIsChain, FlagsAreSet, UnitsAreKept, RecordsHold, TotalsAreCounted, MarksAreTaken, SumsAreAmounts, TransitIsLocal, IsConsistent, new_opening}
 use Rattle.segment_machine.specs.Reached.{new_state, IsState, IsSplit, IsJoin, IsLent}
 use Rattle.segment_invariant.specs.Body.{Anatomy, blank, order_of}
-use Rattle.segment_invariant.specs.Kept.{Kept}
+use Rattle.segment_invariant.specs.Invariant.{Invariant}
 use Rattle.segment_machine.specs.Note.{Note, begins, amounts, asks, knows, takes, looks, ends, refused, MayNote, noted, declines}
 
 -- ---- at the opening
@@ -24,7 +24,7 @@ use Rattle.segment_machine.specs.Note.{Note, begins, amounts, asks, knows, takes
 -- a new segment with its opener is kept
 abbrev pub OpeningIsKept : Type 0
 OpeningIsKept = (shape : Dimensions) (version id cursors : ℕ) → IsShape shape → (version ≡ 1) ⊎ (version ≡ 2)
-    → Kept shape (blank version id shape.size) (new_state shape version id cursors)
+    → Invariant shape (blank version id shape.size) (new_state shape version id cursors)
 
 -- from one state the first actor has made so many recorders, one after the other, each with units of its own
 abbrev pub HasMade : ℕ → State → State → Type 0
@@ -34,7 +34,7 @@ HasMade (suc n) old new = (mid : State) × (units : ℕ) × HasMade n old mid ×
 -- a new segment is kept with any number of recorders
 abbrev pub OpeningsAreKept : Type 0
 OpeningsAreKept = (shape : Dimensions) (version id cursors recorders : ℕ) (state : State) → IsShape shape → (version ≡ 1) ⊎ (version ≡ 2)
-    → HasMade recorders (new_state shape version id cursors) state → Kept shape (blank version id shape.size) state
+    → HasMade recorders (new_state shape version id cursors) state → Invariant shape (blank version id shape.size) state
 
 -- ---- at events
 
@@ -51,9 +51,9 @@ happened version state id a event =
 
 -- an event that a recorder may do keeps what holds, and its actor learns of the number that it found
 abbrev pub EventKeeps : Event → Type 0
-EventKeeps event = (shape : Dimensions) (opened : Anatomy) (state : State) (id : ℕ) (a : Actor) → Kept shape opened state
+EventKeeps event = (shape : Dimensions) (opened : Anatomy) (state : State) (id : ℕ) (a : Actor) → Invariant shape opened state
     → get_elem? state.actors id ≡ some a → a.opener ≡ 0 → Ready a event
-    → Kept shape opened (happened opened.version state id a event) × Learned a event (found_at state event)
+    → Invariant shape opened (happened opened.version state id a event) × Learned a event (found_at state event)
 
 -- the events that allocate a block and set flags
 abbrev pub AllocatingKeeps : Type 0
@@ -71,9 +71,9 @@ WalkingKeeps = (event : WalkingEvent) → EventKeeps (walking_event event)
 
 -- a note that a recorder may make keeps what holds
 abbrev pub NoteKeeps : Note → Type 0
-NoteKeeps note = (shape : Dimensions) (opened : Anatomy) (state : State) (id : ℕ) (a : Actor) → Kept shape opened state
+NoteKeeps note = (shape : Dimensions) (opened : Anatomy) (state : State) (id : ℕ) (a : Actor) → Invariant shape opened state
     → get_elem? state.actors id ≡ some a → a.opener ≡ 0 → MayNote a note
-    → Kept shape opened (record state { actors = slice_set state.actors id (noted a note) })
+    → Invariant shape opened (record state { actors = slice_set state.actors id (noted a note) })
 
 -- the notes by which no delta and no snapshot is answered: calls that count begin and end, deltas and snapshots begin, blocks get what
 -- they are to hold, and a `hist` is answered, or refused once its record is linked
@@ -96,61 +96,61 @@ NotesKeep = (note : Note) → IsPlainNote note → NoteKeeps note
 
 -- a recorder is made, joined, and lent units
 abbrev pub SplitsKeep : Type 0
-SplitsKeep = (shape : Dimensions) (opened : Anatomy) (old new : State) (id units : ℕ) → Kept shape opened old → IsSplit old id units new → Kept shape opened new
+SplitsKeep = (shape : Dimensions) (opened : Anatomy) (old new : State) (id units : ℕ) → Invariant shape opened old → IsSplit old id units new → Invariant shape opened new
 
 abbrev pub JoinsKeep : Type 0
-JoinsKeep = (shape : Dimensions) (opened : Anatomy) (old new : State) (id other : ℕ) → Kept shape opened old → IsJoin old id other new → Kept shape opened new
+JoinsKeep = (shape : Dimensions) (opened : Anatomy) (old new : State) (id other : ℕ) → Invariant shape opened old → IsJoin old id other new → Invariant shape opened new
 
 abbrev pub LendsKeep : Type 0
-LendsKeep = (shape : Dimensions) (opened : Anatomy) (old new : State) (id other units : ℕ) → Kept shape opened old → IsLent old id other units new
-    → Kept shape opened new
+LendsKeep = (shape : Dimensions) (opened : Anatomy) (old new : State) (id other units : ℕ) → Invariant shape opened old → IsLent old id other units new
+    → Invariant shape opened new
 
 -- ---- what it has in it
 
 -- the list of a kept state is the chain, its flags are set rightly, and its units are kept
 abbrev pub KeptIsChain : Type 0
-KeptIsChain = (shape : Dimensions) (version id : ℕ) (state : State) → IsShape shape → (kept : Kept shape (blank version id shape.size) state)
+KeptIsChain = (shape : Dimensions) (version id : ℕ) (state : State) → IsShape shape → (kept : Invariant shape (blank version id shape.size) state)
     → ListIsChain (new_opening shape version id).words [] state.words state.cursors state.actors (order_of kept.anatomy)
 
 abbrev pub KeptFlagsAreSet : Type 0
-KeptFlagsAreSet = (shape : Dimensions) (version id : ℕ) (state : State) → IsShape shape → Kept shape (blank version id shape.size) state
+KeptFlagsAreSet = (shape : Dimensions) (version id : ℕ) (state : State) → IsShape shape → Invariant shape (blank version id shape.size) state
     → FlagsAreSet (new_opening shape version id).words state.words state.actors
 
 abbrev pub KeptUnitsAreKept : Type 0
-KeptUnitsAreKept = (shape : Dimensions) (version id : ℕ) (state : State) → IsShape shape → (kept : Kept shape (blank version id shape.size) state)
+KeptUnitsAreKept = (shape : Dimensions) (version id : ℕ) (state : State) → IsShape shape → (kept : Invariant shape (blank version id shape.size) state)
     → UnitsAreKept state.words state.actors (order_of kept.anatomy)
 
 -- its units in transit are local
 abbrev pub KeptTransitIsLocal : Type 0
-KeptTransitIsLocal = (shape : Dimensions) (version id : ℕ) (state : State) → IsShape shape → (kept : Kept shape (blank version id shape.size) state)
+KeptTransitIsLocal = (shape : Dimensions) (version id : ℕ) (state : State) → IsShape shape → (kept : Invariant shape (blank version id shape.size) state)
     → TransitIsLocal (word_at (new_opening shape version id).words VERSION_WORD) state.words state.actors
 
 -- its marks are what was taken
 abbrev pub KeptMarksAreTaken : Type 0
-KeptMarksAreTaken = (shape : Dimensions) (version id : ℕ) (state : State) → IsShape shape → (kept : Kept shape (blank version id shape.size) state)
+KeptMarksAreTaken = (shape : Dimensions) (version id : ℕ) (state : State) → IsShape shape → (kept : Invariant shape (blank version id shape.size) state)
     → MarksAreTaken (word_at (new_opening shape version id).words VERSION_WORD) state.words state.actors (order_of kept.anatomy)
 
 -- its sums are the amounts
 abbrev pub KeptSumsAreAmounts : Type 0
-KeptSumsAreAmounts = (shape : Dimensions) (version id : ℕ) (state : State) → IsShape shape → (kept : Kept shape (blank version id shape.size) state)
+KeptSumsAreAmounts = (shape : Dimensions) (version id : ℕ) (state : State) → IsShape shape → (kept : Invariant shape (blank version id shape.size) state)
     → SumsAreAmounts (new_opening shape version id).words state.words state.actors (order_of kept.anatomy)
 
 -- its records hold what they were given
 abbrev pub KeptRecordsHold : Type 0
-KeptRecordsHold = (shape : Dimensions) (version id : ℕ) (state : State) → IsShape shape → (kept : Kept shape (blank version id shape.size) state)
+KeptRecordsHold = (shape : Dimensions) (version id : ℕ) (state : State) → IsShape shape → (kept : Invariant shape (blank version id shape.size) state)
     → RecordsHold (new_opening shape version id).words [] state.words state.actors (order_of kept.anatomy)
 
 -- its totals are what was counted
 abbrev pub KeptTotalsAreCounted : Type 0
-KeptTotalsAreCounted = (shape : Dimensions) (version id : ℕ) (state : State) → IsShape shape → (kept : Kept shape (blank version id shape.size) state)
+KeptTotalsAreCounted = (shape : Dimensions) (version id : ℕ) (state : State) → IsShape shape → (kept : Invariant shape (blank version id shape.size) state)
     → TotalsAreCounted (word_at (new_opening shape version id).words VERSION_WORD) state.words state.actors (order_of kept.anatomy)
 
 -- a kept state is consistent, in all its parts
 abbrev pub KeptIsConsistent : Type 0
-KeptIsConsistent = (shape : Dimensions) (version id : ℕ) (state : State) → IsShape shape → Kept shape (blank version id shape.size) state
+KeptIsConsistent = (shape : Dimensions) (version id : ℕ) (state : State) → IsShape shape → Invariant shape (blank version id shape.size) state
     → IsConsistent (new_opening shape version id) state
 
 -- every state that is reached, in whatever order actors step, is kept
 abbrev pub StatesAreKept : Type 0
 StatesAreKept = (shape : Dimensions) (version id cursors : ℕ) (state : State) → IsState shape version id cursors state
-    → Kept shape (blank version id shape.size) state
+    → Invariant shape (blank version id shape.size) state

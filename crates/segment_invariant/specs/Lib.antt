@@ -2,7 +2,7 @@ pub mod Body
 pub mod Ledger
 pub mod Seen
 pub mod Consistent
-pub mod Kept
+pub mod Invariant
 pub mod Keeps
 pub mod Examples
 pub mod Accounts

@@ -6,7 +6,7 @@ use Rattle.segment_machine.specs.declared.place.Place.TheVariants.{CountLoaded, 
 use Rattle.segment_machine.specs.Seats.{opener_of}
 use Rattle.segment_invariant.specs.Consistent.{HoldsMade}
 use Rattle.segment_invariant.specs.Seen.{WasSingle}
-use Rattle.segment_invariant.specs.Kept.{StandsRight, CallsRight, LooksBack}
+use Rattle.segment_invariant.specs.Invariant.{StandsRight, CallsRight, LooksBack}
 use Rattle.segment_machine.specs.Examples.{shape, letter_a, one, whole, maker, packed_segment, known_a}
 use Rattle.segment_invariant.specs.Accounts.{settled, mounted_anatomy}
 use Rattle.segment_machine.specs.Refused.{recorder, look}
@@ -25,7 +25,7 @@ UnitsSpent = ¬ (CallsRight (mounted_anatomy settled) (record (maker (1 ∷ []))
 abbrev pub CountsOwe : Type 0
 CountsOwe =
     let opener = record (opener_of shape 1 1) { made = 1; outstanding = 1 } in
-    let who = record recorder { log = whole (one 0) ∷ []; seen_counts = record { at = 36; word = 0 } ∷ [] } in
+    let who = record recorder { log = whole (one 0) ∷ []; seen = record recorder.seen { counts = record { at = 36; word = 0 } ∷ [] } } in
     ¬ (LooksBack (mounted_anatomy settled) (opener ∷ who ∷ []) opener who)
 
 -- a single word that was seen has a form

@@ -11,11 +11,11 @@ use Rattle.alloc_core.specs.Laws.{Behind}
 use Rattle.list_core.specs.Chain.{stops}
 use Rattle.list_core.specs.Walk.{IsPrefix}
 use Rattle.segment_image.specs.declared.layout.TheConstants.{BLOCK_HEADER, BLOCK_TYPE, HISTOGRAM_COUNTS, HISTOGRAM_KIND, HISTOGRAM_NAME_LENGTH, HISTOGRAM_REDUNDANT, HISTOGRAM_SINGLE, HISTOGRAM_SINGLE_MARK, SAMPLE_COUNT, SAMPLE_HISTOGRAM, SAMPLE_MARK, SAMPLE_VALUE}
-use Rattle.segment_machine.specs.declared.actor.Actor.{Actor}
+use Rattle.segment_machine.specs.declared.seen.Seen.{Seen}
 use Rattle.segment_machine.specs.declared.actor.Known.{Known}
 use Rattle.segment_machine.specs.declared.actor.Made.TheVariants as made
 use Rattle.segment_machine.specs.declared.actor.Own.{Own}
-use Rattle.segment_machine.specs.declared.actor.Sighting.{Sighting}
+use Rattle.segment_machine.specs.declared.seen.Sighting.{Sighting}
 use Rattle.bucket_ranges.specs.Single.{single_of}
 use Rattle.segment_machine.specs.Form.{is_off, Leads}
 use Rattle.segment_invariant.specs.Body.{Record, Counts, Sample, Body, plain, held, histogram, counts, sample, other, words_of, Piece, Listed, Anatomy, order_of, free_of}
@@ -119,13 +119,12 @@ pub record Knows (anatomy : Anatomy) (known : Known) : Type 0 where
   pub same : SameSpec first_spec known.spec
 
 -- all that an actor has seen
-pub record Sees (anatomy : Anatomy) (cursors : List ℕ) (a : Actor) : Type 0 where
-  pub free : Behind a.seen_free (free_of anatomy)
-  pub walked : IsPrefix a.seen_chain (order_of anatomy)
-  pub tails : AreNoLater (order_of anatomy) a.seen_tails anatomy.tail
-  pub singles : All (WasSingle anatomy.version anatomy.pieces) a.seen_singles
-  pub counters : All (WasCounter anatomy.pieces) a.seen_counts
-  pub in_use : All (WasInUse anatomy.pieces) a.seen_counts
-  pub fixed : All (WasFixed anatomy.pieces) a.seen_words
-  pub shared : All (λ s. (s.at < length cursors) × IsNoLater (order_of anatomy) s.word (slice_index cursors s.at)) a.seen_cursors
-  pub names : All (Knows anatomy) a.names
+pub record Sees (anatomy : Anatomy) (cursors : List ℕ) (seen : Seen) : Type 0 where
+  pub free : Behind seen.free (free_of anatomy)
+  pub walked : IsPrefix seen.chain (order_of anatomy)
+  pub tails : AreNoLater (order_of anatomy) seen.tails anatomy.tail
+  pub singles : All (WasSingle anatomy.version anatomy.pieces) seen.singles
+  pub counters : All (WasCounter anatomy.pieces) seen.counts
+  pub in_use : All (WasInUse anatomy.pieces) seen.counts
+  pub fixed : All (WasFixed anatomy.pieces) seen.words
+  pub shared : All (λ s. (s.at < length cursors) × IsNoLater (order_of anatomy) s.word (slice_index cursors s.at)) seen.cursors

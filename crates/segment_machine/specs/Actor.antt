@@ -18,7 +18,7 @@ use Rattle.segment_machine.specs.declared.actor.Given.{Given}
 use Rattle.segment_machine.specs.declared.actor.Known.{Known}
 use Rattle.segment_machine.specs.declared.actor.Moment.{Moment}
 use Rattle.segment_machine.specs.declared.actor.Published.{Published}
-use Rattle.segment_machine.specs.declared.actor.Sighting.{Sighting}
+use Rattle.segment_machine.specs.declared.seen.Sighting.{Sighting}
 use Rattle.segment_machine.specs.declared.actor.Taken.{Taken}
 use Rattle.segment_machine.specs.Entry.{counted_among, summed_among, noted_among, is_of}
 
@@ -89,14 +89,14 @@ pub record IsFinal (made : ℕ) (log : List Entry) (name : List ℕ) (moment : M
 
 -- from now on it looks at single words and counts anew
 abbrev pub looking : Actor → Actor
-looking a = record a { since_singles = length a.seen_singles; since_counts = length a.seen_counts }
+looking a = record a { since_singles = length a.seen.singles; since_counts = length a.seen.counts }
 
 -- single words, and counts, that it saw since its delta or snapshot began
 abbrev pub SawSingle : Actor → ℕ → ℕ → Type 0
-SawSingle a at word = Contains (drop a.since_singles a.seen_singles) (record { at = at; word = word })
+SawSingle a at word = Contains (drop a.since_singles a.seen.singles) (record { at = at; word = word })
 
 abbrev pub SawCount : Actor → ℕ → ℕ → Type 0
-SawCount a at word = Contains (drop a.since_counts a.seen_counts) (record { at = at; word = word })
+SawCount a at word = Contains (drop a.since_counts a.seen.counts) (record { at = at; word = word })
 
 -- ---- costs
 

@@ -69,12 +69,12 @@ stored payload index value = payload ++ replicate (index - length payload) 0 ++ 
 
 -- after an exchange of the free pointer, which went through or not
 abbrev pub after_free : Bool → Actor → ℕ → ℕ → ℕ → Actor
-after_free true a old new found = record a { place = Raised old (new - old); seen_free = new }
-after_free false a old new found = record a { place = Idle; seen_free = found }
+after_free true a old new found = record a { place = Raised old (new - old); seen = record a.seen { free = new } }
+after_free false a old new found = record a { place = Idle; seen = record a.seen { free = found } }
 
 abbrev pub next : Actor → AllocatingEvent → ℕ → Actor
 next a load_flags found = record a { place = if bit_and found FLAG_CORRUPT == 0 then FlagsLoaded else Idle }
-next a load_free found = record a { place = FreeLoaded found; seen_free = found }
+next a load_free found = record a { place = FreeLoaded found; seen = record a.seen { free = found } }
 next a (exchange_free old new) found = after_free (found == old) a old new found
 next a (store_size at size) found = record a { place = Sized at size }
 next a (store_cookie at cookie) found =
@@ -92,6 +92,6 @@ next a (set_flag flag) found =
 -- ---- what it learns
 
 abbrev pub Learned : Actor → AllocatingEvent → ℕ → Type 0
-Learned a load_free found = Behind a.seen_free found × (is_pointer a.shape found ≡ true)
+Learned a load_free found = Behind a.seen.free found × (is_pointer a.shape found ≡ true)
 Learned a (exchange_free old new) found = Behind old found × (is_pointer a.shape found ≡ true)
 Learned a _ found = ⊤

@@ -1,6 +1,6 @@
 -- Counting: the counts reference of a histogram, a count that stands at a word, the sum, and the redundant count.
 -- An event is read here in one place: what it acts on, when it is ready, what becomes of its actor, and what this learns.
-use Rattle.std.specs.Prelude.{◌≡◌, ◌⊎◌, true, false, ℕ, ◌+◌, ◌-◌, ℤ, List, ◌++◌, ⊤}
+use Rattle.std.specs.Prelude.{◌≡◌, ◌⊎◌, true, false, ℕ, ◌+◌, ℤ, List, ◌++◌, ⊤}
 use Rattle.std.specs.List.{Contains}
 use Rattle.segment_image.specs.declared.layout.TheConstants.{BLOCK_HEADER, HISTOGRAM_COUNTS, SAMPLE_COUNT, HISTOGRAM_REDUNDANT, HISTOGRAM_SUM}
 use Rattle.segment_machine.specs.declared.entry.Counting.{Counting}
@@ -45,7 +45,7 @@ MayCount a at units =
     (c : Counting) × (known : Known) × CountsNext a c × (c.entry.name ≡ known.name) × (c.entry.units ≡ units)
     × (((look : Look) × (bucket : ℕ) × LooksOff a look known × HasKey known bucket c.entry.key
     × (at ≡ look.counts + BLOCK_HEADER + bucket))
-    ⊎ ((sample : ℕ) × MayTurn a × Sparse a known.reference known × IsFirstSample a known.reference c.entry.key sample × (at ≡ sample + SAMPLE_COUNT)))
+    ⊎ ((sample : ℕ) × MayTurn a × Sparse a known.reference known × IsFirstSample a.seen known.reference c.entry.key sample × (at ≡ sample + SAMPLE_COUNT)))
 
 abbrev pub Ready : Actor → CountingEvent → Type 0
 Ready a (load_counts histogram) = MayTurn a × ((known : Known) × Buckets a histogram known)
@@ -68,13 +68,13 @@ note_next list = change_next (λ c. record c { noted = true }) list
 abbrev pub next : Actor → CountingEvent → ℕ → Actor
 next a (load_counts histogram) found = record a {
   place = Looking (record (look_of a.place histogram) { counts = found });
-  seen_words = a.seen_words ++ sight_counts histogram found;
+  seen = record a.seen { words = a.seen.words ++ sight_counts histogram found };
 }
 next a (add_count at units) found =
-    record a { place = Idle; running = count_next a.running; seen_counts = a.seen_counts ++ sight at (found + units) }
+    record a { place = Idle; running = count_next a.running; seen = record a.seen { counts = a.seen.counts ++ sight at (found + units) } }
 next a (add_sum histogram amount) found = record a { place = Idle; running = sum_next a.running }
 next a (add_redundant histogram units) found =
-    record a { place = Idle; running = note_next a.running; seen_counts = a.seen_counts ++ sight (histogram + HISTOGRAM_REDUNDANT) (found + units) }
+    record a { place = Idle; running = note_next a.running; seen = record a.seen { counts = a.seen.counts ++ sight (histogram + HISTOGRAM_REDUNDANT) (found + units) } }
 
 -- ---- what it learns
 

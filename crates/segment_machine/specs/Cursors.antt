@@ -1,6 +1,6 @@
 -- Shared cursors, by their numbers.
 -- An event is read here in one place: what it acts on, when it is ready, what becomes of its actor, and what this learns.
-use Rattle.std.specs.Prelude.{◌≡◌, Bool, true, false, ℕ, ◌+◌, ◌-◌, ◌<◌, [], ◌∷◌, ◌++◌, ◌==◌}
+use Rattle.std.specs.Prelude.{◌≡◌, Bool, true, false, ℕ, ◌+◌, ◌<◌, [], ◌∷◌, ◌++◌, ◌==◌}
 use Rattle.segment_machine.specs.declared.place.Place.TheVariants.{CursorLoaded, BehindCursor, Idle}
 use Rattle.segment_machine.specs.declared.actor.Actor.{Actor}
 use Rattle.alloc_core.specs.Event as atomic
@@ -30,13 +30,13 @@ abbrev pub after_cursor : Bool → Actor → ℕ → ℕ → ℕ → Actor
 after_cursor true a cursor new found = record a {
   place = Idle;
   given = a.given ++ record { cursor = cursor; reference = new } ∷ [];
-  seen_cursors = a.seen_cursors ++ sight cursor new;
+  seen = record a.seen { cursors = a.seen.cursors ++ sight cursor new };
 }
-after_cursor false a cursor new found = record a { place = Idle; seen_cursors = a.seen_cursors ++ sight cursor found }
+after_cursor false a cursor new found = record a { place = Idle; seen = record a.seen { cursors = a.seen.cursors ++ sight cursor found } }
 
 abbrev pub next : Actor → CursorEvent → ℕ → Actor
 next a (load_cursor cursor) found =
-    record a { place = CursorLoaded cursor found; seen_cursors = a.seen_cursors ++ sight cursor found }
+    record a { place = CursorLoaded cursor found; seen = record a.seen { cursors = a.seen.cursors ++ sight cursor found } }
 next a (move_cursor cursor old new) found = after_cursor (found == old) a cursor new found
 
 -- ---- what it learns

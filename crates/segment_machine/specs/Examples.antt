@@ -17,7 +17,7 @@ use Rattle.segment_machine.specs.Allocating.{load_flags, load_free, exchange_fre
 use Rattle.segment_machine.specs.Counting.{load_counts, add_count, add_sum, add_redundant}
 use Rattle.segment_machine.specs.Taking.{raise_single_mark, load_sum, swap_sum_mark}
 use Rattle.segment_machine.specs.Note.{MayNote, has_taken, noted, begins, takes, ends}
-use Rattle.segment_machine.specs.Seats.{opener_of}
+use Rattle.segment_machine.specs.Seats.{nothing_seen, opener_of}
 use Rattle.segment_machine.specs.declared.actor.Known.{Known}
 
 -- ---- segments of 128 words in pages of 64, with the id 7
@@ -79,9 +79,7 @@ maker values = record (opener_of shape 1 0) {
   log = map (λ value. whole (one value)) values;
   claimed = record { at = 16; size = 16 } ∷ [];
   published = record { reference = 16; made = made.Histogram letter_a spec.Boolean } ∷ [];
-  seen_free = 32;
-  seen_chain = 16 ∷ [];
-  seen_tails = 16 ∷ [];
+  seen = record nothing_seen { free = 32; chain = 16 ∷ []; tails = 16 ∷ [] };
   names = record { name = letter_a; spec = spec.Boolean; reference = 16 } ∷ [];
 }
 
@@ -89,7 +87,7 @@ maker values = record (opener_of shape 1 0) {
 abbrev pub mounter : List ℕ → Actor
 mounter values = record (maker values) {
   claimed = record { at = 16; size = 16 } ∷ record { at = 32; size = 10 } ∷ [];
-  seen_free = 42;
+  seen = record (maker values).seen { free = 42 };
 }
 
 -- a delta of `A` that a recorder took when its log had so many entries, and which was the first that was made
@@ -180,7 +178,7 @@ MountingRun =
     × ((noted (run mounts mounting) ends).log ≡ (mounter (1 ∷ 1 ∷ 0 ∷ [])).log)
     × ((run mounts mounting).claimed ≡ (mounter (1 ∷ 1 ∷ 0 ∷ [])).claimed)
     × ((run mounts mounting).own ≡ [])
-    × ((run mounts mounting).seen_free ≡ 42)
+    × ((run mounts mounting).seen.free ≡ 42)
 
 -- A taker has loaded the single word (1, 2). Where the mark was 0 it takes two units and the sum 2; where another taker has
 -- raised the mark to 3 and swapped the sum 3 in before, it takes nothing.

@@ -42,4 +42,4 @@ abbrev pub RecorderIsJoined : Type 0
 RecorderIsJoined =
     IsState shape 1 7 1 joined_state × IsJoined joined_state last_opener
     × (units_of split_opener ≡ 4294967290) × (units_of lent ≡ 8) × (last_opener.share ≡ 4294967295) × (last_opener.made ≡ 1)
-    × (map (λ s. s.word) last_opener.seen_cursors ≡ 12 ∷ [])
+    × (map (λ s. s.word) last_opener.seen.cursors ≡ 12 ∷ [])

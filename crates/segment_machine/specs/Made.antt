@@ -7,7 +7,7 @@ use Rattle.segment_image.specs.Words.{bytes_of_words}
 use Rattle.bucket_ranges.specs.declared.spec.Spec.{Spec}
 use Rattle.bucket_ranges.specs.Spec.{spec_fields, spec_ranges}
 use Rattle.bucket_ranges.specs.Reading.{is_i32}
-use Rattle.segment_machine.specs.declared.actor.Actor.{Actor}
+use Rattle.segment_machine.specs.declared.seen.Seen.{Seen}
 use Rattle.segment_machine.specs.declared.actor.Made.{Made}
 use Rattle.segment_machine.specs.declared.actor.Made.TheVariants.{Histogram, Sample}
 use Rattle.segment_machine.specs.Actor.{word_seen}
@@ -30,55 +30,55 @@ IsPayload (Sample histogram value) payload =
 -- ---- in what an actor has seen
 
 -- it saw that a record is one of a histogram of this name
-abbrev pub SawName : Actor → List ℕ → ℕ → Type 0
-SawName a name at =
-    (word_seen a.seen_words (at + BLOCK_TYPE) ≡ Some TYPE_HISTOGRAM) × (word_seen a.seen_words (at + HISTOGRAM_NAME_LENGTH) ≡ Some (length name))
+abbrev pub SawName : Seen → List ℕ → ℕ → Type 0
+SawName seen name at =
+    (word_seen seen.words (at + BLOCK_TYPE) ≡ Some TYPE_HISTOGRAM) × (word_seen seen.words (at + HISTOGRAM_NAME_LENGTH) ≡ Some (length name))
     × (letters : List ℕ) × AreNameWords name letters
-    × ((i : ℕ) → i < length letters → word_seen a.seen_words (at + HISTOGRAM_NAME + i) ≡ Some (slice_index letters i))
+    × ((i : ℕ) → i < length letters → word_seen seen.words (at + HISTOGRAM_NAME + i) ≡ Some (slice_index letters i))
 
 -- it saw that a record is none of this name: its type is another, or the length of the name is, or the bytes of a word of it are
-abbrev pub SawOtherName : Actor → List ℕ → ℕ → Type 0
-SawOtherName a name at =
-    ((tag : ℕ) × (word_seen a.seen_words (at + BLOCK_TYPE) ≡ Some tag) × (tag ≢ TYPE_HISTOGRAM))
-    ⊎ ((len : ℕ) × (word_seen a.seen_words (at + HISTOGRAM_NAME_LENGTH) ≡ Some len) × (len ≢ length name))
+abbrev pub SawOtherName : Seen → List ℕ → ℕ → Type 0
+SawOtherName seen name at =
+    ((tag : ℕ) × (word_seen seen.words (at + BLOCK_TYPE) ≡ Some tag) × (tag ≢ TYPE_HISTOGRAM))
+    ⊎ ((len : ℕ) × (word_seen seen.words (at + HISTOGRAM_NAME_LENGTH) ≡ Some len) × (len ≢ length name))
     ⊎ ((letters : List ℕ) × (i word : ℕ) × AreNameWords name letters × (i < length letters)
-    × (word_seen a.seen_words (at + HISTOGRAM_NAME + i) ≡ Some word) × (bytes_of_words (word ∷ []) ≢ bytes_of_words (slice_index letters i ∷ [])))
+    × (word_seen seen.words (at + HISTOGRAM_NAME + i) ≡ Some word) × (bytes_of_words (word ∷ []) ≢ bytes_of_words (slice_index letters i ∷ [])))
 
 -- it saw the spec of a record whose name has so many words
-abbrev pub SawSpec : Actor → Spec → ℕ → ℕ → Type 0
-SawSpec a spec letters at =
-    ((i : ℕ) → i < 4 → word_seen a.seen_words (at + HISTOGRAM_KIND + i) ≡ Some (slice_index (spec_fields spec) i))
+abbrev pub SawSpec : Seen → Spec → ℕ → ℕ → Type 0
+SawSpec seen spec letters at =
+    ((i : ℕ) → i < 4 → word_seen seen.words (at + HISTOGRAM_KIND + i) ≡ Some (slice_index (spec_fields spec) i))
     × ((i : ℕ) → i < length (spec_ranges spec)
-    → word_seen a.seen_words (at + HISTOGRAM_NAME + letters + i) ≡ Some (slice_index (spec_ranges spec) i))
+    → word_seen seen.words (at + HISTOGRAM_NAME + letters + i) ≡ Some (slice_index (spec_ranges spec) i))
 
 -- it saw that the spec of a record whose name has so many words is another one: a field differs, or a range does
-abbrev pub SawOtherSpec : Actor → Spec → ℕ → ℕ → Type 0
-SawOtherSpec a spec letters at =
-    ((i word : ℕ) × (i < 4) × (word_seen a.seen_words (at + HISTOGRAM_KIND + i) ≡ Some word) × (word ≢ slice_index (spec_fields spec) i))
-    ⊎ ((i word : ℕ) × (i < length (spec_ranges spec)) × (word_seen a.seen_words (at + HISTOGRAM_NAME + letters + i) ≡ Some word)
+abbrev pub SawOtherSpec : Seen → Spec → ℕ → ℕ → Type 0
+SawOtherSpec seen spec letters at =
+    ((i word : ℕ) × (i < 4) × (word_seen seen.words (at + HISTOGRAM_KIND + i) ≡ Some word) × (word ≢ slice_index (spec_fields spec) i))
+    ⊎ ((i word : ℕ) × (i < length (spec_ranges spec)) × (word_seen seen.words (at + HISTOGRAM_NAME + letters + i) ≡ Some word)
     × (word ≢ slice_index (spec_ranges spec) i))
 
 -- the first record of a name on the chain, as far as the actor walked along it
-abbrev pub IsFirstNamed : Actor → List ℕ → ℕ → Type 0
-IsFirstNamed a name at =
-    (front behind : List ℕ) × (a.seen_chain ≡ front ++ at ∷ behind) × All (SawOtherName a name) front × SawName a name at
+abbrev pub IsFirstNamed : Seen → List ℕ → ℕ → Type 0
+IsFirstNamed seen name at =
+    (front behind : List ℕ) × (seen.chain ≡ front ++ at ∷ behind) × All (SawOtherName seen name) front × SawName seen name at
 
 -- it saw that a record is a sample of this value of a histogram. The value is one of an `i32`, since two numbers that differ by 2^64
 -- are one word
-abbrev pub SawSample : Actor → ℕ → ℤ → ℕ → Type 0
-SawSample a histogram value at =
-    (word_seen a.seen_words (at + BLOCK_TYPE) ≡ Some TYPE_SAMPLE) × (word_seen a.seen_words (at + SAMPLE_HISTOGRAM) ≡ Some histogram)
-    × (word_seen a.seen_words (at + SAMPLE_VALUE) ≡ Some (cast_unsigned w64 value)) × (is_i32 value ≡ true)
+abbrev pub SawSample : Seen → ℕ → ℤ → ℕ → Type 0
+SawSample seen histogram value at =
+    (word_seen seen.words (at + BLOCK_TYPE) ≡ Some TYPE_SAMPLE) × (word_seen seen.words (at + SAMPLE_HISTOGRAM) ≡ Some histogram)
+    × (word_seen seen.words (at + SAMPLE_VALUE) ≡ Some (cast_unsigned w64 value)) × (is_i32 value ≡ true)
 
 -- it saw that a record is none
-abbrev pub SawOther : Actor → ℕ → ℤ → ℕ → Type 0
-SawOther a histogram value at =
-    ((tag : ℕ) × (word_seen a.seen_words (at + BLOCK_TYPE) ≡ Some tag) × (tag ≢ TYPE_SAMPLE))
-    ⊎ ((of : ℕ) × (word_seen a.seen_words (at + SAMPLE_HISTOGRAM) ≡ Some of) × (of ≢ histogram))
-    ⊎ ((word : ℕ) × (word_seen a.seen_words (at + SAMPLE_VALUE) ≡ Some word) × (word ≢ cast_unsigned w64 value))
+abbrev pub SawOther : Seen → ℕ → ℤ → ℕ → Type 0
+SawOther seen histogram value at =
+    ((tag : ℕ) × (word_seen seen.words (at + BLOCK_TYPE) ≡ Some tag) × (tag ≢ TYPE_SAMPLE))
+    ⊎ ((of : ℕ) × (word_seen seen.words (at + SAMPLE_HISTOGRAM) ≡ Some of) × (of ≢ histogram))
+    ⊎ ((word : ℕ) × (word_seen seen.words (at + SAMPLE_VALUE) ≡ Some word) × (word ≢ cast_unsigned w64 value))
 
 -- the first sample of a value behind the record of its histogram, as far as the actor walked along the chain
-abbrev pub IsFirstSample : Actor → ℕ → ℤ → ℕ → Type 0
-IsFirstSample a histogram value at =
-    (front between behind : List ℕ) × (a.seen_chain ≡ front ++ histogram ∷ (between ++ at ∷ behind))
-    × All (SawOther a histogram value) between × SawSample a histogram value at
+abbrev pub IsFirstSample : Seen → ℕ → ℤ → ℕ → Type 0
+IsFirstSample seen histogram value at =
+    (front between behind : List ℕ) × (seen.chain ≡ front ++ histogram ∷ (between ++ at ∷ behind))
+    × All (SawOther seen histogram value) between × SawSample seen histogram value at

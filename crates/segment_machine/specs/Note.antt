@@ -16,7 +16,7 @@ use Rattle.segment_machine.specs.declared.actor.Known.{Known}
 use Rattle.segment_machine.specs.declared.actor.Made.{Made}
 use Rattle.segment_machine.specs.declared.actor.Moment.{Moment}
 use Rattle.segment_machine.specs.declared.actor.Own.{Own}
-use Rattle.segment_machine.specs.declared.actor.Sighting.{Sighting}
+use Rattle.segment_machine.specs.declared.seen.Sighting.{Sighting}
 use Rattle.segment_machine.specs.declared.actor.Taken.{Taken}
 use Rattle.segment_machine.specs.Entry.{AreWithin, fresh, has_ended, tally_noted}
 use Rattle.bucket_ranges.specs.Spec.{buckets_of}
@@ -108,7 +108,7 @@ SawBucket a known bucket total =
     (word : ℕ) × SawSingle a (known.reference + HISTOGRAM_SINGLE) word
     × let form = single_of a.version (buckets_of known.spec) word in
     (((is_off word ≡ false) × (total ≡ units_packed form bucket))
-    ⊎ ((is_off word ≡ true) × ((counts count : ℕ) × (word_seen a.seen_words (known.reference + HISTOGRAM_COUNTS) ≡ Some counts)
+    ⊎ ((is_off word ≡ true) × ((counts count : ℕ) × (word_seen a.seen.words (known.reference + HISTOGRAM_COUNTS) ≡ Some counts)
     × SawCount a (counts + BLOCK_HEADER + bucket) count × (total ≡ count + units_packed form bucket))))
 
 -- where the mark of a bucket stands: the single mark of the packed bucket, or behind the counts
@@ -116,7 +116,7 @@ abbrev pub IsMarkOf : Actor → Known → ℕ → ℕ → Type 0
 IsMarkOf a known bucket at =
     ((word : ℕ) × SawSingle a (known.reference + HISTOGRAM_SINGLE) word
     × (packed_bucket (single_of a.version (buckets_of known.spec) word) ≡ Some bucket) × (at ≡ known.reference + HISTOGRAM_SINGLE_MARK))
-    ⊎ ((counts : ℕ) × (word_seen a.seen_words (known.reference + HISTOGRAM_COUNTS) ≡ Some counts) × (at ≡ counts + BLOCK_HEADER + buckets_of known.spec + bucket))
+    ⊎ ((counts : ℕ) × (word_seen a.seen.words (known.reference + HISTOGRAM_COUNTS) ≡ Some counts) × (at ≡ counts + BLOCK_HEADER + buckets_of known.spec + bucket))
 
 -- what it saw of a bucket was taken: it is 0, or the mark was raised to it at least
 abbrev pub TookBucket : Actor → Known → ℕ → Type 0
@@ -131,8 +131,8 @@ TookSample a sample =
 -- A delta has taken all that it saw: of each bucket, or of each sample of its histogram that it met; and the sum was swapped.
 pub record TookAll (a : Actor) (known : Known) : Type 0 where
   pub buckets : has_buckets known.spec ≡ true → (bucket : ℕ) → bucket < buckets_of known.spec → TookBucket a known bucket
-  pub samples : known.spec ≡ spec.Sparse → (value : ℤ) (sample : ℕ) → Contains a.seen_chain sample
-      → SawSample a known.reference value sample → TookSample a sample
+  pub samples : known.spec ≡ spec.Sparse → (value : ℤ) (sample : ℕ) → Contains a.seen.chain sample
+      → SawSample a.seen known.reference value sample → TookSample a sample
   pub summed : (before : List Taken) × (last : Taken) × (a.taken ≡ before ++ last ∷ []) × (last.name ≡ known.name) × (last.swapped ≡ true)
 
 -- A snapshot is what it saw since it began: each bucket once, in order, with its total; or samples, each value once with the
@@ -143,13 +143,13 @@ pub record SawAll (a : Actor) (known : Known) (answered : Answered) : Type 0 whe
       → (map (λ count. count.0) answered.counts ≡ map (bucket_key (Some known)) (range_with_len 0 (buckets_of known.spec)))
       × ((bucket : ℕ) (count : ℤ × ℕ) → get_elem? answered.counts bucket ≡ some count → SawBucket a known bucket count.1)
   pub samples : known.spec ≡ spec.Sparse
-      → All (λ count. (sample : ℕ) × IsFirstSample a known.reference count.0 sample × SawCount a (sample + SAMPLE_COUNT) count.1) answered.counts
+      → All (λ count. (sample : ℕ) × IsFirstSample a.seen known.reference count.0 sample × SawCount a (sample + SAMPLE_COUNT) count.1) answered.counts
   pub once : known.spec ≡ spec.Sparse → (i j : ℕ) (x y : ℤ × ℕ) → get_elem? answered.counts i ≡ some x → get_elem? answered.counts j ≡ some y
       → x.0 ≡ y.0 → i ≡ j
-  pub values : known.spec ≡ spec.Sparse → (value : ℤ) (sample : ℕ) → Contains a.seen_chain sample → SawSample a known.reference value sample
+  pub values : known.spec ≡ spec.Sparse → (value : ℤ) (sample : ℕ) → Contains a.seen.chain sample → SawSample a.seen known.reference value sample
       → (count : ℕ) × SawCount a (sample + SAMPLE_COUNT) count × ((count ≡ 0) ⊎ Contains (map (λ count. count.0) answered.counts) value)
   pub sum : a.place ≡ SumLoaded known.reference answered.sum
-  pub redundant : (before : List Sighting) × (drop a.since_counts a.seen_counts ≡ before ++ record { at = known.reference + HISTOGRAM_REDUNDANT; word = answered.redundant } ∷ [])
+  pub redundant : (before : List Sighting) × (drop a.since_counts a.seen.counts ≡ before ++ record { at = known.reference + HISTOGRAM_REDUNDANT; word = answered.redundant } ∷ [])
 
 -- when an actor may note it. An opener counts and takes nothing itself
 abbrev pub MayNote : Actor → Note → Type 0
@@ -162,12 +162,12 @@ MayNote a (amounts amount) =
     × (unsigned_abs amount ≤ 2147483648 * cost_total a.held)
 MayNote a (asks at made) = (own : Own) × Contains a.own own × (own.at ≡ at) × (own.made ≡ None)
 MayNote a (knows known) =
-    IsFirstNamed a known.name known.reference
-    × ((letters : List ℕ) × AreNameWords known.name letters × SawSpec a known.spec (length letters) known.reference)
+    IsFirstNamed a.seen known.name known.reference
+    × ((letters : List ℕ) × AreNameWords known.name letters × SawSpec a.seen known.spec (length letters) known.reference)
 MayNote a (declines mine) =
     Contains a.owed mine
-    × ((at : ℕ) × (letters : List ℕ) × IsFirstNamed a mine.name at × AreNameWords mine.name letters
-    × SawOtherSpec a mine.spec (length letters) at)
+    × ((at : ℕ) × (letters : List ℕ) × IsFirstNamed a.seen mine.name at × AreNameWords mine.name letters
+    × SawOtherSpec a.seen mine.spec (length letters) at)
 MayNote a (takes name) =
     (a.place ≢ Spent) × (a.opener ≡ 0) × (a.running ≡ []) × (a.taking ≡ false) × Contains (map (λ known. known.name) a.names) name
 MayNote a has_taken = (a.taking ≡ true) × ((known : Known) × Contains a.names known × TookAll a known)

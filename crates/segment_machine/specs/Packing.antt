@@ -1,6 +1,6 @@
 -- Packing: the single word, the counts reference, the type of a lost block, and the units on their way.
 -- An event is read here in one place: what it acts on, when it is ready, what becomes of its actor, and what this learns.
-use Rattle.std.specs.Prelude.{◌≡◌, ◌≢◌, Bool, true, false, ℕ, ◌+◌, ◌-◌, ◌*◌, ◌≤◌, [], ◌++◌, Some, None, ◌&&◌, ◌==◌, nat_lt, if◌then◌else◌, Option, unwrap_or, ⊤}
+use Rattle.std.specs.Prelude.{◌≡◌, ◌≢◌, Bool, true, false, ℕ, ◌+◌, ◌*◌, ◌≤◌, [], ◌++◌, Some, None, ◌&&◌, ◌==◌, nat_lt, if◌then◌else◌, Option, unwrap_or, ⊤}
 use Rattle.std.specs.List.{Contains}
 use Rattle.bucket_ranges.specs.Spec.{buckets_of}
 use Rattle.segment_image.specs.declared.layout.TheConstants.{BLOCK_HEADER, BLOCK_TYPE, HISTOGRAM_COUNTS, HISTOGRAM_SINGLE, TYPE_COUNTS, TYPE_PURGED}
@@ -74,37 +74,37 @@ after_disabling version look old form =
 -- after a packing exchange
 abbrev pub after_pack : Bool → Actor → ℕ → ℕ → ℕ → Actor
 after_pack true a histogram new found =
-    record a { place = Idle; running = count_next a.running; seen_singles = a.seen_singles ++ sight (histogram + HISTOGRAM_SINGLE) new }
+    record a { place = Idle; running = count_next a.running; seen = record a.seen { singles = a.seen.singles ++ sight (histogram + HISTOGRAM_SINGLE) new } }
 after_pack false a histogram new found =
-    record a { place = Idle; seen_singles = a.seen_singles ++ sight (histogram + HISTOGRAM_SINGLE) found }
+    record a { place = Idle; seen = record a.seen { singles = a.seen.singles ++ sight (histogram + HISTOGRAM_SINGLE) found } }
 
 -- after an exchange of the counts reference from 0
 abbrev pub after_mount : Bool → Actor → ℕ → ℕ → ℕ → Actor
 after_mount true a histogram at found = record a {
   place = Looking (record { histogram = histogram; single = None; counts = at });
   own = without at a.own;
-  seen_words = a.seen_words ++ sight_counts histogram at;
+  seen = record a.seen { words = a.seen.words ++ sight_counts histogram at };
 }
 after_mount false a histogram at found = record a {
   place = Losing (record { histogram = histogram; single = None; counts = found }) at;
-  seen_words = a.seen_words ++ sight_counts histogram found;
+  seen = record a.seen { words = a.seen.words ++ sight_counts histogram found };
 }
 
 -- after a disabling exchange
 abbrev pub after_disable : Bool → Actor → ℕ → ℕ → ℕ → Actor
 after_disable true a histogram old found = record a {
   place = after_disabling a.version (look_of a.place histogram) old (form_seen a histogram old);
-  seen_singles = a.seen_singles ++ sight (histogram + HISTOGRAM_SINGLE) (off_word a.version old);
+  seen = record a.seen { singles = a.seen.singles ++ sight (histogram + HISTOGRAM_SINGLE) (off_word a.version old) };
 }
 after_disable false a histogram old found = record a {
   place = Looking (record (look_of a.place histogram) { single = None });
-  seen_singles = a.seen_singles ++ sight (histogram + HISTOGRAM_SINGLE) found;
+  seen = record a.seen { singles = a.seen.singles ++ sight (histogram + HISTOGRAM_SINGLE) found };
 }
 
 abbrev pub next : Actor → PackingEvent → ℕ → Actor
 next a (load_single histogram) found = record a {
   place = Looking (record (look_of a.place histogram) { single = Some found });
-  seen_singles = a.seen_singles ++ sight (histogram + HISTOGRAM_SINGLE) found;
+  seen = record a.seen { singles = a.seen.singles ++ sight (histogram + HISTOGRAM_SINGLE) found };
 }
 next a (pack histogram old new) found = after_pack (found == old) a histogram new found
 next a (mount_counts histogram at) found = after_mount (found == 0) a histogram at found
@@ -112,7 +112,7 @@ next a (purge_block at) found =
     record a { place = back a.place; own = change_own at (λ own. record own { tag = TYPE_PURGED }) a.own }
 next a (disable histogram old) found = after_disable (found == old) a histogram old found
 next a (add_moved counts bucket units) found =
-    record a { place = back a.place; seen_counts = a.seen_counts ++ sight (counts + BLOCK_HEADER + bucket) (found + units) }
+    record a { place = back a.place; seen = record a.seen { counts = a.seen.counts ++ sight (counts + BLOCK_HEADER + bucket) (found + units) } }
 
 -- ---- what it learns
 
@@ -120,7 +120,7 @@ next a (add_moved counts bucket units) found =
 abbrev pub IsSingleOf : Actor → ℕ → ℕ → Type 0
 IsSingleOf a histogram found = (known : Known) → Buckets a histogram known
     → (single_of a.version (buckets_of known.spec) found ≢ None)
-    × ((word : ℕ) → Contains a.seen_singles (record { at = histogram + HISTOGRAM_SINGLE; word = word })
+    × ((word : ℕ) → Contains a.seen.singles (record { at = histogram + HISTOGRAM_SINGLE; word = word })
     → Leads a.version (buckets_of known.spec) word found)
 
 abbrev pub Learned : Actor → PackingEvent → ℕ → Type 0

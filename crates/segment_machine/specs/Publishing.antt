@@ -1,6 +1,6 @@
 -- Publishing: the next of a record of its own, the tail, and the next behind which it links.
 -- An event is read here in one place: what it acts on, when it is ready, what becomes of its actor, and what this learns.
-use Rattle.std.specs.Prelude.{◌≡◌, ◌⊎◌, Bool, true, false, ℕ, ◌+◌, ◌-◌, ◌*◌, ◌≤◌, List, [], ◌∷◌, ◌++◌, Some, None, ◌==◌, if◌then◌else◌, Option, ⊤}
+use Rattle.std.specs.Prelude.{◌≡◌, ◌⊎◌, Bool, true, false, ℕ, ◌+◌, ◌*◌, ◌≤◌, List, [], ◌∷◌, ◌++◌, Some, None, ◌==◌, if◌then◌else◌, Option, ⊤}
 use Rattle.std.specs.List.{Contains}
 use Rattle.bucket_ranges.specs.Spec.{buckets_of, spec_fault}
 use Rattle.bucket_ranges.specs.Reading.{is_name, is_i32}
@@ -92,10 +92,10 @@ after_link false a tail at found = record a { place = Beaten tail found }
 
 abbrev pub next : Actor → PublishingEvent → ℕ → Actor
 next a (store_own_next at) found = record a { own = change_own at (λ own. record own { next = QUEUE }) a.own }
-next a load_tail found = record a { place = TailLoaded found; seen_tails = a.seen_tails ++ found ∷ [] }
+next a load_tail found = record a { place = TailLoaded found; seen = record a.seen { tails = a.seen.tails ++ found ∷ [] } }
 next a (link tail at) found = after_link (found == QUEUE) a tail at found
 next a (move_tail old new) found =
-    record a { place = Idle; seen_tails = a.seen_tails ++ (if found == old then new else found) ∷ [] }
+    record a { place = Idle; seen = record a.seen { tails = a.seen.tails ++ (if found == old then new else found) ∷ [] } }
 
 -- ---- what it learns
 

@@ -11,7 +11,7 @@ use Rattle.segment_machine.specs.Taking.{load_sum, swap_sum_mark, load_count, ra
 use Rattle.segment_machine.specs.Counting.{add_count}
 use Rattle.segment_machine.specs.Cursors.{load_cursor}
 use Rattle.segment_machine.specs.Made.{IsPayload}
-use Rattle.segment_machine.specs.Seats.{opener_of, newcomer, joined, MayJoin}
+use Rattle.segment_machine.specs.Seats.{nothing_seen, opener_of, newcomer, joined, MayJoin}
 use Rattle.segment_machine.specs.Actor.{accepted_by, accepted_since}
 use Rattle.segment_machine.specs.Examples.{shape, letter_a, one, whole, maker, run, takes_all, letter_s, known_a}
 
@@ -21,9 +21,11 @@ use Rattle.segment_machine.specs.Examples.{shape, letter_a, one, whole, maker, r
 abbrev pub recorder : Actor
 recorder = record (opener_of shape 1 1) {
   opener = 0;
-  seen_chain = 16 ∷ 40 ∷ 56 ∷ [];
-  seen_words =
-      record { at = 58; word = 3 } ∷ record { at = 60; word = 40 } ∷ record { at = 61; word = 18446744073709551611 } ∷ [];
+  seen = record nothing_seen {
+    chain = 16 ∷ 40 ∷ 56 ∷ [];
+    words =
+        record { at = 58; word = 3 } ∷ record { at = 60; word = 40 } ∷ record { at = 61; word = 18446744073709551611 } ∷ [];
+  };
   names = known_a ∷ record { name = letter_s; spec = spec.Sparse; reference = 40 } ∷ [];
 }
 
@@ -57,7 +59,7 @@ abbrev pub WordsSince : Type 0
 WordsSince = ¬ (Ready
     (record recorder {
       place = Looking (look 4294967303 0);
-      seen_singles = record { at = 25; word = 4294967303 } ∷ [];
+      seen = record recorder.seen { singles = record { at = 25; word = 4294967303 } ∷ [] };
       since_singles = 1;
       taking = true;
     })
@@ -85,8 +87,8 @@ DebtsStay = ¬ (MayJoin (record (opener_of shape 1 1) { outstanding = 1 }) (reco
 -- a join keeps the tails that the recorder saw, and a newcomer has those of its opener
 abbrev pub TailsStay : Type 0
 TailsStay =
-    ((joined (opener_of shape 1 1) (record recorder { seen_tails = 40 ∷ [] })).seen_tails ≡ 40 ∷ [])
-    × ((newcomer (maker []) 0).seen_tails ≡ 16 ∷ [])
+    ((joined (opener_of shape 1 1) (record recorder { seen = record recorder.seen { tails = 40 ∷ [] } })).seen.tails ≡ 40 ∷ [])
+    × ((newcomer (maker []) 0).seen.tails ≡ 16 ∷ [])
 
 -- the first entries of an opener were accepted, and stand in no redundant count that is kept
 abbrev pub FirstEntriesApart : Type 0

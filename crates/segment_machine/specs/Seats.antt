@@ -5,10 +5,15 @@ use Rattle.segment_image.specs.declared.layout.TheConstants.{HEADER_WORDS}
 use Rattle.segment_image.specs.Shape.{Dimensions}
 use Rattle.segment_machine.specs.declared.place.Place.TheVariants.{Spent, Idle}
 use Rattle.segment_machine.specs.declared.actor.Actor.{Actor}
+use Rattle.segment_machine.specs.declared.seen.Seen.{Seen}
 use Rattle.segment_machine.specs.declared.actor.Answered.{Answered}
 use Rattle.segment_machine.specs.declared.actor.Moment.{Moment}
 use Rattle.segment_machine.specs.declared.actor.Taken.{Taken}
 use Rattle.segment_machine.specs.Actor.{log_of, is_bound, looking}
+
+-- nothing that was seen
+abbrev pub nothing_seen : Seen
+nothing_seen = record { free = 0; chain = []; tails = []; singles = []; counts = []; words = []; cursors = [] }
 
 -- an actor that has done nothing, and has seen this free pointer
 abbrev pub idle : Dimensions → ℕ → ℕ → ℕ → ℕ → Actor
@@ -30,13 +35,7 @@ idle shape version cursors free share = record {
   published = [];
   spoiled = false;
   filled = false;
-  seen_free = free;
-  seen_chain = [];
-  seen_tails = [];
-  seen_singles = [];
-  seen_counts = [];
-  seen_words = [];
-  seen_cursors = [];
+  seen = record nothing_seen { free = free };
   names = [];
   owed = [];
   taken = [];
@@ -65,14 +64,9 @@ parent a units = record a { share = a.share - units; made = a.made + 1; outstand
 
 -- and the recorder: it has seen what its opener has, done nothing, and knows no histogram
 abbrev pub newcomer : Actor → ℕ → Actor
-newcomer a units = looking (record (idle a.shape a.version a.cursors a.seen_free units) {
+newcomer a units = looking (record (idle a.shape a.version a.cursors a.seen.free units) {
   inherited = log_of a;
-  seen_chain = a.seen_chain;
-  seen_tails = a.seen_tails;
-  seen_singles = a.seen_singles;
-  seen_counts = a.seen_counts;
-  seen_words = a.seen_words;
-  seen_cursors = a.seen_cursors;
+  seen = a.seen;
   made = a.made;
   outstanding = a.outstanding;
 })
@@ -110,6 +104,18 @@ shifted_answers entries list = map (λ (s : Answered). record s { moment = shift
 abbrev pub longer : List ℕ → List ℕ → List ℕ
 longer a b = if nat_lt (length a) (length b) then b else a
 
+-- what both saw
+abbrev pub both_seen : Seen → Seen → Seen
+both_seen a b = record {
+  free = max a.free b.free;
+  chain = longer a.chain b.chain;
+  tails = a.tails ++ b.tails;
+  singles = a.singles ++ b.singles;
+  counts = a.counts ++ b.counts;
+  words = a.words ++ b.words;
+  cursors = a.cursors ++ b.cursors;
+}
+
 -- What the opener is then: it has what both had, the recorder's log, deltas, snapshots and answers behind its own, and the
 -- rest of the recorder's share.
 abbrev pub joined : Actor → Actor → Actor
@@ -122,13 +128,7 @@ joined a b = record a {
   published = a.published ++ b.published;
   spoiled = a.spoiled || b.spoiled;
   filled = a.filled || b.filled;
-  seen_free = max a.seen_free b.seen_free;
-  seen_chain = longer a.seen_chain b.seen_chain;
-  seen_tails = a.seen_tails ++ b.seen_tails;
-  seen_singles = a.seen_singles ++ b.seen_singles;
-  seen_counts = a.seen_counts ++ b.seen_counts;
-  seen_words = a.seen_words ++ b.seen_words;
-  seen_cursors = a.seen_cursors ++ b.seen_cursors;
+  seen = both_seen a.seen b.seen;
   names = a.names ++ b.names;
   taken = a.taken ++ shifted_taken (length (log_of a)) b.taken;
   snapshots = a.snapshots ++ shifted_answers (length (log_of a)) b.snapshots;

@@ -52,7 +52,7 @@ MayLoadCount a at =
     × (LooksOff a look known ⊎ ((b count : ℕ) × (a.place ≡ CountLoaded look b count) × Buckets a look.histogram known))
     × (bucket < buckets_of known.spec) × (at ≡ look.counts + BLOCK_HEADER + bucket))
     ⊎ ((known : Known) × (sample : ℕ) × (value : ℤ) × Sparse a known.reference known
-    × Contains a.seen_chain sample × SawSample a known.reference value sample × (at ≡ sample + SAMPLE_COUNT)
+    × Contains a.seen.chain sample × SawSample a.seen known.reference value sample × (at ≡ sample + SAMPLE_COUNT)
     × MayTurn a × (is_looking a.place ≡ false))
 
 -- the delta that is going on is of this histogram
@@ -70,7 +70,7 @@ MayRaise a at least =
     × (packed_bucket (form_seen a look.histogram word) ≢ Some bucket)
     × (at ≡ look.counts + BLOCK_HEADER + buckets_of known.spec + bucket))
     ⊎ ((sample histogram : ℕ) × (known : Known) × (a.place ≡ SampleLoaded sample least)
-    × (word_seen a.seen_words (sample + SAMPLE_HISTOGRAM) ≡ Some histogram) × Takes a histogram known × (at ≡ sample + SAMPLE_MARK)))
+    × (word_seen a.seen.words (sample + SAMPLE_HISTOGRAM) ≡ Some histogram) × Takes a histogram known × (at ≡ sample + SAMPLE_MARK)))
 
 -- the single mark is raised: to the packed units that were seen since the delta began; or, where the word is off, to the count that was loaded of the packed
 -- bucket, in version 2 with the units that the word keeps
@@ -102,7 +102,7 @@ at_count _ at count = SampleLoaded (at - SAMPLE_COUNT) count
 -- the key whose units are taken at a place
 abbrev pub key_at : Actor → Place → ℤ
 key_at a (CountLoaded look bucket count) = bucket_key (known_at a.names look.histogram) bucket
-key_at a (SampleLoaded sample count) = cast_signed w64 (unwrap_or (word_seen a.seen_words (sample + SAMPLE_VALUE)) 0)
+key_at a (SampleLoaded sample count) = cast_signed w64 (unwrap_or (word_seen a.seen.words (sample + SAMPLE_VALUE)) 0)
 key_at a _ = pos 0
 
 abbrev pub packed_key : Actor → Look → ℤ
@@ -126,21 +126,21 @@ swap_sum sum mark taken = record taken { sum = taken.sum +ℤ (sum -ℤ mark); s
 
 abbrev pub next : Actor → TakingEvent → ℕ → Actor
 next a (load_count at) found =
-    record a { place = at_count a.place at found; seen_counts = a.seen_counts ++ sight at found }
+    record a { place = at_count a.place at found; seen = record a.seen { counts = a.seen.counts ++ sight at found } }
 next a (raise_mark at least) found = record a {
   place = back a.place;
   taken = change_last (take_units (key_at a a.place) least found) a.taken;
-  seen_counts = a.seen_counts ++ sight at (max found least);
+  seen = record a.seen { counts = a.seen.counts ++ sight at (max found least) };
 }
 next a (raise_single_mark histogram least) found = record a {
   place = back a.place;
   taken = change_last (take_units (single_key a a.place) least found) a.taken;
-  seen_counts = a.seen_counts ++ sight (histogram + HISTOGRAM_SINGLE_MARK) (max found least);
+  seen = record a.seen { counts = a.seen.counts ++ sight (histogram + HISTOGRAM_SINGLE_MARK) (max found least) };
 }
 next a (load_sum histogram) found = record a { place = SumLoaded histogram (cast_signed w64 found) }
 next a (swap_sum_mark histogram sum) found =
     record a { place = Idle; taken = change_last (swap_sum sum (cast_signed w64 found)) a.taken }
-next a (load_redundant histogram) found = record a { seen_counts = a.seen_counts ++ sight (histogram + HISTOGRAM_REDUNDANT) found }
+next a (load_redundant histogram) found = record a { seen = record a.seen { counts = a.seen.counts ++ sight (histogram + HISTOGRAM_REDUNDANT) found } }
 
 -- ---- what it learns
 

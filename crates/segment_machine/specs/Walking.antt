@@ -30,24 +30,24 @@ operation size version (load_published at index) = single (atomic.load (at + ind
 abbrev pub IsFixedBehind : Actor → ℕ → ℕ → Type 0
 IsFixedBehind a at index =
     ((HISTOGRAM_KIND ≤ index) × (index < HISTOGRAM_COUNTS)) ⊎ (index ≡ HISTOGRAM_NAME_LENGTH)
-    ⊎ ((len : ℕ) × (word_seen a.seen_words (at + HISTOGRAM_NAME_LENGTH) ≡ Some len) × (HISTOGRAM_NAME ≤ index)
+    ⊎ ((len : ℕ) × (word_seen a.seen.words (at + HISTOGRAM_NAME_LENGTH) ≡ Some len) × (HISTOGRAM_NAME ≤ index)
     × ((index < HISTOGRAM_NAME + name_words len)
-    ⊎ ((n : ℕ) × (word_seen a.seen_words (at + HISTOGRAM_KIND) ≡ Some KIND_CUSTOM) × (word_seen a.seen_words (at + HISTOGRAM_BUCKETS) ≡ Some n)
+    ⊎ ((n : ℕ) × (word_seen a.seen.words (at + HISTOGRAM_KIND) ≡ Some KIND_CUSTOM) × (word_seen a.seen.words (at + HISTOGRAM_BUCKETS) ≡ Some n)
     × (index < HISTOGRAM_NAME + name_words len + (n - 1)))))
 
 -- a word of a published record that never changes: its type; of a histogram those above; of a sample its histogram and its value
 abbrev pub IsFixed : Actor → ℕ → ℕ → Type 0
 IsFixed a at index =
-    (index ≡ BLOCK_TYPE) ⊎ ((word_seen a.seen_words (at + BLOCK_TYPE) ≡ Some TYPE_HISTOGRAM) × IsFixedBehind a at index)
-    ⊎ ((word_seen a.seen_words (at + BLOCK_TYPE) ≡ Some TYPE_SAMPLE) × (SAMPLE_HISTOGRAM ≤ index) × (index < SAMPLE_COUNT))
+    (index ≡ BLOCK_TYPE) ⊎ ((word_seen a.seen.words (at + BLOCK_TYPE) ≡ Some TYPE_HISTOGRAM) × IsFixedBehind a at index)
+    ⊎ ((word_seen a.seen.words (at + BLOCK_TYPE) ≡ Some TYPE_SAMPLE) × (SAMPLE_HISTOGRAM ≤ index) × (index < SAMPLE_COUNT))
 
 -- it has met a record, or the queue block; or a shared cursor that it loaded stands there
 abbrev pub MayFollow : Actor → ℕ → Type 0
-MayFollow a at = (at ≡ QUEUE) ⊎ Contains a.seen_chain at ⊎ ((cursor : ℕ) × (a.place ≡ CursorLoaded cursor at))
+MayFollow a at = (at ≡ QUEUE) ⊎ Contains a.seen.chain at ⊎ ((cursor : ℕ) × (a.place ≡ CursorLoaded cursor at))
 
 abbrev pub Ready : Actor → WalkingEvent → Type 0
 Ready a (load_next at) = MayTurn a × MayFollow a at
-Ready a (load_published at index) = MayTurn a × Contains a.seen_chain at × IsFixed a at index
+Ready a (load_published at index) = MayTurn a × Contains a.seen.chain at × IsFixed a at index
 
 -- ---- what becomes of the actor
 
@@ -63,8 +63,8 @@ behind (CursorLoaded cursor at) from found =
 behind place from found = place
 
 abbrev pub next : Actor → WalkingEvent → ℕ → Actor
-next a (load_next at) found = record a { place = behind a.place at found; seen_chain = extended a.seen_chain at found }
-next a (load_published at index) found = record a { seen_words = a.seen_words ++ sight (at + index) found }
+next a (load_next at) found = record a { place = behind a.place at found; seen = record a.seen { chain = extended a.seen.chain at found } }
+next a (load_published at index) found = record a { seen = record a.seen { words = a.seen.words ++ sight (at + index) found } }
 
 -- ---- what it learns
 
@@ -75,7 +75,7 @@ EndsWithin a at index found =
     (index ≡ BLOCK_TYPE → found ≡ TYPE_HISTOGRAM → at + HISTOGRAM_NAME ≤ a.shape.size)
     × (index ≡ BLOCK_TYPE → found ≡ TYPE_SAMPLE → at + SAMPLE_LEAST ≤ a.shape.size)
     × (index ≡ HISTOGRAM_NAME_LENGTH → at + HISTOGRAM_NAME + name_words found ≤ a.shape.size)
-    × ((len : ℕ) → index ≡ HISTOGRAM_BUCKETS → word_seen a.seen_words (at + HISTOGRAM_KIND) ≡ Some KIND_CUSTOM → word_seen a.seen_words (at + HISTOGRAM_NAME_LENGTH) ≡ Some len
+    × ((len : ℕ) → index ≡ HISTOGRAM_BUCKETS → word_seen a.seen.words (at + HISTOGRAM_KIND) ≡ Some KIND_CUSTOM → word_seen a.seen.words (at + HISTOGRAM_NAME_LENGTH) ≡ Some len
     → at + HISTOGRAM_NAME + name_words len + (found - 1) ≤ a.shape.size)
 
 abbrev pub Learned : Actor → WalkingEvent → ℕ → Type 0

@@ -2,15 +2,10 @@
 
 use crate::entry::{Counting, Entry};
 use crate::place::Place;
+use crate::seen::Seen;
 use bucket_ranges::Spec;
 use segment_image::Shape;
 use std::collections::LinkedList;
-
-/// A word that was seen: where it stands, and what it was.
-pub struct Sighting {
-    pub at: u64,
-    pub word: u64,
-}
 
 /// Words that an allocation claimed: where they begin, and how many they are.
 pub struct Claim {
@@ -153,21 +148,8 @@ pub struct Actor {
 
     // ---- what it has seen
 
-    /// The free pointer that it saw last.
-    pub seen_free: u64,
-    /// The chain, so far as it has walked along it.
-    pub seen_chain: LinkedList<u64>,
-    /// The tails that it saw.
-    pub seen_tails: LinkedList<u64>,
-    /// The single words that it saw, by where they stand.
-    pub seen_singles: LinkedList<Sighting>,
-    /// The counts, marks and redundant counts that it saw.
-    pub seen_counts: LinkedList<Sighting>,
-    /// The words of published records that it saw and that never change: types, specs, names, samples, and counts
-    /// references other than 0.
-    pub seen_words: LinkedList<Sighting>,
-    /// The shared cursors that it saw, by their numbers.
-    pub seen_cursors: LinkedList<Sighting>,
+    /// What it has seen of the segment.
+    pub seen: Seen,
 
     // ---- what its calls answered
 

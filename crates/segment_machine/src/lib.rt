@@ -17,9 +17,9 @@ mod actor;
 mod entry;
 pub mod laws;
 mod place;
+mod seen;
 
-pub use actor::{
-    Actor, Answered, Claim, Cost, Given, Known, Made, Moment, Own, Published, Sighting, Taken,
-};
+pub use actor::{Actor, Answered, Claim, Cost, Given, Known, Made, Moment, Own, Published, Taken};
 pub use entry::{Counting, Entry};
 pub use place::{Look, Place};
+pub use seen::{Seen, Sighting};

@@ -25,7 +25,7 @@ use Rattle.segment_machine.specs.Cursors.{load_cursor, move_cursor, after_cursor
 use Rattle.segment_machine.specs.Note.{Note, Notes, noted, begins, amounts, asks, knows, takes, has_taken, looks, answers, ends, refused, declines}
 use Rattle.segment_machine.specs.State.{State, memory}
 use Rattle.segment_invariant.specs.Body.{Anatomy, layout_of}
-use Rattle.segment_invariant.specs.Kept.{Kept}
+use Rattle.segment_invariant.specs.Invariant.{Invariant}
 use Rattle.segment_invariant.specs.Keeps.{found_at, happened}
 use Rattle.segment_invariant.specs.Keeps.{NoteKeeps}
 use Rattle.segment_promises.specs.Follows.{StepsFollow, Told, TablesFollow}
@@ -56,11 +56,11 @@ abbrev with_actor : State → ℕ → Actor → State
 with_actor state id a = record state { actors = set state.actors id a }
 
 -- notes that keep what holds keep it one after the other
-notes_keep : (shape : Dimensions) (opened : Anatomy) (notes : List Note) (state : State) (id : ℕ) (a b : Actor) → Kept shape opened state
+notes_keep : (shape : Dimensions) (opened : Anatomy) (notes : List Note) (state : State) (id : ℕ) (a b : Actor) → Invariant shape opened state
     → get_elem? state.actors id ≡ some a → a.opener ≡ 0 → Notes a notes b → ((note : Note) → Contains notes note → NoteKeeps note)
-    → Kept shape opened (with_actor state id b) × (b.opener ≡ 0)
+    → Invariant shape opened (with_actor state id b) × (b.opener ≡ 0)
 notes_keep shape opened [] state id a b kept there records same keep = (
-  subst (λ actors. Kept shape opened (record state { actors = actors }))
+  subst (λ actors. Invariant shape opened (record state { actors = actors }))
       (sym (set_again state.actors id a there) ∙ ap (λ x. set state.actors id x) same) kept,
   sym (ap (λ (x : Actor). x.opener) same) ∙ records,
 )
@@ -68,7 +68,7 @@ notes_keep shape opened (note ∷ notes) state id a b kept there records (may, m
     let first = keep note (0, omega arith, refl) shape opened state id a kept there records may in
     let after_it = notes_keep shape opened notes (with_actor state id (noted a note)) id (noted a note) b first
     (set_at state.actors id a (noted a note) there) (still_records a note ∙ records) more (behind_first note notes NoteKeeps keep) in (
-      subst (λ actors. Kept shape opened (record state { actors = actors })) (set-set state.actors id (noted a note) b) after_it.0,
+      subst (λ actors. Invariant shape opened (record state { actors = actors })) (set-set state.actors id (noted a note) b) after_it.0,
       after_it.1,
     )
 
@@ -159,7 +159,7 @@ steps_follow shape opened old new id event step event_keeps notes_kept kept =
     let behind = notes_keep shape opened step.behind mid id acted step.then_is did.0 there (acts_on step.at event (found_at old event) ∙ before.1) step.notes_behind
     (λ n c. notes_kept n (Contains-append_right step.before step.behind n c)) in
     let actors = set-set (set old.actors id step.at) id acted step.then_is ∙ (set-set old.actors id step.at step.then_is ∙ sym step.actors_are) in (
-      subst (Kept shape opened)
+      subst (Invariant shape opened)
           (λ i. record {
             words = words_of_memory new size all step.size step.memory_is i;
             cursors = cursors_of_memory new size all step.size step.memory_is i;

@@ -9,7 +9,7 @@ use Rattle.segment_machine.specs.Event.{Event, spot, change, next, Ready, Learne
 use Rattle.segment_machine.specs.Note.{Note}
 use Rattle.segment_machine.specs.State.{State, memory, IsStep}
 use Rattle.segment_invariant.specs.Body.{Anatomy}
-use Rattle.segment_invariant.specs.Kept.{Kept}
+use Rattle.segment_invariant.specs.Invariant.{Invariant}
 use Rattle.segment_invariant.specs.Keeps.{EventKeeps, found_at, NoteKeeps}
 
 -- ---- a step
@@ -19,7 +19,7 @@ abbrev pub StepsFollow : Type 0
 StepsFollow = (shape : Dimensions) (opened : Anatomy) (old new : State) (id : ℕ) (event : Event)
     → (step : IsStep opened.version old id event new) → EventKeeps event
     → ((note : Note) → Contains (step.before ++ step.behind) note → NoteKeeps note)
-    → Kept shape opened old → Kept shape opened new × Learned step.at event (found_at old event)
+    → Invariant shape opened old → Invariant shape opened new × Learned step.at event (found_at old event)
 
 -- ---- a table's step
 
@@ -30,7 +30,7 @@ pub record Running (S : Type 0) (shape : Dimensions) (opened : Anatomy) (s : tab
   pub segment : State
   pub words : s.words ≡ anchor ∷ memory segment
   pub views : s.views ≡ segment.actors
-  pub kept : Kept shape opened segment
+  pub kept : Invariant shape opened segment
 
 -- what a step tells its seat: the event happened at a word that was `found`
 abbrev pub Told : {S : Type 0} → Event → table.Me S Actor → ℕ → table.Me S Actor → Type 0

@@ -13,7 +13,7 @@ use Rattle.bucket_ranges.specs.Reading.{is_sparse, record_buckets, sum_of, spec_
 use Rattle.segment_machine.specs.declared.actor.Actor.{Actor}
 use Rattle.segment_machine.specs.declared.actor.Answered.{Answered}
 use Rattle.segment_machine.specs.declared.actor.Known.{Known}
-use Rattle.segment_machine.specs.declared.actor.Sighting.{Sighting}
+use Rattle.segment_machine.specs.declared.seen.Sighting.{Sighting}
 use Rattle.segment_machine.specs.declared.actor.Taken.{Taken}
 use Rattle.bucket_ranges.specs.Spec.{buckets_of, SameSpec}
 use Rattle.bucket_ranges.specs.declared.spec.Spec.TheVariants as spec
@@ -99,7 +99,7 @@ DeltasTakeAccepted = (shape : Dimensions) (version id cursors : ℕ) (state : St
     → a.taking ≡ true → TookAll a known
     → ((i : ℕ) → has_buckets known.spec ≡ true → i < buckets_of known.spec → IsWhole version a known i
     → tally_units (accepted_by a) known.name (bucket_key (Some known) i) ≤ units_taken state.actors known.name (bucket_key (Some known) i))
-    × ((i : ℕ) (s : Sighting) → has_buckets known.spec ≡ true → i < buckets_of known.spec → Contains (take a.since_counts a.seen_counts) s
+    × ((i : ℕ) (s : Sighting) → has_buckets known.spec ≡ true → i < buckets_of known.spec → Contains (take a.since_counts a.seen.counts) s
     → field_at state.words known.reference HISTOGRAM_COUNTS ≢ 0 → s.at ≡ field_at state.words known.reference HISTOGRAM_COUNTS + BLOCK_HEADER + i
     → s.word ≤ units_taken state.actors known.name (bucket_key (Some known) i))
     × ((value : ℤ) → known.spec ≡ spec.Sparse
@@ -112,7 +112,7 @@ SnapshotsSeeAccepted = (shape : Dimensions) (version id cursors : ℕ) (state : 
     → IsState shape version id cursors state → get_elem? state.actors 0 ≡ some opener → get_elem? state.actors who ≡ some a → Contains a.names known → SawAll a known answered
     → ((i : ℕ) → has_buckets known.spec ≡ true → i < buckets_of known.spec → IsWhole version a known i
     → tally_units (accepted_by a) known.name (bucket_key (Some known) i) ≤ units_listed answered.counts (bucket_key (Some known) i))
-    × ((i : ℕ) (s : Sighting) → has_buckets known.spec ≡ true → i < buckets_of known.spec → Contains (take a.since_counts a.seen_counts) s
+    × ((i : ℕ) (s : Sighting) → has_buckets known.spec ≡ true → i < buckets_of known.spec → Contains (take a.since_counts a.seen.counts) s
     → field_at state.words known.reference HISTOGRAM_COUNTS ≢ 0 → s.at ≡ field_at state.words known.reference HISTOGRAM_COUNTS + BLOCK_HEADER + i
     → s.word ≤ units_listed answered.counts (bucket_key (Some known) i))
     × ((value : ℤ) → known.spec ≡ spec.Sparse → tally_units (accepted_by a) known.name value ≤ units_listed answered.counts value)

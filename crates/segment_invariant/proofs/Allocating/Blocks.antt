@@ -18,7 +18,7 @@ use Rattle.segment_machine.specs.declared.actor.Own.{Own}
 use Rattle.segment_machine.specs.declared.place.Place.{Place}
 use Rattle.segment_machine.specs.State.{State}
 use Rattle.segment_invariant.specs.Body.{held, is_claimed, Piece, extent_of, Anatomy, layout_of, order_of, free_of, claims_of}
-use Rattle.segment_invariant.specs.Kept.{StandsRight, HoldsOwn, IsSetBy, ClaimedRight, Kept}
+use Rattle.segment_invariant.specs.Invariant.{StandsRight, HoldsOwn, IsSetBy, ClaimedRight, Invariant}
 use Rattle.segment_invariant.proofs.Lists.Elements.{rows, rows_more, column}
 use Rattle.segment_invariant.proofs.Blocks.Pieces.{stands_beside, stands_longer, claims_same, claims_grown, with_piece, free_with, raw_piece, grown_by, layout_grown, free_more}
 use Rattle.segment_invariant.proofs.Blocks.Stops.{linked_beside_head}
@@ -43,14 +43,14 @@ behind_on : (seen old new : ℕ) → old + 5 ≤ new → Behind seen old → Beh
 behind_on seen old new five (inl same) = inr (omega (arith, same, five))
 behind_on seen old new five (inr less) = inr (omega (arith, less, five))
 
-module _ (shape : Dimensions) (opened : Anatomy) (state : State) (kept : Kept shape opened state) (id : ℕ) (a : Actor)
+module _ (shape : Dimensions) (opened : Anatomy) (state : State) (kept : Invariant shape opened state) (id : ℕ) (a : Actor)
     (mine : get_elem? state.actors id ≡ some a) (records : a.opener ≡ 0) where
   abbrev anatomy : Anatomy
   anatomy = kept.anatomy
 
   -- the state with these words, and with the actor that goes on
   abbrev pub GoesTo : List ℕ → Doing → Type 0
-  GoesTo words d = Kept shape opened (record { words = words; cursors = state.cursors; actors = set state.actors id (doing a (unlisted a d)) })
+  GoesTo words d = Invariant shape opened (record { words = words; cursors = state.cursors; actors = set state.actors id (doing a (unlisted a d)) })
 
   abbrev Claims : List Piece → Doing → Type 0
   Claims pieces d =
@@ -87,7 +87,7 @@ module _ (shape : Dimensions) (opened : Anatomy) (state : State) (kept : Kept sh
   -- ---- nothing changes but where it stands, and what it saw of the free pointer
 
   pub waits : (p : Place) (seen : ℕ) → TurnsTo a p → Behind seen (free_of anatomy)
-      → StandsRight shape anatomy id (record a { place = p; seen_free = seen }) p
+      → StandsRight shape anatomy id (record a { place = p; seen = record a.seen { free = seen } }) p
       → GoesTo state.words (record (doing_of a) { place = p; seen_free = seen })
   waits p seen turns behind stands =
       let d : Doing = record (doing_of a) { place = p; seen_free = seen } in
@@ -120,7 +120,7 @@ module _ (shape : Dimensions) (opened : Anatomy) (state : State) (kept : Kept sh
     free_stays seen = subst (Behind seen) (sym (free_with anatomy k p q store.there store.long))
 
     -- with what it has of blocks then
-    pub stores : (d : Doing) → TurnsTo a d.place → Claims after.pieces d → d.spoiled ≡ a.spoiled → d.filled ≡ a.filled → d.seen_free ≡ a.seen_free
+    pub stores : (d : Doing) → TurnsTo a d.place → Claims after.pieces d → d.spoiled ≡ a.spoiled → d.filled ≡ a.filled → d.seen_free ≡ a.seen.free
         → StandsRight shape after id (doing a (unlisted a d)) d.place → All (HoldsOwn shape after.pieces id) d.own
         → ((i j : ℕ) (x y : Own) → get_elem? d.own i ≡ some x → get_elem? d.own j ≡ some y → x.at ≡ y.at → i ≡ j)
         → GoesTo words d
@@ -139,7 +139,7 @@ module _ (shape : Dimensions) (opened : Anatomy) (state : State) (kept : Kept sh
           corrupt = corrupt_kept d spoiled;
           full = full_kept d filled;
           stands = stands;
-          seen = subst (λ n. Behind n (free_of after)) (sym seen) (free_stays a.seen_free fits.sees.free);
+          seen = subst (λ n. Behind n (free_of after)) (sym seen) (free_stays a.seen.free fits.sees.free);
           own = own;
           apart = apart;
         })
@@ -174,7 +174,7 @@ module _ (shape : Dimensions) (opened : Anatomy) (state : State) (kept : Kept sh
   Taken new = grown_by anatomy id (new - free_of anatomy)
 
   pub takes : (new : ℕ) (place : Place) → TurnsTo a place → IsRise shape (free_of anatomy) new
-      → StandsRight shape (Taken new) id (record a { place = place; seen_free = new }) place
+      → StandsRight shape (Taken new) id (record a { place = place; seen = record a.seen { free = new } }) place
       → GoesTo (set state.words 7 new) (record (doing_of a) { place = place; seen_free = new })
   takes new place turns rise stands =
       let d : Doing = record (doing_of a) { place = place; seen_free = new } in

@@ -17,7 +17,7 @@ use Rattle.segment_machine.specs.declared.actor.Own.{Own}
 use Rattle.segment_machine.specs.State.{State}
 use Rattle.segment_invariant.specs.Body.{Body, queue, plain, held, Piece, Anatomy, layout_of, order_of, free_of, claims_of}
 use Rattle.segment_invariant.specs.Seen.{Stands}
-use Rattle.segment_invariant.specs.Kept.{StandsRight, HoldsOwn, IsSetBy, ClaimedRight, StandStill, Kept}
+use Rattle.segment_invariant.specs.Invariant.{StandsRight, HoldsOwn, IsSetBy, ClaimedRight, StandStill, Invariant}
 use Rattle.segment_invariant.proofs.Blocks.Pieces.{stands_beside, stood_beside, stands_longer, stood_longer, held_same, amounts_same, held_grown, amounts_grown}
 use Rattle.segment_invariant.proofs.Frames.OneActor.{Doing, doing, TurnsTo}
 use Rattle.segment_invariant.proofs.Frames.Anatomies.{sees_along, calls_along, looks_along, sees_no_more, sees_doing, calls_doing, looks_doing}
@@ -133,7 +133,7 @@ pub record Acts (shape : Dimensions) (opened : Anatomy) (state : State) (old new
 abbrev pub unlisted : Actor → Doing → Doing
 unlisted a d = sees_no_more a (record d { published = a.published; owed = a.owed })
 
-module _ (shape : Dimensions) (opened : Anatomy) (state : State) (kept : Kept shape opened state) (id : ℕ) (a : Actor)
+module _ (shape : Dimensions) (opened : Anatomy) (state : State) (kept : Invariant shape opened state) (id : ℕ) (a : Actor)
     (mine : get_elem? state.actors id ≡ some a) (records : a.opener ≡ 0) where
   abbrev before : Anatomy
   before = kept.anatomy
@@ -141,7 +141,7 @@ module _ (shape : Dimensions) (opened : Anatomy) (state : State) (kept : Kept sh
   module _ (d : Doing) (turns : TurnsTo a d.place) (pieces : List Piece) (spare : ℕ) (corrupt full : Bool) (words : List ℕ)
       (acts : Acts shape opened state before (reshaped before pieces spare corrupt full before.tail) id a (unlisted a d) words) where
     -- it goes on, and the state is kept
-    pub acts_on : Kept shape opened (record { words = words; cursors = state.cursors; actors = set state.actors id (doing a (unlisted a d)) })
+    pub acts_on : Invariant shape opened (record { words = words; cursors = state.cursors; actors = set state.actors id (doing a (unlisted a d)) })
     acts_on =
         let fits = kept.each id a mine turns.lived in
         let new : Anatomy = reshaped before pieces spare corrupt full before.tail in
@@ -163,7 +163,7 @@ module _ (shape : Dimensions) (opened : Anatomy) (state : State) (kept : Kept sh
           full = acts.full;
           stands = acts.stands;
           sees = sees_doing new a (unlisted a d) state.cursors acts.seen
-              (sees_along before pieces spare corrupt full before.tail acts.stays state.cursors a (acts.free a.seen_free fits.sees.free)
+              (sees_along before pieces spare corrupt full before.tail acts.stays state.cursors a.seen (acts.free a.seen.free fits.sees.free)
               fits.sees.tails fits.sees);
           own = acts.own;
           apart = acts.apart;

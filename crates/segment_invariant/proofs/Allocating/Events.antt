@@ -23,7 +23,7 @@ use Rattle.segment_machine.specs.State.{State}
 use Rattle.segment_machine.specs.Event.{Event, allocating_event, spot, Ready, Learned}
 use Rattle.segment_machine.specs.Allocating.{load_flags, load_free, exchange_free, set_flag, after_free}
 use Rattle.segment_invariant.specs.Body.{Anatomy, layout_of, free_of}
-use Rattle.segment_invariant.specs.Kept.{StandsRight, IsSetBy, Kept}
+use Rattle.segment_invariant.specs.Invariant.{StandsRight, IsSetBy, Invariant}
 use Rattle.segment_invariant.proofs.Lists.Elements.{any_there, column}
 use Rattle.segment_invariant.proofs.Blocks.Pieces.{raw_piece, stands_last, free_least, free_within}
 use Rattle.segment_invariant.proofs.Frames.OneActor.{is_plain, turns_plain, turns_unbound}
@@ -38,7 +38,7 @@ set_now opened actors id a b flag there is =
     ∙ ap (λ now. opened || now)
     (sym (any_there (map flag (set actors id b)) id false (at_map flag (set actors id b) id b (set_at actors id a b there) ∙ ap some is)))
 
-module _ (shape : Dimensions) (opened : Anatomy) (state : State) (kept : Kept shape opened state) (id : ℕ) (a : Actor)
+module _ (shape : Dimensions) (opened : Anatomy) (state : State) (kept : Invariant shape opened state) (id : ℕ) (a : Actor)
     (mine : get_elem? state.actors id ≡ some a) (records : a.opener ≡ 0) where
   abbrev anatomy : Anatomy
   anatomy = kept.anatomy
@@ -46,7 +46,7 @@ module _ (shape : Dimensions) (opened : Anatomy) (state : State) (kept : Kept sh
   -- what an event leaves, and what its actor learns
   abbrev pub Keeps : Event → Type 0
   Keeps event =
-      Kept shape opened (after_word opened.version state id a event) × Learned a event (word_at state.words (spot (length state.words) event))
+      Invariant shape opened (after_word opened.version state id a event) × Learned a event (word_at state.words (spot (length state.words) event))
 
   -- the words are those of the shape
   pub words_long : length state.words ≡ shape.size
@@ -54,21 +54,21 @@ module _ (shape : Dimensions) (opened : Anatomy) (state : State) (kept : Kept sh
 
   -- an event that leaves its word as it is
   leaves : (at v : ℕ) (b : Actor) → v ≡ word_at state.words at
-      → Kept shape opened (record { words = state.words; cursors = state.cursors; actors = set state.actors id b })
-      → Kept shape opened (record { words = set state.words at v; cursors = state.cursors; actors = set state.actors id b })
+      → Invariant shape opened (record { words = state.words; cursors = state.cursors; actors = set state.actors id b })
+      → Invariant shape opened (record { words = set state.words at v; cursors = state.cursors; actors = set state.actors id b })
   leaves at v b same =
-      subst (λ (words : List ℕ). Kept shape opened (record { words = words; cursors = state.cursors; actors = set state.actors id b }))
+      subst (λ (words : List ℕ). Invariant shape opened (record { words = words; cursors = state.cursors; actors = set state.actors id b }))
       (sym (ap (set state.words at) same ∙ set-get_or state.words at 0))
 
   -- the flags are loaded
   flags_at : (clear : Bool) → is_bound a.place ≡ false
-      → Kept shape opened (record { words = state.words; cursors = state.cursors; actors = set state.actors id (record a { place = if clear then FlagsLoaded else Idle }) })
+      → Invariant shape opened (record { words = state.words; cursors = state.cursors; actors = set state.actors id (record a { place = if clear then FlagsLoaded else Idle }) })
   flags_at true turn =
       let turns = turns_unbound a FlagsLoaded turn refl in
-      waits shape opened state kept id a mine records FlagsLoaded a.seen_free turns (kept.each id a mine turns.lived).sees.free tt
+      waits shape opened state kept id a mine records FlagsLoaded a.seen.free turns (kept.each id a mine turns.lived).sees.free tt
   flags_at false turn =
       let turns = turns_unbound a Idle turn refl in
-      waits shape opened state kept id a mine records Idle a.seen_free turns (kept.each id a mine turns.lived).sees.free tt
+      waits shape opened state kept id a mine records Idle a.seen.free turns (kept.each id a mine turns.lived).sees.free tt
 
   pub flags_loaded : Ready a (allocating_event load_flags) → Keeps (allocating_event load_flags)
   flags_loaded ready = (leaves 6 (word_at state.words 6) _ refl (flags_at (bit_and (word_at state.words 6) 1 == 0) ready), tt)
@@ -88,10 +88,10 @@ module _ (shape : Dimensions) (opened : Anatomy) (state : State) (kept : Kept sh
       (le-leb 5 (room_at shape free) (omega (arith, room)))
 
   -- what an actor that lives learns of it
-  pointer_learned : a.place ≢ Spent → Behind a.seen_free (word_at state.words 7) × (is_pointer a.shape (word_at state.words 7) ≡ true)
+  pointer_learned : a.place ≢ Spent → Behind a.seen.free (word_at state.words 7) × (is_pointer a.shape (word_at state.words 7) ≡ true)
   pointer_learned lives =
       let fits = kept.each id a mine lives in (
-        subst (Behind a.seen_free) (sym free_is) fits.sees.free,
+        subst (Behind a.seen.free) (sym free_is) fits.sees.free,
         subst (λ (p : Dimensions × ℕ). is_pointer p.0 p.1 ≡ true) (λ i. (sym fits.shaped i, sym free_is i)) lawful_pointer,
       )
 
@@ -107,7 +107,7 @@ module _ (shape : Dimensions) (opened : Anatomy) (state : State) (kept : Kept sh
   abbrev Exchanged : ℕ → ℕ → Bool → Type 0
   Exchanged old new through =
       let found = word_at state.words 7 in
-      Kept shape opened (record {
+      Invariant shape opened (record {
         words = set state.words 7 (if through then new else found);
         cursors = state.cursors;
         actors = set state.actors id (after_free through a old new found);
@@ -130,7 +130,7 @@ module _ (shape : Dimensions) (opened : Anatomy) (state : State) (kept : Kept sh
       let found : ℕ = word_at state.words 7 in
       let turns = turns_plain a Idle (ap is_plain ready) refl in
       let fits = kept.each id a mine turns.lived in
-      let seen : a.seen_free ≡ old = subst (StandsRight shape anatomy id a) ready (kept.standing id a mine) in
+      let seen : a.seen.free ≡ old = subst (StandsRight shape anatomy id a) ready (kept.standing id a mine) in
       let learned = pointer_learned turns.lived in (
         dite (ℕ_discrete found old)
             (λ same.

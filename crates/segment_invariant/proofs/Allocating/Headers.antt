@@ -21,7 +21,7 @@ use Rattle.segment_machine.specs.Allocating.{store_size, store_cookie, store_typ
 use Rattle.segment_machine.specs.Event.{allocating_event, Ready}
 use Rattle.segment_invariant.specs.Body.{plain, held, own_words, is_claimed, Piece, block_of, Anatomy, layout_of, claims_of}
 use Rattle.segment_invariant.specs.Seen.{Stands, HasPlain}
-use Rattle.segment_invariant.specs.Kept.{StandsRight, HoldsOwn, Kept}
+use Rattle.segment_invariant.specs.Invariant.{StandsRight, HoldsOwn, Invariant}
 use Rattle.segment_invariant.proofs.Lists.Elements.{all_at, at_snoc_index}
 use Rattle.segment_invariant.proofs.Blocks.Pieces.{shown_with, stands_here, one_stands, claims_more}
 use Rattle.segment_invariant.proofs.Blocks.Stops.{linked_beside_own}
@@ -45,13 +45,13 @@ apart_longer own block apart others i j x y one two same = elim (at_snoc_index o
   ]
 ]
 
-module _ (shape : Dimensions) (opened : Anatomy) (state : State) (kept : Kept shape opened state) (id : ℕ) (a : Actor)
+module _ (shape : Dimensions) (opened : Anatomy) (state : State) (kept : Invariant shape opened state) (id : ℕ) (a : Actor)
     (mine : get_elem? state.actors id ≡ some a) (records : a.opener ≡ 0) where
   abbrev anatomy : Anatomy
   anatomy = kept.anatomy
 
   abbrev Goes : ℕ → ℕ → Actor → Type 0
-  Goes at v b = Kept shape opened (record { words = set state.words at v; cursors = state.cursors; actors = set state.actors id b })
+  Goes at v b = Invariant shape opened (record { words = set state.words at v; cursors = state.cursors; actors = set state.actors id b })
 
   -- the piece of words in the making
   abbrev raw : ℕ → List ℕ → Piece

@@ -9,7 +9,7 @@ use Rattle.segment_machine.specs.State.{State}
 use Rattle.segment_machine.specs.Event.{Event, allocating_event, spot, Learned, Ready}
 use Rattle.segment_machine.specs.Allocating.{load_flags, load_free, exchange_free, store_size, store_cookie, store_type, store_payload, set_flag}
 use Rattle.segment_invariant.specs.Body.{Anatomy}
-use Rattle.segment_invariant.specs.Kept.{StandsRight, HoldsOwn, Kept}
+use Rattle.segment_invariant.specs.Invariant.{StandsRight, HoldsOwn, Invariant}
 use Rattle.segment_invariant.specs.Keeps.{found_at, happened, AllocatingKeeps}
 use Rattle.segment_invariant.proofs.Lists.Elements.{at_from, all_at}
 use Rattle.segment_invariant.proofs.Blocks.Pieces.{free_least, free_within}
@@ -18,11 +18,11 @@ use Rattle.segment_invariant.proofs.Allocating.Events.{Keeps, words_long, flags_
 use Rattle.segment_invariant.proofs.Allocating.Headers.{size_kept, cookie_kept, type_kept}
 use Rattle.segment_invariant.proofs.Allocating.Payloads.{has_lived, payload_kept}
 
-module _ (shape : Dimensions) (opened : Anatomy) (state : State) (id : ℕ) (a : Actor) (kept : Kept shape opened state)
+module _ (shape : Dimensions) (opened : Anatomy) (state : State) (id : ℕ) (a : Actor) (kept : Invariant shape opened state)
     (mine : get_elem? state.actors id ≡ some a) (records : a.opener ≡ 0) where
   -- what an event does to a word of the segment is what happens
   at_word : (event : Event) → spot (length state.words) event < length state.words → Keeps shape opened state kept id a mine records event
-      → Kept shape opened (happened opened.version state id a event) × Learned a event (found_at state event)
+      → Invariant shape opened (happened opened.version state id a event) × Learned a event (found_at state event)
   at_word event within keeps = happens opened.version state id a event within shape opened keeps
 
   -- a word before the queue block is one, and so is a word of a block

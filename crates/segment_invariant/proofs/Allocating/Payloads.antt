@@ -19,7 +19,7 @@ use Rattle.segment_machine.specs.Allocating.{store_payload, stored}
 use Rattle.segment_machine.specs.Event.{allocating_event, Ready}
 use Rattle.segment_machine.specs.Calls.{change_first, change_own}
 use Rattle.segment_invariant.specs.Body.{plain, held, own_words, is_claimed, Piece, Anatomy}
-use Rattle.segment_invariant.specs.Kept.{StandsRight, HoldsOwn, Kept}
+use Rattle.segment_invariant.specs.Invariant.{StandsRight, HoldsOwn, Invariant}
 use Rattle.segment_invariant.proofs.Lists.Elements.{at_from, contains_at, all_at, all_from}
 use Rattle.segment_invariant.proofs.Blocks.Pieces.{stands_here, stands_beside, not_first, piece_stored, claims_same, with_piece}
 use Rattle.segment_invariant.proofs.Blocks.Stops.{linked_beside_own}
@@ -75,7 +75,7 @@ payload_stored payload n index v from to =
 
 -- ---- a word of a block of its own
 
-module _ (shape : Dimensions) (opened : Anatomy) (state : State) (kept : Kept shape opened state) (id : ℕ) (a : Actor)
+module _ (shape : Dimensions) (opened : Anatomy) (state : State) (kept : Invariant shape opened state) (id : ℕ) (a : Actor)
     (mine : get_elem? state.actors id ≡ some a) (records : a.opener ≡ 0) where
   abbrev anatomy : Anatomy
   anatomy = kept.anatomy
@@ -179,7 +179,7 @@ module _ (shape : Dimensions) (opened : Anatomy) (state : State) (kept : Kept sh
         (λ ne. (z, contains_at (set a.own i y) m z (set_else a.own i m y ne ∙ is), refl, refl))
 
     -- the state is kept with that block
-    pub fills : Kept shape opened (record { words = words; cursors = state.cursors; actors = set state.actors id (record a { own = set a.own i y }) })
+    pub fills : Invariant shape opened (record { words = words; cursors = state.cursors; actors = set state.actors id (record a { own = set a.own i y }) })
     fills =
         let d : Doing = record (doing_of a) { own = set a.own i y } in
         let after : Anatomy = with_piece anatomy k q in
@@ -226,7 +226,7 @@ module _ (shape : Dimensions) (opened : Anatomy) (state : State) (kept : Kept sh
       let changed : change_own at (λ own. record own { payload = stored own.payload index value }) a.own ≡ set a.own i y =
       change_one (λ (own : Own). own.at == at) (λ (own : Own). record own { payload = stored own.payload index value }) a.own i x there
       (eq-eqb x.at at place) (λ j z here passes. fits.apart j i z x here there (eqb-true z.at at passes ∙ sym place)) in (
-        subst (λ (s : ℕ × List Own). Kept shape opened (record {
+        subst (λ (s : ℕ × List Own). Invariant shape opened (record {
           words = set state.words (s.0 + (4 + index)) value;
           cursors = state.cursors;
           actors = set state.actors id (record a { own = s.1 });

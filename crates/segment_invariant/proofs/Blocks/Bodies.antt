@@ -21,7 +21,7 @@ use Rattle.segment_machine.specs.Form.{units_in}
 use Rattle.segment_machine.specs.Made.{AreNameWords}
 use Rattle.segment_invariant.specs.Body.{Record, Counts, Sample, own_words, record_words, counts_words, sample_words, spec_field}
 use Rattle.segment_invariant.specs.Ledger.{form_at}
-use Rattle.segment_invariant.specs.Kept.{IsLawfulRecord, IsCountsOf, IsLawfulSample, CountsNothing}
+use Rattle.segment_invariant.specs.Invariant.{IsLawfulRecord, IsCountsOf, IsLawfulSample, CountsNothing}
 
 -- ---- the single word of a new record
 

@@ -18,7 +18,7 @@ use Rattle.segment_machine.specs.Form.{units_in}
 use Rattle.segment_invariant.specs.Body.{Record, Counts, Sample, Body, queue, plain, held, histogram, counts, sample, other, own_words, words_of, is_claimed, Piece, extent_of, Anatomy, layout_of, free_of, claims_of}
 use Rattle.segment_invariant.specs.Ledger.{units_held, marks_held, sum_held, sum_mark_held, noted_held, form_at, at_bucket}
 use Rattle.segment_invariant.specs.Seen.{Stands}
-use Rattle.segment_invariant.specs.Kept.{StandStill}
+use Rattle.segment_invariant.specs.Invariant.{StandStill}
 use Rattle.segment_invariant.proofs.Blocks.Pieces.{piece_word, not_first, with_piece, piece_stored, free_with, stands_beside, stood_beside, claims_same, held_same, amounts_same}
 use Rattle.segment_invariant.proofs.Allocating.Claimers.{still_put, AllClaimedRight, right_put}
 use Rattle.segment_invariant.proofs.Frames.Growth.{with_next, same_next}

@@ -19,7 +19,7 @@ use Rattle.alloc_core.proofs.ClaimedBlocks.{IsClaimedAt, lawful_at}
 use Rattle.segment_machine.specs.declared.actor.Claim.{Claim}
 use Rattle.segment_invariant.specs.Consistent.{run_of}
 use Rattle.segment_invariant.specs.Body.{Body, queue, plain, held, histogram, counts, sample, other, words_of, is_claimed, Piece, extent_of, block_of, Anatomy, layout_of, claims_of}
-use Rattle.segment_invariant.specs.Kept.{ClaimedRight}
+use Rattle.segment_invariant.specs.Invariant.{ClaimedRight}
 use Rattle.segment_invariant.proofs.Lists.Elements.{from_map, all_from, contains_at, contains_filter, below_length}
 use Rattle.segment_invariant.proofs.Lists.Maps.{contains_map}
 use Rattle.segment_invariant.proofs.Blocks.Pieces.{claim_of, piece_word, first_piece, some_first, one_piece, pieces_apart, piece_from, piece_ends}

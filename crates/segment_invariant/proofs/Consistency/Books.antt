@@ -19,7 +19,7 @@ use Rattle.segment_machine.specs.Form.{units_in}
 use Rattle.segment_invariant.specs.Body.{Record, Counts, Sample, Body, queue, plain, held, histogram, counts, sample, other, Piece, Listed, blank}
 use Rattle.segment_invariant.specs.Ledger.{form_at, of_name, at_bucket, keyed, key_of_bucket, units_held, marks_held, all_held}
 use Rattle.segment_invariant.specs.Seen.{HasRecord, HasCounts, HasSample, IsNamed, IsFirst, IsFirstOf}
-use Rattle.segment_invariant.specs.Kept.{Kept, CountsNothing}
+use Rattle.segment_invariant.specs.Invariant.{Invariant, CountsNothing}
 use Rattle.segment_invariant.proofs.Lists.Elements.{at_from, split_at, first_unique}
 use Rattle.segment_invariant.proofs.Blocks.Pieces.{one_piece, one_stands}
 use Rattle.segment_invariant.proofs.Lists.FewTerms.{sum_one, sum_pair}
@@ -120,7 +120,7 @@ module _ (version : ℕ) (name : List ℕ) (key : ℤ) (holds : Body → ℕ) (p
 
 -- ---- a kept state of a new segment
 
-module _ (shape : Dimensions) (version id : ℕ) (state : State) (kept : Kept shape (blank version id shape.size) state) where
+module _ (shape : Dimensions) (version id : ℕ) (state : State) (kept : Invariant shape (blank version id shape.size) state) where
   abbrev pieces : List Piece
   pieces = kept.anatomy.pieces
 

@@ -32,7 +32,7 @@ use Rattle.segment_invariant.specs.Consistent.{SawBefore, ListIsChain, all_claim
 use Rattle.segment_invariant.specs.Consistent.{new_opening}
 use Rattle.segment_invariant.specs.Body.{is_claimed, Piece, extent_of, block_of, Listed, listed, Anatomy, layout_of, order_of, free_of, claims_of, blank}
 use Rattle.segment_invariant.specs.Seen.{IsNoLater, Sees}
-use Rattle.segment_invariant.specs.Kept.{StandsAs, Kept}
+use Rattle.segment_invariant.specs.Invariant.{StandsAs, Invariant}
 use Rattle.segment_invariant.specs.Keeps.{KeptIsChain}
 use Rattle.segment_invariant.proofs.Lists.Elements.{at_from, contains_at}
 use Rattle.segment_invariant.proofs.Blocks.Pieces.{claim_of, piece_word, some_first, first_piece}
@@ -98,21 +98,21 @@ no_later words chain seen present linked (m, n, le, within, before, behind) i j 
     omega (arith, e, f, le)
 
 saw_before : (words cursors : List ℕ) (anatomy : Anatomy) (a : Actor) → IsLinked words (order_of anatomy) → word_at words 7 ≡ free_of anatomy
-    → word_at words 8 ≡ anatomy.tail → Sees anatomy cursors a → SawBefore words cursors (order_of anatomy) a
+    → word_at words 8 ≡ anatomy.tail → Sees anatomy cursors a.seen → SawBefore words cursors (order_of anatomy) a
 saw_before words cursors anatomy a linked free tail sees = record {
-  free = subst (Behind a.seen_free) (sym free) sees.free;
+  free = subst (Behind a.seen.free) (sym free) sees.free;
   walked = sees.walked;
   tail = λ seen i j there low high first second.
-      let before = All-contains (λ place. IsNoLater (order_of anatomy) place anatomy.tail) a.seen_tails seen sees.tails there in
+      let before = All-contains (λ place. IsNoLater (order_of anatomy) place anatomy.tail) a.seen.tails seen sees.tails there in
       no_later words (order_of anatomy) seen anatomy.tail linked before i j low high first (second ∙ tail);
   cursor = λ s there i j low high first second.
-      let shared = All-contains (λ s. (s.at < length cursors) × IsNoLater (order_of anatomy) s.word (slice_index cursors s.at)) a.seen_cursors s sees.shared there in
+      let shared = All-contains (λ s. (s.at < length cursors) × IsNoLater (order_of anatomy) s.word (slice_index cursors s.at)) a.seen.cursors s sees.shared there in
       no_later words (order_of anatomy) s.word (slice_index cursors s.at) linked shared.1 i j low high first second;
 }
 
 -- ---- a kept state of a new segment
 
-module _ (shape : Dimensions) (version id : ℕ) (state : State) (lawful : IsShape shape) (kept : Kept shape (blank version id shape.size) state) where
+module _ (shape : Dimensions) (version id : ℕ) (state : State) (lawful : IsShape shape) (kept : Invariant shape (blank version id shape.size) state) where
   abbrev anatomy : Anatomy
   anatomy = kept.anatomy
 

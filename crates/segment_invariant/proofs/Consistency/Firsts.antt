@@ -19,7 +19,7 @@ use Rattle.segment_invariant.specs.Consistent.{IsHistogram, IsSample, IsSampleOf
 use Rattle.segment_invariant.specs.Consistent as consistent
 use Rattle.segment_invariant.specs.Body.{Record, Sample, Listed, order_of, blank}
 use Rattle.segment_invariant.specs.Seen.{HasRecord, HasSample, IsNamed, IsFirst, IsFirstOf}
-use Rattle.segment_invariant.specs.Kept.{StandsAs, Kept}
+use Rattle.segment_invariant.specs.Invariant.{StandsAs, Invariant}
 use Rattle.segment_invariant.proofs.Lists.Elements.{all_from, all_at, contains_at, split_map}
 use Rattle.segment_invariant.proofs.Blocks.Pieces.{piece_word}
 use Rattle.segment_invariant.proofs.Consistency.Records.{listed_there, each_given, record_word, sample_type, record_name}
@@ -68,7 +68,7 @@ value_word : (value : ℤ) → is_i32 value ≡ true → cast_signed w64 (cast_u
 value_word (pos n) is = let low = ltb-true n 2147483648 is in to_z-of_z w64 (pos n) (search rules)
 value_word (negsuc n) is = let low = ltb-true n 2147483648 is in to_z-of_z w64 (negsuc n) (search rules)
 
-module _ (shape : Dimensions) (version id : ℕ) (state : State) (kept : Kept shape (blank version id shape.size) state) where
+module _ (shape : Dimensions) (version id : ℕ) (state : State) (kept : Invariant shape (blank version id shape.size) state) where
   abbrev Named : List ℕ → Spec → ℕ → Record → Type 0
   Named name spec at r = HasRecord kept.anatomy.pieces at r × (r.name ≡ name) × (r.spec ≡ spec)
 

@@ -7,7 +7,7 @@ use Rattle.alloc_core.specs.Layout.{flags_of}
 use Rattle.alloc_core.proofs.Flags.{other_bits, corrupt_bit, full_bit}
 use Rattle.alloc_core.proofs.Layouts.{flags_word}
 use Rattle.segment_invariant.specs.Body.{layout_of}
-use Rattle.segment_invariant.specs.Kept.{IsSetBy}
+use Rattle.segment_invariant.specs.Invariant.{IsSetBy}
 use Rattle.segment_invariant.specs.Keeps.{KeptFlagsAreSet}
 use Rattle.segment_invariant.proofs.Lists.Elements.{at_from, any_there}
 

@@ -14,7 +14,7 @@ use Rattle.segment_invariant.specs.Consistent.{HasForm}
 use Rattle.segment_invariant.specs.Body.{Record, Counts, blank}
 use Rattle.segment_invariant.specs.Ledger.{form_at}
 use Rattle.segment_invariant.specs.Seen.{HasRecord, HasCounts}
-use Rattle.segment_invariant.specs.Kept.{IsLawfulRecord, IsCountsOf, Kept}
+use Rattle.segment_invariant.specs.Invariant.{IsLawfulRecord, IsCountsOf, Invariant}
 use Rattle.segment_invariant.proofs.Blocks.Pieces.{piece_word}
 use Rattle.segment_machine.proofs.SmallNumbers.{below_three}
 use Rattle.segment_invariant.proofs.Consistency.Blocks.{lawful_piece}
@@ -24,7 +24,7 @@ use Rattle.segment_invariant.proofs.Consistency.Keys.{packed_within}
 use Rattle.segment_invariant.proofs.Consistency.Totals.{sparse_kind, kind_word, mark_word}
 use Rattle.segment_invariant.proofs.Consistency.Held.{counts_ref, counts_nothing}
 
-module _ (shape : Dimensions) (version id : ℕ) (state : State) (kept : Kept shape (blank version id shape.size) state)
+module _ (shape : Dimensions) (version id : ℕ) (state : State) (kept : Invariant shape (blank version id shape.size) state)
     (at : ℕ) (r : Record) (has : HasRecord kept.anatomy.pieces at r) where
   right : IsLawfulRecord kept.anatomy.version shape.page r
   right = kept.records.lawful at r has

@@ -12,7 +12,7 @@ use Rattle.segment_image.specs.Blocks.{field_at}
 use Rattle.bucket_ranges.specs.Reading.{name_of, record_buckets, sample_value}
 use Rattle.list_core.specs.Chain.{IsChain}
 use Rattle.list_core.proofs.Chains.{linked_of, no_queue}
-use Rattle.segment_machine.specs.declared.actor.Sighting.{Sighting}
+use Rattle.segment_machine.specs.declared.seen.Sighting.{Sighting}
 use Rattle.segment_machine.specs.declared.actor.Made.{Made}
 use Rattle.segment_machine.specs.declared.actor.Made.TheVariants as made
 use Rattle.segment_machine.specs.State.{State}
@@ -21,7 +21,7 @@ use Rattle.segment_machine.specs.Form.{Leads}
 use Rattle.segment_invariant.specs.Consistent.{IsHistogram, IsSample, CountsNothing}
 use Rattle.segment_invariant.specs.Body.{Record, record_words, Counts, Body, histogram, counts, sample, other, Listed, order_of, blank}
 use Rattle.segment_invariant.specs.Seen.{Stands, HasRecord, HasCounts, IsFirst, IsFirstOf, WasSingle}
-use Rattle.segment_invariant.specs.Kept.{StandsAs, Kept}
+use Rattle.segment_invariant.specs.Invariant.{StandsAs, Invariant}
 use Rattle.segment_invariant.proofs.Blocks.Pieces.{piece_word, one_stands}
 use Rattle.segment_invariant.proofs.Consistency.Records.{record_word, listed_there}
 use Rattle.segment_invariant.proofs.Consistency.Specs.{buckets_are}
@@ -30,7 +30,7 @@ use Rattle.segment_invariant.proofs.Lists.FewTerms.{zero_index}
 use Rattle.segment_machine.proofs.SmallNumbers.{below_three}
 use Rattle.segment_invariant.proofs.Consistency.Totals.{count_word, mark_word}
 
-module _ (shape : Dimensions) (version id : ℕ) (state : State) (kept : Kept shape (blank version id shape.size) state) where
+module _ (shape : Dimensions) (version id : ℕ) (state : State) (kept : Invariant shape (blank version id shape.size) state) where
   -- a block stands at one place
   counts_there : (at : ℕ) (c d : Counts) → HasCounts kept.anatomy.pieces at c → HasCounts kept.anatomy.pieces at d → c ≡ d
   counts_there at c d first second =

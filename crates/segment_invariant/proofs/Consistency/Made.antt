@@ -26,7 +26,7 @@ use Rattle.segment_machine.specs.Actor.{all_published}
 use Rattle.segment_invariant.specs.Consistent.{HoldsMade}
 use Rattle.segment_invariant.specs.Body.{Record, Listed, listed, order_of, blank}
 use Rattle.segment_invariant.specs.Seen.{HasRecord, IsFirst, WasSingle}
-use Rattle.segment_invariant.specs.Kept.{StandsAs, Kept}
+use Rattle.segment_invariant.specs.Invariant.{StandsAs, Invariant}
 use Rattle.segment_invariant.specs.Keeps.{KeptRecordsHold}
 use Rattle.segment_invariant.proofs.Lists.Elements.{at_from, contains_at, split_at}
 use Rattle.segment_invariant.proofs.Blocks.Pieces.{piece_word}
@@ -77,7 +77,7 @@ kind_named spec.Sparse = refl
 
 -- ---- a kept state of a new segment
 
-module _ (shape : Dimensions) (version id : ℕ) (state : State) (lawful : IsShape shape) (kept : Kept shape (blank version id shape.size) state) where
+module _ (shape : Dimensions) (version id : ℕ) (state : State) (lawful : IsShape shape) (kept : Invariant shape (blank version id shape.size) state) where
   -- what a record of a histogram holds
   holds_histogram : (at : ℕ) (r : Record) → HasRecord kept.anatomy.pieces at r
       → HoldsMade state.words (order_of kept.anatomy) at (made.Histogram r.name r.spec)
@@ -182,7 +182,7 @@ records_hold shape version id state lawful kept = record {
         subst (λ (at : ℕ). ¬ (Contains (order_of kept.anatomy) at)) (sym names_it) (counts_unlisted shape version id state kept r.counts c mounted),
       );
   singles = λ who a alive lives s at seen there same. single_leads shape version id state kept s at
-      (All-contains (WasSingle kept.anatomy.version kept.anatomy.pieces) a.seen_singles s (kept.each who a alive lives).sees.singles seen) same;
+      (All-contains (WasSingle kept.anatomy.version kept.anatomy.pieces) a.seen.singles s (kept.each who a alive lives).sees.singles seen) same;
   later = λ at other there one is apart.
       let (l, name, kind, r, among, place, made, (has, named, specified)) = listed_record shape version id state kept at there one in
       let from = (claimed_piece shape state.words kept.anatomy kept.shown kept.blocks has.0 _ has.1 refl).from in

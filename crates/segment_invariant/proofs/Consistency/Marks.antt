@@ -14,7 +14,7 @@ use Rattle.bucket_ranges.specs.declared.single.SingleWord.TheVariants.{Empty, Pa
 use Rattle.bucket_ranges.specs.Spec.{buckets_of}
 use Rattle.bucket_ranges.specs.Reading.{count_at, mark_at, total_of, mark_of}
 use Rattle.bucket_ranges.specs.Single.{packed_bucket, is_packed_bucket, units_packed}
-use Rattle.segment_machine.specs.declared.actor.Sighting.{Sighting}
+use Rattle.segment_machine.specs.declared.seen.Sighting.{Sighting}
 use Rattle.segment_machine.specs.State.{State}
 use Rattle.segment_machine.specs.Entry.{tally_units}
 use Rattle.segment_machine.specs.Form.{units_in}
@@ -23,7 +23,7 @@ use Rattle.segment_invariant.specs.Consistent.{key_at, units_taken}
 use Rattle.segment_invariant.specs.Body.{Record, blank}
 use Rattle.segment_invariant.specs.Ledger.{form_at, key_of_bucket, at_bucket, keyed, marks_held, all_held}
 use Rattle.segment_invariant.specs.Seen.{HasRecord, IsFirst, WasCounter}
-use Rattle.segment_invariant.specs.Kept.{Kept}
+use Rattle.segment_invariant.specs.Invariant.{Invariant}
 use Rattle.segment_invariant.specs.Keeps.{KeptMarksAreTaken}
 use Rattle.segment_invariant.proofs.Blocks.Places.{counter_within}
 use Rattle.segment_invariant.proofs.Blocks.Pieces.{piece_word}
@@ -65,7 +65,7 @@ at_most_greater k n m le = omega (arith, le)
 
 -- ---- a kept state of a new segment
 
-module _ (shape : Dimensions) (version id : ℕ) (state : State) (kept : Kept shape (blank version id shape.size) state) where
+module _ (shape : Dimensions) (version id : ℕ) (state : State) (kept : Invariant shape (blank version id shape.size) state) where
   abbrev form : Record → Option SingleWord
   form r = form_at kept.anatomy.version r
 
@@ -186,6 +186,6 @@ marks_are_taken shape version id state lawful kept = record {
       ap (cast_signed w64) (record_word shape state.words kept.anatomy kept.shown at r 12 has (omega arith))
       ∙ (sym (sum_mark_is shape version id state kept name kind at r first has named) ∙ kept.balanced.sum_marks name);
   seen = λ who a there lives. All-weaker (WasCounter kept.anatomy.pieces) (λ s. s.word ≤ word_at state.words s.at)
-      (seen_within shape version id state kept) a.seen_counts (kept.each who a there lives).sees.counters;
+      (seen_within shape version id state kept) a.seen.counts (kept.each who a there lives).sees.counters;
   snapshots = λ who a there lives. (kept.each who a there lives).snapshots;
 }

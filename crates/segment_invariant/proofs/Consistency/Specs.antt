@@ -17,7 +17,7 @@ use Rattle.segment_invariant.specs.Consistent.{key_at}
 use Rattle.segment_invariant.specs.Body.{Record, histogram, Anatomy, layout_of, record_words}
 use Rattle.segment_invariant.specs.Ledger.{form_at, key_of_bucket}
 use Rattle.segment_invariant.specs.Seen.{HasRecord}
-use Rattle.segment_invariant.specs.Kept.{IsLawfulRecord}
+use Rattle.segment_invariant.specs.Invariant.{IsLawfulRecord}
 use Rattle.segment_invariant.proofs.Consistency.Records.{piece_part, record_word, name_long}
 
 -- ---- a spec by its words

@@ -17,7 +17,7 @@ use Rattle.segment_invariant.specs.Consistent.{redundant_at_opening}
 use Rattle.segment_invariant.specs.Body.{Record, Body, queue, plain, held, histogram, counts, sample, other, is_claimed, Piece, blank}
 use Rattle.segment_invariant.specs.Ledger.{of_name, amount_of_name, sum_held, sum_mark_held, noted_held, all_held, all_amounts}
 use Rattle.segment_invariant.specs.Seen.{Stands, HasRecord, IsFirst}
-use Rattle.segment_invariant.specs.Kept.{Kept, CountsNothing}
+use Rattle.segment_invariant.specs.Invariant.{Invariant, CountsNothing}
 use Rattle.segment_invariant.specs.Keeps.{KeptSumsAreAmounts}
 use Rattle.segment_invariant.proofs.Blocks.Pieces.{one_piece}
 use Rattle.segment_invariant.proofs.Lists.FewTerms.{Elsewhere, sum_one, amounts_one}
@@ -84,7 +84,7 @@ no_noted name (other size tag next payload) empty = refl
 
 -- ---- a kept state of a new segment
 
-module _ (shape : Dimensions) (version id : ℕ) (state : State) (kept : Kept shape (blank version id shape.size) state) where
+module _ (shape : Dimensions) (version id : ℕ) (state : State) (kept : Invariant shape (blank version id shape.size) state) where
   -- a published block has no owner
   pub published_at : (j : ℕ) (p : Piece) (body : Body) → get_elem? kept.anatomy.pieces j ≡ some p → p.body ≡ body → is_claimed body ≡ true
       → ((block : Own) → body ≢ held block) → Stands kept.anatomy.pieces p.at none body

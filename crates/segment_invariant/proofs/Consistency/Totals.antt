@@ -33,7 +33,7 @@ use Rattle.segment_invariant.specs.Consistent.{HasPlace}
 use Rattle.segment_invariant.specs.Body.{Record, Counts, histogram, order_of, blank}
 use Rattle.segment_invariant.specs.Ledger.{form_at, key_of_bucket, at_bucket, keyed, units_held, all_held, moving_of, moving_at, all_moving}
 use Rattle.segment_invariant.specs.Seen.{HasRecord, HasCounts, IsFirst, Knows}
-use Rattle.segment_invariant.specs.Kept.{StandsRight, Kept, HasKey}
+use Rattle.segment_invariant.specs.Invariant.{StandsRight, Invariant, HasKey}
 use Rattle.segment_invariant.specs.Keeps.{KeptTotalsAreCounted}
 use Rattle.segment_invariant.proofs.Blocks.Pieces.{piece_word, one_stands}
 use Rattle.segment_invariant.proofs.Counting.Seen.{count_in}
@@ -92,7 +92,7 @@ find_known (x ∷ xs) reference (suc k) known there same = either (x.reference =
 
 -- ---- a kept state of a new segment
 
-module _ (shape : Dimensions) (version id : ℕ) (state : State) (kept : Kept shape (blank version id shape.size) state) where
+module _ (shape : Dimensions) (version id : ℕ) (state : State) (kept : Invariant shape (blank version id shape.size) state) where
   -- a record's kind by its word
   pub kind_word : (at : ℕ) (r : Record) → HasRecord kept.anatomy.pieces at r → is_sparse state.words at ≡ (slice_index (spec_fields r.spec) 0 == 4)
   kind_word at r has = ap (λ (n : ℕ). n == 4) (record_word shape state.words kept.anatomy kept.shown at r 4 has (omega arith))
@@ -167,7 +167,7 @@ module _ (shape : Dimensions) (version id : ℕ) (state : State) (kept : Kept sh
         → (found : Known) × (known_at a.names look.histogram ≡ Some found) × (found.reference ≡ look.histogram) × Knows kept.anatomy found
     moving_known who a look bucket units there place =
         let stands = subst (StandsRight shape kept.anatomy who a) place (kept.standing who a there) in
-        let names = (kept.each who a there (λ spent. cc (sym place ∙ spent))).sees.names in
+        let names = (kept.each who a there (λ spent. cc (sym place ∙ spent))).names in
         let known = at_from a.names stands.0.known stands.0.knows.0 in
         let (found, is, among, names_it) = find_known a.names look.histogram known.0 stands.0.known known.1 stands.0.knows.1 in
         (found, is, names_it, All-contains (Knows kept.anatomy) a.names found names among)

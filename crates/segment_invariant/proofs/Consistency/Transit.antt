@@ -10,7 +10,7 @@ use Rattle.segment_machine.specs.State.{State}
 use Rattle.segment_invariant.specs.Body.{Record, blank}
 use Rattle.segment_invariant.specs.Ledger.{form_at}
 use Rattle.segment_invariant.specs.Seen.{HasRecord}
-use Rattle.segment_invariant.specs.Kept.{StandsRight, Kept}
+use Rattle.segment_invariant.specs.Invariant.{StandsRight, Invariant}
 use Rattle.segment_invariant.specs.Keeps.{KeptTransitIsLocal}
 use Rattle.segment_invariant.proofs.Frames.OneActor.{moves_or_not}
 use Rattle.segment_invariant.proofs.Lists.FewTerms.{some_counts}
@@ -22,7 +22,7 @@ local_to true units above = refl
 local_to false units above = absurd (omega (arith, above))
 
 -- an actor that moves units of a bucket disabled the word of its record, in version 1
-moves : (shape : Dimensions) (version id who : ℕ) (state : State) (kept : Kept shape (blank version id shape.size) state) (a : Actor) (at i : ℕ) (place : Place)
+moves : (shape : Dimensions) (version id who : ℕ) (state : State) (kept : Invariant shape (blank version id shape.size) state) (a : Actor) (at i : ℕ) (place : Place)
     → StandsRight shape kept.anatomy who a place → 0 < transit_at place at i
     → (r : Record) × HasRecord kept.anatomy.pieces at r × (kept.anatomy.version ≡ 1) × (packed_bucket (form_at 1 r) ≡ Some i)
 moves shape version id who state kept a at i place stands above = ⊎_elim

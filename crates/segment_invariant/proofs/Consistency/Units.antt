@@ -15,7 +15,7 @@ use Rattle.segment_machine.specs.Actor.{counted_of, noted_of, cost_of, all_costs
 use Rattle.segment_invariant.specs.Consistent.{IsHistogram, IsSum}
 use Rattle.segment_invariant.specs.Body.{Record, order_of, blank}
 use Rattle.segment_invariant.specs.Seen.{HasRecord}
-use Rattle.segment_invariant.specs.Kept.{summed_cost, summed_costs, IsSumOf, CallsRight, StandsRight, Kept}
+use Rattle.segment_invariant.specs.Invariant.{summed_cost, summed_costs, IsSumOf, CallsRight, StandsRight, Invariant}
 use Rattle.segment_invariant.specs.Keeps.{KeptUnitsAreKept}
 use Rattle.segment_invariant.proofs.Lists.Elements.{at_from}
 use Rattle.segment_invariant.proofs.Frames.OneActor.{summed_most}
@@ -32,7 +32,7 @@ summed_is_spent name actors =
 
 -- ---- a kept state of a new segment
 
-module _ (shape : Dimensions) (version id : ℕ) (state : State) (kept : Kept shape (blank version id shape.size) state) where
+module _ (shape : Dimensions) (version id : ℕ) (state : State) (kept : Invariant shape (blank version id shape.size) state) where
   -- a histogram of the list is a record of its name
   histogram_record : (name : List ℕ) (at : ℕ) → IsHistogram state.words (order_of kept.anatomy) name at
       → (r : Record) × HasRecord kept.anatomy.pieces at r × (r.name ≡ name)

@@ -16,7 +16,7 @@ use Rattle.segment_machine.specs.State.{State}
 use Rattle.segment_invariant.specs.Body.{Record, Counts, Body, plain, histogram, counts, Piece, Anatomy}
 use Rattle.segment_invariant.specs.Ledger.{form_at, key_of_bucket, keyed, units_held, all_held}
 use Rattle.segment_invariant.specs.Seen.{HasRecord, HasCounts}
-use Rattle.segment_invariant.specs.Kept.{IsCountsOf, Kept}
+use Rattle.segment_invariant.specs.Invariant.{IsCountsOf, Invariant}
 use Rattle.segment_invariant.proofs.Lists.Elements.{sum_at_least, sum_beside}
 use Rattle.segment_invariant.proofs.Consistency.Keys.{packed_within, packed_units}
 use Rattle.segment_invariant.proofs.Consistency.Sums.{of_mine}
@@ -35,7 +35,7 @@ two_held holds pieces j k p q silent there here apart =
 pub not_sparse : (kind : Spec) (bucket : ℕ) → bucket < buckets_of kind → kind ≢ spec.Sparse
 not_sparse kind bucket below sparse = let none_there = ap buckets_of sparse in omega (arith, below, none_there)
 
-module _ (shape : Dimensions) (opened : Anatomy) (state : State) (kept : Kept shape opened state) where
+module _ (shape : Dimensions) (opened : Anatomy) (state : State) (kept : Invariant shape opened state) where
   pub held_most : (at : ℕ) (r : Record) (c : Counts) (bucket : ℕ) → HasRecord kept.anatomy.pieces at r → HasCounts kept.anatomy.pieces r.counts c
       → IsCountsOf kept.anatomy.version at r c → bucket < buckets_of r.spec
       → slice_index c.units bucket + units_packed (form_at kept.anatomy.version r) bucket

@@ -15,13 +15,13 @@ use Rattle.segment_machine.specs.Calls.{AreCountsOf}
 use Rattle.segment_machine.specs.Actor.{Buckets}
 use Rattle.segment_invariant.specs.Body.{Record, counts, histogram, Anatomy}
 use Rattle.segment_invariant.specs.Seen.{HasRecord, WasFixed}
-use Rattle.segment_invariant.specs.Kept.{Kept}
+use Rattle.segment_invariant.specs.Invariant.{Invariant}
 use Rattle.segment_machine.specs.declared.place.Place.TheVariants.{Spent}
 use Rattle.segment_invariant.proofs.Blocks.Pieces.{piece_word}
-use Rattle.segment_invariant.proofs.Listing.Walks.{block_within}
+use Rattle.segment_invariant.proofs.Walking.Walks.{block_within}
 use Rattle.segment_invariant.proofs.Counting.Seen.{known_stands}
 
-module _ (shape : Dimensions) (opened : Anatomy) (state : State) (kept : Kept shape opened state) (id : ℕ) (a : Actor)
+module _ (shape : Dimensions) (opened : Anatomy) (state : State) (kept : Invariant shape opened state) (id : ℕ) (a : Actor)
     (mine : get_elem? state.actors id ≡ some a) (lives : a.place ≢ Spent) where
   -- the word that is found is the record's, and counts lie within the segment
   pub counts_found : (at : ℕ) (r : Record) → HasRecord kept.anatomy.pieces at r → word_at state.words (at + 8) ≡ r.counts
@@ -43,16 +43,16 @@ module _ (shape : Dimensions) (opened : Anatomy) (state : State) (kept : Kept sh
 
   -- what it comes to know stays
   pub counts_fixed : (histogram : ℕ) → (known : _) → Buckets a histogram known
-      → All (WasFixed kept.anatomy.pieces) (a.seen_words ++ sight_counts histogram (word_at state.words (histogram + 8)))
+      → All (WasFixed kept.anatomy.pieces) (a.seen.words ++ sight_counts histogram (word_at state.words (histogram + 8)))
   counts_fixed at known (has, is, bucketed) =
       let found : ℕ = word_at state.words (at + 8) in
       let fits = kept.each id a mine lives in
       let (r, stands, named, bounds, many) = known_stands shape opened state kept id a mine lives known has in
       let here : HasRecord kept.anatomy.pieces at r = subst (λ (n : ℕ). HasRecord kept.anatomy.pieces n r) is stands in
       let counted = counts_found at r here in
-      let by : Bool → Type 0 = λ b. All (WasFixed kept.anatomy.pieces) (a.seen_words ++ (if b then [] else record { at = at + 8; word = found } ∷ [])) in
+      let by : Bool → Type 0 = λ b. All (WasFixed kept.anatomy.pieces) (a.seen.words ++ (if b then [] else record { at = at + 8; word = found } ∷ [])) in
       dite (ℕ_discrete found 0)
-      (λ none_there. subst by (sym (eq-eqb found 0 none_there)) (subst (All (WasFixed kept.anatomy.pieces)) (sym (append-nil a.seen_words)) fits.sees.fixed))
+      (λ none_there. subst by (sym (eq-eqb found 0 none_there)) (subst (All (WasFixed kept.anatomy.pieces)) (sym (append-nil a.seen.words)) fits.sees.fixed))
       (λ some_there. subst by (sym (ne_eqb found 0 some_there))
-      (All-push (WasFixed kept.anatomy.pieces) a.seen_words (record { at = at + 8; word = found }) fits.sees.fixed
+      (All-push (WasFixed kept.anatomy.pieces) a.seen.words (record { at = at + 8; word = found }) fits.sees.fixed
       (at, 8, histogram r, here, refl, inr (inr (inl (refl, λ none_there. some_there (counted ∙ none_there)))), sym counted)))

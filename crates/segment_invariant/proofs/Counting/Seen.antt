@@ -20,7 +20,7 @@ use Rattle.segment_machine.specs.State.{State}
 use Rattle.segment_invariant.specs.Body.{Record, Counts, counts, words_of, Piece, Listed, Anatomy}
 use Rattle.segment_invariant.specs.Ledger.{form_at}
 use Rattle.segment_invariant.specs.Seen.{HasRecord, HasCounts, WasCounter, WasSingle, Knows}
-use Rattle.segment_invariant.specs.Kept.{StandsAs, Kept}
+use Rattle.segment_invariant.specs.Invariant.{StandsAs, Invariant}
 use Rattle.segment_invariant.proofs.Blocks.Places.{counter_within}
 use Rattle.segment_invariant.proofs.Blocks.Pieces.{one_index}
 use Rattle.segment_invariant.proofs.Consistency.Keys.{same_boundaries, same_buckets}
@@ -41,14 +41,14 @@ off_leads version n old new off (inl same) = same
 off_leads version n old new off (inr (inl empty)) = cc (sym (ap is_off empty) ∙ off)
 off_leads version n old new off (inr (inr (on, same, fewer))) = cc (sym on ∙ off)
 
-module _ (shape : Dimensions) (opened : Anatomy) (state : State) (kept : Kept shape opened state) (id : ℕ) (a : Actor)
+module _ (shape : Dimensions) (opened : Anatomy) (state : State) (kept : Invariant shape opened state) (id : ℕ) (a : Actor)
     (mine : get_elem? state.actors id ≡ some a) (lives : a.place ≢ Spent) where
   -- a histogram that it knows stands as a record of that name and as many buckets, with the same keys
   pub known_stands : (known : Known) → Contains a.names known
       → (r : Record) × HasRecord kept.anatomy.pieces known.reference r × (r.name ≡ known.name) × (boundaries_of r.spec ≡ boundaries_of known.spec)
       × (buckets_of r.spec ≡ buckets_of known.spec)
   known_stands known has =
-      let knows = All-contains (Knows kept.anatomy) a.names known (kept.each id a mine lives).sees.names has in
+      let knows = All-contains (Knows kept.anatomy) a.names known (kept.each id a mine lives).names has in
       let (front, behind, is, others) = knows.first in
       let l : Listed = record { reference = known.reference; made = Some (made.Histogram known.name knows.first_spec) } in
       let (r, stands, named, same) = All-contains (λ l. StandsAs kept.anatomy.pieces l l.made) kept.anatomy.records l kept.list.standing
@@ -66,7 +66,7 @@ module _ (shape : Dimensions) (opened : Anatomy) (state : State) (kept : Kept sh
       let singles = (kept.each id a mine lives).sees.singles in
       let (place, q, (j, here), is, formed, leads) =
       All-contains (WasSingle kept.anatomy.version kept.anatomy.pieces) _ (record { at = at + 9; word = word })
-      (All-drop (WasSingle kept.anatomy.version kept.anatomy.pieces) a.since_singles a.seen_singles singles) saw in
+      (All-drop (WasSingle kept.anatomy.version kept.anatomy.pieces) a.since_singles a.seen.singles singles) saw in
       let index = one_index shape state.words kept.anatomy kept.shown k j _ _ 9 9 there here (omega arith) (omega arith) is in
       let same = some-injective _ _ (sym there ∙ (ap (get_elem? kept.anatomy.pieces) index ∙ here)) in
       let body = ap (λ (p : Piece). slice_index (words_of p.body) 9) same in
@@ -79,7 +79,7 @@ module _ (shape : Dimensions) (opened : Anatomy) (state : State) (kept : Kept sh
       let counters = (kept.each id a mine lives).sees.counters in
       let (place, i, body, (j, here), is, counter, least) =
       All-contains (WasCounter kept.anatomy.pieces) _ (record { at = at + 4 + bucket; word = count })
-      (All-drop (WasCounter kept.anatomy.pieces) a.since_counts a.seen_counts counters) saw in
+      (All-drop (WasCounter kept.anatomy.pieces) a.since_counts a.seen.counts counters) saw in
       let long = length-append c.units c.marks in
       let all = length-append (c.units ++ c.marks) c.rest in
       let where_is : at + (4 + bucket) ≡ place + i = omega (arith, is) in

@@ -15,7 +15,7 @@ use Rattle.list_core.specs.Chain.{stops, IsChain}
 use Rattle.bucket_ranges.specs.Reading.{is_sparse, record_buckets, sum_of, sum_mark_of, name_of, total_of, mark_of}
 use Rattle.segment_machine.specs.declared.entry.Entry.{Entry}
 use Rattle.segment_machine.specs.declared.entry.Counting.{Counting}
-use Rattle.segment_machine.specs.declared.actor.Sighting.{Sighting}
+use Rattle.segment_machine.specs.declared.seen.Sighting.{Sighting}
 use Rattle.segment_machine.specs.declared.actor.Answered.{Answered}
 use Rattle.segment_machine.specs.Form.{Leads}
 use Rattle.segment_machine.specs.declared.place.Place.TheVariants.{Idle, SumLoaded}
@@ -186,7 +186,7 @@ records = record {
       (here at there)
       ((1, omega arith, refl), λ listed. let e = here 32 listed in absurd (omega (arith, e)));
   singles = each_one who
-      (λ (a : Actor). (s : Sighting) (at : ℕ) → Contains a.seen_singles s → Contains chain at → s.at ≡ at + 9
+      (λ (a : Actor). (s : Sighting) (at : ℕ) → Contains a.seen.singles s → Contains chain at → s.at ≡ at + 9
       → Leads 1 (record_buckets mounted at) s.word (word_at mounted s.at))
       (λ s at there. absurd (none_in s there));
   later = λ at other there tag is apart.
@@ -251,7 +251,7 @@ marks = record {
   packed = λ at i there tag one e.
       subst (λ (k : ℕ). field_at mounted k 10 ≤ max (total_of 1 mounted k i) 65535) (here at there) (omega arith);
   sum = λ name at is. of_the_one mounted letter_a (λ n k. sum_mark_of mounted k ≡ pos 0) refl refl name at is;
-  seen = each_one who (λ (a : Actor). All (λ (s : Sighting). s.word ≤ word_at mounted s.at) a.seen_counts)
+  seen = each_one who (λ (a : Actor). All (λ (s : Sighting). s.word ≤ word_at mounted s.at) a.seen.counts)
       (All-nil (λ (s : Sighting). s.word ≤ word_at mounted s.at));
   snapshots = λ id a there lives. nothing_answered id a there lives;
 }

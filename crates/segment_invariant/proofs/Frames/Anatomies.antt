@@ -1,5 +1,5 @@
 -- What holds of an anatomy, where blocks in the making change and what was published stays.
-use Rattle.std.proofs.Common.{◌≡◌, ℕ, ◌+◌, ℤ, Bool, List, inl, inr, ⊎_elim, refl, ap, ◌∙◌}
+use Rattle.std.proofs.Common.{◌≡◌, ℕ, ◌+◌, ℤ, Bool, List, inl, inr, ⊎_elim, refl, ap, ◌∙◌, All}
 use Rattle.std.proofs.lemmas.List.Elements.{All-weaker}
 use mathlib.Core.Option.{some}
 use Rattle.segment_image.specs.Shape.{Dimensions}
@@ -7,12 +7,14 @@ use Rattle.alloc_core.specs.Laws.{Behind}
 use Rattle.list_core.specs.Chain.{IsLinked}
 use Rattle.list_core.specs.Laws.{IsStop}
 use Rattle.segment_machine.specs.declared.actor.Actor.{Actor}
+use Rattle.segment_machine.specs.declared.actor.Known.{Known}
+use Rattle.segment_machine.specs.declared.seen.Seen.{Seen}
 use Rattle.segment_invariant.specs.Body.{Body, held, Piece, Anatomy, order_of, free_of}
 use Rattle.segment_invariant.specs.Ledger.{units_held, marks_held, sum_held, sum_mark_held, noted_held, all_held, all_amounts, all_moving, IsBalanced}
-use Rattle.segment_invariant.specs.Seen.{Stands, HasPlain, AreNoLater, Sees}
-use Rattle.segment_invariant.specs.Kept.{StandsAs, ListIsKept, RecordsAreKept, SumsAreNear, Fits, CallsRight, LooksBack}
+use Rattle.segment_invariant.specs.Seen.{Stands, HasPlain, AreNoLater, Knows, Sees}
+use Rattle.segment_invariant.specs.Invariant.{StandsAs, ListIsKept, RecordsAreKept, SumsAreNear, Fits, CallsRight, LooksBack}
 use Rattle.segment_invariant.proofs.Frames.Standing.{Grounds, own_stays}
-use Rattle.segment_invariant.proofs.Frames.Growth.{reshaped, Stays, Grows, grows_not, stands_as_grows, sees_grow, grounds_grow}
+use Rattle.segment_invariant.proofs.Frames.Growth.{reshaped, Stays, Grows, grows_not, stands_as_grows, names_grow, sees_grow, grounds_grow}
 use Rattle.segment_invariant.proofs.Frames.OneActor.{Doing, doing, TurnsTo}
 
 -- what blocks hold together is the same
@@ -86,9 +88,13 @@ module _ (anatomy : Anatomy) (pieces : List Piece) (spare : ℕ) (corrupt full :
   sums_along actors near at r x y has = near at r x y (stays.back at _ has)
 
   -- what an actor has seen
-  pub sees_along : (cursors : List ℕ) (a : Actor) → Behind a.seen_free (free_of later) → AreNoLater (order_of anatomy) a.seen_tails tail
-      → Sees anatomy cursors a → Sees later cursors a
+  pub sees_along : (cursors : List ℕ) (seen : Seen) → Behind seen.free (free_of later) → AreNoLater (order_of anatomy) seen.tails tail
+      → Sees anatomy cursors seen → Sees later cursors seen
   sees_along = sees_grow anatomy later (λ at body. ⊥) grows
+
+  -- and knows
+  pub names_along : (names : List Known) → All (Knows anatomy) names → All (Knows later) names
+  names_along = names_grow anatomy later (λ at body. ⊥) grows
 
   -- running calls
   pub calls_along : (a : Actor) → CallsRight anatomy a → CallsRight later a
@@ -119,13 +125,14 @@ module _ (anatomy : Anatomy) (pieces : List Piece) (spare : ℕ) (corrupt full :
   -- all that holds of an actor that stores nothing now
   pub fits_along : (shape : Dimensions) (cursors : List ℕ) (actors : List Actor) (opener : Actor) (id : ℕ) (a : Actor)
       → ((at : ℕ) (body : Body) → Stands anatomy.pieces at (some id) body → Stands pieces at (some id) body)
-      → Behind a.seen_free (free_of later) → AreNoLater (order_of anatomy) a.seen_tails tail
+      → Behind a.seen.free (free_of later) → AreNoLater (order_of anatomy) a.seen.tails tail
       → Fits shape anatomy cursors actors opener id a → Fits shape later cursors actors opener id a
   fits_along shape cursors actors opener id a others free no_later fits = record {
     shaped = fits.shaped;
     versioned = fits.versioned;
     numbered = fits.numbered;
-    sees = sees_along cursors a free no_later fits.sees;
+    sees = sees_along cursors a.seen free no_later fits.sees;
+    names = names_along a.names fits.names;
     own = own_stays shape anatomy later id (λ own. others own.at (held own)) a.own fits.own;
     apart = fits.apart;
     owes = fits.owes;
@@ -143,10 +150,10 @@ module _ (anatomy : Anatomy) (pieces : List Piece) (spare : ℕ) (corrupt full :
 
 -- what it saw and looks back at, where it sees nothing but the free pointer
 abbrev pub sees_no_more : Actor → Doing → Doing
-sees_no_more a d = record d { seen_chain = a.seen_chain; seen_tails = a.seen_tails; seen_words = a.seen_words }
+sees_no_more a d = record d { seen_chain = a.seen.chain; seen_tails = a.seen.tails; seen_words = a.seen.words }
 
 module _ (anatomy : Anatomy) (a : Actor) (d : Doing) where
-  pub sees_doing : (cursors : List ℕ) → Behind d.seen_free (free_of anatomy) → Sees anatomy cursors a → Sees anatomy cursors (doing a (sees_no_more a d))
+  pub sees_doing : (cursors : List ℕ) → Behind d.seen_free (free_of anatomy) → Sees anatomy cursors a.seen → Sees anatomy cursors (doing a (sees_no_more a d)).seen
   sees_doing cursors free sees = record {
     free = free;
     walked = sees.walked;
@@ -156,7 +163,6 @@ module _ (anatomy : Anatomy) (a : Actor) (d : Doing) where
     in_use = sees.in_use;
     fixed = sees.fixed;
     shared = sees.shared;
-    names = sees.names;
   }
 
   pub calls_doing : CallsRight anatomy a → CallsRight anatomy (doing a (sees_no_more a d))

@@ -22,7 +22,7 @@ use Rattle.segment_machine.specs.Actor.{all_names, all_owed}
 use Rattle.segment_machine.specs.Publishing.{owed_for, published_as}
 use Rattle.segment_invariant.specs.Body.{Listed}
 use Rattle.segment_invariant.specs.Seen.{IsNamed, IsFirst}
-use Rattle.segment_invariant.specs.Kept.{IsAnswered, AreAnswered, HasPublished, OwesPublished}
+use Rattle.segment_invariant.specs.Invariant.{IsAnswered, AreAnswered, HasPublished, OwesPublished}
 use Rattle.segment_invariant.proofs.Lists.Elements.{rows, row_in, row_from, contains_filter, first_unique}
 
 -- ---- lists

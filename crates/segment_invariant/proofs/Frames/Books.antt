@@ -19,7 +19,7 @@ use Rattle.segment_machine.specs.Actor.{cost_of, given_by, all_counted, all_take
 use Rattle.segment_machine.specs.State.{State}
 use Rattle.segment_invariant.specs.Body.{Piece, Anatomy, layout_of, order_of, claims_of, listed}
 use Rattle.segment_invariant.specs.Ledger.{noted_held, all_held, IsBalanced}
-use Rattle.segment_invariant.specs.Kept.{ClaimedRight, HasKey, ListIsKept, RecordsAreKept, SumsAreNear, IsSetBy, StandStill, RolesAreKept, CursorsAreKept, StandsRight, Fits, Kept, AreAnswered}
+use Rattle.segment_invariant.specs.Invariant.{ClaimedRight, HasKey, ListIsKept, RecordsAreKept, SumsAreNear, IsSetBy, StandStill, RolesAreKept, CursorsAreKept, StandsRight, Fits, Invariant, AreAnswered}
 use Rattle.segment_invariant.proofs.Lists.Elements.{rows}
 use Rattle.segment_invariant.proofs.Frames.Deeds.{Deeds, sums_of}
 use Rattle.segment_invariant.proofs.Frames.Together.{LoadedBefore, balanced, sums_near, taken_keys}
@@ -56,7 +56,7 @@ pub record Books (shape : Dimensions) (opened anatomy : Anatomy) (words cursors 
   pub answered : AreAnswered anatomy.records actors
   pub stand : CursorsStand (order_of anatomy) cursors actors
 
-pub books_of : (shape : Dimensions) (opened : Anatomy) (state : State) (kept : Kept shape opened state)
+pub books_of : (shape : Dimensions) (opened : Anatomy) (state : State) (kept : Invariant shape opened state)
     → Books shape opened kept.anatomy state.words state.cursors state.actors
 books_of shape opened state kept = record {
   shown = kept.shown;
@@ -86,7 +86,7 @@ pub kept_by : (shape : Dimensions) (opened anatomy : Anatomy) (words cursors : L
     → ((id : ℕ) (a : Actor) → get_elem? actors id ≡ some a → All (λ g. Contains (order_of anatomy) g.reference) a.given)
     → ((id : ℕ) (a : Actor) → get_elem? actors id ≡ some a → StandsRight shape anatomy id a a.place)
     → ((id : ℕ) (a : Actor) → get_elem? actors id ≡ some a → a.place ≢ Spent → Fits shape anatomy cursors actors roles.opener id a)
-    → Kept shape opened (record { words = words; cursors = cursors; actors = actors })
+    → Invariant shape opened (record { words = words; cursors = cursors; actors = actors })
 kept_by shape opened anatomy words cursors actors books roles first_noted ordered given standing each = record {
   anatomy = anatomy;
   shown = books.shown;

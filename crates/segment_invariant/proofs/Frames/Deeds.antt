@@ -15,7 +15,7 @@ use Rattle.segment_machine.specs.declared.actor.Taken.{Taken}
 use Rattle.segment_machine.specs.Entry.{is_of, tally_units, tally_sum, tally_noted}
 use Rattle.segment_machine.specs.Actor.{counted_of, summed_of, noted_of, given_by, units_listed, taken_units, taken_sum, units_of, all_counted, all_summed, all_noted, all_taken, all_published, all_given, all_names, all_owed}
 use Rattle.segment_invariant.specs.Ledger.{all_moving, moving_at}
-use Rattle.segment_invariant.specs.Kept.{summed_cost, summed_costs}
+use Rattle.segment_invariant.specs.Invariant.{summed_cost, summed_costs}
 use Rattle.segment_invariant.proofs.Lists.Elements.{split_at}
 use Rattle.segment_invariant.proofs.Lists.Sums.{IsTotal, exchanged, added, numbers, amounts, flags, lists, amounts_total, flags_total}
 

@@ -23,13 +23,13 @@ use Rattle.segment_machine.specs.Event.{Event, spot, change, next, Learned}
 use Rattle.segment_invariant.specs.Keeps.{found_at, happened}
 use Rattle.segment_invariant.specs.Body.{Body, plain, Piece, Anatomy, layout_of, order_of, free_of, claims_of}
 use Rattle.segment_invariant.specs.Seen.{Stands, IsNoLater, Sees}
-use Rattle.segment_invariant.specs.Kept.{StandsRight, HoldsOwn, CallsRight, LooksBack, OwesPublished, Fits, IsSetBy, ClaimedRight, StandStill, Kept}
+use Rattle.segment_invariant.specs.Invariant.{StandsRight, HoldsOwn, CallsRight, LooksBack, OwesPublished, Fits, IsSetBy, ClaimedRight, StandStill, Invariant}
 use Rattle.segment_invariant.proofs.Frames.Standing.{follows_itself, stands_on}
 use Rattle.segment_invariant.proofs.Frames.Together.{balanced, sums_near}
 use Rattle.segment_invariant.proofs.Frames.Books.{cursors_set, listed_set}
 use Rattle.segment_invariant.proofs.Frames.Roles.{roles_set}
 use Rattle.segment_invariant.proofs.Frames.OneActor.{Doing, doing, TurnsTo, SameDeeds, same_role, same_deeds, same_sums, fits_same, finals_doing}
-use Rattle.segment_invariant.proofs.Frames.Anatomies.{balanced_along, list_along, records_along, sums_along, fits_along, grounds_along}
+use Rattle.segment_invariant.proofs.Frames.Anatomies.{balanced_along, list_along, records_along, sums_along, names_along, fits_along, grounds_along}
 use Rattle.segment_invariant.proofs.Frames.Growth.{reshaped, Stays}
 
 -- What has to be shown where an actor goes on to a doing: of the blocks and the words that are then there, and of the actor itself.
@@ -49,13 +49,13 @@ pub record Goes (shape : Dimensions) (opened : Anatomy) (state : State) (old new
   pub corrupt : IsSetBy new.corrupt opened.corrupt (map (λ a. a.spoiled) (set state.actors id (doing a d)))
   pub full : IsSetBy new.full opened.full (map (λ a. a.filled) (set state.actors id (doing a d)))
   pub stands : StandsRight shape new id (doing a d) d.place
-  pub sees : Sees new state.cursors (doing a d)
+  pub sees : Sees new state.cursors (doing a d).seen
   pub own : All (HoldsOwn shape new.pieces id) d.own
   pub apart : (i j : ℕ) (x y : Own) → get_elem? d.own i ≡ some x → get_elem? d.own j ≡ some y → x.at ≡ y.at → i ≡ j
   pub calls : CallsRight new (doing a d)
   pub looks : LooksBack new state.actors opener (doing a d)
 
-module _ (shape : Dimensions) (opened : Anatomy) (state : State) (kept : Kept shape opened state) (id : ℕ) (a : Actor)
+module _ (shape : Dimensions) (opened : Anatomy) (state : State) (kept : Invariant shape opened state) (id : ℕ) (a : Actor)
     (mine : get_elem? state.actors id ≡ some a) (records : a.opener ≡ 0) where
   -- a recorder is not the first actor
   pub not_opener : id ≢ 0
@@ -83,8 +83,8 @@ module _ (shape : Dimensions) (opened : Anatomy) (state : State) (kept : Kept sh
     fits_else : (other : ℕ) (b : Actor) → other ≢ id → Fits shape before state.cursors state.actors kept.roles.opener other b
         → Fits shape behind state.cursors state.actors kept.roles.opener other b
     fits_else other b ne fits = fits_along before pieces spare corrupt full tail goes.stays shape state.cursors state.actors kept.roles.opener other b
-        (λ at body. goes.others other at body ne) (goes.free b.seen_free fits.sees.free) (All-weaker (λ place. IsNoLater (order_of before) place before.tail) (λ place. IsNoLater (order_of before) place tail)
-        goes.tail_later b.seen_tails fits.sees.tails) fits
+        (λ at body. goes.others other at body ne) (goes.free b.seen.free fits.sees.free) (All-weaker (λ place. IsNoLater (order_of before) place before.tail) (λ place. IsNoLater (order_of before) place tail)
+        goes.tail_later b.seen.tails fits.sees.tails) fits
 
     -- the actor that goes on
     fits_mine : Fits shape behind state.cursors state.actors kept.roles.opener id (doing a d)
@@ -94,6 +94,7 @@ module _ (shape : Dimensions) (opened : Anatomy) (state : State) (kept : Kept sh
           versioned = fits.versioned;
           numbered = fits.numbered;
           sees = goes.sees;
+          names = names_along before pieces spare corrupt full tail goes.stays a.names fits.names;
           own = goes.own;
           apart = goes.apart;
           owes = subst₂ OwesPublished (sym goes.published) (sym goes.owed) fits.owes;
@@ -126,7 +127,7 @@ module _ (shape : Dimensions) (opened : Anatomy) (state : State) (kept : Kept sh
         (r, now, still_at ∙ same_at)
 
     -- the state that is left is kept
-    pub goes_on : Kept shape opened (record { words = words; cursors = state.cursors; actors = actors })
+    pub goes_on : Invariant shape opened (record { words = words; cursors = state.cursors; actors = actors })
     goes_on = record {
       anatomy = behind;
       shown = goes.shown;
@@ -196,9 +197,9 @@ module _ (version : ℕ) (state : State) (id : ℕ) (a : Actor) (event : Event) 
   }
 
   -- so what is kept behind it is kept
-  pub happens : (shape : Dimensions) (opened : Anatomy) → Kept shape opened (after_word version state id a event) × Learned a event (word_at state.words at)
-      → Kept shape opened (happened version state id a event) × Learned a event (found_at state event)
+  pub happens : (shape : Dimensions) (opened : Anatomy) → Invariant shape opened (after_word version state id a event) × Learned a event (word_at state.words at)
+      → Invariant shape opened (happened version state id a event) × Learned a event (found_at state event)
   happens shape opened (kept, learned) = (
-    subst (Kept shape opened) (sym state_is) kept,
+    subst (Invariant shape opened) (sym state_is) kept,
     subst (Learned a event) (sym found_word) learned,
   )

@@ -13,9 +13,9 @@ use Rattle.list_core.specs.Chain.{stops}
 use Rattle.list_core.specs.Laws.{IsStop, AreNeighbours}
 use Rattle.list_core.specs.Walk.{IsPrefix}
 use Rattle.list_core.proofs.Prefixes.{prefix_of_prefix}
-use Rattle.segment_machine.specs.declared.actor.Actor.{Actor}
+use Rattle.segment_machine.specs.declared.seen.Seen.{Seen}
 use Rattle.segment_machine.specs.declared.actor.Known.{Known}
-use Rattle.segment_machine.specs.declared.actor.Sighting.{Sighting}
+use Rattle.segment_machine.specs.declared.seen.Sighting.{Sighting}
 use Rattle.segment_machine.specs.declared.actor.Made.{Made}
 use Rattle.segment_machine.specs.declared.actor.Made.TheVariants as made
 use Rattle.segment_machine.specs.declared.actor.Own.{Own}
@@ -24,7 +24,7 @@ use Rattle.segment_machine.specs.Form.{Leads}
 use Rattle.segment_invariant.specs.Body.{Record, Counts, Sample, Body, queue, plain, held, histogram, counts, sample, other, words_of, is_claimed, Piece, Listed, Anatomy, order_of, free_of}
 use Rattle.segment_invariant.specs.Ledger.{all_held, all_amounts}
 use Rattle.segment_invariant.specs.Seen.{Stands, HasPlain, HasRecord, HasCounts, HasSample, IsNamed, IsFirst, IsFirstOf, IsFixedIn, IsCounterIn, WasFixed, WasCounter, WasInUse, WasSingle, IsNoLater, AreNoLater, Knows, Sees}
-use Rattle.segment_invariant.specs.Kept.{StandsAs}
+use Rattle.segment_invariant.specs.Invariant.{StandsAs}
 use Rattle.segment_invariant.proofs.Frames.Standing.{Grounds}
 
 -- ---- the next of a block
@@ -318,22 +318,24 @@ module _ (old new : Anatomy) (added : ℕ → Body → Type 0) (grows : Grows ol
     same = knows.same;
   }
 
+  pub names_grow : (names : List Known) → All (Knows old) names → All (Knows new) names
+  names_grow names = All-weaker (Knows old) (Knows new) known_stays names
+
   -- all that an actor has seen
-  pub sees_grow : (cursors : List ℕ) (a : Actor) → Behind a.seen_free (free_of new) → AreNoLater (order_of new) a.seen_tails new.tail
-      → Sees old cursors a → Sees new cursors a
-  sees_grow cursors a free tails sees = record {
+  pub sees_grow : (cursors : List ℕ) (seen : Seen) → Behind seen.free (free_of new) → AreNoLater (order_of new) seen.tails new.tail
+      → Sees old cursors seen → Sees new cursors seen
+  sees_grow cursors seen free tails sees = record {
     free = free;
-    walked = subst (IsPrefix a.seen_chain) (sym order_grows) (prefix_of_prefix a.seen_chain (order_of old) _ sees.walked (_, refl));
+    walked = subst (IsPrefix seen.chain) (sym order_grows) (prefix_of_prefix seen.chain (order_of old) _ sees.walked (_, refl));
     tails = tails;
-    singles = All-weaker (WasSingle old.version old.pieces) (WasSingle new.version new.pieces) single_stays a.seen_singles sees.singles;
-    counters = All-weaker (WasCounter old.pieces) (WasCounter new.pieces) counter_stays a.seen_counts sees.counters;
-    in_use = All-weaker (WasInUse old.pieces) (WasInUse new.pieces) in_use_stays a.seen_counts sees.in_use;
-    fixed = All-weaker (WasFixed old.pieces) (WasFixed new.pieces) fixed_stays a.seen_words sees.fixed;
+    singles = All-weaker (WasSingle old.version old.pieces) (WasSingle new.version new.pieces) single_stays seen.singles sees.singles;
+    counters = All-weaker (WasCounter old.pieces) (WasCounter new.pieces) counter_stays seen.counts sees.counters;
+    in_use = All-weaker (WasInUse old.pieces) (WasInUse new.pieces) in_use_stays seen.counts sees.in_use;
+    fixed = All-weaker (WasFixed old.pieces) (WasFixed new.pieces) fixed_stays seen.words sees.fixed;
     shared = All-weaker
         (λ s. (s.at < length cursors) × IsNoLater (order_of old) s.word (slice_index cursors s.at))
         (λ s. (s.at < length cursors) × IsNoLater (order_of new) s.word (slice_index cursors s.at))
-        (λ s t. (t.0, no_later_grows s.word (slice_index cursors s.at) t.1)) a.seen_cursors sees.shared;
-    names = All-weaker (Knows old) (Knows new) known_stays a.names sees.names;
+        (λ s t. (t.0, no_later_grows s.word (slice_index cursors s.at) t.1)) seen.cursors sees.shared;
   }
 
   -- a listed record stands as what it was given

@@ -15,7 +15,7 @@ use Rattle.segment_machine.specs.declared.actor.Actor.{Actor}
 use Rattle.segment_machine.specs.declared.actor.Known.{Known}
 use Rattle.segment_machine.specs.declared.actor.Made.TheVariants as made
 use Rattle.segment_machine.specs.declared.actor.Own.{Own}
-use Rattle.segment_machine.specs.declared.actor.Sighting.{Sighting}
+use Rattle.segment_machine.specs.declared.seen.Sighting.{Sighting}
 use Rattle.segment_machine.specs.Entry.{tally_units}
 use Rattle.segment_machine.specs.Actor.{word_seen, counted_of, bucket_key, SawCount}
 use Rattle.segment_machine.specs.Note.{SawBucket}
@@ -23,20 +23,20 @@ use Rattle.segment_machine.specs.Actor.{accepted_by}
 use Rattle.segment_invariant.specs.Body.{Record, Body, histogram, sample, words_of, Listed, Anatomy}
 use Rattle.segment_invariant.specs.Ledger.{form_at}
 use Rattle.segment_invariant.specs.Seen.{HasRecord, IsNamed, IsFirstOf, WasCounter, Sees}
-use Rattle.segment_invariant.specs.Kept.{HoldsOwn, CallsRight, HasKey, IsSettled, LooksBack, OwesPublished, Fits}
+use Rattle.segment_invariant.specs.Invariant.{HoldsOwn, CallsRight, HasKey, IsSettled, LooksBack, OwesPublished, Fits}
 use Rattle.segment_invariant.proofs.Blocks.Places.{counter_within}
 use Rattle.segment_invariant.proofs.Frames.OneActor.{Doing, doing, doing_of, finals_doing}
-use Rattle.segment_invariant.proofs.Frames.Growth.{Grows, first_of_longer, record_stays, record_came}
+use Rattle.segment_invariant.proofs.Frames.Growth.{Grows, names_grow, first_of_longer, record_stays, record_came}
 
 -- ---- what holds of one actor
 
 -- What an actor has seen more: a longer front of the list, and words of records; none of them is a counts reference of a histogram
 -- that it knows. It has not loaded another sum.
 pub record SawMore (x : Actor) (c : Doing) : Type 0 where
-  pub chain : (at : ℕ) → Contains x.seen_chain at → Contains c.seen_chain at
-  pub words : (at word : ℕ) → word_seen x.seen_words at ≡ Some word → word_seen c.seen_words at ≡ Some word
+  pub chain : (at : ℕ) → Contains x.seen.chain at → Contains c.seen_chain at
+  pub words : (at word : ℕ) → word_seen x.seen.words at ≡ Some word → word_seen c.seen_words at ≡ Some word
   pub counts : (known : Known) (word : ℕ) → Contains x.names known → word_seen c.seen_words (known.reference + 8) ≡ Some word
-      → word_seen x.seen_words (known.reference + 8) ≡ Some word
+      → word_seen x.seen.words (known.reference + 8) ≡ Some word
   pub loaded : (reference : ℕ) (sum : ℤ) → c.place ≡ SumLoaded reference sum → x.place ≡ SumLoaded reference sum
 
 pub saw_itself : (x : Actor) → SawMore x (doing_of x)
@@ -51,7 +51,7 @@ module _ (shape : Dimensions) (old new : Anatomy) (added : ℕ → Body → Type
     (keyed : (entry : Entry) → Contains (x.inherited ++ counted_of x) entry → 0 < entry.units → HasKey old.records entry.name entry.key)
     (known_record : (known : Known) → Contains x.names known → (r : Record) × HasRecord old.pieces known.reference r)
     (loaded_record : (reference : ℕ) (sum : ℤ) → x.place ≡ SumLoaded reference sum → (r : Record) × HasRecord old.pieces reference r)
-    (counters : All (WasCounter old.pieces) x.seen_counts) where
+    (counters : All (WasCounter old.pieces) x.seen.counts) where
   -- what was added stands where no record stood
   no_record : (at : ℕ) (body : Body) (r : Record) → 0 < length (words_of body) → added at body → HasRecord old.pieces at r → ⊥
   no_record at body r long new_one stands = grows.apart at at 0 0 body (histogram r) new_one stands long (omega arith) refl
@@ -115,7 +115,7 @@ module _ (shape : Dimensions) (old new : Anatomy) (added : ℕ → Body → Type
         (λ before. looks.samples known value at count named before saw)
         (λ new_one.
         let seen : Sighting = record { at = at + 6; word = count } in
-        let was = All-contains (WasCounter old.pieces) (drop x.since_counts x.seen_counts) seen (All-drop (WasCounter old.pieces) x.since_counts x.seen_counts counters) saw in
+        let was = All-contains (WasCounter old.pieces) (drop x.since_counts x.seen.counts) seen (All-drop (WasCounter old.pieces) x.since_counts x.seen.counts counters) saw in
         let (place, i, body, stands, is, counter, least) = was in
         absurd (grows.apart at place 6 i (sample new_one.0) body new_one.1 stands (omega arith) (counter_within body i counter) is))
         (grows.first_of_came known.reference at value first);
@@ -131,7 +131,7 @@ module _ (shape : Dimensions) (old new : Anatomy) (added : ℕ → Body → Type
   }
 
   -- all that holds of it
-  pub fits_grow : (cursors : List ℕ) (id : ℕ) → Sees new cursors (doing x c) → All (HoldsOwn shape new.pieces id) c.own
+  pub fits_grow : (cursors : List ℕ) (id : ℕ) → Sees new cursors (doing x c).seen → All (HoldsOwn shape new.pieces id) c.own
       → ((i j : ℕ) (y z : Own) → get_elem? c.own i ≡ some y → get_elem? c.own j ≡ some z → y.at ≡ z.at → i ≡ j)
       → OwesPublished c.published c.owed
       → Fits shape old cursors actors opener id x → Fits shape new cursors actors opener id (doing x c)
@@ -140,6 +140,7 @@ module _ (shape : Dimensions) (old new : Anatomy) (added : ℕ → Body → Type
     versioned = fits.versioned ∙ sym grows.version;
     numbered = fits.numbered;
     sees = sees;
+    names = names_grow old new added grows x.names fits.names;
     own = own;
     apart = apart;
     owes = owes;

@@ -14,7 +14,7 @@ use Rattle.segment_machine.specs.Form.{units_in}
 use Rattle.segment_invariant.specs.Body.{Record, Counts, Sample, Body, histogram, sample, Listed, Anatomy}
 use Rattle.segment_invariant.specs.Ledger.{form_at}
 use Rattle.segment_invariant.specs.Seen.{Stands, HasRecord, HasCounts, HasSample, IsNamed, IsFirst, IsFirstOf}
-use Rattle.segment_invariant.specs.Kept.{StandsAs, IsListed, IsLawfulRecord, IsCountsOf, IsLawfulSample, CountsNothing, RecordsAreKept, HasKey, SumsAreNear, IsSumOf, summed_costs}
+use Rattle.segment_invariant.specs.Invariant.{StandsAs, IsListed, IsLawfulRecord, IsCountsOf, IsLawfulSample, CountsNothing, RecordsAreKept, HasKey, SumsAreNear, IsSumOf, summed_costs}
 use Rattle.segment_invariant.proofs.Frames.Growth.{Grows, first_grows, first_of_longer, record_stays, record_came, counts_stay, counts_came, sample_came}
 
 -- ---- a record with another next

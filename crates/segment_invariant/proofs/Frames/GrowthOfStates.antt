@@ -21,7 +21,7 @@ use Rattle.segment_machine.specs.Actor.{log_of, counted_of, all_counted}
 use Rattle.segment_invariant.specs.Body.{Record, Body, Listed, Anatomy}
 use Rattle.segment_invariant.specs.Seen.{HasRecord, Knows, Sees}
 use Rattle.segment_machine.specs.State.{State}
-use Rattle.segment_invariant.specs.Kept.{StandsAs, HasKey, StandsRight, HoldsOwn, Fits, Kept, OwesPublished}
+use Rattle.segment_invariant.specs.Invariant.{StandsAs, HasKey, StandsRight, HoldsOwn, Fits, Invariant, OwesPublished}
 use Rattle.segment_invariant.proofs.Lists.Elements.{row_in}
 use Rattle.segment_invariant.proofs.Frames.OneActor.{Doing, doing, lives_on}
 use Rattle.segment_invariant.proofs.Frames.Growth.{Grows}
@@ -42,7 +42,7 @@ counted_all (c ∷ rest) ended more =
 
 -- ---- what a kept state says of its actors
 
-module _ (shape : Dimensions) (opened : Anatomy) (state : State) (kept : Kept shape opened state) where
+module _ (shape : Dimensions) (opened : Anatomy) (state : State) (kept : Invariant shape opened state) where
   -- what was accepted before an actor was made, and what it has counted, is counted
   inherited_counted : (id : ℕ) (x : Actor) (entry : Entry) → get_elem? state.actors id ≡ some x → x.place ≢ Spent → Contains x.inherited entry
       → Contains (all_counted state.actors) entry
@@ -77,7 +77,7 @@ module _ (shape : Dimensions) (opened : Anatomy) (state : State) (kept : Kept sh
   pub known_record : (id : ℕ) (x : Actor) → get_elem? state.actors id ≡ some x → x.place ≢ Spent
       → (known : Known) → Contains x.names known → (r : Record) × HasRecord kept.anatomy.pieces known.reference r
   known_record id x there lives known has =
-      let knows = All-contains (Knows kept.anatomy) x.names known (kept.each id x there lives).sees.names has in
+      let knows = All-contains (Knows kept.anatomy) x.names known (kept.each id x there lives).names has in
       let (front, behind, is, others) = knows.first in
       let l : Listed = record { reference = known.reference; made = Some (made.Histogram known.name knows.first_spec) } in
       let (r, stands, named, same) = All-contains (λ l. StandsAs kept.anatomy.pieces l l.made) kept.anatomy.records l kept.list.standing
@@ -94,7 +94,7 @@ module _ (shape : Dimensions) (opened : Anatomy) (state : State) (kept : Kept sh
   -- running calls, and what was seen since a delta or a snapshot began, where one actor goes on and the segment grows
   module _ (new : Anatomy) (added : ℕ → Body → Type 0) (grows : Grows kept.anatomy new added) where
     pub fits_on : (id : ℕ) (x : Actor) (d : Doing) → get_elem? state.actors id ≡ some x → x.place ≢ Spent → SawMore x d
-        → Sees new state.cursors (doing x d) → All (HoldsOwn shape new.pieces id) d.own
+        → Sees new state.cursors (doing x d).seen → All (HoldsOwn shape new.pieces id) d.own
         → ((i j : ℕ) (y z : Own) → get_elem? d.own i ≡ some y → get_elem? d.own j ≡ some z → y.at ≡ z.at → i ≡ j)
         → OwesPublished d.published d.owed
         → Fits shape new state.cursors state.actors kept.roles.opener id (doing x d)

@@ -12,14 +12,14 @@ use Rattle.segment_machine.specs.declared.actor.Claim.{Claim}
 use Rattle.segment_machine.specs.declared.actor.Moment.{Moment}
 use Rattle.segment_machine.specs.declared.actor.Own.{Own}
 use Rattle.segment_machine.specs.declared.actor.Published.{Published}
-use Rattle.segment_machine.specs.declared.actor.Sighting.{Sighting}
+use Rattle.segment_machine.specs.declared.seen.Sighting.{Sighting}
 use Rattle.segment_machine.specs.declared.place.Look.{Look}
 use Rattle.segment_machine.specs.declared.place.Place.{Place}
 use Rattle.segment_machine.specs.declared.place.Place.TheVariants.{Spent, Idle, FlagsLoaded, FreeLoaded, Raised, Sized, Marked, TailLoaded, Beaten, Linked, Looking, Losing, Moving, CountLoaded, SampleLoaded, SumLoaded, CursorLoaded, BehindCursor}
 use Rattle.segment_machine.specs.Entry.{tally_units, tally_sum, tally_noted}
 use Rattle.segment_machine.specs.Actor.{is_bound, cost_of, counted_of, summed_of, noted_of, units_of, all_counted, all_summed, all_noted, all_taken, taken_units, taken_sum, transit_at}
 use Rattle.segment_invariant.specs.Ledger.{moving_at, all_moving}
-use Rattle.segment_invariant.specs.Kept.{summed_cost, summed_costs, is_living, IsMoment, FinalsAreExact, Fits}
+use Rattle.segment_invariant.specs.Invariant.{summed_cost, summed_costs, is_living, IsMoment, FinalsAreExact, Fits}
 use Rattle.segment_invariant.specs.Body.{Anatomy}
 use Rattle.segment_invariant.proofs.Lists.Elements.{rows, sum_same}
 use Rattle.segment_invariant.proofs.Frames.Deeds.{SameSums}
@@ -53,10 +53,7 @@ doing a d = record a {
   owed = d.owed;
   spoiled = d.spoiled;
   filled = d.filled;
-  seen_free = d.seen_free;
-  seen_chain = d.seen_chain;
-  seen_tails = d.seen_tails;
-  seen_words = d.seen_words;
+  seen = record a.seen { free = d.seen_free; chain = d.seen_chain; tails = d.seen_tails; words = d.seen_words };
 }
 
 -- what it has of that
@@ -69,10 +66,10 @@ doing_of a = record {
   owed = a.owed;
   spoiled = a.spoiled;
   filled = a.filled;
-  seen_free = a.seen_free;
-  seen_chain = a.seen_chain;
-  seen_tails = a.seen_tails;
-  seen_words = a.seen_words;
+  seen_free = a.seen.free;
+  seen_chain = a.seen.chain;
+  seen_tails = a.seen.tails;
+  seen_words = a.seen.words;
 }
 
 -- the actor may stand there next: it lives on, moves no units but those that it moved, and has loaded no sum but the one that it had

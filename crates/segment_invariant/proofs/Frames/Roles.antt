@@ -10,7 +10,7 @@ use Rattle.segment_machine.specs.declared.entry.Entry.{Entry}
 use Rattle.segment_machine.specs.declared.actor.Actor.{Actor}
 use Rattle.segment_machine.specs.Actor.{log_of}
 use Rattle.segment_invariant.specs.Body.{Anatomy}
-use Rattle.segment_invariant.specs.Kept.{is_living, RolesAreKept, IsAlone, Fits}
+use Rattle.segment_invariant.specs.Invariant.{is_living, RolesAreKept, IsAlone, Fits}
 use Rattle.segment_invariant.proofs.Lists.Elements.{sum_same}
 use Rattle.segment_invariant.proofs.Frames.Deeds.{SameSums}
 use Rattle.segment_invariant.proofs.Frames.Together.{fits}

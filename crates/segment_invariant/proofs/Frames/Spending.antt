@@ -16,7 +16,7 @@ use Rattle.segment_machine.specs.declared.actor.Cost.{Cost}
 use Rattle.segment_machine.specs.Entry.{is_counted, is_noted, is_of, tally_noted}
 use Rattle.segment_machine.specs.Actor.{counted_of, noted_of, cost_of, all_costs}
 use Rattle.segment_invariant.specs.Body.{Anatomy}
-use Rattle.segment_invariant.specs.Kept.{CallsRight}
+use Rattle.segment_invariant.specs.Invariant.{CallsRight}
 use Rattle.segment_invariant.proofs.Lists.Countings.{noted_total}
 
 abbrev entry_of : Counting → Entry

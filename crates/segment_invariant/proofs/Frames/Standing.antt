@@ -10,12 +10,12 @@ use Rattle.segment_machine.specs.declared.place.Place.TheVariants.{Spent, Idle, 
 use Rattle.segment_machine.specs.declared.actor.Actor.{Actor}
 use Rattle.segment_machine.specs.declared.actor.Known.{Known}
 use Rattle.segment_machine.specs.declared.actor.Own.{Own}
-use Rattle.segment_machine.specs.declared.actor.Sighting.{Sighting}
+use Rattle.segment_machine.specs.declared.seen.Sighting.{Sighting}
 use Rattle.segment_machine.specs.Actor.{word_seen}
 use Rattle.segment_invariant.specs.Body.{Record, Anatomy, order_of}
 use Rattle.segment_machine.specs.Seats.{spent}
 use Rattle.segment_invariant.specs.Seen.{HasPlain, HasOwn, HasRecord}
-use Rattle.segment_invariant.specs.Kept.{LooksRight, StandsRight, HoldsOwn}
+use Rattle.segment_invariant.specs.Invariant.{LooksRight, StandsRight, HoldsOwn}
 
 -- what it rests on of the segment: the list, which may become longer, records, whose nexts may change, and its words in the making
 pub record Grounds (old new : Anatomy) (id : ℕ) : Type 0 where
@@ -36,12 +36,12 @@ grounds_itself anatomy id = record {
 
 -- what it rests on of the actor: what it saw and knows, and its blocks, each of which has one of the same place and type
 pub record Follows (x y : Actor) : Type 0 where
-  pub saw : (y.seen_free ≡ x.seen_free) × (y.seen_tails ≡ x.seen_tails) × (y.seen_singles ≡ x.seen_singles)
-      × (y.seen_counts ≡ x.seen_counts) × (y.seen_cursors ≡ x.seen_cursors)
+  pub saw : (y.seen.free ≡ x.seen.free) × (y.seen.tails ≡ x.seen.tails) × (y.seen.singles ≡ x.seen.singles)
+      × (y.seen.counts ≡ x.seen.counts) × (y.seen.cursors ≡ x.seen.cursors)
   pub names : (known : Known) → Contains x.names known → Contains y.names known
-  pub words : (s : Sighting) → Contains x.seen_words s → Contains y.seen_words s
-  pub seen : (at word : ℕ) → word_seen x.seen_words at ≡ Some word → word_seen y.seen_words at ≡ Some word
-  pub chain : (at : ℕ) → Contains x.seen_chain at → Contains y.seen_chain at
+  pub words : (s : Sighting) → Contains x.seen.words s → Contains y.seen.words s
+  pub seen : (at word : ℕ) → word_seen x.seen.words at ≡ Some word → word_seen y.seen.words at ≡ Some word
+  pub chain : (at : ℕ) → Contains x.seen.chain at → Contains y.seen.chain at
   pub own : (block : Own) → Contains x.own block → (still : Own) × Contains y.own still × (still.at ≡ block.at) × (still.tag ≡ block.tag)
   pub spent : x ≡ spent → y ≡ spent
 
@@ -65,10 +65,10 @@ module _ (shape : Dimensions) (old new : Anatomy) (id : ℕ) (x y : Actor) (grou
     counts = λ some_counts. follows.words _ (right.counts some_counts);
   }
 
-  counts_on : (s : Sighting) → Contains x.seen_counts s → Contains y.seen_counts s
+  counts_on : (s : Sighting) → Contains x.seen.counts s → Contains y.seen.counts s
   counts_on s = subst (λ seen. Contains seen s) (sym follows.saw.3)
 
-  cursors_on : (s : Sighting) → Contains x.seen_cursors s → Contains y.seen_cursors s
+  cursors_on : (s : Sighting) → Contains x.seen.cursors s → Contains y.seen.cursors s
   cursors_on s = subst (λ seen. Contains seen s) (sym follows.saw.4)
 
   pub stands_on : (place : Place) → StandsRight shape old id x place → StandsRight shape new id y place

@@ -21,7 +21,7 @@ use Rattle.segment_machine.specs.Actor.{bucket_key, cost_of, all_counted, all_ta
 use Rattle.segment_invariant.specs.Consistent.{IsWithinCounts}
 use Rattle.segment_invariant.specs.Body.{Record, Anatomy, Piece, Listed}
 use Rattle.segment_invariant.specs.Ledger.{IsBalanced}
-use Rattle.segment_invariant.specs.Kept.{ended_deltas, is_living, IsMoment, IsMomentOf, IsAlone, IsSumOf, LooksBack, FinalsAreExact, Fits, HasKey, SumsAreNear}
+use Rattle.segment_invariant.specs.Invariant.{ended_deltas, is_living, IsMoment, IsMomentOf, IsAlone, IsSumOf, LooksBack, FinalsAreExact, Fits, HasKey, SumsAreNear}
 use Rattle.segment_invariant.proofs.Lists.Maps.{contains_map, contains_mapped, contains_take}
 use Rattle.segment_invariant.proofs.Frames.Deeds.{Deeds, SameSums, timeless, took_all}
 
@@ -187,6 +187,7 @@ fits shape anatomy cursors old new opener later id a same since alone fit = reco
   versioned = fit.versioned;
   numbered = fit.numbered;
   sees = fit.sees;
+  names = fit.names;
   own = fit.own;
   apart = fit.apart;
   owes = fit.owes;

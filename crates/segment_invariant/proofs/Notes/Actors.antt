@@ -8,12 +8,12 @@ use Rattle.segment_machine.specs.Made.{SawSample}
 use Rattle.segment_image.specs.Shape.{Dimensions}
 use Rattle.segment_machine.specs.declared.actor.Actor.{Actor}
 use Rattle.segment_machine.specs.declared.actor.Moment.{Moment}
-use Rattle.segment_machine.specs.declared.actor.Sighting.{Sighting}
+use Rattle.segment_machine.specs.declared.seen.Sighting.{Sighting}
 use Rattle.segment_machine.specs.Actor.{log_of, counted_of, cost_of}
 use Rattle.segment_invariant.specs.Consistent.{IsWithinCounts}
 use Rattle.segment_invariant.specs.Body.{Anatomy}
 use Rattle.segment_invariant.specs.Seen.{Knows, IsFirst, IsFirstOf}
-use Rattle.segment_invariant.specs.Kept.{AreInOrder, CallsRight, LooksBack, IsQuiet, IsMoment, FinalsAreExact, OwesPublished, Fits}
+use Rattle.segment_invariant.specs.Invariant.{AreInOrder, CallsRight, LooksBack, IsQuiet, IsMoment, FinalsAreExact, OwesPublished, Fits}
 use Rattle.segment_invariant.proofs.Lists.Elements.{none_in}
 use Rattle.std.proofs.lemmas.List.{drop_all}
 use Rattle.segment_invariant.proofs.Frames.Together.{ended_began}
@@ -29,17 +29,8 @@ module _ (shape : Dimensions) (anatomy : Anatomy) (cursors : List ℕ) (actors :
     shaped = fit.shaped;
     versioned = fit.versioned;
     numbered = fit.numbered;
-    sees = record {
-      free = fit.sees.free;
-      walked = fit.sees.walked;
-      tails = fit.sees.tails;
-      singles = fit.sees.singles;
-      counters = fit.sees.counters;
-      in_use = fit.sees.in_use;
-      fixed = fit.sees.fixed;
-      shared = fit.sees.shared;
-      names = names;
-    };
+    sees = fit.sees;
+    names = names;
     own = fit.own;
     apart = fit.apart;
     owes = owes;
@@ -57,7 +48,7 @@ looking_on a n = record n { log = a.log; names = a.names; since_singles = a.sinc
 
 -- or it looks anew
 abbrev pub looking_anew : Actor → Noting → Noting
-looking_anew a n = record n { since_singles = length a.seen_singles; since_counts = length a.seen_counts }
+looking_anew a n = record n { since_singles = length a.seen.singles; since_counts = length a.seen.counts }
 
 module _ (anatomy : Anatomy) (actors : List Actor) (opener a : Actor) (n : Noting) where
   pub looks_on : LooksBack anatomy actors opener a → LooksBack anatomy actors opener (noting a (looking_on a n))
@@ -71,11 +62,11 @@ module _ (anatomy : Anatomy) (actors : List Actor) (opener a : Actor) (n : Notin
     sum = looks.sum;
   }
 
-  nothing_single : (s : Sighting) → Contains (drop (length a.seen_singles) a.seen_singles) s → ⊥
-  nothing_single s there = none_in s (subst (λ (list : List Sighting). Contains list s) (drop_all (length a.seen_singles) a.seen_singles (omega arith)) there)
+  nothing_single : (s : Sighting) → Contains (drop (length a.seen.singles) a.seen.singles) s → ⊥
+  nothing_single s there = none_in s (subst (λ (list : List Sighting). Contains list s) (drop_all (length a.seen.singles) a.seen.singles (omega arith)) there)
 
-  nothing_counted : (s : Sighting) → Contains (drop (length a.seen_counts) a.seen_counts) s → ⊥
-  nothing_counted s there = none_in s (subst (λ (list : List Sighting). Contains list s) (drop_all (length a.seen_counts) a.seen_counts (omega arith)) there)
+  nothing_counted : (s : Sighting) → Contains (drop (length a.seen.counts) a.seen.counts) s → ⊥
+  nothing_counted s there = none_in s (subst (λ (list : List Sighting). Contains list s) (drop_all (length a.seen.counts) a.seen.counts (omega arith)) there)
 
   pub looks_anew : LooksBack anatomy actors opener a → LooksBack anatomy actors opener (noting a (looking_anew a n))
   looks_anew looks = record {
@@ -140,7 +131,7 @@ module _ (anatomy : Anatomy) (a : Actor) (n : Noting) where
         (λ before. calls.met entry of (Contains-append_left a.inherited (counted_of a) entry before) some_units first)
         (λ counted.
         let (e, was, named, keyed, units) = counted_before a (noting a n) same entry counted some_units in
-        subst (λ key. (at : ℕ) × IsFirstOf anatomy.records of key at × Contains a.seen_chain at × SawSample a of key at) keyed
+        subst (λ key. (at : ℕ) × IsFirstOf anatomy.records of key at × Contains a.seen.chain at × SawSample a.seen of key at) keyed
         (calls.met e of (Contains-append_right a.inherited (counted_of a) e was) units
         (subst (λ name. IsFirst anatomy.records name spec.Sparse of) (sym named) first)))
         (Contains-append_cases a.inherited (counted_of (noting a n)) entry there);

@@ -19,7 +19,7 @@ use Rattle.segment_machine.specs.Entry.{is_counted, is_summed, is_noted, has_end
 use Rattle.segment_machine.specs.Actor.{cost_of, cost_total}
 use Rattle.segment_machine.specs.Calls.{change_last}
 use Rattle.segment_machine.specs.Note.{amounts, is_untouched}
-use Rattle.segment_invariant.specs.Kept.{AreInOrder, StandsRight, summed_cost, IsQuiet, Kept}
+use Rattle.segment_invariant.specs.Invariant.{AreInOrder, StandsRight, summed_cost, IsQuiet, Invariant}
 use Rattle.segment_invariant.specs.Keeps.{NoteKeeps}
 use Rattle.segment_invariant.proofs.Lists.Elements.{not_empty, one_in, below_length, at_snoc_index}
 use Rattle.segment_invariant.proofs.Lists.Maps.{contains_mapped, all_left}
@@ -221,13 +221,13 @@ amounts_kept amount shape opened state id a kept mine records ((before, last, ru
     let changed : change_last f a.running ≡ n.running = ap (change_last f) runs ∙ last_changed f before last in
     let lived : a.place ≢ Spent = λ is_spent.
     not_empty before [] last (sym runs ∙ ap (λ (a : Actor). a.running) (subst (StandsRight shape kept.anatomy id a) is_spent (kept.standing id a mine))) in
-    subst (λ (running : List Counting). Kept shape opened (record state { actors = set state.actors id (record a { running = running }) })) (sym changed)
+    subst (λ (running : List Counting). Invariant shape opened (record state { actors = set state.actors id (record a { running = running }) })) (sym changed)
     (notes_on shape opened state kept id a mine records n lived counts (takes_nothing a n) (λ name key. refl) (λ known has. has)
     (answered_set kept.anatomy.records state.actors id a (noting a n) mine refl refl)
     (λ fit.
     let (name, cost, holds, within, known) = fit.calls.within (λ none. not_empty before [] last (sym runs ∙ none)) in
     let held_is : cost_total a.held ≡ 0 + cost = ap cost_total holds in
-    noting_fits shape kept.anatomy state.cursors _ kept.roles.opener id a n fit fit.sees.names fit.owes
+    noting_fits shape kept.anatomy state.cursors _ kept.roles.opener id a n fit fit.names fit.owes
     (calls_by kept.anatomy a n fit.calls counts
     (amounts_ordered a amount before last runs unsummed unnoted nothing (subst AreInOrder runs fit.calls.ordered))
     (λ some_run. (

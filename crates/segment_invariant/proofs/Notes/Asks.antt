@@ -9,7 +9,7 @@ use Rattle.segment_machine.specs.declared.actor.Own.{Own}
 use Rattle.segment_machine.specs.Calls.{change_own}
 use Rattle.segment_machine.specs.Note.{asks}
 use Rattle.segment_invariant.specs.Body.{held}
-use Rattle.segment_invariant.specs.Kept.{HoldsOwn, Kept}
+use Rattle.segment_invariant.specs.Invariant.{HoldsOwn, Invariant}
 use Rattle.segment_invariant.specs.Keeps.{NoteKeeps}
 use Rattle.segment_invariant.proofs.Lists.Elements.{at_from, all_at}
 use Rattle.segment_invariant.proofs.Blocks.Pieces.{piece_word}
@@ -28,6 +28,6 @@ asks_kept at made shape opened state id a kept mine records (x, has, place, unas
     piece_word shape state.words kept.anatomy kept.shown is.stands.0 (record { at = x.at; owner = some id; body = held x }) 0 is.stands.1 (omega arith) in
     let same : set state.words (x.at + 0) x.size ≡ state.words =
     ap (set state.words (x.at + 0)) (sym word) ∙ set-get_or state.words (x.at + 0) 0 in
-    subst (λ (s : List ℕ × List Own). Kept shape opened (record { words = s.0; cursors = state.cursors; actors = set state.actors id (record a { own = s.1 }) }))
+    subst (λ (s : List ℕ × List Own). Invariant shape opened (record { words = s.0; cursors = state.cursors; actors = set state.actors id (record a { own = s.1 }) }))
     (λ e. (same e, sym changed e))
     (fills shape opened state kept id a mine records i x y 0 x.size there refl refl refl refl (omega arith) is.room is.ends)

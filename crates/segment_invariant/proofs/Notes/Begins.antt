@@ -12,7 +12,7 @@ use Rattle.segment_machine.specs.declared.actor.Actor.{Actor}
 use Rattle.segment_machine.specs.Entry.{is_counted, is_summed, fresh, AreWithin, is_of, tally_units, tally_sum, tally_noted, counted_among, summed_among, noted_among}
 use Rattle.segment_machine.specs.Actor.{cost_of, cost_total}
 use Rattle.segment_machine.specs.Note.{begins, looks, is_untouched, noted}
-use Rattle.segment_invariant.specs.Kept.{AreInOrder, summed_cost, IsQuiet}
+use Rattle.segment_invariant.specs.Invariant.{AreInOrder, summed_cost, IsQuiet}
 use Rattle.segment_invariant.specs.Keeps.{NoteKeeps}
 use Rattle.segment_invariant.proofs.Lists.Elements.{from_map, all_of}
 use Rattle.segment_invariant.proofs.Lists.Maps.{contains_mapped}
@@ -31,10 +31,10 @@ looks_counts a = record { counted = λ name key. refl; summed = λ name. refl; n
 
 pub looks_kept : NoteKeeps looks
 looks_kept shape opened state id a kept mine records (lived, recorder, runs, takes) =
-    let n : Noting = record (noting_of a) { since_singles = length a.seen_singles; since_counts = length a.seen_counts } in
+    let n : Noting = record (noting_of a) { since_singles = length a.seen.singles; since_counts = length a.seen.counts } in
     notes_on shape opened state kept id a mine records n lived (looks_counts a) (takes_nothing a n) (λ name key. refl) (λ known has. has)
     (answered_set kept.anatomy.records state.actors id a (noting a n) mine refl refl)
-    (λ fit. noting_fits shape kept.anatomy state.cursors _ kept.roles.opener id a n fit fit.sees.names fit.owes
+    (λ fit. noting_fits shape kept.anatomy state.cursors _ kept.roles.opener id a n fit fit.names fit.owes
     (calls_by kept.anatomy a n fit.calls (looks_counts a) fit.calls.ordered fit.calls.within fit.calls.held fit.calls.ended fit.calls.spent fit.calls.taking)
     (looks_anew kept.anatomy _ kept.roles.opener a n (fit.looks records))
     (finals_on _ kept.roles.opener id a n (omega arith) (λ name k within quiet. quiet) fit.finals)
@@ -105,7 +105,7 @@ begins_kept name cost entries shape opened state id a kept mine records (lived, 
     let counts = begins_counts a name cost entries runs holds enough in
     notes_on shape opened state kept id a mine records n lived counts (takes_nothing a n) (λ name key. refl) (λ known has. has)
     (answered_set kept.anatomy.records state.actors id a (noting a n) mine refl refl)
-    (λ fit. noting_fits shape kept.anatomy state.cursors _ kept.roles.opener id a n fit fit.sees.names fit.owes
+    (λ fit. noting_fits shape kept.anatomy state.cursors _ kept.roles.opener id a n fit fit.names fit.owes
     (calls_by kept.anatomy a n fit.calls counts (fresh_ordered entries)
     (λ some_run. (name, cost, refl, subst (AreWithin name cost) (sym (fresh_entries entries)) within, known))
     (omega arith) fit.calls.ended fit.calls.spent (λ taking. absurd (true≢false (sym taking ∙ takes))))

@@ -16,7 +16,7 @@ use Rattle.segment_machine.specs.declared.actor.Moment.{Moment}
 use Rattle.segment_machine.specs.declared.actor.Taken.{Taken}
 use Rattle.segment_machine.specs.Actor.{units_listed, taken_sum}
 use Rattle.segment_machine.specs.Note.{takes, moment_of, nothing_taken}
-use Rattle.segment_invariant.specs.Kept.{is_living, ended_deltas, IsMoment, FinalsAreExact}
+use Rattle.segment_invariant.specs.Invariant.{is_living, ended_deltas, IsMoment, FinalsAreExact}
 use Rattle.segment_invariant.specs.Keeps.{NoteKeeps}
 use Rattle.segment_invariant.proofs.Lists.Elements.{one_in}
 use Rattle.segment_invariant.proofs.Lists.FewTerms.{if_nothing}
@@ -32,8 +32,8 @@ module _ (a : Actor) (name : List ℕ) where
 
   abbrev taker : Noting
   taker = record (noting_of a) {
-    since_singles = length a.seen_singles;
-    since_counts = length a.seen_counts;
+    since_singles = length a.seen.singles;
+    since_counts = length a.seen.counts;
     taking = true;
     taken = a.taken ++ begun ∷ [];
   }
@@ -92,7 +92,7 @@ takes_kept name shape opened state id a kept mine records (lived, recorder, runs
     let nothing = not_opener shape opened state kept id a mine records in
     notes_on shape opened state kept id a mine records n lived (takes_counts a name) (takes_same a name) (λ name key. refl) (λ known has. has)
     (answered_set kept.anatomy.records state.actors id a (noting a n) mine refl refl)
-    (λ fit. noting_fits shape kept.anatomy state.cursors _ kept.roles.opener id a n fit fit.sees.names fit.owes
+    (λ fit. noting_fits shape kept.anatomy state.cursors _ kept.roles.opener id a n fit fit.names fit.owes
     (calls_by kept.anatomy a n fit.calls (takes_counts a name) fit.calls.ordered fit.calls.within fit.calls.held fit.calls.ended fit.calls.spent
     (λ taking. (runs, (a.taken, nothing_taken a name, refl))))
     (looks_anew kept.anatomy _ kept.roles.opener a n (fit.looks records))

@@ -21,7 +21,7 @@ use Rattle.segment_machine.specs.Actor.{log_of, cost_of, cost_total, is_bound}
 use Rattle.segment_machine.specs.Note.{ends, refused, is_untouched, units_running, spent_by, noted}
 use Rattle.segment_machine.specs.State.{State}
 use Rattle.segment_invariant.specs.Body.{Anatomy}
-use Rattle.segment_invariant.specs.Kept.{AreInOrder, CallsRight, summed_cost, IsQuiet, Kept}
+use Rattle.segment_invariant.specs.Invariant.{AreInOrder, CallsRight, summed_cost, IsQuiet, Invariant}
 use Rattle.segment_invariant.specs.Keeps.{NoteKeeps}
 use Rattle.segment_invariant.proofs.Lists.Elements.{none_at, all_of}
 use Rattle.segment_invariant.proofs.Frames.OneActor.{summed_most}
@@ -71,8 +71,8 @@ unbound_lives a unbound spent = cc (unbound, ap is_bound spent)
 module _ (a : Actor) (share : ℕ) (spent : List Cost) (ended : List Counting) where
   abbrev gone : Noting
   gone = record (noting_of a) {
-    since_singles = length a.seen_singles;
-    since_counts = length a.seen_counts;
+    since_singles = length a.seen.singles;
+    since_counts = length a.seen.counts;
     share = share;
     log = a.log ++ ended;
     running = [];
@@ -83,14 +83,14 @@ module _ (a : Actor) (share : ℕ) (spent : List Cost) (ended : List Counting) w
   module _ (counts : SameCounts a (noting a gone)) (done : All (λ c. has_ended c ≡ true) ended)
       (running : (c : Counting) → Contains a.running c → Contains ended c ⊎ (is_untouched c ≡ true))
       (pays : (anatomy : Anatomy) → CallsRight anatomy a → (name : List ℕ) → tally_noted (map (λ (c : Counting). c.entry) ended) name ≤ cost_of spent name) where
-    ends_with : (shape : Dimensions) (opened : Anatomy) (state : State) (id : ℕ) (kept : Kept shape opened state) (mine : get_elem? state.actors id ≡ some a)
-        → a.opener ≡ 0 → a.place ≢ Spent → Kept shape opened (record state { actors = set state.actors id (noting a gone) })
+    ends_with : (shape : Dimensions) (opened : Anatomy) (state : State) (id : ℕ) (kept : Invariant shape opened state) (mine : get_elem? state.actors id ≡ some a)
+        → a.opener ≡ 0 → a.place ≢ Spent → Invariant shape opened (record state { actors = set state.actors id (noting a gone) })
     ends_with shape opened state id kept mine records lived =
         let longer = ap length (log_more a ended) in
         let long = length-append (log_of a) (map (λ (c : Counting). c.entry) ended) in
         notes_on shape opened state kept id a mine records gone lived counts (takes_nothing a gone) (λ name key. refl) (λ known has. has)
         (answered_set kept.anatomy.records state.actors id a (noting a gone) mine refl refl)
-        (λ fit. noting_fits shape kept.anatomy state.cursors _ kept.roles.opener id a gone fit fit.sees.names fit.owes
+        (λ fit. noting_fits shape kept.anatomy state.cursors _ kept.roles.opener id a gone fit fit.names fit.owes
         (calls_by kept.anatomy a gone fit.calls counts none_ordered (λ some_run. absurd (some_run refl)) (omega arith)
         (All-append (λ (c : Counting). has_ended c ≡ true) a.log ended fit.calls.ended done)
         (λ name.

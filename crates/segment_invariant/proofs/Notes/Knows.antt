@@ -22,7 +22,7 @@ use Rattle.segment_machine.specs.Note.{knows, noted}
 use Rattle.segment_invariant.specs.Body.{Anatomy}
 use Rattle.segment_invariant.specs.Ledger.{moving_of, moving_at}
 use Rattle.segment_invariant.specs.Seen.{Knows}
-use Rattle.segment_invariant.specs.Kept.{StandsRight, HasPublished, Kept}
+use Rattle.segment_invariant.specs.Invariant.{StandsRight, HasPublished, Invariant}
 use Rattle.segment_invariant.proofs.Frames.OneActor.{moves_or_not}
 use Rattle.segment_invariant.proofs.Notes.Notes.{Noting, noting, noting_of, SameCounts, notes_on}
 use Rattle.segment_invariant.proofs.Notes.Actors.{noting_fits, looks_anew, finals_on, calls_by}
@@ -42,8 +42,8 @@ known_still (x ∷ xs) more histogram k has same = dite (ℕ_discrete x.referenc
 module _ (a : Actor) (known : Known) where
   abbrev knower : Noting
   knower = record (noting_of a) {
-    since_singles = length a.seen_singles;
-    since_counts = length a.seen_counts;
+    since_singles = length a.seen.singles;
+    since_counts = length a.seen.counts;
     names = a.names ++ known ∷ [];
     owed = filter (λ (mine : Known). not (bytes_eq mine.name known.name)) a.owed;
   }
@@ -63,16 +63,16 @@ module _ (a : Actor) (known : Known) where
   knows_counts : SameCounts a (noting a knower)
   knows_counts = record { counted = λ name key. refl; summed = λ name. refl; noted = λ name. refl; costs = λ name. omega arith; units = refl }
 
-  pub knows_one_more : (shape : Dimensions) (opened : Anatomy) (state : State) (id : ℕ) (kept : Kept shape opened state) → get_elem? state.actors id ≡ some a
+  pub knows_one_more : (shape : Dimensions) (opened : Anatomy) (state : State) (id : ℕ) (kept : Invariant shape opened state) → get_elem? state.actors id ≡ some a
       → a.opener ≡ 0 → a.place ≢ Spent → Knows kept.anatomy known
-      → Kept shape opened (record state { actors = set state.actors id (noted a (knows known)) })
+      → Invariant shape opened (record state { actors = set state.actors id (noted a (knows known)) })
   knows_one_more shape opened state id kept mine records lived right =
       notes_on shape opened state kept id a mine records knower lived knows_counts (takes_nothing a knower)
       (λ name key. moves_still shape kept.anatomy id name key a.place (kept.standing id a mine))
       (λ k has. Contains-append_left a.names (known ∷ []) k has)
       (answered_knows kept.anatomy.records state.actors id a (noting a knower) mine known refl refl)
       (λ fit. noting_fits shape kept.anatomy state.cursors _ kept.roles.opener id a knower fit
-      (All-push (Knows kept.anatomy) a.names known fit.sees.names right)
+      (All-push (Knows kept.anatomy) a.names known fit.names right)
       (All-filter (λ (mine : Known). not (bytes_eq mine.name known.name)) (HasPublished a.published) a.owed fit.owes)
       (calls_by kept.anatomy a knower fit.calls knows_counts fit.calls.ordered
       (λ some_run.

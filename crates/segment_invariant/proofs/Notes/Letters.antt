@@ -6,7 +6,7 @@ use Rattle.segment_image.specs.Words.{bytes_of_words}
 use Rattle.segment_image.proofs.ReadWords.{length-bytes_of_words}
 use Rattle.std.proofs.lemmas.List.{length-replicate}
 use Rattle.segment_machine.specs.Made.{AreNameWords}
-use Rattle.segment_invariant.proofs.Listing.Words.{letters_long}
+use Rattle.segment_invariant.proofs.Walking.Words.{letters_long}
 
 -- ---- the words of a name
 

@@ -37,9 +37,9 @@ use Rattle.segment_machine.specs.Made.{AreNameWords, SawName, SawOtherName, SawS
 use Rattle.segment_machine.specs.Note.{knows, MayNote, declines}
 use Rattle.segment_invariant.specs.Body.{Record, Listed, spec_field, record_words, histogram, sample, other, Anatomy, order_of, listed}
 use Rattle.segment_invariant.specs.Seen.{HasRecord, IsNamed, Knows, IsFirst}
-use Rattle.segment_invariant.specs.Kept.{StandsAs, StandsRight, HasPublished, Kept}
+use Rattle.segment_invariant.specs.Invariant.{StandsAs, StandsRight, HasPublished, Invariant}
 use Rattle.segment_invariant.specs.Keeps.{NoteKeeps}
-use Rattle.segment_invariant.proofs.Listing.Words.{letters_long, record_long, ranges_long, sighted}
+use Rattle.segment_invariant.proofs.Walking.Words.{letters_long, record_long, ranges_long, sighted}
 use Rattle.segment_invariant.proofs.Notes.Letters.{names_same, bytes_same, word_bytes}
 use Rattle.segment_invariant.proofs.Notes.Knows.{knows_one_more}
 
@@ -88,24 +88,24 @@ below_four P a b c d (suc (suc (suc (suc i)))) lt = absurd (omega (arith, lt))
 field_word : (r : Record) (i : ℕ) → i < 4 → slice_index (record_words r) (4 + i) ≡ spec_field r.spec i
 field_word r i below = below_four (λ i. slice_index (record_words r) (4 + i) ≡ spec_field r.spec i) refl refl refl refl i below
 
-module _ (shape : Dimensions) (opened : Anatomy) (state : State) (kept : Kept shape opened state) (id : ℕ) (a : Actor)
+module _ (shape : Dimensions) (opened : Anatomy) (state : State) (kept : Invariant shape opened state) (id : ℕ) (a : Actor)
     (mine : get_elem? state.actors id ≡ some a) (lives : a.place ≢ Spent) where
   -- a word that it saw of a record
   record_seen : (at j word : ℕ) (r : Record) → HasRecord kept.anatomy.pieces at r → j < length (record_words r)
-      → word_seen a.seen_words (at + j) ≡ Some word → slice_index (record_words r) j ≡ word
+      → word_seen a.seen.words (at + j) ≡ Some word → slice_index (record_words r) j ≡ word
   record_seen at j word r has below seen = sighted shape opened state kept id a mine lives at j word (histogram r) has below seen
 
   -- a letter that it saw
   letter_seen : (at i word : ℕ) (r : Record) → HasRecord kept.anatomy.pieces at r → i < length r.letters
-      → word_seen a.seen_words (at + 15 + i) ≡ Some word → slice_index r.letters i ≡ word
+      → word_seen a.seen.words (at + 15 + i) ≡ Some word → slice_index r.letters i ≡ word
   letter_seen at i word r has below seen =
       let long = record_long r in
       let place : at + 15 + i ≡ at + (15 + i) = omega arith in
       sym (letter_word r i below)
-      ∙ record_seen at (15 + i) word r has (omega (arith, long, below)) (subst (λ n. word_seen a.seen_words n ≡ Some word) place seen)
+      ∙ record_seen at (15 + i) word r has (omega (arith, long, below)) (subst (λ n. word_seen a.seen.words n ≡ Some word) place seen)
 
   -- it saw the name of the record
-  name_seen : (name : List ℕ) (at : ℕ) (r : Record) → HasRecord kept.anatomy.pieces at r → SawName a name at → r.name ≡ name
+  name_seen : (name : List ℕ) (at : ℕ) (r : Record) → HasRecord kept.anatomy.pieces at r → SawName a.seen name at → r.name ≡ name
   name_seen name at r has (tag, len, letters, are, words) =
       let lawful = kept.records.lawful at r has in
       let all = record_long r in
@@ -118,13 +118,13 @@ module _ (shape : Dimensions) (opened : Anatomy) (state : State) (kept : Kept sh
       names_same r.name name letters (subst (AreNameWords r.name) same lawful.lettered) are length_is
 
   -- it saw the spec of the record
-  spec_seen : (s : Spec) (at : ℕ) (r : Record) → HasRecord kept.anatomy.pieces at r → SawSpec a s (length r.letters) at → SameSpec r.spec s
+  spec_seen : (s : Spec) (at : ℕ) (r : Record) → HasRecord kept.anatomy.pieces at r → SawSpec a.seen s (length r.letters) at → SameSpec r.spec s
   spec_seen s at r has (fields, ranges) =
       let lawful = kept.records.lawful at r has in
       let all = record_long r in
       let field : (i : ℕ) → i < 4 → slice_index (record_words r) (4 + i) ≡ spec_field s i =
       λ i below. record_seen at (4 + i) (spec_field s i) r has (omega (arith, all, below))
-      (let place : at + 4 + i ≡ at + (4 + i) = omega arith in subst (λ n. word_seen a.seen_words n ≡ Some (spec_field s i)) place (fields i below)) in
+      (let place : at + 4 + i ≡ at + (4 + i) = omega arith in subst (λ n. word_seen a.seen.words n ≡ Some (spec_field s i)) place (fields i below)) in
       let zeroth : spec_field r.spec 0 ≡ spec_field s 0 = field 0 (omega arith) in
       let third : spec_field r.spec 3 ≡ spec_field s 3 = field 3 (omega arith) in
       let many = as_many r.spec s zeroth third in
@@ -135,26 +135,26 @@ module _ (shape : Dimensions) (opened : Anatomy) (state : State) (kept : Kept sh
             (λ i below. sym (range_word r i below)
             ∙ record_seen at (15 + (length r.letters + i)) (slice_index (spec_ranges s) i) r has (omega (arith, all, below))
             (let place : at + 15 + length r.letters + i ≡ at + (15 + (length r.letters + i)) = omega arith in
-            subst (λ n. word_seen a.seen_words n ≡ Some (slice_index (spec_ranges s) i)) place (ranges i (omega (arith, below, many))))),
+            subst (λ n. word_seen a.seen.words n ≡ Some (slice_index (spec_ranges s) i)) place (ranges i (omega (arith, below, many))))),
       )
 
   -- it saw that the spec of the record is another one
-  other_spec : (s : Spec) (at : ℕ) (r : Record) → HasRecord kept.anatomy.pieces at r → r.spec ≡ s → SawOtherSpec a s (length r.letters) at → ⊥
+  other_spec : (s : Spec) (at : ℕ) (r : Record) → HasRecord kept.anatomy.pieces at r → r.spec ≡ s → SawOtherSpec a.seen s (length r.letters) at → ⊥
   other_spec s at r has is (inl (i, word, below, seen, ne)) =
       let all = record_long r in
       let place : at + 4 + i ≡ at + (4 + i) = omega arith in
-      let found = record_seen at (4 + i) word r has (omega (arith, all, below)) (subst (λ n. word_seen a.seen_words n ≡ Some word) place seen) in
+      let found = record_seen at (4 + i) word r has (omega (arith, all, below)) (subst (λ n. word_seen a.seen.words n ≡ Some word) place seen) in
       ne (sym found ∙ (field_word r i below ∙ ap (λ (s : Spec). spec_field s i) is))
   other_spec s at r has is (inr (i, word, below, seen, ne)) =
       let all = record_long r in
       let long = ap (λ (s : Spec). length (spec_ranges s)) is in
       let place : at + 15 + length r.letters + i ≡ at + (15 + (length r.letters + i)) = omega arith in
       let found = record_seen at (15 + (length r.letters + i)) word r has (omega (arith, below, long, all))
-      (subst (λ n. word_seen a.seen_words n ≡ Some word) place seen) in
+      (subst (λ n. word_seen a.seen.words n ≡ Some word) place seen) in
       ne (sym found ∙ (range_word r i (omega (arith, below, long)) ∙ ap (λ (s : Spec). slice_index (spec_ranges s) i) is))
 
   -- it saw that a record is of another name
-  other_seen : (name : List ℕ) (at : ℕ) (r : Record) → HasRecord kept.anatomy.pieces at r → r.name ≡ name → SawOtherName a name at → ⊥
+  other_seen : (name : List ℕ) (at : ℕ) (r : Record) → HasRecord kept.anatomy.pieces at r → r.name ≡ name → SawOtherName a.seen name at → ⊥
   other_seen name at r has is (inl (tag, seen, ne)) =
       let all = record_long r in ne (sym (record_seen at 2 tag r has (omega (arith, all)) seen))
   other_seen name at r has is (inr (inl (len, seen, ne))) =
@@ -167,7 +167,7 @@ module _ (shape : Dimensions) (opened : Anatomy) (state : State) (kept : Kept sh
       ne (ap (λ w. bytes_of_words (w ∷ [])) (sym found) ∙ word_bytes r.letters letters i many (omega (arith, many, below)) (bytes_same name r.letters letters lettered are))
 
   -- the first record that it saw of a name is the first of that name on the list
-  pub first_right : (name : List ℕ) (at : ℕ) → IsFirstNamed a name at
+  pub first_right : (name : List ℕ) (at : ℕ) → IsFirstNamed a.seen name at
       → (kind : Spec) × (r : Record) × HasRecord kept.anatomy.pieces at r × (r.name ≡ name) × (r.spec ≡ kind) × IsFirst kept.anatomy.records name kind at
   first_right name at (front, behind, chain_is, others, saw) =
       let fits = kept.each id a mine lives in
@@ -181,7 +181,7 @@ module _ (shape : Dimensions) (opened : Anatomy) (state : State) (kept : Kept sh
       (all_of (λ x. ¬ (IsNamed name x)) before (λ x has (kind, named).
       let there : Contains front x.reference = subst (λ (list : List ℕ). Contains list x.reference) fronts (contains_map (λ (l : Listed). l.reference) before x has) in
       let (r, is, name_is, same) = subst (StandsAs kept.anatomy.pieces x) named (stands before l after records_are x (Contains-append_left before (l ∷ after) x has)) in
-      other_seen name x.reference r is name_is (All-contains (SawOtherName a name) front x.reference others there)))
+      other_seen name x.reference r is name_is (All-contains (SawOtherName a.seen name) front x.reference others there)))
     where
       stands : (before : List Listed) (l : Listed) (after : List Listed) → kept.anatomy.records ≡ before ++ l ∷ after
           → (x : Listed) → Contains (before ++ l ∷ after) x → StandsAs kept.anatomy.pieces x x.made
@@ -190,7 +190,7 @@ module _ (shape : Dimensions) (opened : Anatomy) (state : State) (kept : Kept sh
           (subst (λ (list : List Listed). Contains list x) (sym records_are) has)
 
       by_given : (name : List ℕ) (at : ℕ) (before : List Listed) (l : Listed) (after : List Listed) (given : Option Made) → l.made ≡ given
-          → StandsAs kept.anatomy.pieces l given → l.reference ≡ at → SawName a name at → kept.anatomy.records ≡ before ++ l ∷ after
+          → StandsAs kept.anatomy.pieces l given → l.reference ≡ at → SawName a.seen name at → kept.anatomy.records ≡ before ++ l ∷ after
           → All (λ x. ¬ (IsNamed name x)) before
           → (kind : Spec) × (r : Record) × HasRecord kept.anatomy.pieces at r × (r.name ≡ name) × (r.spec ≡ kind) × IsFirst kept.anatomy.records name kind at
       by_given name at before l after (Some (made.Histogram called kind)) given_is (r, is, named, same) place saw records_are absent =
@@ -201,11 +201,11 @@ module _ (shape : Dimensions) (opened : Anatomy) (state : State) (kept : Kept sh
           (kind, r, has, name_is, same, (before, after, records_are ∙ ap (λ (l : Listed). before ++ l ∷ after) listed, absent))
       by_given name at before l after (Some (made.Sample of value)) given_is (s, is, of_is, value_is) place saw records_are absent =
           let three : 3 ≡ 1 = sighted shape opened state kept id a mine lives l.reference 2 1 (sample s) is (omega arith)
-          (subst (λ at. word_seen a.seen_words (at + 2) ≡ Some 1) (sym place) saw.0) in
+          (subst (λ at. word_seen a.seen.words (at + 2) ≡ Some 1) (sym place) saw.0) in
           absurd (omega (arith, three))
       by_given name at before l after None given_is (size, tag, next, payload, is, first, third, long) place saw records_are absent =
           absurd (first (sighted shape opened state kept id a mine lives l.reference 2 1 (other size tag next payload) is (omega arith)
-          (subst (λ at. word_seen a.seen_words (at + 2) ≡ Some 1) (sym place) saw.0)))
+          (subst (λ at. word_seen a.seen.words (at + 2) ≡ Some 1) (sym place) saw.0)))
 
   -- so is a histogram that a `hist` is answered with
   known_right : (known : Known) → MayNote a (knows known) → Knows kept.anatomy known
@@ -218,12 +218,12 @@ module _ (shape : Dimensions) (opened : Anatomy) (state : State) (kept : Kept sh
         first_spec = kind;
         first = first;
         same = subst (λ (s : Spec). SameSpec s known.spec) same
-            (spec_seen known.spec known.reference r has (subst (λ n. SawSpec a known.spec n known.reference) many spec_saw));
+            (spec_seen known.spec known.reference r has (subst (λ n. SawSpec a.seen known.spec n known.reference) many spec_saw));
       }
 
   -- a record whose answer it owes has the spec that it was given, so the first of the name, which has another, is another record
-  pub declined_apart : (owes : Known) (at : ℕ) (letters : List ℕ) → Contains a.owed owes → IsFirstNamed a owes.name at → AreNameWords owes.name letters
-      → SawOtherSpec a owes.spec (length letters) at → at ≢ owes.reference
+  pub declined_apart : (owes : Known) (at : ℕ) (letters : List ℕ) → Contains a.owed owes → IsFirstNamed a.seen owes.name at → AreNameWords owes.name letters
+      → SawOtherSpec a.seen owes.spec (length letters) at → at ≢ owes.reference
   declined_apart owes at letters there named are unlike here =
       let fits = kept.each id a mine lives in
       let entry : Published = record { reference = owes.reference; made = made.Histogram owes.name owes.spec } in
@@ -238,14 +238,14 @@ module _ (shape : Dimensions) (opened : Anatomy) (state : State) (kept : Kept sh
       let many : length letters ≡ length r.letters =
       sym (letters_long owes.name letters are) ∙ (ap (λ (n : List ℕ). name_words (length n)) (sym name_is) ∙ letters_long r.name r.letters lawful.lettered) in
       other_spec owes.spec owes.reference r has same
-      (subst (SawOtherSpec a owes.spec (length r.letters)) here (subst (λ n. SawOtherSpec a owes.spec n at) many unlike))
+      (subst (SawOtherSpec a.seen owes.spec (length r.letters)) here (subst (λ n. SawOtherSpec a.seen owes.spec n at) many unlike))
 
 -- who saw the chain is not spent
-saw_lives : (shape : Dimensions) (opened : Anatomy) (state : State) (id : ℕ) (a : Actor) (kept : Kept shape opened state)
-    → get_elem? state.actors id ≡ some a → (name : List ℕ) (at : ℕ) → IsFirstNamed a name at → a.place ≢ Spent
+saw_lives : (shape : Dimensions) (opened : Anatomy) (state : State) (id : ℕ) (a : Actor) (kept : Invariant shape opened state)
+    → get_elem? state.actors id ≡ some a → (name : List ℕ) (at : ℕ) → IsFirstNamed a.seen name at → a.place ≢ Spent
 saw_lives shape opened state id a kept mine name at named is_spent =
     let nobody : a ≡ spent = subst (StandsRight shape kept.anatomy id a) is_spent (kept.standing id a mine) in
-    let none : named.0 ++ at ∷ named.1 ≡ [] = sym named.2 ∙ ap (λ (a : Actor). a.seen_chain) nobody in
+    let none : named.0 ++ at ∷ named.1 ≡ [] = sym named.2 ∙ ap (λ (a : Actor). a.seen.chain) nobody in
     let long = ap length none in
     let sum = length-append named.0 (at ∷ named.1) in
     omega (arith, long, sum)
@@ -267,7 +267,7 @@ declines_kept owes shape opened state id a kept mine records (there, (at, letter
     record { counted = λ name key. refl; summed = λ name. refl; noted = λ name. refl; costs = λ name. omega arith; units = refl } in
     notes_on shape opened state kept id a mine records n lived counts (takes_nothing a n) (λ name key. refl) (λ known has. has)
     (answered_declines kept.anatomy.records state.actors id a (noting a n) mine owes kind at first apart refl refl)
-    (λ fit. noting_fits shape kept.anatomy state.cursors _ kept.roles.opener id a n fit fit.sees.names
+    (λ fit. noting_fits shape kept.anatomy state.cursors _ kept.roles.opener id a n fit fit.names
     (All-filter (λ (debt : Known). not (bytes_eq debt.name owes.name && (debt.reference == owes.reference))) (HasPublished a.published) a.owed fit.owes)
     (calls_by kept.anatomy a n fit.calls counts fit.calls.ordered fit.calls.within fit.calls.held fit.calls.ended fit.calls.spent fit.calls.taking)
     (looks_on kept.anatomy _ kept.roles.opener a n (fit.looks records))

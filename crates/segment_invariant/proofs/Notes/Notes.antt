@@ -22,7 +22,7 @@ use Rattle.segment_machine.specs.Actor.{counted_of, summed_of, noted_of, units_o
 use Rattle.segment_machine.specs.State.{State}
 use Rattle.segment_invariant.specs.Body.{Anatomy, order_of, claims_of}
 use Rattle.segment_invariant.specs.Ledger.{moving_at}
-use Rattle.segment_invariant.specs.Kept.{summed_cost, StandsRight, Fits, HasKey, Kept, AreAnswered}
+use Rattle.segment_invariant.specs.Invariant.{summed_cost, StandsRight, Fits, HasKey, Invariant, AreAnswered}
 use Rattle.segment_invariant.proofs.Lists.Elements.{none_in, rows_total, rows, row_in, row_from, column, sum_same, sum_beside}
 use Rattle.segment_invariant.proofs.Lists.Countings.{units_total, sum_total, noted_total}
 use Rattle.segment_invariant.proofs.Lists.Tallies.{HasUnits, tally_from, tally_at}
@@ -106,7 +106,7 @@ counted_before a b same e there some_units =
 
 -- ---- all actors
 
-module _ (shape : Dimensions) (opened : Anatomy) (state : State) (kept : Kept shape opened state) (id : ℕ) (a : Actor)
+module _ (shape : Dimensions) (opened : Anatomy) (state : State) (kept : Invariant shape opened state) (id : ℕ) (a : Actor)
     (mine : get_elem? state.actors id ≡ some a) (records : a.opener ≡ 0) where
   module _ (n : Noting) (lived : a.place ≢ Spent) where
     abbrev pub later : Actor
@@ -196,7 +196,7 @@ module _ (shape : Dimensions) (opened : Anatomy) (state : State) (kept : Kept sh
         ]
 
         -- the state with that note is kept
-        pub notes_on : Kept shape opened (record state { actors = noters })
+        pub notes_on : Invariant shape opened (record state { actors = noters })
         notes_on = record {
           anatomy = kept.anatomy;
           shown = kept.shown;

@@ -3,13 +3,13 @@ use Rattle.std.proofs.Common.{ℕ, zero, suc, subst}
 use Rattle.segment_image.specs.Shape.{Dimensions}
 use Rattle.segment_machine.specs.State.{State}
 use Rattle.segment_invariant.specs.Body.{Anatomy}
-use Rattle.segment_invariant.specs.Kept.{Kept}
+use Rattle.segment_invariant.specs.Invariant.{Invariant}
 use Rattle.segment_invariant.specs.Keeps.{HasMade, OpeningsAreKept}
 use Rattle.segment_invariant.proofs.Openings.Segments.{opening_is_kept}
 use Rattle.segment_invariant.proofs.Recorders.Splits.{splits_keep}
 
-made_keep : (shape : Dimensions) (opened : Anatomy) (recorders : ℕ) (old new : State) → Kept shape opened old → HasMade recorders old new → Kept shape opened new
-made_keep shape opened zero old new kept same = subst (Kept shape opened) same kept
+made_keep : (shape : Dimensions) (opened : Anatomy) (recorders : ℕ) (old new : State) → Invariant shape opened old → HasMade recorders old new → Invariant shape opened new
+made_keep shape opened zero old new kept same = subst (Invariant shape opened) same kept
 made_keep shape opened (suc n) old new kept (mid, units, made, split) =
     splits_keep shape opened mid new 0 units (made_keep shape opened n old mid kept made) split
 

@@ -19,7 +19,7 @@ use Rattle.segment_machine.specs.Reached.{new_state}
 use Rattle.segment_machine.specs.Seats.{opener_of}
 use Rattle.segment_invariant.specs.Body.{Body, queue, histogram, counts, sample, Record, Counts, Sample, Piece, Anatomy, blank}
 use Rattle.segment_invariant.specs.Seen.{Stands, HasRecord, HasCounts, HasSample, Sees}
-use Rattle.segment_invariant.specs.Kept.{ListIsKept, IsListed, RecordsAreKept, RolesAreKept, CursorsAreKept, CallsRight, IsMomentOf, FinalsAreExact, Fits, Kept, ClaimedRight, StandsRight, is_living}
+use Rattle.segment_invariant.specs.Invariant.{ListIsKept, IsListed, RecordsAreKept, RolesAreKept, CursorsAreKept, CallsRight, IsMomentOf, FinalsAreExact, Fits, Invariant, ClaimedRight, StandsRight, is_living}
 use Rattle.segment_invariant.specs.Keeps.{OpeningIsKept}
 use Rattle.segment_invariant.proofs.Lists.Elements.{none_in, none_at, not_empty, each_of_one}
 
@@ -113,7 +113,7 @@ module _ (shape : Dimensions) (version id cursors : ℕ) (lawful : IsShape shape
     given = each_of_one opener (λ k a. All (λ g. Contains [] g.reference) a.given) (All-nil _);
   }
 
-  sees : Sees opened (replicate cursors 12) opener
+  sees : Sees opened (replicate cursors 12) opener.seen
   sees = record {
     free = inl refl;
     walked = ([], refl);
@@ -123,7 +123,6 @@ module _ (shape : Dimensions) (version id cursors : ℕ) (lawful : IsShape shape
     in_use = All-nil _;
     fixed = All-nil _;
     shared = All-nil _;
-    names = All-nil _;
   }
 
   calls : CallsRight opened opener
@@ -159,6 +158,7 @@ module _ (shape : Dimensions) (version id cursors : ℕ) (lawful : IsShape shape
     versioned = refl;
     numbered = sym (length-replicate {A = ℕ} cursors 12);
     sees = sees;
+    names = All-nil _;
     own = All-nil _;
     apart = λ i j x y there. absurd (none_at i x there);
     owes = All-nil _;
@@ -168,7 +168,7 @@ module _ (shape : Dimensions) (version id cursors : ℕ) (lawful : IsShape shape
     snapshots = All-nil _;
   }
 
-  kept : (version ≡ 1) ⊎ (version ≡ 2) → Kept shape opened (new_state shape version id cursors)
+  kept : (version ≡ 1) ⊎ (version ≡ 2) → Invariant shape opened (new_state shape version id cursors)
   unfolding roles
   kept versions = record {
     anatomy = opened;

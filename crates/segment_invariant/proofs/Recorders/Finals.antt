@@ -23,7 +23,7 @@ use Rattle.segment_invariant.specs.Consistent.{units_taken}
 use Rattle.segment_machine.specs.Seats.{joined, shifted, shifted_taken, shifted_answers}
 use Rattle.segment_invariant.specs.Body.{Anatomy, held, layout_of}
 use Rattle.segment_invariant.specs.Seen.{Stands}
-use Rattle.segment_invariant.specs.Kept.{is_living, ended_deltas, IsQuiet, IsMoment, IsMomentOf, FinalsAreExact, HoldsOwn}
+use Rattle.segment_invariant.specs.Invariant.{is_living, ended_deltas, IsQuiet, IsMoment, IsMomentOf, FinalsAreExact, HoldsOwn}
 use Rattle.segment_invariant.proofs.Lists.Elements.{all_at}
 use Rattle.segment_invariant.proofs.Blocks.Pieces.{one_stands}
 use Rattle.segment_invariant.proofs.Lists.Maps.{contains_mapped, all_left, drop_left, at_either}

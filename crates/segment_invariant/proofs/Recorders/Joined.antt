@@ -16,22 +16,23 @@ use Rattle.segment_machine.specs.declared.entry.Entry.{Entry}
 use Rattle.segment_machine.specs.declared.entry.Counting.{Counting}
 use Rattle.segment_machine.specs.declared.place.Place.TheVariants.{Idle}
 use Rattle.segment_machine.specs.declared.actor.Actor.{Actor}
+use Rattle.segment_machine.specs.declared.seen.Seen.{Seen}
 use Rattle.segment_machine.specs.declared.actor.Cost.{Cost}
 use Rattle.segment_machine.specs.declared.actor.Given.{Given}
 use Rattle.segment_machine.specs.declared.actor.Taken.{Taken}
 use Rattle.segment_machine.specs.Entry.{is_counted, is_summed, is_noted, has_ended, tally_sum, tally_noted}
 use Rattle.segment_machine.specs.Actor.{is_bound, word_seen, log_of, counted_of, summed_of, given_by, cost_of, cost_total}
-use Rattle.segment_machine.specs.Seats.{joined, spent, longer, shifted_taken, shifted}
+use Rattle.segment_machine.specs.Seats.{both_seen, joined, spent, longer, shifted_taken, shifted}
 use Rattle.segment_machine.specs.Made.{SawSample}
 use Rattle.segment_invariant.specs.Ledger.{moving_at}
-use Rattle.segment_invariant.specs.Kept.{summed_cost, CallsRight}
+use Rattle.segment_invariant.specs.Invariant.{summed_cost, CallsRight}
 use mathlib.Core.Option.{none, some-injective}
 use lib.ListN.{get_elem?}
 use Rattle.segment_image.specs.Shape.{Dimensions}
 use Rattle.alloc_core.specs.Layout.{IsShown}
-use Rattle.segment_machine.specs.declared.actor.Sighting.{Sighting}
+use Rattle.segment_machine.specs.declared.seen.Sighting.{Sighting}
 use Rattle.segment_invariant.specs.Body.{Body, words_of, Piece, Anatomy, layout_of, order_of, free_of}
-use Rattle.segment_invariant.specs.Seen.{WasSingle, WasCounter, WasInUse, WasFixed, IsNoLater, IsFirstOf, Knows, Sees}
+use Rattle.segment_invariant.specs.Seen.{WasSingle, WasCounter, WasInUse, WasFixed, IsNoLater, IsFirstOf, Sees}
 use Rattle.segment_invariant.proofs.Frames.OneActor.{rests_at}
 use Rattle.segment_invariant.proofs.Blocks.Places.{fixed_within}
 use Rattle.segment_invariant.proofs.Blocks.Pieces.{one_index}
@@ -180,17 +181,16 @@ module _ (chain xs ys : List ℕ) (first : IsPrefix xs chain) (second : IsPrefix
           let front = front_of_front ys second.0 xs first.0 (sym second.1 ∙ first.1) (ltb-false (length xs) (length ys) e) in
           subst (λ (list : List ℕ). Contains list x) (sym front.1) (Contains-append_left ys front.0 x there)
 
-pub joined_sees : (anatomy : Anatomy) (cursors : List ℕ) (a b : Actor) → Sees anatomy cursors a → Sees anatomy cursors b → Sees anatomy cursors (joined a b)
+pub joined_sees : (anatomy : Anatomy) (cursors : List ℕ) (a b : Seen) → Sees anatomy cursors a → Sees anatomy cursors b → Sees anatomy cursors (both_seen a b)
 joined_sees anatomy cursors a b mine theirs = record {
-  free = later_free a.seen_free b.seen_free (free_of anatomy) mine.free theirs.free;
-  walked = longer_front (order_of anatomy) a.seen_chain b.seen_chain mine.walked theirs.walked;
-  tails = All-append (λ place. IsNoLater (order_of anatomy) place anatomy.tail) a.seen_tails b.seen_tails mine.tails theirs.tails;
-  singles = All-append (WasSingle anatomy.version anatomy.pieces) a.seen_singles b.seen_singles mine.singles theirs.singles;
-  counters = All-append (WasCounter anatomy.pieces) a.seen_counts b.seen_counts mine.counters theirs.counters;
-  in_use = All-append (WasInUse anatomy.pieces) a.seen_counts b.seen_counts mine.in_use theirs.in_use;
-  fixed = All-append (WasFixed anatomy.pieces) a.seen_words b.seen_words mine.fixed theirs.fixed;
-  shared = All-append (λ (s : Sighting). (s.at < length cursors) × IsNoLater (order_of anatomy) s.word (slice_index cursors s.at)) a.seen_cursors b.seen_cursors mine.shared theirs.shared;
-  names = All-append (Knows anatomy) a.names b.names mine.names theirs.names;
+  free = later_free a.free b.free (free_of anatomy) mine.free theirs.free;
+  walked = longer_front (order_of anatomy) a.chain b.chain mine.walked theirs.walked;
+  tails = All-append (λ place. IsNoLater (order_of anatomy) place anatomy.tail) a.tails b.tails mine.tails theirs.tails;
+  singles = All-append (WasSingle anatomy.version anatomy.pieces) a.singles b.singles mine.singles theirs.singles;
+  counters = All-append (WasCounter anatomy.pieces) a.counts b.counts mine.counters theirs.counters;
+  in_use = All-append (WasInUse anatomy.pieces) a.counts b.counts mine.in_use theirs.in_use;
+  fixed = All-append (WasFixed anatomy.pieces) a.words b.words mine.fixed theirs.fixed;
+  shared = All-append (λ (s : Sighting). (s.at < length cursors) × IsNoLater (order_of anatomy) s.word (slice_index cursors s.at)) a.cursors b.cursors mine.shared theirs.shared;
 }
 
 -- ---- words that were seen
@@ -247,34 +247,34 @@ one_word shape words anatomy shown s t first second same =
 -- ---- what both have sampled
 
 module _ (shape : Dimensions) (words : List ℕ) (anatomy : Anatomy) (shown : IsShown shape words (layout_of anatomy)) (cursors : List ℕ)
-    (a b : Actor) (mine : Sees anatomy cursors a) (theirs : Sees anatomy cursors b) where
+    (a b : Actor) (mine : Sees anatomy cursors a.seen) (theirs : Sees anatomy cursors b.seen) where
   -- a word that the recorder saw the opener sees then
-  joined_word : (at word : ℕ) → word_seen b.seen_words at ≡ Some word → word_seen (a.seen_words ++ b.seen_words) at ≡ Some word
+  joined_word : (at word : ℕ) → word_seen b.seen.words at ≡ Some word → word_seen (a.seen.words ++ b.seen.words) at ≡ Some word
   joined_word at word e =
-      let there = seen_there b.seen_words at word e in
-      seen_behind a.seen_words b.seen_words at word
+      let there = seen_there b.seen.words at word e in
+      seen_behind a.seen.words b.seen.words at word
       (λ s has here. one_word shape words anatomy shown s there.0
-      (All-contains (WasFixed anatomy.pieces) a.seen_words s mine.fixed has)
-      (All-contains (WasFixed anatomy.pieces) b.seen_words there.0 theirs.fixed there.1)
+      (All-contains (WasFixed anatomy.pieces) a.seen.words s mine.fixed has)
+      (All-contains (WasFixed anatomy.pieces) b.seen.words there.0 theirs.fixed there.1)
       (here ∙ sym there.2) ∙ there.3) e
 
   -- an entry of either has a sample that the opener met then
   abbrev Met : Actor → Entry → ℕ → Type 0
-  Met c entry of = (at : ℕ) × IsFirstOf anatomy.records of entry.key at × Contains c.seen_chain at × SawSample c of entry.key at
+  Met c entry of = (at : ℕ) × IsFirstOf anatomy.records of entry.key at × Contains c.seen.chain at × SawSample c.seen of entry.key at
 
   first_met : (entry : Entry) (of : ℕ) → Met a entry of → Met (joined a b) entry of
   first_met entry of met = (
     met.0,
     met.1,
-    longer_first (order_of anatomy) a.seen_chain b.seen_chain mine.walked theirs.walked met.0 met.2,
-    (seen_before a.seen_words b.seen_words _ _ met.3.0, seen_before a.seen_words b.seen_words _ _ met.3.1, seen_before a.seen_words b.seen_words _ _ met.3.2, met.3.3),
+    longer_first (order_of anatomy) a.seen.chain b.seen.chain mine.walked theirs.walked met.0 met.2,
+    (seen_before a.seen.words b.seen.words _ _ met.3.0, seen_before a.seen.words b.seen.words _ _ met.3.1, seen_before a.seen.words b.seen.words _ _ met.3.2, met.3.3),
   )
 
   second_met : (entry : Entry) (of : ℕ) → Met b entry of → Met (joined a b) entry of
   second_met entry of met = (
     met.0,
     met.1,
-    longer_second (order_of anatomy) a.seen_chain b.seen_chain mine.walked theirs.walked met.0 met.2,
+    longer_second (order_of anatomy) a.seen.chain b.seen.chain mine.walked theirs.walked met.0 met.2,
     (joined_word _ _ met.3.0, joined_word _ _ met.3.1, joined_word _ _ met.3.2, met.3.3),
   )
 

@@ -21,7 +21,7 @@ use Rattle.segment_invariant.proofs.Frames.Answers.{owes_more}
 use Rattle.segment_machine.specs.Seats.{MayJoin, joined, spent, shifted, shifted_answers}
 use Rattle.segment_invariant.specs.Keeps.{JoinsKeep}
 use Rattle.segment_invariant.specs.Body.{plain, Anatomy, order_of}
-use Rattle.segment_invariant.specs.Kept.{is_living, RolesAreKept, StandsRight, Fits, Kept}
+use Rattle.segment_invariant.specs.Invariant.{is_living, RolesAreKept, StandsRight, Fits, Invariant}
 use Rattle.segment_invariant.proofs.Frames.OneActor.{lives_on}
 use Rattle.segment_invariant.proofs.Frames.Anatomies.{grounds_along}
 use Rattle.segment_invariant.proofs.Frames.Standing.{follows_itself, stands_on}
@@ -30,12 +30,13 @@ use Rattle.segment_invariant.proofs.Lists.Maps.{each_of_two}
 use Rattle.segment_invariant.proofs.Frames.Deeds.{Deeds, deeds_set, sums_of}
 use Rattle.segment_invariant.proofs.Frames.Together.{LoadedBefore}
 use Rattle.segment_invariant.proofs.Frames.Books.{GivenInOrder, books_of, books_by, kept_by}
+use Rattle.segment_invariant.specs.Seen.{Knows}
 use Rattle.segment_invariant.proofs.Frames.Roles.{opens_nothing, Stood, AllStood, still_younger, still_apart, still_eldest, opens_first, fits_beside}
-use Rattle.segment_invariant.proofs.Recorders.PassedBlocks.{handed, stays_passed, stands_left, books_passed, sees_passed, calls_passed, fits_passed}
+use Rattle.segment_invariant.proofs.Recorders.PassedBlocks.{handed, stays_passed, stands_left, books_passed, sees_passed, names_passed, calls_passed, fits_passed}
 use Rattle.segment_invariant.proofs.Recorders.Joined.{Joins, joined_deeds, joined_sees, joined_calls}
 use Rattle.segment_invariant.proofs.Recorders.Finals.{joined_finals, joined_own, joined_apart}
 
-module _ (shape : Dimensions) (opened : Anatomy) (old : State) (kept : Kept shape opened old) (other : ℕ) (b : Actor)
+module _ (shape : Dimensions) (opened : Anatomy) (old : State) (kept : Invariant shape opened old) (other : ℕ) (b : Actor)
     (apart : 0 ≢ other) (there : get_elem? old.actors other ≡ some b) (may : MayJoin kept.roles.opener b) where
   abbrev opener : Actor
   opener = kept.roles.opener
@@ -164,7 +165,8 @@ module _ (shape : Dimensions) (opened : Anatomy) (old : State) (kept : Kept shap
     shaped = mine.shaped;
     versioned = mine.versioned;
     numbered = mine.numbered;
-    sees = sees_passed other 0 kept.anatomy old.cursors later (joined_sees kept.anatomy old.cursors opener b mine.sees theirs.sees);
+    sees = sees_passed other 0 kept.anatomy old.cursors later.seen (joined_sees kept.anatomy old.cursors opener.seen b.seen mine.sees theirs.sees);
+    names = names_passed other 0 kept.anatomy later.names (All-append (Knows kept.anatomy) opener.names b.names mine.names theirs.names);
     own = joined_own shape old.words kept.anatomy kept.shown other apart opener b mine.own theirs.own;
     apart = joined_apart shape old.words kept.anatomy kept.shown other apart opener b mine.own theirs.own mine.apart theirs.apart;
     owes = owes_more opener.published b.published opener.owed mine.owes;
@@ -212,7 +214,7 @@ module _ (shape : Dimensions) (opened : Anatomy) (old : State) (kept : Kept shap
       (λ stands. absurd (cc stands))
       (λ k c past front is stands. (k, c, is, stands))
 
-  pub join_kept : Kept shape opened (record old { actors = merged })
+  pub join_kept : Invariant shape opened (record old { actors = merged })
   unfolding roles
   join_kept = kept_by shape opened anatomy old.words old.cursors merged
       (books_passed other 0 kept.anatomy shape opened old.words old.cursors merged
@@ -225,9 +227,9 @@ joins_keep shape opened old new id other kept joining =
     let b = joining.1 in
     let may = joining.5 in
     let opener = opens_first old.actors kept.roles id a joining.3 may.1 in
-    subst (Kept shape opened) (sym joining.6)
+    subst (Invariant shape opened) (sym joining.6)
     (subst₂
-    (λ (k : ℕ) (c : Actor). Kept shape opened (record old { actors = set (set old.actors k (joined c b)) other spent }))
+    (λ (k : ℕ) (c : Actor). Invariant shape opened (record old { actors = set (set old.actors k (joined c b)) other spent }))
     (sym opener.0) opener.1
     (join_kept shape opened old kept other b
     (λ e. joining.2 (opener.0 ∙ e)) joining.4 (subst (λ (c : Actor). MayJoin c b) (sym opener.1) may)))

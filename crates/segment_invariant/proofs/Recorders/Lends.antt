@@ -14,7 +14,7 @@ use Rattle.segment_machine.specs.State.{State}
 use Rattle.segment_machine.specs.Seats.{MayLend, lender, borrower}
 use Rattle.segment_invariant.specs.Keeps.{LendsKeep}
 use Rattle.segment_invariant.specs.Body.{Anatomy, order_of}
-use Rattle.segment_invariant.specs.Kept.{is_living, RolesAreKept, StandsRight, Fits, Kept}
+use Rattle.segment_invariant.specs.Invariant.{is_living, RolesAreKept, StandsRight, Fits, Invariant}
 use Rattle.segment_invariant.proofs.Lists.Elements.{sum_beside, below_length}
 use Rattle.segment_invariant.proofs.Lists.Maps.{each_of_two}
 use Rattle.segment_invariant.proofs.Frames.Deeds.{Deeds, took, deeds_set, sums_of}
@@ -47,7 +47,7 @@ lent_deeds a b units enough = record {
 
 -- ---- the state after it
 
-module _ (shape : Dimensions) (opened : Anatomy) (old : State) (kept : Kept shape opened old) (other units : ℕ) (b : Actor)
+module _ (shape : Dimensions) (opened : Anatomy) (old : State) (kept : Invariant shape opened old) (other units : ℕ) (b : Actor)
     (apart : 0 ≢ other) (there : get_elem? old.actors other ≡ some b) (may : MayLend kept.roles.opener b units) where
   abbrev opener : Actor
   opener = kept.roles.opener
@@ -143,7 +143,7 @@ module _ (shape : Dimensions) (opened : Anatomy) (old : State) (kept : Kept shap
       (λ stands. (other, b, there, stands))
       (λ k c past front is stands. (k, c, is, stands))
 
-  pub lent_kept : Kept shape opened (record old { actors = lent })
+  pub lent_kept : Invariant shape opened (record old { actors = lent })
   unfolding roles
   lent_kept = kept_by shape opened kept.anatomy old.words old.cursors lent
       (books_by shape opened kept.anatomy old.words old.cursors old.actors lent deeds loaded (books_of shape opened old kept))
@@ -155,9 +155,9 @@ lends_keep shape opened old new id other units kept lending =
     let b = lending.1 in
     let may = lending.5 in
     let opener = opens_first old.actors kept.roles id a lending.3 may.0 in
-    subst (Kept shape opened) (sym lending.6)
+    subst (Invariant shape opened) (sym lending.6)
     (subst₂
-    (λ (k : ℕ) (c : Actor). Kept shape opened (record old { actors = set (set old.actors k (lender c units)) other (borrower b units) }))
+    (λ (k : ℕ) (c : Actor). Invariant shape opened (record old { actors = set (set old.actors k (lender c units)) other (borrower b units) }))
     (sym opener.0) opener.1
     (lent_kept shape opened old kept other units b
     (λ e. lending.2 (opener.0 ∙ e)) lending.4 (subst (λ (c : Actor). MayLend c b units) (sym opener.1) may)))

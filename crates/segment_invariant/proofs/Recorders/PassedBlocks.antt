@@ -1,5 +1,5 @@
 -- Blocks that pass from one owner to another: their words and places stay, and so does all that is said of others.
-use Rattle.std.proofs.Common.{◌≡◌, ◌≢◌, ℕ, ◌+◌, ◌≤◌, pos, ◌+ℤ◌, Bool, true, false, cond, List, [], ◌∷◌, ◌++◌, map, replicate, ◌%◌, IsPermutation, inl, inr, ⊎_elim, refl, sym, ap, ◌∙◌, subst, eq-eqb, ne_eqb}
+use Rattle.std.proofs.Common.{◌≡◌, ◌≢◌, ℕ, ◌+◌, ◌≤◌, pos, ◌+ℤ◌, Bool, true, false, cond, List, [], ◌∷◌, ◌++◌, map, replicate, ◌%◌, IsPermutation, inl, inr, ⊎_elim, refl, sym, ap, ◌∙◌, subst, eq-eqb, ne_eqb, All}
 use Rattle.std.specs.Prelude.{fold, if◌then◌else◌, ◌==◌}
 use Rattle.std.specs.List.{flat_map}
 use Rattle.std.proofs.lemmas.List.Folds.{fold-map}
@@ -10,12 +10,14 @@ use Rattle.segment_image.specs.Shape.{Dimensions}
 use Rattle.alloc_core.specs.Laws.{Behind}
 use Rattle.alloc_core.specs.Layout.{Block, queue_block, end_of, spread, IsLaid, head_words, flags_of, IsShown}
 use Rattle.segment_machine.specs.declared.actor.Actor.{Actor}
+use Rattle.segment_machine.specs.declared.actor.Known.{Known}
+use Rattle.segment_machine.specs.declared.seen.Seen.{Seen}
 use Rattle.segment_machine.specs.declared.actor.Claim.{Claim}
 use Rattle.segment_invariant.specs.Body.{Body, words_of, Piece, extent_of, block_of, Anatomy, layout_of, free_of, is_claimed, claims_of}
-use Rattle.segment_invariant.specs.Seen.{Stands, Sees}
-use Rattle.segment_invariant.specs.Kept.{StandStill, ClaimedRight, CallsRight, Fits}
+use Rattle.segment_invariant.specs.Seen.{Stands, Knows, Sees}
+use Rattle.segment_invariant.specs.Invariant.{StandStill, ClaimedRight, CallsRight, Fits}
 use Rattle.segment_invariant.proofs.Lists.Elements.{from_map}
-use Rattle.segment_invariant.proofs.Frames.Anatomies.{balanced_along, list_along, records_along, sums_along, sees_along, calls_along, fits_along}
+use Rattle.segment_invariant.proofs.Frames.Anatomies.{balanced_along, list_along, records_along, sums_along, sees_along, names_along, calls_along, fits_along}
 use Rattle.segment_invariant.proofs.Lists.Maps.{map_after}
 use Rattle.segment_invariant.proofs.Frames.Books.{Books}
 use Rattle.segment_invariant.proofs.Frames.Growth.{reshaped, Stays}
@@ -177,10 +179,13 @@ module _ (from to : ℕ) (anatomy : Anatomy) where
     stand = books.stand;
   }
 
-  pub sees_passed : (cursors : List ℕ) (a : Actor) → Sees anatomy cursors a → Sees (handed from to anatomy) cursors a
-  sees_passed cursors a sees =
-      sees_along anatomy pieces anatomy.spare anatomy.corrupt anatomy.full anatomy.tail (stays_passed from to anatomy.pieces) cursors a
-      (subst (Behind a.seen_free) (sym (free_passed from to anatomy)) sees.free) sees.tails sees
+  pub sees_passed : (cursors : List ℕ) (seen : Seen) → Sees anatomy cursors seen → Sees (handed from to anatomy) cursors seen
+  sees_passed cursors seen sees =
+      sees_along anatomy pieces anatomy.spare anatomy.corrupt anatomy.full anatomy.tail (stays_passed from to anatomy.pieces) cursors seen
+      (subst (Behind seen.free) (sym (free_passed from to anatomy)) sees.free) sees.tails sees
+
+  pub names_passed : (names : List Known) → All (Knows anatomy) names → All (Knows (handed from to anatomy)) names
+  names_passed = names_along anatomy pieces anatomy.spare anatomy.corrupt anatomy.full anatomy.tail (stays_passed from to anatomy.pieces)
 
   pub calls_passed : (a : Actor) → CallsRight anatomy a → CallsRight (handed from to anatomy) a
   calls_passed a calls =
@@ -190,4 +195,4 @@ module _ (from to : ℕ) (anatomy : Anatomy) where
       → Fits shape anatomy cursors actors opener id a → Fits shape (handed from to anatomy) cursors actors opener id a
   fits_passed shape cursors actors opener id a apart fit =
       fits_along anatomy pieces anatomy.spare anatomy.corrupt anatomy.full anatomy.tail (stays_passed from to anatomy.pieces) shape cursors actors opener id a
-      (stands_left from to anatomy.pieces id apart) (subst (Behind a.seen_free) (sym (free_passed from to anatomy)) fit.sees.free) fit.sees.tails fit
+      (stands_left from to anatomy.pieces id apart) (subst (Behind a.seen.free) (sym (free_passed from to anatomy)) fit.sees.free) fit.sees.tails fit

@@ -3,27 +3,13 @@ use Rattle.std.proofs.Common.{◌≡◌, ℕ, List, false, true≢false, sym, �
 use Rattle.segment_image.specs.Shape.{Dimensions}
 use Rattle.segment_machine.specs.declared.actor.Actor.{Actor}
 use Rattle.segment_invariant.specs.Body.{Anatomy}
-use Rattle.segment_invariant.specs.Seen.{Sees}
-use Rattle.segment_invariant.specs.Kept.{CallsRight, LooksBack, FinalsAreExact, Fits}
+use Rattle.segment_invariant.specs.Invariant.{CallsRight, LooksBack, FinalsAreExact, Fits}
 
 -- with another share and other recorders
 abbrev pub turned : Actor → (share made outstanding : ℕ) → Actor
 turned a share made outstanding = record a { share = share; made = made; outstanding = outstanding }
 
 module _ (anatomy : Anatomy) (a : Actor) (share made outstanding : ℕ) where
-  pub turned_sees : (cursors : List ℕ) → Sees anatomy cursors a → Sees anatomy cursors (turned a share made outstanding)
-  turned_sees cursors sees = record {
-    free = sees.free;
-    walked = sees.walked;
-    tails = sees.tails;
-    singles = sees.singles;
-    counters = sees.counters;
-    in_use = sees.in_use;
-    fixed = sees.fixed;
-    shared = sees.shared;
-    names = sees.names;
-  }
-
   pub turned_calls : CallsRight anatomy a → CallsRight anatomy (turned a share made outstanding)
   turned_calls calls = record {
     ordered = calls.ordered;
@@ -61,7 +47,8 @@ module _ (shape : Dimensions) (anatomy : Anatomy) (cursors : List ℕ) (actors :
     shaped = fit.shaped;
     versioned = fit.versioned;
     numbered = fit.numbered;
-    sees = turned_sees anatomy a share a.made a.outstanding cursors fit.sees;
+    sees = fit.sees;
+    names = fit.names;
     own = fit.own;
     apart = fit.apart;
     owes = fit.owes;
@@ -92,7 +79,8 @@ module _ (shape : Dimensions) (anatomy : Anatomy) (cursors : List ℕ) (actors :
     shaped = fit.shaped;
     versioned = fit.versioned;
     numbered = fit.numbered;
-    sees = turned_sees anatomy a share made outstanding cursors fit.sees;
+    sees = fit.sees;
+    names = fit.names;
     own = fit.own;
     apart = fit.apart;
     owes = fit.owes;

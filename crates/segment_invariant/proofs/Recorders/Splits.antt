@@ -17,7 +17,7 @@ use Rattle.segment_machine.specs.declared.entry.Counting.{Counting}
 use Rattle.segment_machine.specs.declared.place.Place.TheVariants.{Spent, SumLoaded}
 use Rattle.segment_machine.specs.declared.actor.Actor.{Actor}
 use Rattle.segment_machine.specs.declared.actor.Given.{Given}
-use Rattle.segment_machine.specs.declared.actor.Sighting.{Sighting}
+use Rattle.segment_machine.specs.declared.seen.Sighting.{Sighting}
 use Rattle.segment_machine.specs.Entry.{is_counted, is_summed, is_noted, has_ended, counted_among}
 use Rattle.segment_machine.specs.Actor.{log_of, counted_of, all_counted, all_noted, all_published, all_given, all_names, all_owed}
 use Rattle.segment_invariant.specs.Consistent.{IsWithinCounts}
@@ -25,8 +25,8 @@ use Rattle.segment_machine.specs.State.{State}
 use Rattle.segment_machine.specs.Seats.{MaySplit, parent, newcomer}
 use Rattle.segment_invariant.specs.Keeps.{SplitsKeep}
 use Rattle.segment_invariant.specs.Body.{Anatomy, order_of}
-use Rattle.segment_invariant.specs.Seen.{Sees, Knows}
-use Rattle.segment_invariant.specs.Kept.{is_living, HoldsOwn, CallsRight, IsAlone, LooksBack, FinalsAreExact, RolesAreKept, StandsRight, Fits, Kept}
+use Rattle.segment_invariant.specs.Seen.{Knows}
+use Rattle.segment_invariant.specs.Invariant.{is_living, HoldsOwn, CallsRight, IsAlone, LooksBack, FinalsAreExact, RolesAreKept, StandsRight, Fits, Invariant}
 use Rattle.segment_invariant.proofs.Lists.Elements.{none_in, none_at, contains_filter, sum_at_least, sum_beside, below_length}
 use Rattle.segment_invariant.proofs.Frames.OneActor.{lives_on}
 use Rattle.segment_invariant.proofs.Lists.Maps.{each_of_more, contains_map, contains_mapped, one_at}
@@ -80,19 +80,6 @@ module _ (anatomy : Anatomy) (cursors : List ℕ) (actors : List Actor) (later a
   abbrev fresh : Actor
   fresh = newcomer a units
 
-  fresh_sees : Sees anatomy cursors a → Sees anatomy cursors fresh
-  fresh_sees sees = record {
-    free = sees.free;
-    walked = sees.walked;
-    tails = sees.tails;
-    singles = sees.singles;
-    counters = sees.counters;
-    in_use = sees.in_use;
-    fixed = sees.fixed;
-    shared = sees.shared;
-    names = All-nil (Knows anatomy);
-  }
-
   fresh_calls : CallsRight anatomy a → CallsRight anatomy fresh
   fresh_calls calls = record {
     ordered = record {
@@ -115,7 +102,7 @@ module _ (anatomy : Anatomy) (cursors : List ℕ) (actors : List Actor) (later a
     packed = λ known bucket word has. absurd (none_in known has);
     counted = λ known bucket count r has. absurd (none_in known has);
     samples = λ known value at count has. absurd (none_in known has);
-    rising = λ s t before since. absurd (none_in t (subst (λ (list : List Sighting). Contains list t) (drop_all (length a.seen_counts) a.seen_counts (omega arith)) since));
+    rising = λ s t before since. absurd (none_in t (subst (λ (list : List Sighting). Contains list t) (drop_all (length a.seen.counts) a.seen.counts (omega arith)) since));
     noted = λ known count has. absurd (none_in known has);
     sum = λ reference sum r stands. absurd (cc stands);
   }
@@ -134,7 +121,8 @@ module _ (anatomy : Anatomy) (cursors : List ℕ) (actors : List Actor) (later a
     shaped = fit.shaped;
     versioned = fit.versioned;
     numbered = fit.numbered;
-    sees = fresh_sees fit.sees;
+    sees = fit.sees;
+    names = All-nil (Knows anatomy);
     own = All-nil (HoldsOwn shape anatomy.pieces id);
     apart = λ i j x y first. absurd (none_at i x first);
     owes = All-nil _;
@@ -146,7 +134,7 @@ module _ (anatomy : Anatomy) (cursors : List ℕ) (actors : List Actor) (later a
 
 -- ---- the state after it
 
-module _ (shape : Dimensions) (opened : Anatomy) (old : State) (kept : Kept shape opened old) (units : ℕ)
+module _ (shape : Dimensions) (opened : Anatomy) (old : State) (kept : Invariant shape opened old) (units : ℕ)
     (may : MaySplit kept.roles.opener units) where
   abbrev opener : Actor
   opener = kept.roles.opener
@@ -311,7 +299,7 @@ module _ (shape : Dimensions) (opened : Anatomy) (old : State) (kept : Kept shap
       (λ stands. absurd (cc stands))
       (λ k c within front is stands. (k, c, is, stands))
 
-  pub split_kept : Kept shape opened (record old { actors = split })
+  pub split_kept : Invariant shape opened (record old { actors = split })
   unfolding roles
   split_kept = kept_by shape opened kept.anatomy old.words old.cursors split
       (books_by shape opened kept.anatomy old.words old.cursors old.actors split deeds loaded (books_of shape opened old kept))
@@ -322,8 +310,8 @@ splits_keep shape opened old new id units kept splitting =
     let a = splitting.0 in
     let may = splitting.2 in
     let opener = opens_first old.actors kept.roles id a splitting.1 may.1 in
-    subst (Kept shape opened) (sym splitting.3)
+    subst (Invariant shape opened) (sym splitting.3)
     (subst₂
-    (λ (k : ℕ) (c : Actor). Kept shape opened (record old { actors = set old.actors k (parent c units) ++ newcomer c units ∷ [] }))
+    (λ (k : ℕ) (c : Actor). Invariant shape opened (record old { actors = set old.actors k (parent c units) ++ newcomer c units ∷ [] }))
     (sym opener.0) opener.1
     (split_kept shape opened old kept units (subst (λ (c : Actor). MaySplit c units) (sym opener.1) may)))

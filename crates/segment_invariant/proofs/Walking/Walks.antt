@@ -21,14 +21,14 @@ use Rattle.segment_machine.specs.declared.actor.Claim.{Claim}
 use Rattle.segment_machine.specs.declared.actor.Own.{Own}
 use Rattle.segment_machine.specs.declared.actor.Made.{Made}
 use Rattle.segment_machine.specs.declared.actor.Made.TheVariants as made
-use Rattle.segment_machine.specs.declared.actor.Sighting.{Sighting}
+use Rattle.segment_machine.specs.declared.seen.Sighting.{Sighting}
 use Rattle.segment_machine.specs.declared.place.Place.{Place}
 use Rattle.segment_machine.specs.declared.place.Place.TheVariants.{Spent}
 use Rattle.segment_machine.specs.State.{State}
 use Rattle.segment_machine.specs.Calls.{IsReference}
 use Rattle.segment_invariant.specs.Body.{Body, histogram, sample, other, words_of, is_claimed, Piece, Listed, Anatomy, layout_of, order_of, free_of, claims_of}
 use Rattle.segment_invariant.specs.Seen.{Stands, WasFixed, IsNoLater, AreNoLater, Sees}
-use Rattle.segment_invariant.specs.Kept.{StandsAs, StandsRight, HoldsOwn, IsSetBy, StandStill, Kept}
+use Rattle.segment_invariant.specs.Invariant.{StandsAs, StandsRight, HoldsOwn, IsSetBy, StandStill, Invariant}
 use Rattle.segment_invariant.proofs.Lists.Elements.{rows, column, there_below, index_at, all_at}
 use Rattle.segment_invariant.proofs.Blocks.Pieces.{piece_from, piece_ends, free_within}
 use Rattle.segment_invariant.proofs.Frames.OneActor.{Doing, doing, doing_of, TurnsTo}
@@ -49,7 +49,7 @@ listed_stands pieces l (Some (made.Histogram name spec)) s = (histogram s.0, s.1
 listed_stands pieces l (Some (made.Sample of value)) s = (sample s.0, s.1, refl, λ n. refl)
 listed_stands pieces l None s = (other s.0 s.1 s.2 s.3, s.4, refl, λ n. refl)
 
-module _ (shape : Dimensions) (opened : Anatomy) (state : State) (kept : Kept shape opened state) where
+module _ (shape : Dimensions) (opened : Anatomy) (state : State) (kept : Invariant shape opened state) where
   abbrev anatomy : Anatomy
   anatomy = kept.anatomy
 
@@ -136,15 +136,15 @@ module _ (shape : Dimensions) (opened : Anatomy) (state : State) (kept : Kept sh
         → All (WasFixed pieces) words
         → All (HoldsOwn shape pieces id) own
         → ((i j : ℕ) (x y : Own) → get_elem? own i ≡ some x → get_elem? own j ≡ some y → x.at ≡ y.at → i ≡ j)
-        → Kept shape opened (record { words = words'; cursors = state.cursors; actors = set state.actors id (doing a (walking place own tails chain words)) })
+        → Invariant shape opened (record { words = words'; cursors = state.cursors; actors = set state.actors id (doing a (walking place own tails chain words)) })
     walks_on place own tails chain words turns more pieces present words' stays others still blocks claims free shown linked stop later stands prefix no_later fixed holds apart =
         let d : Doing = walking place own tails chain words in
         let new : Anatomy = reshaped anatomy pieces anatomy.spare anatomy.corrupt anatomy.full present in
         let fits = kept.each id a mine turns.lived in
-        let old_sees : Sees new state.cursors a =
-        sees_along anatomy pieces anatomy.spare anatomy.corrupt anatomy.full present stays state.cursors a
-        (subst (Behind a.seen_free) (sym free) fits.sees.free) (All-weaker (λ place. IsNoLater order place anatomy.tail) (λ place. IsNoLater order place present) later a.seen_tails fits.sees.tails) fits.sees in
-        let sees : Sees new state.cursors (doing a d) = record {
+        let old_sees : Sees new state.cursors a.seen =
+        sees_along anatomy pieces anatomy.spare anatomy.corrupt anatomy.full present stays state.cursors a.seen
+        (subst (Behind a.seen.free) (sym free) fits.sees.free) (All-weaker (λ place. IsNoLater order place anatomy.tail) (λ place. IsNoLater order place present) later a.seen.tails fits.sees.tails) fits.sees in
+        let sees : Sees new state.cursors (doing a d).seen = record {
           free = old_sees.free;
           walked = prefix;
           tails = no_later;
@@ -153,7 +153,6 @@ module _ (shape : Dimensions) (opened : Anatomy) (state : State) (kept : Kept sh
           in_use = old_sees.in_use;
           fixed = fixed;
           shared = old_sees.shared;
-          names = old_sees.names;
         } in
         let on = fits_on shape opened state kept new (λ at body. ⊥)
         (grows_not anatomy pieces anatomy.spare anatomy.corrupt anatomy.full present stays) id a d mine turns.lived more sees holds apart fits.owes in
@@ -194,7 +193,7 @@ module _ (shape : Dimensions) (opened : Anatomy) (state : State) (kept : Kept sh
         → IsPrefix chain order
         → AreNoLater order tails present
         → All (WasFixed anatomy.pieces) words
-        → Kept shape opened (record { words = words'; cursors = state.cursors; actors = set state.actors id (doing a (walking place a.own tails chain words)) })
+        → Invariant shape opened (record { words = words'; cursors = state.cursors; actors = set state.actors id (doing a (walking place a.own tails chain words)) })
     looks_on place tails chain words turns more present words' shown linked stop later stands prefix no_later fixed =
         let fits = kept.each id a mine turns.lived in
         walks_on place a.own tails chain words turns more anatomy.pieces present words' (stays_same anatomy.pieces)

@@ -30,7 +30,7 @@ use Rattle.segment_machine.specs.declared.actor.Moment.{Moment}
 use Rattle.segment_machine.specs.declared.actor.Made.TheVariants as made
 use Rattle.segment_machine.specs.declared.actor.Own.{Own}
 use Rattle.segment_machine.specs.declared.actor.Published.{Published}
-use Rattle.segment_machine.specs.declared.actor.Sighting.{Sighting}
+use Rattle.segment_machine.specs.declared.seen.Sighting.{Sighting}
 use Rattle.segment_machine.specs.declared.actor.Taken.{Taken}
 use Rattle.segment_machine.specs.Entry.{is_counted, is_summed, has_ended, AreWithin, is_of, tally_units, tally_sum, tally_noted}
 use Rattle.segment_machine.specs.Form.{is_off, units_in}
@@ -43,7 +43,7 @@ use Rattle.segment_machine.specs.Seats.{spent}
 use Rattle.segment_machine.specs.State.{State}
 use Rattle.segment_invariant.specs.Body.{Record, Counts, Sample, Body, held, histogram, sample, other, words_of, is_claimed, Piece, extent_of, Listed, listed, Anatomy, layout_of, order_of, claims_of}
 use Rattle.segment_invariant.specs.Ledger.{form_at, key_of_bucket, noted_held, all_held, IsBalanced}
-use Rattle.segment_invariant.specs.Seen.{Stands, HasPlain, HasOwn, HasRecord, HasCounts, HasSample, IsFirst, IsFirstOf, Sees}
+use Rattle.segment_invariant.specs.Seen.{Stands, HasPlain, HasOwn, HasRecord, HasCounts, HasSample, IsFirst, IsFirstOf, Sees, Knows}
 
 -- ---- the list
 
@@ -142,8 +142,8 @@ pub record RecordsAreKept (page : ℕ) (anatomy : Anatomy) : Type 0 where
 pub record LooksRight (a : Actor) (look : Look) : Type 0 where
   pub known : Known
   pub knows : Buckets a look.histogram known
-  pub single : (word : ℕ) → look.single ≡ Some word → Contains a.seen_singles (record { at = look.histogram + HISTOGRAM_SINGLE; word = word })
-  pub counts : look.counts ≢ 0 → Contains a.seen_words (record { at = look.histogram + HISTOGRAM_COUNTS; word = look.counts })
+  pub single : (word : ℕ) → look.single ≡ Some word → Contains a.seen.singles (record { at = look.histogram + HISTOGRAM_SINGLE; word = word })
+  pub counts : look.counts ≢ 0 → Contains a.seen.words (record { at = look.histogram + HISTOGRAM_COUNTS; word = look.counts })
 
 -- it has loaded a single word that is off, and the counts
 abbrev pub LooksOff : Actor → Look → Type 0
@@ -152,20 +152,20 @@ LooksOff a look = LooksRight a look × (look.counts ≢ 0) × ((word : ℕ) × (
 -- it has met a sample of a histogram that it knows
 abbrev pub MetSample : Actor → ℕ → Type 0
 MetSample a reference =
-    (histogram : ℕ) × (known : Known) × (value : ℤ) × Sparse a histogram known × Contains a.seen_chain reference
-    × SawSample a histogram value reference
+    (histogram : ℕ) × (known : Known) × (value : ℤ) × Sparse a histogram known × Contains a.seen.chain reference
+    × SawSample a.seen histogram value reference
 
 -- what holds where a running call stands: the block in its hands holds just what it stored, and what it loaded it saw
 abbrev pub StandsRight : Dimensions → Anatomy → ℕ → Actor → Place → Type 0
 StandsRight shape anatomy id a Spent = a ≡ spent
 StandsRight shape anatomy id a Idle = ⊤
 StandsRight shape anatomy id a FlagsLoaded = ⊤
-StandsRight shape anatomy id a (FreeLoaded free) = a.seen_free ≡ free
+StandsRight shape anatomy id a (FreeLoaded free) = a.seen.free ≡ free
 StandsRight shape anatomy id a (Raised at size) = IsPlace shape at size × HasPlain anatomy.pieces id at (replicate size 0)
 StandsRight shape anatomy id a (Sized at size) = IsPlace shape at size × HasPlain anatomy.pieces id at (size ∷ replicate (size - 1) 0)
 StandsRight shape anatomy id a (Marked at size) =
     IsPlace shape at size × HasPlain anatomy.pieces id at (size ∷ CLAIMED_COOKIE ∷ replicate (size - 2) 0)
-StandsRight shape anatomy id a (TailLoaded tail) = Contains a.seen_tails tail × IsStop (order_of anatomy) tail
+StandsRight shape anatomy id a (TailLoaded tail) = Contains a.seen.tails tail × IsStop (order_of anatomy) tail
 StandsRight shape anatomy id a (Beaten tail behind) = AreNeighbours (order_of anatomy) tail behind
 StandsRight shape anatomy id a (Linked at tail) = AreNeighbours (order_of anatomy) tail at
 StandsRight shape anatomy id a (Looking look) = LooksRight a look
@@ -174,17 +174,17 @@ StandsRight shape anatomy id a (Losing look at) =
 StandsRight shape anatomy id a (Moving look bucket units) =
     LooksRight a look × (anatomy.version ≡ 1) × (look.counts ≢ 0) × (1 ≤ units) × (units ≤ 65535)
     × ((r : Record) × HasRecord anatomy.pieces look.histogram r × (packed_bucket (form_at 1 r) ≡ Some bucket) × (is_off r.single ≡ true))
-    × All (λ s. s.at ≢ look.counts + BLOCK_HEADER + bucket) a.seen_counts
+    × All (λ s. s.at ≢ look.counts + BLOCK_HEADER + bucket) a.seen.counts
 StandsRight shape anatomy id a (CountLoaded look bucket count) =
     (off : LooksOff a look) × (bucket < buckets_of off.0.known.spec)
-    × Contains a.seen_counts (record { at = look.counts + BLOCK_HEADER + bucket; word = count })
+    × Contains a.seen.counts (record { at = look.counts + BLOCK_HEADER + bucket; word = count })
 StandsRight shape anatomy id a (SampleLoaded reference count) =
-    MetSample a reference × Contains a.seen_counts (record { at = reference + SAMPLE_COUNT; word = count })
+    MetSample a reference × Contains a.seen.counts (record { at = reference + SAMPLE_COUNT; word = count })
 StandsRight shape anatomy id a (SumLoaded reference sum) = (known : Known) × Contains a.names known × (known.reference ≡ reference)
 StandsRight shape anatomy id a (CursorLoaded cursor at) =
-    IsStop (order_of anatomy) at × Contains a.seen_cursors (record { at = cursor; word = at })
+    IsStop (order_of anatomy) at × Contains a.seen.cursors (record { at = cursor; word = at })
 StandsRight shape anatomy id a (BehindCursor cursor at next) =
-    AreNeighbours (order_of anatomy) at next × Contains a.seen_cursors (record { at = cursor; word = at })
+    AreNeighbours (order_of anatomy) at next × Contains a.seen.cursors (record { at = cursor; word = at })
 
 -- a block of its own stands as it was stored, and has room for its payload
 pub record HoldsOwn (shape : Dimensions) (pieces : List Piece) (id : ℕ) (own : Own) : Type 0 where
@@ -217,7 +217,7 @@ pub record CallsRight (anatomy : Anatomy) (a : Actor) : Type 0 where
   pub spent : (name : List ℕ)
       → max (tally_noted a.first name) (cost_of a.first_noted name) + tally_noted (map (λ c. c.entry) a.log) name ≤ cost_of a.costs name
   pub met : (entry : Entry) (of : ℕ) → Contains (a.inherited ++ counted_of a) entry → 0 < entry.units → IsFirst anatomy.records entry.name spec.Sparse of
-      → (at : ℕ) × IsFirstOf anatomy.records of entry.key at × Contains a.seen_chain at × SawSample a of entry.key at
+      → (at : ℕ) × IsFirstOf anatomy.records of entry.key at × Contains a.seen.chain at × SawSample a.seen of entry.key at
   pub taking : a.taking ≡ true → (a.running ≡ []) × ((before : List Taken) × (last : Taken) × (a.taken ≡ before ++ last ∷ []))
 
 -- an entry that has units, and units that were taken, have the key of a bucket of a histogram, or the value of one of its samples
@@ -319,7 +319,7 @@ pub record LooksBack (anatomy : Anatomy) (actors : List Actor) (opener a : Actor
       → tally_units (accepted_by a) known.name (bucket_key (Some known) bucket) ≤ count + units_packed (form_at anatomy.version r) bucket
   pub samples : (known : Known) (value : ℤ) (at count : ℕ) → Contains a.names known → IsFirstOf anatomy.records known.reference value at
       → SawCount a (at + SAMPLE_COUNT) count → tally_units (accepted_by a) known.name value ≤ count
-  pub rising : (s t : Sighting) → Contains (take a.since_counts a.seen_counts) s → Contains (drop a.since_counts a.seen_counts) t
+  pub rising : (s t : Sighting) → Contains (take a.since_counts a.seen.counts) s → Contains (drop a.since_counts a.seen.counts) t
       → s.at ≡ t.at → s.word ≤ t.word
   pub noted : (known : Known) (count : ℕ) → Contains a.names known → SawCount a (known.reference + HISTOGRAM_REDUNDANT) count
       → cost_of opener.first_noted known.name + tally_noted (accepted_since opener a) known.name ≤ count
@@ -380,7 +380,8 @@ pub record Fits (shape : Dimensions) (anatomy : Anatomy) (cursors : List ℕ) (a
   pub shaped : a.shape ≡ shape
   pub versioned : a.version ≡ anatomy.version
   pub numbered : a.cursors ≡ length cursors
-  pub sees : Sees anatomy cursors a
+  pub sees : Sees anatomy cursors a.seen
+  pub names : All (Knows anatomy) a.names
   pub own : All (HoldsOwn shape anatomy.pieces id) a.own
   pub apart : (i j : ℕ) (x y : Own) → get_elem? a.own i ≡ some x → get_elem? a.own j ≡ some y → x.at ≡ y.at → i ≡ j
   pub owes : OwesPublished a.published a.owed
@@ -414,7 +415,7 @@ abbrev pub StandStill : List Piece → List Piece → Type 0
 StandStill opened pieces = (k : ℕ) (p : Piece) → get_elem? opened k ≡ some p → (q : Piece) × (get_elem? pieces k ≡ some q) × (q.at ≡ p.at)
 
 -- A segment that was opened as `opened` is kept: there is an anatomy of its words with all that this page says.
-pub record Kept (shape : Dimensions) (opened : Anatomy) (state : State) : Type 0 where
+pub record Invariant (shape : Dimensions) (opened : Anatomy) (state : State) : Type 0 where
   pub anatomy : Anatomy
   pub shown : IsShown shape state.words (layout_of anatomy)
   pub same : (anatomy.version ≡ opened.version) × (anatomy.id ≡ opened.id) × (anatomy.other_flags ≡ opened.other_flags)

@@ -20,7 +20,7 @@ use Rattle.bucket_ranges.specs.Reading.{name_words}
 use Rattle.segment_machine.specs.declared.actor.Actor.{Actor}
 use Rattle.segment_machine.specs.declared.actor.Made.{Made}
 use Rattle.segment_machine.specs.declared.actor.Made.TheVariants as made
-use Rattle.segment_machine.specs.declared.actor.Sighting.{Sighting}
+use Rattle.segment_machine.specs.declared.seen.Sighting.{Sighting}
 use Rattle.segment_machine.specs.declared.place.Place.TheVariants.{Spent}
 use Rattle.segment_machine.specs.Actor.{is_bound, word_seen}
 use Rattle.segment_machine.specs.State.{State}
@@ -30,7 +30,7 @@ use Rattle.segment_machine.specs.Calls.{sight}
 use Rattle.segment_machine.specs.Made.{AreNameWords}
 use Rattle.segment_invariant.specs.Body.{Record, Sample, Body, histogram, sample, other, record_words, spec_field, words_of, is_claimed, Piece, Listed, Anatomy, layout_of, order_of}
 use Rattle.segment_invariant.specs.Seen.{Stands, HasRecord, HasSample, IsFixedIn, WasFixed}
-use Rattle.segment_invariant.specs.Kept.{StandsAs, Kept}
+use Rattle.segment_invariant.specs.Invariant.{StandsAs, Invariant}
 use Rattle.segment_invariant.proofs.Lists.Elements.{at_from, all_at, from_map}
 use Rattle.segment_invariant.proofs.Blocks.Places.{fixed_within}
 use Rattle.segment_invariant.proofs.Blocks.Pieces.{piece_word, one_index}
@@ -39,8 +39,8 @@ use Rattle.segment_invariant.proofs.Frames.GoesOn.{happens}
 use Rattle.segment_invariant.proofs.Frames.GrowthOfActors.{SawMore}
 use Rattle.segment_invariant.proofs.Frames.Standing.{grounds_itself, Follows, stands_on}
 use Rattle.segment_invariant.proofs.Frames.GrowthOfStates.{known_record}
-use Rattle.segment_invariant.proofs.Listing.Walks.{block_within, walking, looks_on}
-use Rattle.segment_invariant.proofs.Listing.Events.{Goes, loaded}
+use Rattle.segment_invariant.proofs.Walking.Walks.{block_within, walking, looks_on}
+use Rattle.segment_invariant.proofs.Frames.Shown.{Goes, loaded}
 
 -- ---- the words of a record
 
@@ -108,7 +108,7 @@ no_counts a at (inr (inl (tag, inr (inr (len, seen, from, within))))) = omega (a
 no_counts a at (inr (inr (tag, least, most))) = omega (arith, most)
 
 -- a word that was seen of a block is that of the block
-module _ (shape : Dimensions) (opened : Anatomy) (state : State) (kept : Kept shape opened state) where
+module _ (shape : Dimensions) (opened : Anatomy) (state : State) (kept : Invariant shape opened state) where
   abbrev blocks : List Piece
   blocks = kept.anatomy.pieces
 
@@ -124,12 +124,12 @@ module _ (shape : Dimensions) (opened : Anatomy) (state : State) (kept : Kept sh
   -- so of a word that an actor saw
   pub sighted : (id : ℕ) (a : Actor) → get_elem? state.actors id ≡ some a → a.place ≢ Spent
       → (at j word : ℕ) (body : Body) → Stands blocks at none body → j < length (words_of body)
-      → word_seen a.seen_words (at + j) ≡ Some word → slice_index (words_of body) j ≡ word
+      → word_seen a.seen.words (at + j) ≡ Some word → slice_index (words_of body) j ≡ word
   sighted id a mine lives at j word body stands lt seen =
       seen_stays at j word body stands lt
-      (All-contains (WasFixed blocks) a.seen_words _ (kept.each id a mine lives).sees.fixed (word_contains a.seen_words (at + j) word seen))
+      (All-contains (WasFixed blocks) a.seen.words _ (kept.each id a mine lives).sees.fixed (word_contains a.seen.words (at + j) word seen))
 
-module _ (shape : Dimensions) (opened : Anatomy) (state : State) (kept : Kept shape opened state) (id : ℕ) (a : Actor)
+module _ (shape : Dimensions) (opened : Anatomy) (state : State) (kept : Invariant shape opened state) (id : ℕ) (a : Actor)
     (mine : get_elem? state.actors id ≡ some a) (records : a.opener ≡ 0) (unbound : is_bound a.place ≡ false) where
   abbrev anatomy : Anatomy
   anatomy = kept.anatomy
@@ -138,7 +138,7 @@ module _ (shape : Dimensions) (opened : Anatomy) (state : State) (kept : Kept sh
   lives spent = cc (unbound, ap is_bound spent)
 
   seen_is : (at j word : ℕ) (body : Body) → Stands anatomy.pieces at none body → j < length (words_of body)
-      → word_seen a.seen_words (at + j) ≡ Some word → slice_index (words_of body) j ≡ word
+      → word_seen a.seen.words (at + j) ≡ Some word → slice_index (words_of body) j ≡ word
   seen_is = sighted shape opened state kept id a mine lives
 
   module _ (at index : ℕ) (body : Body) (stands : Stands anatomy.pieces at none body) (fixed : IsFixedIn body index) where
@@ -150,28 +150,28 @@ module _ (shape : Dimensions) (opened : Anatomy) (state : State) (kept : Kept sh
     reads known_fixed claimed ends =
         let found : ℕ = word_at state.words (at + index) in
         let s : Sighting = record { at = at + index; word = found } in
-        let words : List Sighting = a.seen_words ++ sight (at + index) found in
+        let words : List Sighting = a.seen.words ++ sight (at + index) found in
         let fits = kept.each id a mine lives in
         let turns = turns_not a lives in
         let lt = fixed_within body index fixed in
         let size = length_shown shape state.words (layout_of anatomy) kept.shown in
         let (from, five, within) = block_within shape opened state kept at body stands claimed in
-        let d : Doing = walking shape opened state kept id a mine records a.place a.own a.seen_tails a.seen_chain words in
+        let d : Doing = walking shape opened state kept id a mine records a.place a.own a.seen.tails a.seen.chain words in
         let follows : Follows a (doing a d) = record {
           saw = (refl, refl, refl, refl, refl);
           names = λ known has. has;
-          words = λ t has. Contains-append_left a.seen_words (sight (at + index) found) t has;
-          seen = λ x word seen. word_still a.seen_words x word (sight (at + index) found) seen;
+          words = λ t has. Contains-append_left a.seen.words (sight (at + index) found) t has;
+          seen = λ x word seen. word_still a.seen.words x word (sight (at + index) found) seen;
           chain = λ x has. has;
           own = λ block has. (block, has, refl, refl);
           spent = λ spent. absurd (lives (ap (λ (b : Actor). b.place) spent));
         } in
         let more : SawMore a d = record {
           chain = λ x has. has;
-          words = λ x word seen. word_still a.seen_words x word (sight (at + index) found) seen;
+          words = λ x word seen. word_still a.seen.words x word (sight (at + index) found) seen;
           counts = λ known word named seen.
               let (r, (k, there)) = known_record shape opened state kept id a mine lives known named in
-              sym (word_else a.seen_words (known.reference + 8) (at + index) found (λ same.
+              sym (word_else a.seen.words (known.reference + 8) (at + index) found (λ same.
               let one = one_index shape state.words anatomy kept.shown stands.0 k _ _ index 8 stands.1 there lt (omega arith) same in
               let place = ap (λ (p : Piece). p.at) (some-injective _ _ (sym stands.1 ∙ (ap (get_elem? anatomy.pieces) one ∙ there))) in
               let eight : index ≡ 8 = omega (arith, same, place) in
@@ -180,11 +180,11 @@ module _ (shape : Dimensions) (opened : Anatomy) (state : State) (kept : Kept sh
         } in
         happens opened.version state id a (walking_event (load_published at index)) (omega (arith, lt, size, within)) shape opened (
           loaded shape opened state kept id a mine records (at + index) (next a (walking_event (load_published at index)) found)
-              (looks_on shape opened state kept id a mine records a.place a.seen_tails a.seen_chain words turns more anatomy.tail state.words
+              (looks_on shape opened state kept id a mine records a.place a.seen.tails a.seen.chain words turns more anatomy.tail state.words
               kept.shown kept.list.linked kept.list.tail (λ seen before. before)
               (stands_on shape anatomy anatomy id a (doing a d) (grounds_itself anatomy id) follows a.place (kept.standing id a mine))
               fits.sees.walked fits.sees.tails
-              (All-push (WasFixed anatomy.pieces) a.seen_words s fits.sees.fixed (at, index, body, stands, refl, fixed, sym found_is))),
+              (All-push (WasFixed anatomy.pieces) a.seen.words s fits.sees.fixed (at, index, body, stands, refl, fixed, sym found_is))),
           subst (EndsWithin a at index) (sym found_is) ends,
         )
 
@@ -195,11 +195,11 @@ module _ (shape : Dimensions) (opened : Anatomy) (state : State) (kept : Kept sh
       let long = record_long r in
       let sized = ap (λ (s : Dimensions). s.size) (kept.each id a mine lives).shaped in
       let letters = letters_long r.name r.letters (kept.records.lawful at r stands).lettered in
-      let name_is : (len : ℕ) → word_seen a.seen_words (at + 14) ≡ Some len → length r.name ≡ len =
+      let name_is : (len : ℕ) → word_seen a.seen.words (at + 14) ≡ Some len → length r.name ≡ len =
       λ len seen. seen_is at 14 len (histogram r) stands (omega arith) seen in
-      let kind_is : (kind : ℕ) → word_seen a.seen_words (at + 4) ≡ Some kind → spec_field r.spec 0 ≡ kind =
+      let kind_is : (kind : ℕ) → word_seen a.seen.words (at + 4) ≡ Some kind → spec_field r.spec 0 ≡ kind =
       λ kind seen. seen_is at 4 kind (histogram r) stands (omega arith) seen in
-      let number_is : (n : ℕ) → word_seen a.seen_words (at + 7) ≡ Some n → spec_field r.spec 3 ≡ n =
+      let number_is : (n : ℕ) → word_seen a.seen.words (at + 7) ≡ Some n → spec_field r.spec 3 ≡ n =
       λ n seen. seen_is at 7 n (histogram r) stands (omega arith) seen in
       let in_words : IsFixedIn (histogram r) index = fixed_in at index r stands fixed in
       reads at index (histogram r) stands in_words fixed refl (
@@ -282,10 +282,10 @@ module _ (shape : Dimensions) (opened : Anatomy) (state : State) (kept : Kept sh
   listed_read at index l None is (size, tag, behind, payload, stands, first, third, long) fixed =
       other_read at index size tag behind payload (subst (λ (n : ℕ). Stands anatomy.pieces n none (other size tag behind payload)) is stands) first third fixed
 
-  pub published_loaded : (at index : ℕ) → Contains a.seen_chain at → IsFixed a at index → Goes shape opened state kept id a mine records (walking_event (load_published at index))
+  pub published_loaded : (at index : ℕ) → Contains a.seen.chain at → IsFixed a at index → Goes shape opened state kept id a mine records (walking_event (load_published at index))
   published_loaded at index has fixed =
-      let (i, here) = at_from a.seen_chain at has in
+      let (i, here) = at_from a.seen.chain at has in
       let (rest, is) = (kept.each id a mine lives).sees.walked in
-      let there : get_elem? (order_of anatomy) i ≡ some at = subst (λ (l : List ℕ). get_elem? l i ≡ some at) (sym is) (at_longer a.seen_chain rest i at here) in
+      let there : get_elem? (order_of anatomy) i ≡ some at = subst (λ (l : List ℕ). get_elem? l i ≡ some at) (sym is) (at_longer a.seen.chain rest i at here) in
       let (l, listed, named) = from_map (λ (l : Listed). l.reference) anatomy.records i at there in
       listed_read at index l l.made named (all_at (λ l. StandsAs anatomy.pieces l l.made) anatomy.records i l kept.list.standing listed) fixed

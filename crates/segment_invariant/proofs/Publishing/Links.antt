@@ -36,7 +36,7 @@ use Rattle.segment_machine.specs.Calls.{without}
 use Rattle.segment_machine.specs.Publishing.{own_at, published_as, owed_for}
 use Rattle.segment_invariant.specs.Body.{Record, Counts, Sample, Body, queue, plain, held, histogram, counts, sample, other, words_of, is_claimed, Piece, extent_of, Listed, listed, Anatomy, layout_of, order_of, free_of, claims_of}
 use Rattle.segment_invariant.specs.Seen.{Stands, Sees, IsNamed, IsNoLater}
-use Rattle.segment_invariant.specs.Kept.{StandsAs, IsListed, ListIsKept, StandsRight, HoldsOwn, Fits, CursorsAreKept, IsSetBy, ClaimedRight, Kept, AreAnswered}
+use Rattle.segment_invariant.specs.Invariant.{StandsAs, IsListed, ListIsKept, StandsRight, HoldsOwn, Fits, CursorsAreKept, IsSetBy, ClaimedRight, Invariant, AreAnswered}
 use Rattle.segment_invariant.proofs.Lists.Elements.{rows, rows_more, column, at_from, below_length, index_at, all_at, row_in}
 use Rattle.segment_invariant.proofs.Blocks.Pieces.{piece_word, first_piece, some_first, one_index, one_piece, with_piece, piece_stored, free_with, queue_piece, queue_stored, claims_same}
 use Rattle.segment_invariant.proofs.Blocks.Stops.{stop_open}
@@ -53,7 +53,7 @@ use Rattle.segment_invariant.proofs.Frames.Standing.{own_stays, follows_itself, 
 use Rattle.segment_invariant.proofs.Frames.GrowthOfRecords.{AddedRight, records_grow, key_grows, sums_grow}
 use Rattle.segment_invariant.proofs.Frames.GrowthOfStates.{loaded_record, fits_on}
 use Rattle.segment_invariant.proofs.Lists.Ends.{snoc_split, distinct_filter, all_without, own_found, published_is}
-use Rattle.segment_invariant.proofs.Listing.Walks.{stop_stands, stop_within}
+use Rattle.segment_invariant.proofs.Walking.Walks.{stop_stands, stop_within}
 use Rattle.segment_invariant.proofs.Blocks.Published.{SameHeld, next_held, unclaimed_held, holdings_set, holdings_both, next_stays, next_came, next_owned, next_was_owned, Publishes}
 
 -- ---- the block at the tail gets its next
@@ -91,7 +91,7 @@ pub record NextStored (shape : Dimensions) (anatomy : Anatomy) (words : List ℕ
   pub right : ClaimedRight turned
   pub shown : IsShown shape words (layout_of (with_piece anatomy index turned))
 
-module _ (shape : Dimensions) (opened : Anatomy) (state : State) (kept : Kept shape opened state) where
+module _ (shape : Dimensions) (opened : Anatomy) (state : State) (kept : Invariant shape opened state) where
   -- the queue block is not claimed
   queue_unclaimed : (p : Piece) → get_elem? kept.anatomy.pieces 0 ≡ some p → (b : Bool) → is_claimed p.body ≡ b → b ≡ false
   queue_unclaimed p there true is =
@@ -227,7 +227,7 @@ cursors_grow words chain more cursors actors linked kept = record {
 
 -- ---- the state with the record on the list
 
-module _ (shape : Dimensions) (opened : Anatomy) (state : State) (kept : Kept shape opened state) (id : ℕ) (a : Actor)
+module _ (shape : Dimensions) (opened : Anatomy) (state : State) (kept : Invariant shape opened state) (id : ℕ) (a : Actor)
     (mine : get_elem? state.actors id ≡ some a) (records : a.opener ≡ 0) (tail : ℕ) (own : Own) (given : Made)
     (placed : a.place ≡ TailLoaded tail) (i : ℕ) (there : get_elem? a.own i ≡ some own) (ended : own.next ≡ 12) (asked : own.made ≡ Some given)
     (ends : word_at state.words (tail + 3) ≡ 12) where
@@ -422,10 +422,10 @@ module _ (shape : Dimensions) (opened : Anatomy) (state : State) (kept : Kept sh
     apart_now : (j k : ℕ) (x y : Own) → get_elem? d.own j ≡ some x → get_elem? d.own k ≡ some y → x.at ≡ y.at → j ≡ k
     apart_now = distinct_filter _ a.own mine_fits.apart
 
-    sees_now : (b : Actor) → Sees anatomy state.cursors b → Sees new state.cursors b
-    sees_now b sees = sees_grow anatomy new added grows state.cursors b (subst (Behind b.seen_free) (sym free_is) sees.free)
+    sees_now : (b : Actor) → Sees anatomy state.cursors b.seen → Sees new state.cursors b.seen
+    sees_now b sees = sees_grow anatomy new added grows state.cursors b.seen (subst (Behind b.seen.free) (sym free_is) sees.free)
         (All-weaker (λ place. IsNoLater (order_of anatomy) place anatomy.tail) (λ place. IsNoLater (order_of new) place anatomy.tail)
-        (λ place. no_later_grows anatomy new added grows place anatomy.tail) b.seen_tails sees.tails) sees
+        (λ place. no_later_grows anatomy new added grows place anatomy.tail) b.seen.tails sees.tails) sees
 
     fits_mine : Fits shape new state.cursors state.actors kept.roles.opener id (doing a d)
     fits_mine =
@@ -446,7 +446,6 @@ module _ (shape : Dimensions) (opened : Anatomy) (state : State) (kept : Kept sh
           in_use = old.in_use;
           fixed = old.fixed;
           shared = old.shared;
-          names = old.names;
         })
         own_now apart_now
         (owes_both a.published (published_as (own_at a.own own.at) own.at) a.owed (owed_for (own_at a.own own.at) own.at)
@@ -459,7 +458,7 @@ module _ (shape : Dimensions) (opened : Anatomy) (state : State) (kept : Kept sh
         fits_on shape opened state kept new added grows who b (doing_of b) here lives (saw_itself b) (sees_now b fits.sees)
         (own_stays shape anatomy new who (λ x stands. others_stay who x.at (held x) ne stands) b.own fits.own) fits.apart fits.owes
 
-    pub links_on : Kept shape opened (record { words = words'; cursors = state.cursors; actors = actors' })
+    pub links_on : Invariant shape opened (record { words = words'; cursors = state.cursors; actors = actors' })
     links_on = record {
       anatomy = new;
       shown = publishes.shown words' stored.shown;

@@ -16,20 +16,19 @@ use Rattle.segment_machine.specs.Made.{IsPayload}
 use Rattle.segment_machine.specs.State.{State}
 use Rattle.segment_machine.specs.Publishing.{store_own_next, load_tail, link, move_tail, after_link, MayPublish}
 use Rattle.segment_machine.specs.Event.{publishing_event, Ready}
-use Rattle.segment_machine.specs.Walking.{load_next, load_published}
-use Rattle.segment_invariant.specs.Keeps.{PublishingKeeps, WalkingKeeps}
+use Rattle.segment_invariant.specs.Keeps.{PublishingKeeps}
 use Rattle.segment_invariant.specs.Body.{Anatomy}
-use Rattle.segment_invariant.specs.Kept.{Kept}
+use Rattle.segment_invariant.specs.Invariant.{Invariant}
 use Rattle.segment_invariant.proofs.Lists.Elements.{at_from}
 use Rattle.segment_invariant.proofs.Frames.GoesOn.{happens}
-use Rattle.segment_invariant.proofs.Listing.Linkable.{Onward, histogram_linked, sample_linked}
-use Rattle.segment_invariant.proofs.Listing.Events.{Goes, tail_loaded, tail_moved_on, link_beaten, next_loaded}
-use Rattle.segment_invariant.proofs.Listing.Links.{stop, turns}
-use Rattle.segment_invariant.proofs.Listing.OwnNext.{own_next_stored}
-use Rattle.segment_invariant.proofs.Listing.Words.{published_loaded}
-use Rattle.segment_invariant.proofs.Listing.Walks.{stop_within, reference_is}
+use Rattle.segment_invariant.proofs.Publishing.Linkable.{Onward, histogram_linked, sample_linked}
+use Rattle.segment_invariant.proofs.Frames.Shown.{Goes}
+use Rattle.segment_invariant.proofs.Publishing.Tails.{tail_loaded, tail_moved_on, link_beaten}
+use Rattle.segment_invariant.proofs.Publishing.Links.{stop, turns}
+use Rattle.segment_invariant.proofs.Publishing.OwnNext.{own_next_stored}
+use Rattle.segment_invariant.proofs.Walking.Walks.{stop_within, reference_is}
 
-module _ (shape : Dimensions) (opened : Anatomy) (state : State) (kept : Kept shape opened state) (id : ℕ) (a : Actor)
+module _ (shape : Dimensions) (opened : Anatomy) (state : State) (kept : Invariant shape opened state) (id : ℕ) (a : Actor)
     (mine : get_elem? state.actors id ≡ some a) (records : a.opener ≡ 0) where
   -- a record is published as what it is to hold
   module _ (tail : ℕ) (own : Own) (placed : a.place ≡ TailLoaded tail) (i : ℕ) (there : get_elem? a.own i ≡ some own) (ended : own.next ≡ 12)
@@ -53,7 +52,7 @@ module _ (shape : Dimensions) (opened : Anatomy) (state : State) (kept : Kept sh
       let is_stop = stop shape opened state kept id a mine records tail own given placed i there waits.1 asked ends in
       let lives = (turns shape opened state kept id a mine records tail own given placed i there waits.1 asked ends).lived in
       happens opened.version state id a (publishing_event (link tail at)) (stop_within shape opened state kept tail is_stop) shape opened (
-        subst (λ (p : Bool × ℕ). Kept shape opened (record {
+        subst (λ (p : Bool × ℕ). Invariant shape opened (record {
           words = set state.words (tail + 3) (if p.0 then p.1 else found);
           cursors = state.cursors;
           actors = set state.actors id (after_link p.0 a tail p.1 found);
@@ -67,8 +66,3 @@ publishing_keeps (store_own_next at) shape opened state id a kept mine records r
 publishing_keeps load_tail shape opened state id a kept mine records ready = tail_loaded shape opened state kept id a mine records ready
 publishing_keeps (link tail at) shape opened state id a kept mine records ready = linked shape opened state kept id a mine records tail at ready
 publishing_keeps (move_tail old new) shape opened state id a kept mine records ready = tail_moved_on shape opened state kept id a mine records old new ready
-
-pub walking_keeps : WalkingKeeps
-walking_keeps (load_next at) shape opened state id a kept mine records ready = next_loaded shape opened state kept id a mine records at ready
-walking_keeps (load_published at index) shape opened state id a kept mine records ready =
-    published_loaded shape opened state kept id a mine records ready.0 at index ready.1 ready.2

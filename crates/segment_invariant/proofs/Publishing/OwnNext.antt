@@ -11,13 +11,13 @@ use Rattle.segment_machine.specs.Publishing.{store_own_next}
 use Rattle.segment_machine.specs.Event.{publishing_event, Ready}
 use Rattle.segment_machine.specs.Calls.{change_own}
 use Rattle.segment_invariant.specs.Body.{Anatomy, layout_of}
-use Rattle.segment_invariant.specs.Kept.{HoldsOwn, Kept}
+use Rattle.segment_invariant.specs.Invariant.{HoldsOwn, Invariant}
 use Rattle.segment_invariant.proofs.Lists.Elements.{at_from, all_at}
 use Rattle.segment_invariant.proofs.Frames.GoesOn.{happens}
 use Rattle.segment_invariant.proofs.Allocating.Payloads.{change_one, has_lived, fills}
-use Rattle.segment_invariant.proofs.Listing.Events.{Goes}
+use Rattle.segment_invariant.proofs.Frames.Shown.{Goes}
 
-module _ (shape : Dimensions) (opened : Anatomy) (state : State) (kept : Kept shape opened state) (id : ℕ) (a : Actor)
+module _ (shape : Dimensions) (opened : Anatomy) (state : State) (kept : Invariant shape opened state) (id : ℕ) (a : Actor)
     (mine : get_elem? state.actors id ≡ some a) (records : a.opener ≡ 0) where
   pub own_next_stored : (at : ℕ) → Ready a (publishing_event (store_own_next at)) → Goes shape opened state kept id a mine records (publishing_event (store_own_next at))
   own_next_stored at (x, (has, unended), place) =
@@ -32,7 +32,7 @@ module _ (shape : Dimensions) (opened : Anatomy) (state : State) (kept : Kept sh
       let within = is.placed.within in
       let room = is.room in
       happens opened.version state id a (publishing_event (store_own_next at)) (omega (arith, place, size, within, room)) shape opened (
-        subst (λ (s : ℕ × List Own). Kept shape opened (record {
+        subst (λ (s : ℕ × List Own). Invariant shape opened (record {
           words = set state.words (s.0 + 3) 12;
           cursors = state.cursors;
           actors = set state.actors id (record a { own = s.1 });

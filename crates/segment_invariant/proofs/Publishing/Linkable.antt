@@ -24,12 +24,12 @@ use Rattle.segment_machine.specs.Publishing.{after_link}
 use Rattle.segment_invariant.specs.Body.{Record, Sample, Body, held, histogram, sample, Piece, Listed, Anatomy, layout_of}
 use Rattle.segment_invariant.specs.Ledger.{form_at}
 use Rattle.segment_invariant.specs.Seen.{HasOwn, HasRecord, HasSample, IsFirst, Knows}
-use Rattle.segment_invariant.specs.Kept.{StandsAs, IsListed, IsLawfulRecord, IsLawfulSample, CountsNothing, HoldsOwn, Kept}
+use Rattle.segment_invariant.specs.Invariant.{StandsAs, IsListed, IsLawfulRecord, IsLawfulSample, CountsNothing, HoldsOwn, Invariant}
 use Rattle.segment_invariant.proofs.Blocks.Pieces.{one_stands}
 use Rattle.segment_invariant.proofs.Lists.Ends.{snoc_split}
 use Rattle.segment_invariant.proofs.Blocks.Bodies.{IsBlank, record_of, record_words_are, is_blank, record_nothing, record_lawful, sample_of, sample_words_are, sample_lawful}
 use Rattle.segment_invariant.proofs.Blocks.Published.{next_owned, record_held, sample_held, Publishes, Only, one_published}
-use Rattle.segment_invariant.proofs.Listing.Links.{mine_fits, holds, stored, halfway, links_on}
+use Rattle.segment_invariant.proofs.Publishing.Links.{mine_fits, holds, stored, halfway, links_on}
 
 -- a record of a name is no other body
 same_record : (r r' : Record) → histogram r' ≡ histogram r → r' ≡ r
@@ -45,7 +45,7 @@ sparse_same Boolean is = let kind = ap (λ (l : List ℕ). slice_index l 0) is i
 sparse_same (Custom values) is = let kind = ap (λ (l : List ℕ). slice_index l 0) is in absurd (omega (arith, kind))
 sparse_same Sparse is = refl
 
-module _ (shape : Dimensions) (opened : Anatomy) (state : State) (kept : Kept shape opened state) (id : ℕ) (a : Actor)
+module _ (shape : Dimensions) (opened : Anatomy) (state : State) (kept : Invariant shape opened state) (id : ℕ) (a : Actor)
     (mine : get_elem? state.actors id ≡ some a) (records : a.opener ≡ 0) (tail : ℕ) (own : Own) (given : Made)
     (placed : a.place ≡ TailLoaded tail) (i : ℕ) (there : get_elem? a.own i ≡ some own) (ended : own.next ≡ 12) (asked : own.made ≡ Some given)
     (ends : word_at state.words (tail + 3) ≡ 12) where
@@ -54,7 +54,7 @@ module _ (shape : Dimensions) (opened : Anatomy) (state : State) (kept : Kept sh
 
   -- the state with the record on the list
   abbrev pub Onward : Type 0
-  Onward = Kept shape opened (record {
+  Onward = Invariant shape opened (record {
     words = set state.words (tail + 3) own.at;
     cursors = state.cursors;
     actors = set state.actors id (after_link true a tail own.at 12);
@@ -164,7 +164,7 @@ module _ (shape : Dimensions) (opened : Anatomy) (state : State) (kept : Kept sh
     sparse_first : IsFirst anatomy.records known.name Sparse of
     sparse_first =
         let fits = mine_fits shape opened state kept id a mine records tail own given placed i there ended asked ends in
-        let knows = All-contains (Knows anatomy) a.names known fits.sees.names has in
+        let knows = All-contains (Knows anatomy) a.names known fits.names has in
         subst (λ (p : Spec × ℕ). IsFirst anatomy.records known.name p.0 p.1)
         (λ j. (sparse_same knows.first_spec (knows.same.0 ∙ ap spec_fields kind) j, refers j)) knows.first
 

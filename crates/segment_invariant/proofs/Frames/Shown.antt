@@ -1,0 +1,29 @@
+-- What is to be shown of an event of a recorder, and of one that loads a word.
+use Rattle.std.proofs.Common.{◌≡◌, ℕ, List, set, sym, subst}
+use mathlib.Core.Option.{some}
+use lib.ListN.{get_elem?}
+use lib.Seq.{set-get_or}
+use Rattle.segment_image.specs.Shape.{Dimensions}
+use Rattle.segment_image.specs.Words.{word_at}
+use Rattle.segment_machine.specs.declared.actor.Actor.{Actor}
+use Rattle.segment_machine.specs.State.{State}
+use Rattle.segment_machine.specs.Event.{Event, Learned}
+use Rattle.segment_invariant.specs.Keeps.{happened, found_at}
+use Rattle.segment_invariant.specs.Body.{Anatomy}
+use Rattle.segment_invariant.specs.Invariant.{Invariant}
+
+module _ (shape : Dimensions) (opened : Anatomy) (state : State) (kept : Invariant shape opened state) (id : ℕ) (a : Actor)
+    (mine : get_elem? state.actors id ≡ some a) (records : a.opener ≡ 0) where
+  -- what is to be shown of an event
+  abbrev pub Goes : Event → Type 0
+  Goes event = Invariant shape opened (happened opened.version state id a event) × Learned a event (found_at state event)
+
+  -- what is kept where a word of the segment becomes another
+  abbrev pub after_is : ℕ → ℕ → Actor → Type 0
+  after_is at v b = Invariant shape opened (record { words = set state.words at v; cursors = state.cursors; actors = set state.actors id b })
+
+  -- a load changes no word
+  pub loaded : (at : ℕ) (b : Actor) → Invariant shape opened (record { words = state.words; cursors = state.cursors; actors = set state.actors id b })
+      → after_is at (word_at state.words at) b
+  loaded at b is = subst (λ (ws : List ℕ). Invariant shape opened (record { words = ws; cursors = state.cursors; actors = set state.actors id b }))
+      (sym (set-get_or state.words at 0)) is

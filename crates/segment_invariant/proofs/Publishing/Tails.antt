@@ -1,0 +1,136 @@
+-- The tail is loaded and moved on, and a link finds another record: each keeps the state, and its actor learns that it found the end or a record.
+use Rattle.std.proofs.Common.{◌≡◌, ◌≢◌, ℕ, suc, ◌+◌, ◌<◌, ◌==◌, Bool, true, false, List, [], ◌∷◌, ◌++◌, length, set, inl, inr, refl, sym, ap, ◌∙◌, subst, arith, eq-eqb, ne_eqb}
+use Rattle.std.specs.Prelude.{if◌then◌else◌}
+use Rattle.std.proofs.lemmas.List.Elements.{All-weaker, All-push, Contains-push}
+use mathlib.Core.Option.{some}
+use mathlib.Core.Logic.{dite}
+use native.Mathlib.Decide.{ℕ_discrete}
+use lib.ListN.{get_elem?}
+use Rattle.segment_image.specs.Shape.{Dimensions}
+use Rattle.segment_image.specs.Words.{word_at}
+use Rattle.alloc_core.proofs.Layouts.{shown_tail, length_shown}
+use Rattle.list_core.specs.Laws.{IsStop, AreNeighbours}
+use Rattle.list_core.proofs.Chains.{one_place}
+use Rattle.list_core.proofs.EventKinds.{link_missed, behind_stop}
+use Rattle.segment_machine.specs.declared.actor.Actor.{Actor}
+use Rattle.segment_machine.specs.declared.actor.Own.{Own}
+use Rattle.segment_machine.specs.declared.place.Place.{Place}
+use Rattle.segment_machine.specs.declared.place.Place.TheVariants.{Idle, TailLoaded, Beaten}
+use Rattle.segment_machine.specs.State.{State}
+use Rattle.segment_machine.specs.Event.{publishing_event, next, Ready}
+use Rattle.segment_machine.specs.Publishing.{load_tail, link, move_tail, after_link}
+use Rattle.segment_invariant.specs.Body.{Anatomy, layout_of, order_of}
+use Rattle.segment_invariant.specs.Seen.{IsNoLater}
+use Rattle.segment_invariant.specs.Invariant.{StandsRight, Invariant}
+use Rattle.segment_invariant.proofs.Blocks.Stops.{linked_beside_head}
+use Rattle.segment_invariant.proofs.Frames.OneActor.{TurnsTo, is_plain, turns_plain, turns_unbound}
+use Rattle.segment_invariant.proofs.Frames.GoesOn.{happens}
+use Rattle.segment_invariant.proofs.Frames.Shown.{Goes, after_is, loaded}
+use Rattle.segment_invariant.proofs.Frames.GrowthOfActors.{SawMore}
+use Rattle.segment_invariant.proofs.Walking.Nexts.{no_later_itself}
+use Rattle.segment_invariant.proofs.Walking.Walks.{stop_within, tail_word, walking, reference_is, looks_on}
+
+module _ (shape : Dimensions) (opened : Anatomy) (state : State) (kept : Invariant shape opened state) (id : ℕ) (a : Actor)
+    (mine : get_elem? state.actors id ≡ some a) (records : a.opener ≡ 0) where
+  abbrev order : List ℕ
+  order = order_of kept.anatomy
+
+  pub eight_within : 8 < length state.words
+  eight_within =
+      let size = length_shown shape state.words (layout_of kept.anatomy) kept.shown in
+      let wide = kept.shown.sound.lawful.wide in
+      let one = kept.shown.sound.lawful.one in
+      omega (arith, size, wide, one)
+
+  -- it saw nothing more
+  saw_no_more : (place : Place) (own : List Own) (tails : List ℕ) → TurnsTo a place
+      → SawMore a (walking shape opened state kept id a mine records place own tails a.seen.chain a.seen.words)
+  saw_no_more place own tails turns = record {
+    chain = λ at has. has;
+    words = λ at word has. has;
+    counts = λ known word named has. has;
+    loaded = turns.sums;
+  }
+
+  tail_stop : IsStop order (word_at state.words 8)
+  tail_stop = subst (IsStop order) (sym (tail_word shape opened state kept)) kept.list.tail
+
+  -- ---- the tail is loaded
+
+  pub tail_loaded : Ready a (publishing_event load_tail) → Goes shape opened state kept id a mine records (publishing_event load_tail)
+  tail_loaded (unbound, block) =
+      let found : ℕ = word_at state.words 8 in
+      let turns = turns_unbound a (TailLoaded found) unbound refl in
+      let fits = kept.each id a mine turns.lived in
+      happens opened.version state id a (publishing_event load_tail) eight_within shape opened (
+        loaded shape opened state kept id a mine records 8 (next a (publishing_event load_tail) found)
+            (looks_on shape opened state kept id a mine records (TailLoaded found) (a.seen.tails ++ found ∷ []) a.seen.chain a.seen.words turns
+            (saw_no_more (TailLoaded found) a.own (a.seen.tails ++ found ∷ []) turns) kept.anatomy.tail state.words kept.shown kept.list.linked kept.list.tail
+            (λ seen before. before) (Contains-push a.seen.tails found, tail_stop) fits.sees.walked
+            (All-push (λ place. IsNoLater order place kept.anatomy.tail) a.seen.tails found fits.sees.tails
+            (subst (IsNoLater order found) (tail_word shape opened state kept) (no_later_itself order found tail_stop))) fits.sees.fixed),
+        reference_is shape opened state kept id a mine records found turns.lived tail_stop,
+      )
+
+  -- ---- the tail is moved on
+
+  moves_near : (old new : ℕ) → Ready a (publishing_event (move_tail old new)) → AreNeighbours order old new × (is_plain a.place ≡ true)
+  moves_near old new (inl linked) = (subst (StandsRight shape kept.anatomy id a) linked (kept.standing id a mine), ap is_plain linked)
+  moves_near old new (inr beaten) = (subst (StandsRight shape kept.anatomy id a) beaten (kept.standing id a mine), ap is_plain beaten)
+
+  abbrev Onward : ℕ → Type 0
+  Onward v = IsStop order v × ((seen : ℕ) → IsNoLater order seen kept.anatomy.tail → IsNoLater order seen v)
+
+  onward : (old new : ℕ) → AreNeighbours order old new → Onward (if word_at state.words 8 == old then new else word_at state.words 8)
+  onward old new (k, lt, is, next_is) =
+      let found : ℕ = word_at state.words 8 in
+      let tail = tail_word shape opened state kept in
+      let by : Bool → Type 0 = λ b. Onward (if b then new else found) in
+      dite (ℕ_discrete found old)
+      (λ hit. subst by (sym (eq-eqb found old hit)) (
+        (suc k, lt, next_is),
+        λ seen before.
+            let (i, j, le, within, i_is, j_is) = before in
+            let same : j ≡ k = one_place state.words order j k kept.list.linked within (omega (arith, lt)) (j_is ∙ (sym tail ∙ (hit ∙ sym is))) in
+            (i, suc k, omega (arith, le, same), lt, i_is, next_is),
+      ))
+      (λ miss. subst by (sym (ne_eqb found old miss)) (tail_stop, λ seen before. subst (IsNoLater order seen) (sym tail) before))
+
+  pub tail_moved_on : (old new : ℕ) → Ready a (publishing_event (move_tail old new)) → Goes shape opened state kept id a mine records (publishing_event (move_tail old new))
+  tail_moved_on old new ready =
+      let found : ℕ = word_at state.words 8 in
+      let v : ℕ = if found == old then new else found in
+      let (near, plain) = moves_near old new ready in
+      let (stop, later) = onward old new near in
+      let turns = turns_plain a Idle plain refl in
+      let fits = kept.each id a mine turns.lived in
+      happens opened.version state id a (publishing_event (move_tail old new)) eight_within shape opened (
+        looks_on shape opened state kept id a mine records Idle (a.seen.tails ++ v ∷ []) a.seen.chain a.seen.words turns
+            (saw_no_more Idle a.own (a.seen.tails ++ v ∷ []) turns) v (set state.words 8 v)
+            (shown_tail shape state.words (layout_of kept.anatomy) v kept.shown)
+            (linked_beside_head shape state.words kept.anatomy kept.shown kept.list.standing 8 v (omega arith) kept.list.linked)
+            stop later tt fits.sees.walked
+            (All-push (λ place. IsNoLater order place v) a.seen.tails v
+            (All-weaker (λ place. IsNoLater order place kept.anatomy.tail) (λ place. IsNoLater order place v) later a.seen.tails fits.sees.tails)
+            (no_later_itself order v stop)) fits.sees.fixed,
+        reference_is shape opened state kept id a mine records found turns.lived tail_stop,
+      )
+
+  -- ---- a link finds another record
+
+  pub link_beaten : (tail at : ℕ) → Ready a (publishing_event (link tail at)) → word_at state.words (tail + 3) ≢ 12 → Goes shape opened state kept id a mine records (publishing_event (link tail at))
+  link_beaten tail at (own, made, placed, waits, here, asked, payload, may) other =
+      let found : ℕ = word_at state.words (tail + 3) in
+      let stop = (subst (StandsRight shape kept.anatomy id a) placed (kept.standing id a mine)).1 in
+      let near = link_missed state.words order tail kept.list.linked stop other in
+      let turns = turns_plain a (Beaten tail found) (ap is_plain placed) refl in
+      let fits = kept.each id a mine turns.lived in
+      let by : Bool → Type 0 = λ b. after_is shape opened state kept id a mine records (tail + 3) (if b then at else found) (after_link b a tail at found) in
+      happens opened.version state id a (publishing_event (link tail at)) (stop_within shape opened state kept tail stop) shape opened (
+        subst by (sym (ne_eqb found 12 other))
+            (loaded shape opened state kept id a mine records (tail + 3) (after_link false a tail at found)
+            (looks_on shape opened state kept id a mine records (Beaten tail found) a.seen.tails a.seen.chain a.seen.words turns
+            (saw_no_more (Beaten tail found) a.own a.seen.tails turns) kept.anatomy.tail state.words kept.shown kept.list.linked kept.list.tail
+            (λ seen before. before) near fits.sees.walked fits.sees.tails fits.sees.fixed)),
+        reference_is shape opened state kept id a mine records found turns.lived (behind_stop order tail found near),
+      )

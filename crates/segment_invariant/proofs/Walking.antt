@@ -1,0 +1,4 @@
+pub mod Keeps
+pub mod Nexts
+pub mod Walks
+pub mod Words

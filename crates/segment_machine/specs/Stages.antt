@@ -114,11 +114,11 @@ PublishesAgree = (size version : ℕ) (a : Actor) (made : Made) (p : Publishing)
 
 -- a walk has given these records: the front of the chain that the actor has seen
 abbrev pub Walks : Actor → List ℕ → Type 0
-Walks a given = MayTurn a × IsPrefix given a.seen_chain
+Walks a given = MayTurn a × IsPrefix given a.seen.chain
 
 -- behind records that it passed before the actor meets what it met there
 abbrev pub MeetsAgain : Actor → List ℕ → ℕ → Type 0
-MeetsAgain a given found = length given < length a.seen_chain → found ≡ slice_index a.seen_chain (length given)
+MeetsAgain a given found = length given < length a.seen.chain → found ≡ slice_index a.seen.chain (length given)
 
 abbrev pub WalksAgree : Type 0
 WalksAgree = (size version : ℕ) (a : Actor) (given : List ℕ) → Walks a given

@@ -77,6 +77,6 @@ walks_agree size version a given (turns, (rest, is)) = (
   ),
   λ found learned again. (
     may_turn a.place (stands_behind given) found turns,
-    gives given rest a.seen_chain a.shape.size found (found == 12) (is_reference a.shape.size found) is again refl,
+    gives given rest a.seen.chain a.shape.size found (found == 12) (is_reference a.shape.size found) is again refl,
   ),
 )

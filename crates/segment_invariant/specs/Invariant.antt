@@ -33,7 +33,7 @@ use Rattle.segment_machine.specs.declared.actor.Published.{Published}
 use Rattle.segment_machine.specs.declared.seen.Sighting.{Sighting}
 use Rattle.segment_machine.specs.declared.actor.Taken.{Taken}
 use Rattle.segment_machine.specs.Entry.{is_counted, is_summed, has_ended, AreWithin, is_of, tally_units, tally_sum, tally_noted}
-use Rattle.segment_machine.specs.Form.{is_off, units_in}
+use Rattle.segment_machine.specs.Form.{is_off, units_in, Leads}
 use Rattle.segment_machine.specs.Actor.{Buckets, Sparse, log_of, counted_of, bucket_key, units_listed, taken_sum, all_counted, all_summed, all_noted, all_taken, all_published, all_given, cost_of, units_of, SawSingle, SawCount, all_names, all_owed}
 use Rattle.segment_machine.specs.Made.{AreNameWords, SawSample}
 use Rattle.segment_machine.specs.Note.{is_untouched, SawBucket}
@@ -306,7 +306,8 @@ IsSettled anatomy actors a known bucket =
 -- What a recorder saw of a bucket since its delta or snapshot began is no more than what is counted there. And it is no less than
 -- what had been accepted: packed units that it saw, and counts that it loaded where nothing can be in transit, with the units that
 -- a frozen word keeps. So of a sample, and of redundant counts. Counters that it saw before are no more than those that it sees
--- now. A sum that one alone has loaded is the sum.
+-- now, and single words that it saw before lead to those. Where it saw counts before, the single word is off by now. A sum that one
+-- alone has loaded is the sum.
 pub record LooksBack (anatomy : Anatomy) (actors : List Actor) (opener a : Actor) : Type 0 where
   pub most : (known : Known) (bucket total : ℕ) → Contains a.names known → bucket < buckets_of known.spec → SawBucket a known bucket total
       → total ≤ tally_units (all_counted actors) known.name (bucket_key (Some known) bucket)
@@ -321,6 +322,14 @@ pub record LooksBack (anatomy : Anatomy) (actors : List Actor) (opener a : Actor
       → SawCount a (at + SAMPLE_COUNT) count → tally_units (accepted_by a) known.name value ≤ count
   pub rising : (s t : Sighting) → Contains (take a.since_counts a.seen.counts) s → Contains (drop a.since_counts a.seen.counts) t
       → s.at ≡ t.at → s.word ≤ t.word
+  pub leading : (s t : Sighting) (r : Record) (at : ℕ) → Contains (take a.since_singles a.seen.singles) s
+      → Contains (drop a.since_singles a.seen.singles) t → s.at ≡ t.at → t.at ≡ at + HISTOGRAM_SINGLE → HasRecord anatomy.pieces at r
+      → Leads anatomy.version (buckets_of r.spec) s.word t.word
+  pub closed : (s t : Sighting) (r : Record) (c : Counts) (at i : ℕ) → Contains (take a.since_counts a.seen.counts) s
+      → Contains (drop a.since_singles a.seen.singles) t → t.at ≡ at + HISTOGRAM_SINGLE → HasRecord anatomy.pieces at r
+      → HasCounts anatomy.pieces r.counts c → s.at ≡ r.counts + i → BLOCK_HEADER ≤ i → i < BLOCK_HEADER + (length c.units + length c.marks)
+      → is_off t.word ≡ true
+  pub begun : (a.since_singles ≤ length a.seen.singles) × (a.since_counts ≤ length a.seen.counts)
   pub noted : (known : Known) (count : ℕ) → Contains a.names known → SawCount a (known.reference + HISTOGRAM_REDUNDANT) count
       → cost_of opener.first_noted known.name + tally_noted (accepted_since opener a) known.name ≤ count
   pub sum : (reference : ℕ) (sum : ℤ) (r : Record) → a.place ≡ SumLoaded reference sum → IsAlone actors a

@@ -2,7 +2,7 @@
 -- segment only grows: blocks keep their places, words that are fixed stay, counters rise, single words lead on, the list becomes
 -- longer at its end.
 use Rattle.std.specs.Prelude.{◌≡◌, ◌≢◌, ◌⊎◌, true, ℕ, ◌+◌, ◌<◌, ◌≤◌, ℤ, List, ◌∷◌, ◌++◌, length, slice_index, Some, None}
-use Rattle.std.specs.List.{All}
+use Rattle.std.specs.List.{All, Contains}
 use mathlib.Core.Option.{Option, some, none}
 use lib.ListN.{get_elem?}
 use Rattle.bucket_ranges.specs.declared.spec.Spec.{Spec}
@@ -18,6 +18,7 @@ use Rattle.segment_machine.specs.declared.actor.Own.{Own}
 use Rattle.segment_machine.specs.declared.seen.Sighting.{Sighting}
 use Rattle.bucket_ranges.specs.Single.{single_of}
 use Rattle.segment_machine.specs.Form.{is_off, Leads}
+use Rattle.segment_machine.specs.Made.{SawSample}
 use Rattle.segment_invariant.specs.Body.{Record, Counts, Sample, Body, plain, held, histogram, counts, sample, other, words_of, Piece, Listed, Anatomy, order_of, free_of}
 
 -- ---- blocks by their places
@@ -112,6 +113,12 @@ IsNoLater chain seen present =
 abbrev pub AreNoLater : List ℕ → List ℕ → ℕ → Type 0
 AreNoLater chain seen present = All (λ place. IsNoLater chain place present) seen
 
+-- a sample whose count or mark was seen was met
+abbrev pub WasMet : List Piece → Seen → Sighting → Type 0
+WasMet pieces seen s =
+    (at : ℕ) (x : Sample) → HasSample pieces at x → (s.at ≡ at + SAMPLE_COUNT) ⊎ (s.at ≡ at + SAMPLE_MARK)
+    → Contains seen.chain at × SawSample seen x.of x.value at
+
 -- what an actor knows of a histogram
 pub record Knows (anatomy : Anatomy) (known : Known) : Type 0 where
   pub first_spec : Spec
@@ -126,5 +133,6 @@ pub record Sees (anatomy : Anatomy) (cursors : List ℕ) (seen : Seen) : Type 0 
   pub singles : All (WasSingle anatomy.version anatomy.pieces) seen.singles
   pub counters : All (WasCounter anatomy.pieces) seen.counts
   pub in_use : All (WasInUse anatomy.pieces) seen.counts
+  pub met : All (WasMet anatomy.pieces seen) seen.counts
   pub fixed : All (WasFixed anatomy.pieces) seen.words
   pub shared : All (λ s. (s.at < length cursors) × IsNoLater (order_of anatomy) s.word (slice_index cursors s.at)) seen.cursors

@@ -118,6 +118,9 @@ module _ (anatomy : Anatomy) (pieces : List Piece) (spare : ℕ) (corrupt full :
         (⊎_elim (λ second. inl second) (λ rest. inr (⊎_elim (λ alone. inl alone) (λ apart. inr (λ r has. apart r (stays.there _ _ has))) rest)) settled);
     samples = looks.samples;
     rising = looks.rising;
+    leading = λ s t r at before now same there has. looks.leading s t r at before now same there (stays.back _ _ has);
+    closed = λ s t r c at i before now there has mounts. looks.closed s t r c at i before now there (stays.back _ _ has) (stays.back _ _ mounts);
+    begun = looks.begun;
     noted = looks.noted;
     sum = λ reference sum r loaded alone has. looks.sum reference sum r loaded alone (stays.back _ _ has);
   }
@@ -161,6 +164,7 @@ module _ (anatomy : Anatomy) (a : Actor) (d : Doing) where
     singles = sees.singles;
     counters = sees.counters;
     in_use = sees.in_use;
+    met = sees.met;
     fixed = sees.fixed;
     shared = sees.shared;
   }
@@ -184,6 +188,9 @@ module _ (anatomy : Anatomy) (a : Actor) (d : Doing) where
     counted = looks.counted;
     samples = looks.samples;
     rising = looks.rising;
+    leading = looks.leading;
+    closed = looks.closed;
+    begun = looks.begun;
     noted = looks.noted;
     sum = λ reference sum r loaded. looks.sum reference sum r (turns.sums reference sum loaded);
   }

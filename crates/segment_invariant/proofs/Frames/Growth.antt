@@ -1,10 +1,10 @@
 -- How a segment grows while records are put on its list: published blocks stay but for their nexts, the list becomes longer at its
 -- end, and what was seen stays true.
-use Rattle.std.proofs.Common.{◌≡◌, ◌≢◌, ◌⊎◌, ℕ, zero, suc, ◌+◌, ◌<◌, ◌≤◌, ℤ, pos, Bool, true, List, [], ◌++◌, map, length, All, inl, inr, ⊎_elim, refl, sym, ap, ◌∙◌, subst, arith, append_assoc, append-nil, length-append}
+use Rattle.std.proofs.Common.{◌≡◌, ◌≢◌, ◌⊎◌, ℕ, zero, suc, ◌+◌, ◌<◌, ◌≤◌, ℤ, pos, Bool, true, List, [], ◌++◌, map, length, All, inl, inr, ⊎_elim, refl, sym, ap, ◌∙◌, subst, arith, append_assoc, append-nil, length-append, Contains}
 use Rattle.std.specs.Prelude.{slice_index, Some, None}
 use Rattle.std.specs.Prelude as std
 use Rattle.std.proofs.lemmas.List.{get_or_append_left, map-append}
-use Rattle.std.proofs.lemmas.List.Elements.{All-weaker}
+use Rattle.std.proofs.lemmas.List.Elements.{All-weaker, All-contains}
 use mathlib.Core.Option.{none}
 use Rattle.bucket_ranges.specs.declared.spec.Spec.{Spec}
 use Rattle.bucket_ranges.specs.Spec.{buckets_of}
@@ -23,9 +23,12 @@ use Rattle.bucket_ranges.specs.Single.{single_of}
 use Rattle.segment_machine.specs.Form.{Leads}
 use Rattle.segment_invariant.specs.Body.{Record, Counts, Sample, Body, queue, plain, held, histogram, counts, sample, other, words_of, is_claimed, Piece, Listed, Anatomy, order_of, free_of}
 use Rattle.segment_invariant.specs.Ledger.{all_held, all_amounts}
-use Rattle.segment_invariant.specs.Seen.{Stands, HasPlain, HasRecord, HasCounts, HasSample, IsNamed, IsFirst, IsFirstOf, IsFixedIn, IsCounterIn, WasFixed, WasCounter, WasInUse, WasSingle, IsNoLater, AreNoLater, Knows, Sees}
+use Rattle.segment_invariant.specs.Seen.{Stands, HasPlain, HasRecord, HasCounts, HasSample, IsNamed, IsFirst, IsFirstOf, IsFixedIn, IsCounterIn, WasFixed, WasCounter, WasInUse, WasSingle, IsNoLater, AreNoLater, Knows, Sees, WasMet}
 use Rattle.segment_invariant.specs.Invariant.{StandsAs}
 use Rattle.segment_invariant.proofs.Frames.Standing.{Grounds}
+use Rattle.segment_invariant.proofs.Lists.Elements.{all_of}
+use Rattle.segment_machine.specs.Made.{SawSample}
+use Rattle.segment_invariant.proofs.Blocks.Places.{counter_within}
 
 -- ---- the next of a block
 
@@ -311,6 +314,16 @@ module _ (old new : Anatomy) (added : ℕ → Body → Type 0) (grows : Grows ol
       (λ fresh. absurd (grows.bare at c fresh))
       (counts_came at c there)
 
+  pub met_stays : (seen : Seen) (s : Sighting) → WasCounter old.pieces s → WasMet old.pieces seen s → WasMet new.pieces seen s
+  met_stays seen s (place, j, body, stands, spot, counter, least) met at x there is = ⊎_elim
+      (λ t. let (x0, n, before, same) = t in
+      subst (λ (z : Sample). Contains seen.chain at × SawSample seen z.of z.value at) (sym same) (met at x0 before is))
+      (λ new_one. absurd (⊎_elim
+      (λ six. grows.apart at place 6 j (sample x) body new_one stands (omega arith) (counter_within body j counter) (sym six ∙ spot))
+      (λ seven. grows.apart at place 7 j (sample x) body new_one stands (omega arith) (counter_within body j counter) (sym seven ∙ spot))
+      is))
+      (sample_came at x there)
+
   pub known_stays : (known : Known) → Knows old known → Knows new known
   known_stays known knows = record {
     first_spec = knows.first_spec;
@@ -331,6 +344,8 @@ module _ (old new : Anatomy) (added : ℕ → Body → Type 0) (grows : Grows ol
     singles = All-weaker (WasSingle old.version old.pieces) (WasSingle new.version new.pieces) single_stays seen.singles sees.singles;
     counters = All-weaker (WasCounter old.pieces) (WasCounter new.pieces) counter_stays seen.counts sees.counters;
     in_use = All-weaker (WasInUse old.pieces) (WasInUse new.pieces) in_use_stays seen.counts sees.in_use;
+    met = all_of (WasMet new.pieces seen) seen.counts (λ s has. met_stays seen s
+        (All-contains (WasCounter old.pieces) seen.counts s sees.counters has) (All-contains (WasMet old.pieces seen) seen.counts s sees.met has));
     fixed = All-weaker (WasFixed old.pieces) (WasFixed new.pieces) fixed_stays seen.words sees.fixed;
     shared = All-weaker
         (λ s. (s.at < length cursors) × IsNoLater (order_of old) s.word (slice_index cursors s.at))

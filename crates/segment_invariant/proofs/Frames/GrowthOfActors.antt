@@ -22,11 +22,12 @@ use Rattle.segment_machine.specs.Note.{SawBucket}
 use Rattle.segment_machine.specs.Actor.{accepted_by}
 use Rattle.segment_invariant.specs.Body.{Record, Body, histogram, sample, words_of, Listed, Anatomy}
 use Rattle.segment_invariant.specs.Ledger.{form_at}
-use Rattle.segment_invariant.specs.Seen.{HasRecord, IsNamed, IsFirstOf, WasCounter, Sees}
+use Rattle.segment_invariant.specs.Seen.{HasRecord, IsNamed, IsFirstOf, WasCounter, Sees, WasSingle, HasCounts}
 use Rattle.segment_invariant.specs.Invariant.{HoldsOwn, CallsRight, HasKey, IsSettled, LooksBack, OwesPublished, Fits}
 use Rattle.segment_invariant.proofs.Blocks.Places.{counter_within}
 use Rattle.segment_invariant.proofs.Frames.OneActor.{Doing, doing, doing_of, finals_doing}
-use Rattle.segment_invariant.proofs.Frames.Growth.{Grows, names_grow, first_of_longer, record_stays, record_came}
+use Rattle.segment_invariant.proofs.Frames.Growth.{Grows, names_grow, first_of_longer, record_stays, record_came, counts_came}
+use Rattle.segment_machine.specs.Form.{Leads}
 
 -- ---- what holds of one actor
 
@@ -51,7 +52,7 @@ module _ (shape : Dimensions) (old new : Anatomy) (added : ℕ → Body → Type
     (keyed : (entry : Entry) → Contains (x.inherited ++ counted_of x) entry → 0 < entry.units → HasKey old.records entry.name entry.key)
     (known_record : (known : Known) → Contains x.names known → (r : Record) × HasRecord old.pieces known.reference r)
     (loaded_record : (reference : ℕ) (sum : ℤ) → x.place ≡ SumLoaded reference sum → (r : Record) × HasRecord old.pieces reference r)
-    (counters : All (WasCounter old.pieces) x.seen.counts) where
+    (singles : All (WasSingle old.version old.pieces) x.seen.singles) (counters : All (WasCounter old.pieces) x.seen.counts) where
   -- what was added stands where no record stood
   no_record : (at : ℕ) (body : Body) (r : Record) → 0 < length (words_of body) → added at body → HasRecord old.pieces at r → ⊥
   no_record at body r long new_one stands = grows.apart at at 0 0 body (histogram r) new_one stands long (omega arith) refl
@@ -96,6 +97,13 @@ module _ (shape : Dimensions) (old new : Anatomy) (added : ℕ → Body → Type
       let (n, still) = record_stays old new added grows known.reference r there in
       subst (λ (version : ℕ). packed_bucket (form_at version r) ≢ Some bucket) grows.version (apart (record r { next = n }) still)))
 
+  -- a single word that it saw is of a record that stood
+  no_single : (t : Sighting) (at : ℕ) (r : Record) → Contains (drop x.since_singles x.seen.singles) t → t.at ≡ at + 9 → added at (histogram r) → ⊥
+  no_single t at r now spot new_one =
+      let (place, q, stands, is, formed, leads) = All-contains (WasSingle old.version old.pieces) (drop x.since_singles x.seen.singles) t
+      (All-drop (WasSingle old.version old.pieces) x.since_singles x.seen.singles singles) now in
+      grows.apart at place 9 9 (histogram r) (histogram q) new_one stands (omega arith) (omega arith) (sym spot ∙ is)
+
   looks_grow : LooksBack old actors opener x → LooksBack new actors opener (doing x c)
   looks_grow looks = record {
     most = λ known bucket total named below saw.
@@ -120,6 +128,22 @@ module _ (shape : Dimensions) (old new : Anatomy) (added : ℕ → Body → Type
         absurd (grows.apart at place 6 i (sample new_one.0) body new_one.1 stands (omega arith) (counter_within body i counter) is))
         (grows.first_of_came known.reference at value first);
     rising = looks.rising;
+    leading = λ s t r at before now same spot there. ⊎_elim
+        (λ came. let (r0, n, stood, is) = came in
+        subst (λ (z : ℕ × Record). Leads z.0 (buckets_of z.1.spec) s.word t.word) (λ i. (sym grows.version i, sym is i))
+        (looks.leading s t r0 at before now same spot stood))
+        (λ new_one. absurd (no_single t at r now spot new_one))
+        (record_came old new added grows at r there);
+    closed = λ s t r c at i before now spot there mounts. ⊎_elim
+        (λ came. let (r0, n, stood, is) = came in
+        ⊎_elim
+        (λ stands same. looks.closed s t r0 c at i before now spot stood
+        (subst (λ (z : Record). HasCounts old.pieces z.counts c) is stands) (same ∙ ap (λ (z : Record). z.counts + i) is))
+        (λ fresh. absurd (grows.bare r.counts c fresh))
+        (counts_came old new added grows r.counts c mounts))
+        (λ new_one. absurd (no_single t at r now spot new_one))
+        (record_came old new added grows at r there);
+    begun = looks.begun;
     noted = looks.noted;
     sum = λ reference sum r stood alone there. ⊎_elim
         (λ t. let (r0, n, before, is) = t in

@@ -101,4 +101,4 @@ module _ (shape : Dimensions) (opened : Anatomy) (state : State) (kept : Invaria
     fits_on id x d there lives more sees own apart owes =
         let fits = kept.each id x there lives in
         fits_grow shape kept.anatomy new added grows state.actors kept.roles.opener x d more (keyed id x there lives) (known_record id x there lives)
-        (λ reference sum is. loaded_record id x reference sum there is) fits.sees.counters state.cursors id sees own apart owes fits
+        (λ reference sum is. loaded_record id x reference sum there is) fits.sees.singles fits.sees.counters state.cursors id sees own apart owes fits

@@ -12,10 +12,11 @@ use Rattle.segment_machine.specs.declared.actor.Known.{Known}
 use Rattle.segment_machine.specs.declared.actor.Own.{Own}
 use Rattle.segment_machine.specs.declared.seen.Sighting.{Sighting}
 use Rattle.segment_machine.specs.Actor.{word_seen}
-use Rattle.segment_invariant.specs.Body.{Record, Anatomy, order_of}
+use Rattle.segment_invariant.specs.Body.{Record, Anatomy, order_of, Piece}
 use Rattle.segment_machine.specs.Seats.{spent}
-use Rattle.segment_invariant.specs.Seen.{HasPlain, HasOwn, HasRecord}
+use Rattle.segment_invariant.specs.Seen.{HasPlain, HasOwn, HasRecord, WasMet}
 use Rattle.segment_invariant.specs.Invariant.{LooksRight, StandsRight, HoldsOwn}
+use Rattle.segment_machine.specs.declared.seen.Seen.{Seen}
 
 -- what it rests on of the segment: the list, which may become longer, records, whose nexts may change, and its words in the making
 pub record Grounds (old new : Anatomy) (id : ℕ) : Type 0 where
@@ -120,3 +121,12 @@ pub own_stays : (shape : Dimensions) (old new : Anatomy) (id : ℕ) → ((own : 
 own_stays shape old new id stays list all = All-weaker (HoldsOwn shape old.pieces id) (HoldsOwn shape new.pieces id)
     (λ own holds. record { stands = stays own holds.stands; placed = holds.placed; room = holds.room; tagged = holds.tagged; ends = holds.ends })
     list all
+
+-- ---- samples that were met
+
+-- who has seen more has met them
+pub met_more : (pieces : List Piece) (old new : Seen) → ((at : ℕ) → Contains old.chain at → Contains new.chain at)
+    → ((at word : ℕ) → word_seen old.words at ≡ Some word → word_seen new.words at ≡ Some word) → (s : Sighting) → WasMet pieces old s → WasMet pieces new s
+met_more pieces old new chain words s met at x there is =
+    let (walked, (tag, of, valued, small)) = met at x there is in
+    (chain at walked, (words _ _ tag, words _ _ of, words _ _ valued, small))

@@ -124,6 +124,9 @@ looks_back anatomy old new opener later a same since alone looks = record {
       (⊎_elim (λ second. inl second) (λ rest. inr (⊎_elim (λ only. inl (alone only)) (λ other. inr other) rest)) settled);
   samples = looks.samples;
   rising = looks.rising;
+  leading = looks.leading;
+  closed = looks.closed;
+  begun = looks.begun;
   noted = λ known count has saw.
       let was = looks.noted known count has saw in
       let first = ap (λ (list : List Entry). tally_noted (drop (length list) a.inherited ++ map (λ (c : Counting). c.entry) a.log) known.name) since.first.0 in

@@ -58,6 +58,9 @@ module _ (anatomy : Anatomy) (actors : List Actor) (opener a : Actor) (n : Notin
     counted = looks.counted;
     samples = looks.samples;
     rising = looks.rising;
+    leading = looks.leading;
+    closed = looks.closed;
+    begun = looks.begun;
     noted = looks.noted;
     sum = looks.sum;
   }
@@ -75,6 +78,9 @@ module _ (anatomy : Anatomy) (actors : List Actor) (opener a : Actor) (n : Notin
     counted = λ known bucket count r has below there mounts saw. absurd (nothing_counted _ saw);
     samples = λ known value at count has first saw. absurd (nothing_counted _ saw);
     rising = λ s t before behind. absurd (nothing_counted t behind);
+    leading = λ s t r at before behind. absurd (nothing_single t behind);
+    closed = λ s t r c at i before behind. absurd (nothing_single t behind);
+    begun = (omega arith, omega arith);
     noted = λ known count has saw. absurd (nothing_counted _ saw);
     sum = looks.sum;
   }

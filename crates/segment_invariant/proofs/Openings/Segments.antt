@@ -121,6 +121,7 @@ module _ (shape : Dimensions) (version id cursors : ℕ) (lawful : IsShape shape
     singles = All-nil _;
     counters = All-nil _;
     in_use = All-nil _;
+    met = All-nil _;
     fixed = All-nil _;
     shared = All-nil _;
   }

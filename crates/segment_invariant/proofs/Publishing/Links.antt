@@ -444,6 +444,7 @@ module _ (shape : Dimensions) (opened : Anatomy) (state : State) (kept : Invaria
           singles = old.singles;
           counters = old.counters;
           in_use = old.in_use;
+          met = old.met;
           fixed = old.fixed;
           shared = old.shared;
         })

@@ -5,7 +5,7 @@ use Rattle.std.specs.Prelude.{fold, if◌then◌else◌, ◌==◌, nat_lt, slice
 use Rattle.std.specs.Str.{bytes_eq}
 use Rattle.std.specs.List.{filter, Contains}
 use Rattle.std.proofs.lemmas.List.{map-append}
-use Rattle.std.proofs.lemmas.List.Elements.{filter-append, All-append, All-contains, Contains-append_left, Contains-append_right, Contains-append_cases}
+use Rattle.std.proofs.lemmas.List.Elements.{filter-append, All-append, All-contains, Contains-append_left, Contains-append_right, Contains-append_cases, All-weaker}
 use Rattle.std.proofs.lemmas.List.Sums.{sum_by-append}
 use Rattle.std.proofs.lemmas.List.Sorted.{IsPermutation-refl}
 use native.Mathlib.Decide.{dec_le}
@@ -32,13 +32,14 @@ use Rattle.segment_image.specs.Shape.{Dimensions}
 use Rattle.alloc_core.specs.Layout.{IsShown}
 use Rattle.segment_machine.specs.declared.seen.Sighting.{Sighting}
 use Rattle.segment_invariant.specs.Body.{Body, words_of, Piece, Anatomy, layout_of, order_of, free_of}
-use Rattle.segment_invariant.specs.Seen.{WasSingle, WasCounter, WasInUse, WasFixed, IsNoLater, IsFirstOf, Sees}
+use Rattle.segment_invariant.specs.Seen.{WasSingle, WasCounter, WasInUse, WasFixed, IsNoLater, IsFirstOf, Sees, WasMet}
 use Rattle.segment_invariant.proofs.Frames.OneActor.{rests_at}
 use Rattle.segment_invariant.proofs.Blocks.Places.{fixed_within}
 use Rattle.segment_invariant.proofs.Blocks.Pieces.{one_index}
 use Rattle.segment_invariant.proofs.Lists.Maps.{map_after, front_of_front}
 use Rattle.segment_invariant.proofs.Frames.Deeds.{Deeds, timeless}
 use Rattle.segment_invariant.proofs.Lists.Countings.{noted_total}
+use Rattle.segment_invariant.proofs.Frames.Standing.{met_more}
 
 -- ---- entries
 
@@ -181,18 +182,6 @@ module _ (chain xs ys : List ℕ) (first : IsPrefix xs chain) (second : IsPrefix
           let front = front_of_front ys second.0 xs first.0 (sym second.1 ∙ first.1) (ltb-false (length xs) (length ys) e) in
           subst (λ (list : List ℕ). Contains list x) (sym front.1) (Contains-append_left ys front.0 x there)
 
-pub joined_sees : (anatomy : Anatomy) (cursors : List ℕ) (a b : Seen) → Sees anatomy cursors a → Sees anatomy cursors b → Sees anatomy cursors (both_seen a b)
-joined_sees anatomy cursors a b mine theirs = record {
-  free = later_free a.free b.free (free_of anatomy) mine.free theirs.free;
-  walked = longer_front (order_of anatomy) a.chain b.chain mine.walked theirs.walked;
-  tails = All-append (λ place. IsNoLater (order_of anatomy) place anatomy.tail) a.tails b.tails mine.tails theirs.tails;
-  singles = All-append (WasSingle anatomy.version anatomy.pieces) a.singles b.singles mine.singles theirs.singles;
-  counters = All-append (WasCounter anatomy.pieces) a.counts b.counts mine.counters theirs.counters;
-  in_use = All-append (WasInUse anatomy.pieces) a.counts b.counts mine.in_use theirs.in_use;
-  fixed = All-append (WasFixed anatomy.pieces) a.words b.words mine.fixed theirs.fixed;
-  shared = All-append (λ (s : Sighting). (s.at < length cursors) × IsNoLater (order_of anatomy) s.word (slice_index cursors s.at)) a.cursors b.cursors mine.shared theirs.shared;
-}
-
 -- ---- words that were seen
 
 -- a word that was seen first is still seen first where more is seen
@@ -257,6 +246,26 @@ module _ (shape : Dimensions) (words : List ℕ) (anatomy : Anatomy) (shown : Is
       (All-contains (WasFixed anatomy.pieces) a.seen.words s mine.fixed has)
       (All-contains (WasFixed anatomy.pieces) b.seen.words there.0 theirs.fixed there.1)
       (here ∙ sym there.2) ∙ there.3) e
+
+  -- both have met what each has
+  pub joined_sees : Sees anatomy cursors (both_seen a.seen b.seen)
+  joined_sees = record {
+    free = later_free a.seen.free b.seen.free (free_of anatomy) mine.free theirs.free;
+    walked = longer_front (order_of anatomy) a.seen.chain b.seen.chain mine.walked theirs.walked;
+    tails = All-append (λ place. IsNoLater (order_of anatomy) place anatomy.tail) a.seen.tails b.seen.tails mine.tails theirs.tails;
+    singles = All-append (WasSingle anatomy.version anatomy.pieces) a.seen.singles b.seen.singles mine.singles theirs.singles;
+    counters = All-append (WasCounter anatomy.pieces) a.seen.counts b.seen.counts mine.counters theirs.counters;
+    in_use = All-append (WasInUse anatomy.pieces) a.seen.counts b.seen.counts mine.in_use theirs.in_use;
+    met = All-append (WasMet anatomy.pieces (both_seen a.seen b.seen)) a.seen.counts b.seen.counts
+        (All-weaker (WasMet anatomy.pieces a.seen) (WasMet anatomy.pieces (both_seen a.seen b.seen))
+        (met_more anatomy.pieces a.seen (both_seen a.seen b.seen) (longer_first (order_of anatomy) a.seen.chain b.seen.chain mine.walked theirs.walked)
+        (seen_before a.seen.words b.seen.words)) a.seen.counts mine.met)
+        (All-weaker (WasMet anatomy.pieces b.seen) (WasMet anatomy.pieces (both_seen a.seen b.seen))
+        (met_more anatomy.pieces b.seen (both_seen a.seen b.seen) (longer_second (order_of anatomy) a.seen.chain b.seen.chain mine.walked theirs.walked)
+        joined_word) b.seen.counts theirs.met);
+    fixed = All-append (WasFixed anatomy.pieces) a.seen.words b.seen.words mine.fixed theirs.fixed;
+    shared = All-append (λ (s : Sighting). (s.at < length cursors) × IsNoLater (order_of anatomy) s.word (slice_index cursors s.at)) a.seen.cursors b.seen.cursors mine.shared theirs.shared;
+  }
 
   -- an entry of either has a sample that the opener met then
   abbrev Met : Actor → Entry → ℕ → Type 0

@@ -30,6 +30,9 @@ module _ (shape : Dimensions) (anatomy : Anatomy) (cursors : List ℕ) (actors :
     counted = looks.counted;
     samples = looks.samples;
     rising = looks.rising;
+    leading = looks.leading;
+    closed = looks.closed;
+    begun = looks.begun;
     noted = looks.noted;
     sum = looks.sum;
   }

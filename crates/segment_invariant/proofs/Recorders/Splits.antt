@@ -1,5 +1,5 @@
 -- A recorder that is made keeps what holds.
-use Rattle.std.proofs.Common.{◌≡◌, ◌≢◌, ◌⊎◌, ℕ, ◌+◌, ◌-◌, ◌<◌, ◌≤◌, Bool, true, ◌&&◌, true≢false, List, [], ◌∷◌, ◌++◌, map, set, length, inl, inr, ⊎_elim, refl, sym, ap, ◌∙◌, subst, subst₂, append-nil, arith}
+use Rattle.std.proofs.Common.{◌≡◌, ◌≢◌, ◌⊎◌, ℕ, ◌+◌, ◌-◌, ◌<◌, ◌≤◌, Bool, true, ◌&&◌, true≢false, List, [], ◌∷◌, ◌++◌, map, set, length, inl, inr, ⊎_elim, refl, sym, ap, ◌∙◌, subst, subst₂, append-nil, arith, drop}
 use Rattle.std.specs.Prelude.{if◌then◌else◌}
 use mathlib.Core.Option.{some}
 use lib.ListN.{get_elem?}
@@ -96,6 +96,9 @@ module _ (anatomy : Anatomy) (cursors : List ℕ) (actors : List Actor) (later a
     taking = λ e. absurd (true≢false (sym e));
   }
 
+  no_single : (s : Sighting) → Contains (drop (length a.seen.singles) a.seen.singles) s → ⊥
+  no_single s since = none_in s (subst (λ (list : List Sighting). Contains list s) (drop_all (length a.seen.singles) a.seen.singles (omega arith)) since)
+
   fresh_looks : LooksBack anatomy actors later fresh
   fresh_looks = record {
     most = λ known bucket total has. absurd (none_in known has);
@@ -103,6 +106,9 @@ module _ (anatomy : Anatomy) (cursors : List ℕ) (actors : List Actor) (later a
     counted = λ known bucket count r has. absurd (none_in known has);
     samples = λ known value at count has. absurd (none_in known has);
     rising = λ s t before since. absurd (none_in t (subst (λ (list : List Sighting). Contains list t) (drop_all (length a.seen.counts) a.seen.counts (omega arith)) since));
+    leading = λ s t r at before since. absurd (no_single t since);
+    closed = λ s t r c at i before since. absurd (no_single t since);
+    begun = (omega arith, omega arith);
     noted = λ known count has. absurd (none_in known has);
     sum = λ reference sum r stands. absurd (cc stands);
   }

@@ -27,7 +27,7 @@ use Rattle.segment_machine.specs.declared.place.Place.TheVariants.{Spent}
 use Rattle.segment_machine.specs.State.{State}
 use Rattle.segment_machine.specs.Calls.{IsReference}
 use Rattle.segment_invariant.specs.Body.{Body, histogram, sample, other, words_of, is_claimed, Piece, Listed, Anatomy, layout_of, order_of, free_of, claims_of}
-use Rattle.segment_invariant.specs.Seen.{Stands, WasFixed, IsNoLater, AreNoLater, Sees}
+use Rattle.segment_invariant.specs.Seen.{Stands, WasFixed, IsNoLater, AreNoLater, Sees, WasMet}
 use Rattle.segment_invariant.specs.Invariant.{StandsAs, StandsRight, HoldsOwn, IsSetBy, StandStill, Invariant}
 use Rattle.segment_invariant.proofs.Lists.Elements.{rows, column, there_below, index_at, all_at}
 use Rattle.segment_invariant.proofs.Blocks.Pieces.{piece_from, piece_ends, free_within}
@@ -38,6 +38,7 @@ use Rattle.segment_invariant.proofs.Allocating.Claimers.{AllClaimedRight, stays_
 use Rattle.segment_invariant.proofs.Frames.Growth.{reshaped, Stays, with_next, grows_not}
 use Rattle.segment_invariant.proofs.Frames.GrowthOfActors.{SawMore}
 use Rattle.segment_invariant.proofs.Frames.GrowthOfStates.{fits_on}
+use Rattle.segment_invariant.proofs.Frames.Standing.{met_more}
 
 -- ---- the stops of a kept list
 
@@ -151,6 +152,7 @@ module _ (shape : Dimensions) (opened : Anatomy) (state : State) (kept : Invaria
           singles = old_sees.singles;
           counters = old_sees.counters;
           in_use = old_sees.in_use;
+          met = All-weaker (WasMet pieces a.seen) (WasMet pieces (doing a d).seen) (λ s. met_more pieces a.seen (doing a d).seen more.chain more.words s) a.seen.counts old_sees.met;
           fixed = fixed;
           shared = old_sees.shared;
         } in

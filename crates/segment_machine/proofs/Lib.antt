@@ -2,3 +2,4 @@ pub mod Delta
 pub mod Keys
 pub mod SmallNumbers
 pub mod Stages
+pub mod Values

@@ -1,19 +1,24 @@
 -- Runs that would break what holds, each refused: what an actor may not do.
-use Rattle.std.specs.Prelude.{◌≡◌, true, ℕ, ℤ, pos, negsuc, List, [], ◌∷◌, map, Some}
+use Rattle.std.specs.Prelude.{◌≡◌, ◌≢◌, true, ℕ, ℤ, pos, negsuc, List, [], ◌∷◌, map, Some}
 use Rattle.bucket_ranges.specs.declared.spec.Spec.TheVariants as spec
 use Rattle.segment_machine.specs.declared.actor.Actor.{Actor}
 use Rattle.segment_machine.specs.declared.actor.Made.TheVariants as made
 use Rattle.segment_machine.specs.declared.place.Look.{Look}
-use Rattle.segment_machine.specs.declared.place.Place.TheVariants.{Looking, Moving}
+use Rattle.segment_machine.specs.declared.place.Place.TheVariants.{Looking, Moving, CountLoaded}
+use Rattle.segment_machine.specs.declared.actor.Answered.{Answered}
+use Rattle.alloc_core.specs.Event as atomic
+use Rattle.segment_machine.specs.Operation as does
 use Rattle.segment_machine.specs.Entry.{fresh, tally_noted}
-use Rattle.segment_machine.specs.Event.{Event, taking_event, counting_event, cursor_event, Ready}
-use Rattle.segment_machine.specs.Taking.{load_sum, swap_sum_mark, load_count, raise_single_mark}
-use Rattle.segment_machine.specs.Counting.{add_count}
+use Rattle.segment_machine.specs.Event.{Event, packing_event, taking_event, counting_event, cursor_event, Ready, next}
+use Rattle.segment_machine.specs.Packing.{load_single, pack, disable, add_moved}
+use Rattle.segment_machine.specs.Note.{MayNote, noted, looks, takes, answers, ends, refused}
+use Rattle.segment_machine.specs.Taking.{TakingEvent, operation, load_sum, load_redundant, swap_sum_mark, load_count, raise_mark, raise_single_mark}
+use Rattle.segment_machine.specs.Counting.{add_count, add_sum, add_redundant}
 use Rattle.segment_machine.specs.Cursors.{load_cursor}
 use Rattle.segment_machine.specs.Made.{IsPayload}
 use Rattle.segment_machine.specs.Seats.{nothing_seen, opener_of, newcomer, joined, MayJoin}
 use Rattle.segment_machine.specs.Actor.{accepted_by, accepted_since}
-use Rattle.segment_machine.specs.Examples.{shape, letter_a, one, whole, maker, run, takes_all, letter_s, known_a}
+use Rattle.segment_machine.specs.Examples.{shape, letter_a, one, whole, maker, AreReady, run, sampler, takes_all, letter_s, known_a}
 
 -- ---- who does it
 
@@ -95,3 +100,90 @@ abbrev pub FirstEntriesApart : Type 0
 FirstEntriesApart =
     let opener = record (opener_of shape 1 1) { first = one 1 ∷ one 0 ∷ []; log = whole (one 1) ∷ [] } in
     (tally_noted (accepted_by (newcomer opener 0)) letter_a ≡ 3) × (tally_noted (accepted_since opener (newcomer opener 0)) letter_a ≡ 1)
+
+-- ---- what is counted
+
+-- units are not moved before the word is disabled
+abbrev pub WordsOffFirst : Type 0
+WordsOffFirst = ¬ (Ready (record recorder { place = Looking (look 4294967298 32) }) (packing_event (add_moved 32 1 2)))
+
+-- Who disabled a word in version 1 has its two units and moves these, of their bucket. Before that it neither counts nor looks
+-- elsewhere, its call does not end, accepted or refused, and it is not joined.
+abbrev pub mover : Actor
+mover = next (record (counting (negsuc 4)) { place = Looking (look 4294967298 32) }) (packing_event (disable 16 4294967298)) 4294967298
+
+abbrev pub UnitsRemembered : Type 0
+UnitsRemembered =
+    Ready mover (packing_event (add_moved 32 1 2)) × (¬ (Ready mover (packing_event (add_moved 32 1 1))))
+    × (¬ (Ready mover (packing_event (add_moved 32 0 2)))) × (¬ (Ready mover (counting_event (add_count 62 1))))
+    × (¬ (Ready mover (packing_event (load_single 16)))) × (¬ (MayNote mover ends)) × (¬ (MayNote mover (refused 0)))
+    × (¬ (MayJoin (record (opener_of shape 1 1) { outstanding = 1 }) mover))
+
+-- a packed sample is not noted, and its call does not end, before its amount is in the sum
+abbrev pub packed_sample : Actor
+packed_sample = next sampler (packing_event (pack 16 0 4294967297)) 0
+
+abbrev pub SumsStay : Type 0
+SumsStay =
+    Ready packed_sample (counting_event (add_sum 16 (pos 1))) × (¬ (Ready packed_sample (counting_event (add_redundant 16 1))))
+    × (¬ (MayNote packed_sample ends))
+
+-- a unit of a value counts in its first sample, and in no later one
+abbrev pub met_twice : Actor
+met_twice = record (counting (negsuc 4)) {
+  seen = record nothing_seen {
+    chain = 16 ∷ 40 ∷ 56 ∷ 64 ∷ [];
+    words =
+        record { at = 58; word = 3 } ∷ record { at = 60; word = 40 } ∷ record { at = 61; word = 18446744073709551611 }
+        ∷ record { at = 66; word = 3 } ∷ record { at = 68; word = 40 } ∷ record { at = 69; word = 18446744073709551611 } ∷ [];
+  };
+}
+
+abbrev pub FirstSamplesCount : Type 0
+FirstSamplesCount = Ready met_twice (counting_event (add_count 62 1)) × (¬ (Ready met_twice (counting_event (add_count 70 1))))
+
+-- ---- what is taken
+
+-- a delta of `A`, whose word is disabled and names bucket 1, has loaded three units of bucket 0, or two of bucket 1
+abbrev pub loaded : ℕ → ℕ → Actor
+loaded bucket count = record (noted recorder (takes letter_a)) { place = CountLoaded (look 9223372036854775809 32) bucket count }
+
+-- a mark is raised to the count that was loaded, and not past it
+abbrev pub CountsBound : Type 0
+CountsBound = Ready (loaded 0 3) (taking_event (raise_mark 39 3)) × (¬ (Ready (loaded 0 3) (taking_event (raise_mark 39 4))))
+
+-- the packed bucket has the single mark, and none in the counts block
+abbrev pub SingleMarksApart : Type 0
+SingleMarksApart =
+    Ready (loaded 1 2) (taking_event (raise_single_mark 16 2)) × (¬ (Ready (loaded 1 2) (taking_event (raise_mark 40 2))))
+
+-- a mark is not loaded, as if it were a count, and who takes stores nothing and exchanges nothing where a number is expected
+abbrev pub MarksRise : Type 0
+MarksRise =
+    (¬ (Ready (loaded 0 3) (taking_event (load_count 39))))
+    × ((size version at value : ℕ) (event : TakingEvent) → operation size version event ≢ does.single (atomic.store at value))
+    × ((size version at old new : ℕ) (event : TakingEvent) → operation size version event ≢ does.single (atomic.exchange at old new))
+
+-- ---- what is answered
+
+-- a snapshot of `S` loads the count of its sample, the sum and the redundant count. It may answer that -5 has one unit, but not
+-- that 2^64 - 5, which is the same word, has one too.
+abbrev pub snapping : List (Event × ℕ)
+snapping = (taking_event (load_count 62), 1) ∷ (taking_event (load_sum 40), 18446744073709551611) ∷ (taking_event (load_redundant 40), 1) ∷ []
+
+abbrev pub snaps : Actor
+snaps = noted recorder looks
+
+abbrev pub answering : List (ℤ × ℕ) → Answered
+answering counts = record {
+  name = letter_s;
+  counts = counts;
+  sum = negsuc 4;
+  redundant = 1;
+  moment = record { log = 0; before = 0; outstanding = 0 };
+}
+
+abbrev pub HonestAnswers : Type 0
+HonestAnswers =
+    AreReady snaps snapping × MayNote (run snaps snapping) (answers (answering ((negsuc 4, 1) ∷ [])))
+    × (¬ (MayNote (run snaps snapping) (answers (answering ((negsuc 4, 1) ∷ (pos 18446744073709551611, 1) ∷ [])))))

@@ -6,7 +6,7 @@ ghost use Rattle.segment_machine.specs.Laws.{StepsChangeOne, KeysAreLeast};
 ghost use Rattle.segment_machine.specs.Stages.{AllocationsAgree, PublishesAgree, WalksAgree};
 ghost use Rattle.segment_machine.specs.Examples.{Keys, PackedRun, MountingRun, TakerRuns, TakingRun, Batches};
 ghost use Rattle.segment_machine.specs.Lives.{RecorderIsJoined};
-ghost use Rattle.segment_machine.specs.Refused.{ValuesApart, MovesFirst, CursorsThere, SamplesMet, WordsSince, SwapsAdd, RecordsAlone, DebtsStay, TailsStay, FirstEntriesApart};
+ghost use Rattle.segment_machine.specs.Refused.{ValuesApart, MovesFirst, CursorsThere, SamplesMet, WordsSince, SwapsAdd, RecordsAlone, DebtsStay, TailsStay, FirstEntriesApart, WordsOffFirst, UnitsRemembered, SumsStay, FirstSamplesCount, CountsBound, SingleMarksApart, MarksRise, HonestAnswers};
 
 /// A step changes one word and one actor at most.
 pub fn steps_change_one()
@@ -118,4 +118,44 @@ pub fn tails_stay()
 /// First entries were accepted, and stand in no redundant count that is kept.
 pub fn first_entries_apart()
     ensures { FirstEntriesApart }
+{}
+
+/// Units are not moved before the word is disabled.
+pub fn words_off_first()
+    ensures { WordsOffFirst }
+{}
+
+/// Who disabled a word with units moves these, and does nothing else before.
+pub fn units_remembered()
+    ensures { UnitsRemembered }
+{}
+
+/// A packed sample does not end without its sum.
+pub fn sums_stay()
+    ensures { SumsStay }
+{}
+
+/// A unit of a value counts in its first sample alone.
+pub fn first_samples_count()
+    ensures { FirstSamplesCount }
+{}
+
+/// A mark is not raised past the count that was loaded.
+pub fn counts_bound()
+    ensures { CountsBound }
+{}
+
+/// The packed bucket is not marked in the counts block.
+pub fn single_marks_apart()
+    ensures { SingleMarksApart }
+{}
+
+/// A mark is not taken by a load and a store.
+pub fn marks_rise()
+    ensures { MarksRise }
+{}
+
+/// The honest answer of a sparse snapshot may be given.
+pub fn honest_answers()
+    ensures { HonestAnswers }
 {}

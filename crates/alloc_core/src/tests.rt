@@ -13,6 +13,8 @@ use std::alloc::Global;
 use std::process::Abort;
 use std::test::Fail;
 
+type Words = [u64; 128];
+
 const SIZE: u64 = 128;
 
 const PAGE: u64 = 64;
@@ -29,6 +31,14 @@ const CLAIM: usize = 6;
 const WASTE: usize = 5;
 
 const FULL: usize = 3;
+
+// The words of a new segment.
+fn blank(alloc: Global) -> Result<Words, Fail> {
+    let image = Image::blank(alloc, SIZE, PAGE, ID)?;
+    let mut words = [0; SIZE as usize];
+    words.copy_from_slice(image.words());
+    Ok(words)
+}
 
 /// An allocation that has not ended, and how many words its segment has.
 #[derive(Drop)]
@@ -74,28 +84,18 @@ fn allocate(rt: &impl Abort, words: &mut [u64], payload: u64) -> Result<(AllocSt
 // One allocation: its payload, how it ends and with which event, and words that are known then.
 type Row<'a> = (u64, AllocStep, usize, &'a [(usize, u64)]);
 
-// That allocations one after the other end as rows say, in a segment that is new but for some words.
-fn expect_rows(
-    rt: &impl Abort,
-    alloc: Global,
-    others: &[(usize, u64)],
-    rows: &[Row<'_>],
-) -> Result<(), Fail> {
-    let image = Image::blank(alloc, SIZE, PAGE, ID)?;
-    let mut words = [0; SIZE as usize];
-    words.copy_from_slice(image.words());
-    for (at, value) in others {
-        *words.get_mut(*at).expect(rt, "a word") = *value;
+// That words are known.
+fn expect_words(rt: &impl Abort, words: &[u64], known: &[(usize, u64)]) {
+    for (at, value) in known {
+        assert_eq!(rt; words.get(*at), Some(value), "word {at}");
     }
+}
+
+// That allocations one after the other end as rows say.
+fn expect_rows(rt: &impl Abort, words: &mut Words, rows: &[Row<'_>]) -> Result<(), Fail> {
     for (payload, ended, events, known) in rows {
-        assert_eq!(rt; allocate(rt, &mut words, *payload)?, (*ended, *events));
-        for (at, value) in *known {
-            assert_eq!(rt;
-                words.get(*at),
-                Some(value),
-                "word {at} of payload {payload}"
-            );
-        }
+        assert_eq!(rt; allocate(rt, words, *payload)?, (*ended, *events));
+        expect_words(rt, words, known);
     }
     Ok(())
 }
@@ -139,15 +139,15 @@ fn claim_waste_claim_full_then_exact_fit(rt: HostRuntime) -> Result<(), Fail> {
             &[(108, 20), (FREE_WORD, 128)],
         ),
     ];
-    expect_rows(&rt, rt.alloc(), &[], &rows)
+    expect_rows(&rt, &mut blank(rt.alloc())?, &rows)
 }
 
 #[test]
 fn rest_absorbed(rt: HostRuntime) -> Result<(), Fail> {
     let three_left: Row<'_> = (33, AllocStep::Done(24), CLAIM, &[(24, 40), (FREE_WORD, 64)]);
-    expect_rows(&rt, rt.alloc(), &[], &[FIRST, three_left])?;
+    expect_rows(&rt, &mut blank(rt.alloc())?, &[FIRST, three_left])?;
     let five_left: Row<'_> = (31, AllocStep::Done(24), CLAIM, &[(24, 35), (FREE_WORD, 59)]);
-    expect_rows(&rt, rt.alloc(), &[], &[FIRST, five_left])
+    expect_rows(&rt, &mut blank(rt.alloc())?, &[FIRST, five_left])
 }
 
 #[test]
@@ -161,13 +161,19 @@ fn block_of_a_page(rt: HostRuntime) -> Result<(), Fail> {
         CLAIM,
         &[(64, 64), (FREE_WORD, 128)],
     );
-    expect_rows(&rt, rt.alloc(), &[(FREE_WORD, 64)], &[whole])
+    let mut words = blank(rt.alloc())?;
+    words[FREE_WORD] = 64;
+    expect_rows(&rt, &mut words, &[whole])
 }
 
 #[test]
 fn corrupt_segments(rt: HostRuntime) -> Result<(), Fail> {
     let flag: Row<'_> = (4, AllocStep::Corrupt, 1, &[(FREE_WORD, 16)]);
-    expect_rows(&rt, rt.alloc(), &[(FLAGS_WORD, FLAG_CORRUPT)], &[flag])?;
+    let mut words = blank(rt.alloc())?;
+    words[FLAGS_WORD] = FLAG_CORRUPT;
+    expect_rows(&rt, &mut words, &[flag])?;
     let pointer: Row<'_> = (4, AllocStep::Corrupt, 2, &[(FREE_WORD, 60)]);
-    expect_rows(&rt, rt.alloc(), &[(FREE_WORD, 60)], &[pointer])
+    let mut words = blank(rt.alloc())?;
+    words[FREE_WORD] = 60;
+    expect_rows(&rt, &mut words, &[pointer])
 }

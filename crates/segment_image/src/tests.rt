@@ -33,13 +33,6 @@ impl Read for Failing {
     }
 }
 
-#[test]
-fn words_from_bytes(rt: HostRuntime) -> Result<(), Fail> {
-    let words = read_words(rt.alloc(), &mut Watched::new(BYTES), 2)?;
-    assert_eq!(rt; words.as_slice(), WORDS.as_slice());
-    Ok(())
-}
-
 // Sixteen bytes take sixteen calls, and one more finds the end.
 #[test]
 fn a_read_that_fails_is_device(rt: HostRuntime) {
@@ -69,9 +62,9 @@ fn most_bytes_and_words(rt: HostRuntime) -> Result<(), Fail> {
 #[test]
 fn greatest_limits(rt: HostRuntime) -> Result<(), Fail> {
     let bytes = read_bytes(rt.alloc(), &mut Watched::new(BYTES), usize::MAX)?;
-    assert_eq!(rt; bytes.len(), 16);
+    assert_eq!(rt; bytes.as_slice(), BYTES);
     let words = read_words(rt.alloc(), &mut Watched::new(BYTES), usize::MAX)?;
-    assert_eq!(rt; words.len(), 2);
+    assert_eq!(rt; words.as_slice(), WORDS.as_slice());
     Ok(())
 }
 
@@ -118,18 +111,10 @@ fn blank_segments(rt: HostRuntime) -> Result<(), Fail> {
     Ok(())
 }
 
+// The other texts are those that the program prints.
 #[test]
 fn texts_of_faults(rt: HostRuntime) -> Result<(), Fail> {
     for (fault, text) in [
-        (ImageFault::TooShort, "TooShort"),
-        (ImageFault::BadCookie, "BadCookie"),
-        (ImageFault::BadVersion, "BadVersion"),
-        (ImageFault::BadPage, "BadPage"),
-        (ImageFault::BadSize, "BadSize"),
-        (ImageFault::NotReady, "NotReady"),
-        (ImageFault::Deleted, "Deleted"),
-        (ImageFault::BadFree, "BadFree"),
-        (ImageFault::BadQueue, "BadQueue"),
         (ImageFault::BadRef, "BadRef"),
         (ImageFault::BadBlock, "BadBlock"),
         (ImageFault::Loop, "Loop"),

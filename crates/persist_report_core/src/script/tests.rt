@@ -1,9 +1,12 @@
 use crate::{ScriptFault, read_script};
 use segment_image::Watched;
+use std::alloc::{AllocError, Global};
 use std::test::*;
 
 // The units of a segment.
 const UNITS: u64 = 4_294_967_295;
+
+const NAMES: usize = 70_000;
 
 #[test]
 fn worked_scripts(rt: HostRuntime) {
@@ -38,26 +41,32 @@ fn worked_scripts(rt: HostRuntime) {
     }
 }
 
-// Each of 70,000 names is found at its own place.
+// Puts a record for each of 70,000 names.
+fn put_records(
+    alloc: Global,
+    script: &mut Vec<u8>,
+    word: &str,
+    rest: &str,
+) -> Result<(), AllocError> {
+    for i in 0..NAMES {
+        let line = format!(in alloc; "{word},Page.Load.{i}{rest}\n")?;
+        script.extend_from_slice(line.as_bytes())?;
+    }
+    Ok(())
+}
+
+// Each name is found at its own place.
 #[test]
 fn many_names(rt: HostRuntime) -> Result<(), Fail> {
     let alloc = rt.alloc();
     let mut script = Vec::from_slice(alloc, b"segment,1048576,65536,7\n")?;
-    for i in 0..70_000u32 {
-        script.extend_from_slice(format!(in alloc; "hist,Page.Load.{i},sparse\n")?.as_bytes())?;
-    }
-    for i in 0..70_000u32 {
-        script.extend_from_slice(format!(in alloc; "delta,Page.Load.{i}\n")?.as_bytes())?;
-    }
+    put_records(alloc, &mut script, "hist", ",sparse")?;
+    put_records(alloc, &mut script, "delta", "")?;
     let script = read_script(alloc, &mut Watched::new(script.as_slice()), UNITS)?;
-    assert_eq!(rt; script.hists.len(), 70_000);
-    assert_eq!(rt; script.calls.len(), 70_000);
-    let in_order = script
-        .calls
-        .iter()
-        .enumerate()
-        .all(|(i, call)| call.hist as usize == i);
-    assert!(rt; in_order);
+    assert_eq!(rt; (script.hists.len(), script.calls.len()), (NAMES, NAMES));
+    for (i, call) in script.calls.iter().enumerate() {
+        assert_eq!(rt; call.hist as usize, i);
+    }
     Ok(())
 }
 
@@ -72,7 +81,7 @@ fn fault_texts(rt: HostRuntime) -> Result<(), Fail> {
         (ScriptFault::NoUnits(4), "NoUnits 4"),
     ];
     for (fault, text) in texts {
-        assert_eq!(rt; format!(in rt.alloc(); "{fault}")?.as_str(), text);
+        assert_eq!(rt; fault.to_string(rt.alloc())?.as_str(), text);
     }
     Ok(())
 }

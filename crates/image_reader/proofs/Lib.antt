@@ -6,6 +6,7 @@ pub mod SampleMaps
 pub mod SpecWords
 pub mod BucketChecks
 pub mod NameLengths
+pub mod NameKeys
 pub mod NameSets
 pub mod Gathered
 pub mod Gathers

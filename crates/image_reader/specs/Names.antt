@@ -1,23 +1,27 @@
 -- The names of the histograms that are read.
-use Rattle.std.specs.Prelude.{◌≡◌, Bool, ℕ, List, length, min, All}
+use Rattle.std.specs.Prelude.{◌≡◌, Bool, ℕ, List, ◌++◌, take, drop, All}
 use Rattle.std.specs.List.{list_any}
 use Rattle.std.specs.Str.{bytes_eq}
+use Rattle.std.specs.Int.Digits.{digits_of, number_from_digits}
 use Rattle.std.specs.declared.vec.Vec.{Vec}
 use Rattle.std.specs.declared.alloc.Global.{Global}
-use Rattle.byteorder.specs.Endian.{big_number}
 use Rattle.image_reader.specs.declared.names.Names.{Names}
 
--- the number that the first eight bytes of a name make, or all bytes of a shorter one
+-- the number whose digits are the first eight bytes of a name, or all bytes of a shorter one
 unfoldable pub prefix_of : List ℕ → ℕ
-prefix_of name = big_number (min (length name) 8) name
+prefix_of name = number_from_digits 256 (take 8 name)
+
+-- the name of a key: the digits of its number, and the bytes behind them
+unfoldable pub name_of_key : ℕ × Vec ℕ Global → List ℕ
+name_of_key key = digits_of 256 key.0 ++ key.1.items
 
 -- whether a name is among them
 abbrev pub holds : Names → List ℕ → Bool
-holds names name = list_any (λ key. bytes_eq name key.1.items) names.set.keys
+holds names name = list_any (λ key. bytes_eq name (name_of_key key)) names.set.keys
 
--- a key is a name behind its prefix
+-- a key is that of its name
 abbrev pub IsKey : ℕ × Vec ℕ Global → Type 0
-IsKey key = key.0 ≡ prefix_of key.1.items
+IsKey key = (key.0 ≡ prefix_of (name_of_key key)) × (key.1.items ≡ drop 8 (name_of_key key))
 
 abbrev pub AreKeys : Names → Type 0
 AreKeys names = All IsKey names.set.keys

@@ -3,7 +3,7 @@
 ghost use Rattle.std.specs.Prelude.{◌≡◌, ◌+◌, ◌<◌, ◌≤◌, ◌++◌, [], ◌∷◌, List, ℕ, Ok, None, true, length, IfOk, OnOk};
 ghost use Rattle.segment_image.specs.Head.{header_of};
 ghost use Rattle.segment_image.specs.Blocks.{field_at};
-ghost use Rattle.bucket_ranges.specs.Reading.{is_block, name_of, record_fault};
+ghost use Rattle.bucket_ranges.specs.Reading.{is_block, is_name, name_of, record_fault};
 ghost use Rattle.image_reader.specs.Gathering.{IsGathered, IsReady};
 
 use crate::histogram::histogram;
@@ -113,7 +113,7 @@ impl Gathering {
         requires within { reference + field_at words.now reference BLOCK_SIZE ≤ length words.now }
         requires lawful { record_fault words.now head.now reference ≡ None }
         requires name { name.items ≡ name_of words.now reference }
-        requires bytes { 0 < length name.items }
+        requires bytes { is_name name.items ≡ true }
         requires ready { IsReady words.now self.old }
         ensures gathered { OnOk result ((earlier : List ℕ) → IsGathered words.now head.now earlier self.old → IsGathered words.now head.now (earlier ++ reference ∷ []) self.new) }
         ensures ready { OnOk result (IsReady words.now self.new) }

@@ -1,6 +1,6 @@
 //! The name of a record.
 
-ghost use Rattle.std.specs.Prelude.{◌≡◌, ◌<◌, ◌≤◌, ◌+◌, true, false, length, IfOk};
+ghost use Rattle.std.specs.Prelude.{◌≡◌, ◌≤◌, ◌+◌, true, false, length, IfOk};
 ghost use Rattle.std.specs.List.{list_all};
 ghost use Rattle.segment_image.specs.Words.{bytes_of_words};
 ghost use Rattle.segment_image.specs.Blocks.{field_at};
@@ -19,7 +19,7 @@ pub(crate) fn name_at(alloc: Global, words: &[u64], at: usize) -> Result<Vec<u8>
     requires within { at + field_at words.now at BLOCK_SIZE ≤ length words.now }
     requires long { HISTOGRAM_LEAST ≤ field_at words.now at BLOCK_SIZE }
     ensures name { IfOk result (λ name. (has_name words.now at ≡ true) × (name.items ≡ name_of words.now at)) }
-    ensures bytes { IfOk result (λ name. 0 < length name.items) }
+    ensures lawful { IfOk result (λ name. is_name name.items ≡ true) }
     ensures fault { RefusedOnly RecordFault.BadName (has_name words.now at ≡ false) result }
 {
     let len = words[at + HISTOGRAM_NAME_LENGTH];

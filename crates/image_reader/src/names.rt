@@ -1,7 +1,8 @@
 //! The names of the histograms that are read.
 
-ghost use Rattle.std.specs.Prelude.{◌≡◌, ◌||◌, ◌<◌, ℕ, List, false, not, length, IfOk, OnOk};
+ghost use Rattle.std.specs.Prelude.{◌≡◌, ◌||◌, ◌<◌, ℕ, List, true, false, not, length, IfOk, OnOk};
 ghost use Rattle.std.specs.Str.{bytes_eq};
+ghost use Rattle.bucket_ranges.specs.Reading.{is_name};
 ghost use Rattle.image_reader.specs.Names.{prefix_of};
 
 use byteorder::{BigEndian, ByteOrder};
@@ -16,7 +17,8 @@ fn prefix(name: &[u8]) -> u64
     BigEndian::read_uint(name, name.len().min(8))
 }
 
-/// Names in an ordered set, each behind the number of its first eight bytes, so that a comparison seldom reads the names.
+/// Names in an ordered set. A name is kept as the number of its first eight bytes and the bytes behind them: the number
+/// tells these eight, of which none is 0, so one of up to eight bytes wants no memory of its own.
 #[derive(Drop)]
 pub(crate) struct Names {
     set: BTreeSet<(u64, Vec<u8>)>,
@@ -38,12 +40,12 @@ impl Names {
     /// Adds a name, and says whether it is new.
     pub(crate) fn insert(&mut self, alloc: Global, name: &[u8]) -> Result<bool, AllocError>
         requires keys { AreKeys self.old }
-        requires bytes { 0 < length name.now }
+        requires lawful { is_name name.now ≡ true }
         ensures new { IfOk result (λ new. new ≡ not (holds self.old name.now)) }
         ensures holds { OnOk result ((other : List ℕ) → holds self.new other ≡ (holds self.old other || bytes_eq other name.now)) }
         ensures keys { OnOk result (AreKeys self.new) }
     {
-        let bytes = Vec::from_slice(alloc, name)?;
-        Ok(self.set.insert((prefix(name), bytes))?)
+        let rest = Vec::from_slice(alloc, &name[name.len().min(8)..])?;
+        Ok(self.set.insert((prefix(name), rest))?)
     }
 }

@@ -3,11 +3,11 @@
 //! The checks stand in the order of the faults that they give: the kind, the name, the spec, the units of the buckets,
 //! the sums.
 
-ghost use Rattle.std.specs.Prelude.{◌≡◌, ◌<◌, ◌≤◌, ◌+◌, true, false, Ok, length, IfOk, MatchResult};
+ghost use Rattle.std.specs.Prelude.{◌≡◌, ◌≤◌, ◌+◌, true, false, Ok, length, IfOk, MatchResult};
 ghost use Rattle.segment_image.specs.Checks.{first_fault};
 ghost use Rattle.segment_image.specs.Head.{header_of};
 ghost use Rattle.segment_image.specs.Blocks.{field_at};
-ghost use Rattle.bucket_ranges.specs.Reading.{has_name, is_bad_kind as is_bad_kind_of, is_bad_sum as is_bad_sum_of, record_buckets, units_checks, checks_behind_name};
+ghost use Rattle.bucket_ranges.specs.Reading.{is_name, has_name, is_bad_kind as is_bad_kind_of, is_bad_sum as is_bad_sum_of, record_buckets, units_checks, checks_behind_name};
 ghost use Rattle.image_reader.specs.Records.{IsRefusedBy, IsNamedAt};
 
 use crate::buckets::{Buckets, buckets_fault};
@@ -64,7 +64,7 @@ pub(crate) fn check_record(
     requires least { BLOCK_LEAST ≤ field_at words.now at BLOCK_SIZE }
     requires within { at + field_at words.now at BLOCK_SIZE ≤ length words.now }
     ensures found { MatchResult result (IsNamedAt words.now head.now at) (IsRefusedBy words.now head.now at) }
-    ensures bytes { IfOk result (λ name. 0 < length name.items) }
+    ensures lawful { IfOk result (λ name. is_name name.items ≡ true) }
 {
     if is_bad_kind(words, at) {
         return Err(Refusal::Fault(RecordFault::BadKind));

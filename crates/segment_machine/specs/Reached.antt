@@ -1,6 +1,6 @@
 -- The states that are reached: a new segment, and from there steps, recorders that are made and joined, and units that are lent, in
 -- whatever order.
-use Rattle.std.specs.Prelude.{◌≡◌, ◌≢◌, ◌⊎◌, ℕ, ◌≤◌, [], ◌∷◌, ◌++◌, slice_set, replicate}
+use Rattle.std.specs.Prelude.{◌≡◌, ◌≢◌, ◌⊎◌, ℕ, ◌≤◌, List, [], ◌∷◌, ◌++◌, slice_set, replicate}
 use mathlib.Core.Option.{some}
 use lib.ListN.{get_elem?}
 use Rattle.segment_image.specs.declared.layout.TheConstants.{QUEUE}
@@ -8,6 +8,7 @@ use Rattle.segment_image.specs.Shape.{Dimensions}
 use Rattle.alloc_core.specs.Layout.{IsShape, render, fresh}
 use Rattle.segment_machine.specs.declared.actor.Actor.{Actor}
 use Rattle.segment_machine.specs.Event.{Event}
+use Rattle.segment_machine.specs.Note.{Note, Notes}
 use Rattle.segment_machine.specs.State.{State, IsStep}
 use Rattle.segment_machine.specs.Seats.{opener_of, MaySplit, parent, newcomer, MayLend, lender, borrower, MayJoin, joined, spent}
 
@@ -38,10 +39,17 @@ IsLent old id other units new =
     (a b : Actor) × (id ≢ other) × (get_elem? old.actors id ≡ some a) × (get_elem? old.actors other ≡ some b) × MayLend a b units
     × (new ≡ record old { actors = slice_set (slice_set old.actors id (lender a units)) other (borrower b units) })
 
--- from one state steps, recorders that are made and joined, and units that are lent lead to another, in whatever order
+-- a recorder announces something: it makes notes, and no word changes
+abbrev pub IsAnnounced : State → ℕ → State → Type 0
+IsAnnounced old id new =
+    (a b : Actor) × (notes : List Note) × (get_elem? old.actors id ≡ some a) × (a.opener ≡ 0) × Notes a notes b
+    × (new ≡ record old { actors = slice_set old.actors id b })
+
+-- from one state steps, announcements, recorders that are made and joined, and units that are lent lead to another, in whatever order
 pub data IsReached (version : ℕ) (start : State) : State → Type 0 where
   started : IsReached version start start
   stepped : (old new : State) (id : ℕ) (event : Event) → IsReached version start old → IsStep version old id event new → IsReached version start new
+  announced : (old new : State) (id : ℕ) → IsReached version start old → IsAnnounced old id new → IsReached version start new
   split : (old new : State) (id units : ℕ) → IsReached version start old → IsSplit old id units new → IsReached version start new
   lent : (old new : State) (id other units : ℕ) → IsReached version start old → IsLent old id other units new → IsReached version start new
   joined_in : (old new : State) (id other : ℕ) → IsReached version start old → IsJoin old id other new → IsReached version start new

@@ -1,20 +1,18 @@
 -- What follows at once for those who step a segment.
-use Rattle.std.proofs.Common.{◌≡◌, ℕ, suc, Bool, true, false, eqb, ◌+◌, List, [], ◌∷◌, take, drop, length, get_or, set, refl, sym, ap, subst, ◌∙◌, arith}
+use Rattle.std.proofs.Common.{◌≡◌, ℕ, suc, Bool, true, false, eqb, List, [], ◌∷◌, take, drop, length, set, refl, sym, ap, subst, ◌∙◌, arith}
 use Rattle.std.specs.Prelude.{if◌then◌else◌}
 use Rattle.std.specs.List.{Contains}
-use Rattle.std.proofs.lemmas.List.{take-append-drop, set-set}
+use Rattle.std.proofs.lemmas.List.{set-set}
 use Rattle.std.proofs.lemmas.List.Elements.{Contains-append_left, Contains-append_right}
 use Rattle.std.proofs.Math.Seq.{take-append_seam, drop-append_seam}
 use mathlib.Core.Option.{some}
 use lib.ListN.{get_elem?}
-use Rattle.atomic_table.specs.Table as table
 use Rattle.atomic_table.proofs.Lists.{set_again}
 use Rattle.alloc_core.proofs.Owners.{set_at}
-use Rattle.alloc_core.proofs.Layouts.{length_shown}
 use Rattle.segment_image.specs.Shape.{Dimensions}
 use Rattle.segment_machine.specs.declared.actor.Actor.{Actor}
 use Rattle.segment_machine.specs.declared.place.Place.TheVariants.{Idle}
-use Rattle.segment_machine.specs.Event.{Event, allocating_event, publishing_event, walking_event, counting_event, taking_event, packing_event, cursor_event, spot, change, after, next}
+use Rattle.segment_machine.specs.Event.{Event, Ready, Learned, allocating_event, publishing_event, walking_event, counting_event, taking_event, packing_event, cursor_event, after, next}
 use Rattle.segment_machine.specs.Allocating.{load_flags, load_free, exchange_free, store_size, store_cookie, store_type, store_payload, set_flag, after_free}
 use Rattle.segment_machine.specs.Publishing.{store_own_next, load_tail, link, move_tail, after_link}
 use Rattle.segment_machine.specs.Walking.{load_next, load_published}
@@ -24,11 +22,11 @@ use Rattle.segment_machine.specs.Packing.{load_single, pack, mount_counts, purge
 use Rattle.segment_machine.specs.Cursors.{load_cursor, move_cursor, after_cursor}
 use Rattle.segment_machine.specs.Note.{Note, Notes, noted, begins, amounts, asks, knows, takes, has_taken, looks, answers, ends, refused, declines}
 use Rattle.segment_machine.specs.State.{State, memory}
-use Rattle.segment_invariant.specs.Body.{Anatomy, layout_of}
+use Rattle.segment_invariant.specs.Body.{Anatomy}
 use Rattle.segment_invariant.specs.Invariant.{Invariant}
-use Rattle.segment_invariant.specs.Keeps.{found_at, happened}
-use Rattle.segment_invariant.specs.Keeps.{NoteKeeps}
-use Rattle.segment_promises.specs.Follows.{StepsFollow, Told, TablesFollow}
+use Rattle.segment_invariant.specs.Keeps.{found_at}
+use Rattle.segment_invariant.specs.Keeps.{EventKeeps, NoteKeeps}
+use Rattle.segment_promises.specs.Follows.{StepsFollow}
 
 -- ---- notes
 
@@ -52,11 +50,11 @@ behind_first : (note : Note) (notes : List Note) (holds : Note → Type 0) → (
 behind_first note notes holds all n (k, below, is) = all n (suc k, omega (arith, below), is)
 
 -- the state with another record of an actor
-abbrev with_actor : State → ℕ → Actor → State
+abbrev pub with_actor : State → ℕ → Actor → State
 with_actor state id a = record state { actors = set state.actors id a }
 
 -- notes that keep what holds keep it one after the other
-notes_keep : (shape : Dimensions) (opened : Anatomy) (notes : List Note) (state : State) (id : ℕ) (a b : Actor) → Invariant shape opened state
+pub notes_keep : (shape : Dimensions) (opened : Anatomy) (notes : List Note) (state : State) (id : ℕ) (a b : Actor) → Invariant shape opened state
     → get_elem? state.actors id ≡ some a → a.opener ≡ 0 → Notes a notes b → ((note : Note) → Contains notes note → NoteKeeps note)
     → Invariant shape opened (with_actor state id b) × (b.opener ≡ 0)
 notes_keep shape opened [] state id a b kept there records same keep = (
@@ -146,51 +144,51 @@ words_of_memory s n m size is = sym (ap (λ (p : ℕ). take p m) size) ∙ (ap (
 cursors_of_memory : (s : State) (n : ℕ) (m : List ℕ) → length s.words ≡ n → memory s ≡ m → drop n m ≡ s.cursors
 cursors_of_memory s n m size is = sym (ap (λ (p : ℕ). drop p m) size) ∙ (ap (drop (length s.words)) (sym is) ∙ drop-append_seam s.words s.cursors)
 
+-- An event with notes before and behind it keeps what holds, where these do, and its actor learns of the number that was found.
+module _ (shape : Dimensions) (opened : Anatomy) (old : State) (id : ℕ) (a at : Actor) (before : List Note) (event : Event) where
+  -- the number that the event finds, the words behind it, and its actor
+  abbrev found : ℕ
+  found = found_at old event
+
+  abbrev all : List ℕ
+  all = after (length old.words) opened.version event (memory old)
+
+  -- the state behind the event and the notes behind that
+  abbrev then_with : Actor → State
+  then_with b = record { words = take (length old.words) all; cursors = drop (length old.words) all; actors = set old.actors id b }
+
+  pub happens : Invariant shape opened old → get_elem? old.actors id ≡ some a → a.opener ≡ 0 → Notes a before at
+      → ((note : Note) → Contains before note → NoteKeeps note) → EventKeeps event → Ready at event
+      → (behind : List Note) (then_is : Actor)
+      → (Learned at event found → Notes (next at event found) behind then_is × ((note : Note) → Contains behind note → NoteKeeps note))
+      → Invariant shape opened (then_with then_is) × Learned at event found
+  happens kept there records notes_before before_keeps event_keeps ready behind then_is goes =
+      let first = notes_keep shape opened before old id a at kept there records notes_before before_keeps in
+      let did = event_keeps shape opened (with_actor old id at) id at first.0 (set_at old.actors id a at there) first.1 ready in
+      let acted : Actor = next at event found in
+      let mid : State = record { words = take (length old.words) all; cursors = drop (length old.words) all; actors = set (set old.actors id at) id acted } in
+      let stands = set_at (set old.actors id at) id at acted (set_at old.actors id a at there) in
+      let (may, behind_keeps) = goes did.1 in
+      let last = notes_keep shape opened behind mid id acted then_is did.0 stands (acts_on at event found ∙ first.1) may behind_keeps in
+      let actors = set-set (set old.actors id at) id acted then_is ∙ set-set old.actors id at then_is in (
+        subst (λ list. Invariant shape opened (record (then_with then_is) { actors = list })) actors last.0,
+        did.1,
+      )
+
 pub steps_follow : StepsFollow
 steps_follow shape opened old new id event step event_keeps notes_kept kept =
-    let before = notes_keep shape opened step.before old id step.actor step.at kept step.there step.is_recorder step.notes_before
-    (λ n c. notes_kept n (Contains-append_left step.before step.behind n c)) in
-    let did = event_keeps shape opened (with_actor old id step.at) id step.at before.0 (set_at old.actors id step.actor step.at step.there) before.1 step.ready in
+    let did = happens shape opened old id step.actor step.at step.before event kept step.there step.is_recorder step.notes_before
+    (λ n c. notes_kept n (Contains-append_left step.before step.behind n c)) event_keeps step.ready step.behind step.then_is
+    (λ learned. (step.notes_behind, λ n c. notes_kept n (Contains-append_right step.before step.behind n c))) in
     let size = length old.words in
     let all = after size opened.version event (memory old) in
-    let acted : Actor = next step.at event (found_at old event) in
-    let mid : State = record { words = take size all; cursors = drop size all; actors = set (set old.actors id step.at) id acted } in
-    let there = set_at (set old.actors id step.at) id step.at acted (set_at old.actors id step.actor step.at step.there) in
-    let behind = notes_keep shape opened step.behind mid id acted step.then_is did.0 there (acts_on step.at event (found_at old event) ∙ before.1) step.notes_behind
-    (λ n c. notes_kept n (Contains-append_right step.before step.behind n c)) in
-    let actors = set-set (set old.actors id step.at) id acted step.then_is ∙ (set-set old.actors id step.at step.then_is ∙ sym step.actors_are) in (
+    let actors : set old.actors id step.then_is ≡ new.actors = sym step.actors_are in (
       subst (Invariant shape opened)
           (λ i. record {
             words = words_of_memory new size all step.size step.memory_is i;
             cursors = cursors_of_memory new size all step.size step.memory_is i;
             actors = actors i;
           })
-          behind.0,
+          did.0,
       did.1,
-    )
-
--- ---- tables
-
-pub tables_follow : (S : Type 0) → TablesFollow S
-tables_follow S shape opened event slots id me word event_keeps word_is records ready s run wide mine small =
-    let seg : State = run.segment in
-    let size : length seg.words ≡ shape.size = length_shown shape seg.words (layout_of run.kept.anatomy) run.kept.shown in
-    let at : word ≡ suc (spot (length seg.words) event) = word_is ∙ (ap (λ (n : ℕ). spot n event + 1) (sym size) ∙ omega arith) in
-    let found : get_or s.words word 0 ≡ found_at seg event = (λ i. get_or (run.words i) (at i) 0) in
-    let there : get_elem? seg.actors id ≡ some me.0 = ap (λ list. get_elem? list id) (sym run.views) ∙ mine in
-    let did = event_keeps shape opened seg id me.0 run.kept there records ready in
-    let n : ℕ = found_at seg event in
-    let all = after (length seg.words) opened.version event (memory seg) in (
-      next me.0 event n,
-      table.keeps,
-      tt,
-      record {
-        anchor = run.anchor;
-        segment = happened opened.version seg id me.0 event;
-        words = (λ i. set (run.words i) (at i) (change opened.version event (found i)))
-            ∙ ap (λ list. run.anchor ∷ list) (sym (take-append-drop (length seg.words) all));
-        views = ap (λ list. set list id (next me.0 event n)) run.views;
-        kept = did.0;
-      },
-      subst (λ (x : ℕ). Told event me x (next me.0 event n, me.1)) (sym found) (refl, refl, did.1),
     )

@@ -10,7 +10,8 @@ use Rattle.segment_machine.specs.Publishing.{link}
 use Rattle.segment_machine.specs.Packing.{load_single}
 use Rattle.segment_machine.specs.Taking.{load_sum, load_redundant}
 use Rattle.segment_machine.specs.Note.{MayNote, looks, answers, noted, TookAll}
-use Rattle.segment_promises.specs.Promises.{IsWhole, chain_behind}
+use Rattle.segment_promises.specs.Lists.{chain_behind}
+use Rattle.segment_promises.specs.Deltas.{IsWhole}
 use Rattle.segment_machine.specs.Examples.{letter_a, maker, AreReady, run, takes_all, taking, known_a}
 
 -- ---- what a link makes of the chain
@@ -24,7 +25,7 @@ LinksLengthen = (chain_behind (publishing_event (link 12 16)) 12 [] ≡ 16 ∷ [
 -- a delta of a packed word: it took what its recorder had accepted, of a bucket of which nothing can be in transit
 abbrev pub DeltaOwes : Type 0
 DeltaOwes =
-    TookAll (run takes_all taking) known_a × IsWhole 1 (run takes_all taking) known_a 1
+    TookAll (run takes_all taking) known_a × IsWhole (run takes_all taking) known_a 1
     × (tally_units (accepted_by (run takes_all taking)) letter_a (pos 1) ≡ 2)
     × (taken_units (run takes_all taking).taken letter_a (pos 1) ≡ 2)
 

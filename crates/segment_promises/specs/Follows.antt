@@ -1,12 +1,15 @@
 -- What follows at once for those who step a segment, where its events keep what holds: for one event a call over plain words, and for
 -- threads over a table of shared words.
-use Rattle.std.specs.Prelude.{◌≡◌, ℕ, ◌+◌, ◌∷◌, ◌++◌}
+use Rattle.std.specs.Prelude.{◌≡◌, ℕ, ◌+◌, List, [], ◌∷◌, ◌++◌}
 use Rattle.std.specs.List.{Contains}
+use mathlib.Core.Option.{some}
+use lib.ListN.{get_elem?}
 use Rattle.atomic_table.specs.Table as table
 use Rattle.segment_image.specs.Shape.{Dimensions}
 use Rattle.segment_machine.specs.declared.actor.Actor.{Actor}
 use Rattle.segment_machine.specs.Event.{Event, spot, change, next, Ready, Learned}
-use Rattle.segment_machine.specs.Note.{Note}
+use Rattle.segment_machine.specs.Note.{Note, Notes, noted}
+use Rattle.segment_machine.specs.Seats.{MaySplit, parent, newcomer, MayJoin, joined, spent}
 use Rattle.segment_machine.specs.State.{State, memory, IsStep}
 use Rattle.segment_invariant.specs.Body.{Anatomy}
 use Rattle.segment_invariant.specs.Invariant.{Invariant}
@@ -21,7 +24,7 @@ StepsFollow = (shape : Dimensions) (opened : Anatomy) (old new : State) (id : �
     → ((note : Note) → Contains (step.before ++ step.behind) note → NoteKeeps note)
     → Invariant shape opened old → Invariant shape opened new × Learned step.at event (found_at old event)
 
--- ---- a table's step
+-- ---- a table's words and views
 
 -- a segment as a table's words: one that never changes, those of the segment and those of the shared cursors; its views are the
 -- actors
@@ -32,14 +35,60 @@ pub record Running (S : Type 0) (shape : Dimensions) (opened : Anatomy) (s : tab
   pub views : s.views ≡ segment.actors
   pub kept : Invariant shape opened segment
 
--- what a step tells its seat: the event happened at a word that was `found`
-abbrev pub Told : {S : Type 0} → Event → table.Me S Actor → ℕ → table.Me S Actor → Type 0
-Told event me found me' = (me'.0 ≡ next me.0 event found) × (me'.1 ≡ me.1) × Learned me.0 event found
+-- it is opened with the words of a kept segment, behind a word of its own, and the view of the one actor that this has: a new segment's
+-- opener, or that of an adopted image
+abbrev pub TablesOpen : Type 0 → Type 0
+TablesOpen S = (shape : Dimensions) (opened : Anatomy) (state : State) (opener : Actor) (anchor : ℕ) (xs : List S) → Invariant shape opened state
+    → state.actors ≡ opener ∷ [] → Running S shape opened (table.opening (anchor ∷ memory state) xs opener)
 
--- A table whose slots have values of a type may do a step on a segment that is an event of a recorder which keeps what holds: the
--- step's word is the event's, behind the one that never changes, and what becomes of it is what the event makes of it. The step
--- tells the seat that the event happened.
+-- when it is closed, its words are those of a kept segment, whose opener has the view of the first seat
+abbrev pub TablesClose : Type 0 → Type 0
+TablesClose S = (shape : Dimensions) (opened : Anatomy) (words : List ℕ) (xs : List S) (opener : Actor)
+    → table.Final (table.Seen (Running S shape opened) 0 opener) words xs
+    → (anchor : ℕ) × (state : State) × (words ≡ anchor ∷ memory state) × Invariant shape opened state × (get_elem? state.actors 0 ≡ some opener)
+
+-- ---- a table's step
+
+-- what notes make of an actor, one after the other
+abbrev pub noted_by : Actor → List Note → Actor
+noted_by a [] = a
+noted_by a (note ∷ rest) = noted_by (noted a note) rest
+
+-- What a step tells its seat: notes, then the event at a word that was `found`, then notes that may depend on that number; and what
+-- its actor learns. The slots that the seat has taken stay with it.
+abbrev pub Told : {S : Type 0} → List Note → Event → (ℕ → List Note) → table.Me S Actor → ℕ → table.Me S Actor → Type 0
+Told before event behind me found me' =
+    (me'.0 ≡ noted_by (next (noted_by me.0 before) event found) (behind found)) × (me'.1 ≡ me.1)
+    × Learned (noted_by me.0 before) event found
+
+-- an actor may make some notes, and each of them keeps what holds
+abbrev pub MayKeep : Actor → List Note → Type 0
+MayKeep a notes = Notes a notes (noted_by a notes) × ((note : Note) → Contains notes note → NoteKeeps note)
+
+-- A table whose slots have values of a type may do a step on a segment that is an event of a recorder, with notes before and behind it,
+-- where these keep what holds: the step's word is the event's, behind the one that never changes, and what becomes of it is what the
+-- event makes of it. What was learned of the number that was found may be used to make the notes behind it.
 abbrev pub TablesFollow : Type 0 → Type 0
-TablesFollow S = (shape : Dimensions) (opened : Anatomy) (event : Event) (slots id : ℕ) (me : table.Me S Actor) (word : ℕ)
-    → EventKeeps event → word ≡ spot shape.size event + 1 → me.0.opener ≡ 0 → Ready me.0 event
-    → table.Allows (Running S shape opened) slots id me word (change opened.version event) (Told event me)
+TablesFollow S = (shape : Dimensions) (opened : Anatomy) (before : List Note) (event : Event) (behind : ℕ → List Note) (slots id : ℕ)
+    (me : table.Me S Actor) (word : ℕ)
+    → EventKeeps event → word ≡ spot shape.size event + 1 → me.0.opener ≡ 0 → MayKeep me.0 before → Ready (noted_by me.0 before) event
+    → ((found : ℕ) → Learned (noted_by me.0 before) event found → MayKeep (next (noted_by me.0 before) event found) (behind found))
+    → table.Allows (Running S shape opened) slots id me word (change opened.version event) (Told before event behind me)
+
+-- an announcement: notes at a step on the word that never changes
+abbrev pub TablesAnnounce : Type 0 → Type 0
+TablesAnnounce S = (shape : Dimensions) (opened : Anatomy) (notes : List Note) (slots id : ℕ) (me : table.Me S Actor) (becomes : ℕ → ℕ)
+    → ((n : ℕ) → becomes n ≡ n) → me.0.opener ≡ 0 → MayKeep me.0 notes
+    → table.Allows (Running S shape opened) slots id me 0 becomes (λ found me'. (me'.0 ≡ noted_by me.0 notes) × (me'.1 ≡ me.1))
+
+-- ---- a table's seats
+
+-- an opener's seat may be cut in two where it may make a recorder
+abbrev pub TablesSplit : Type 0 → Type 0
+TablesSplit S = (shape : Dimensions) (opened : Anatomy) (id units : ℕ) (a : Actor) → MaySplit a units
+    → table.Splits (Running S shape opened) id a (parent a units) (newcomer a units)
+
+-- and it may take in a recorder's where it may join that
+abbrev pub TablesJoin : Type 0 → Type 0
+TablesJoin S = (shape : Dimensions) (opened : Anatomy) (id other : ℕ) (a b : Actor) → MayJoin a b
+    → table.Joins (Running S shape opened) id a other b (joined a b) spent

@@ -1,3 +1,9 @@
-pub mod Promises
+pub mod States
+pub mod Reads
+pub mod Lists
+pub mod Deltas
+pub mod Refusals
+pub mod Tallies
+pub mod Adoption
 pub mod Follows
 pub mod Examples

@@ -2,17 +2,54 @@
 //!
 //! The functions do nothing. What each promises is a law of the definitions in `specs/`.
 
-ghost use Rattle.segment_promises.specs.Follows.{StepsFollow, TablesFollow};
+ghost use Rattle.segment_promises.specs.States.{ReachedStatesFollow};
+ghost use Rattle.segment_promises.specs.Follows.{StepsFollow, TablesOpen, TablesClose, TablesFollow, TablesAnnounce, TablesSplit, TablesJoin};
+ghost use Rattle.segment_promises.specs.Tallies.{PartsAddUp};
 ghost use Rattle.segment_promises.specs.Examples.{LinksLengthen, DeltaOwes, SnapshotOwes};
+
+/// Where each event and each note keeps what holds, every state that is reached from a kept one is kept.
+pub fn reached_states_follow()
+    ensures { ReachedStatesFollow }
+{}
 
 /// A step whose event and whose notes keep what holds keeps it, and its actor learns of the number that was found.
 pub fn steps_follow()
     ensures { StepsFollow }
 {}
 
-/// A table, whose slots have values of a type, may do a step on a segment's words that is an event which keeps what holds.
+/// A table, whose slots have values of a type, is opened with the words of a kept segment and its one actor.
+pub fn tables_open<S>()
+    ensures { TablesOpen S }
+{}
+
+/// A table that is closed has the words of a kept segment, and its first seat has the view of the opener.
+pub fn tables_close<S>()
+    ensures { TablesClose S }
+{}
+
+/// A table may do a step on a segment's words that is an event, with notes before and behind it, where these keep what holds.
 pub fn tables_follow<S>()
     ensures { TablesFollow S }
+{}
+
+/// A table may do a step on the word that never changes that makes notes, where these keep what holds.
+pub fn tables_announce<S>()
+    ensures { TablesAnnounce S }
+{}
+
+/// An opener's seat may be cut in two where it may make a recorder.
+pub fn tables_split<S>()
+    ensures { TablesSplit S }
+{}
+
+/// It may take in the seat of a recorder that it may join.
+pub fn tables_join<S>()
+    ensures { TablesJoin S }
+{}
+
+/// The tallies of the parts of a list by number add up to that of the list.
+pub fn parts_add_up()
+    ensures { PartsAddUp }
 {}
 
 /// A link that finds the end of the list makes the chain longer by its record.

@@ -1,4 +1,4 @@
-use Rattle.segment_promises.proofs.Steps.{tables_follow}
+use Rattle.segment_promises.proofs.Tables.{tables_follow}
 use Rattle.segment_promises.proofs.laws.tables_follow.Goals as goal
 
 pub returns : goal.returns

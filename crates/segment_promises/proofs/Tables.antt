@@ -1,0 +1,104 @@
+-- What follows for threads that step a segment over a table of shared words.
+use Rattle.std.proofs.Common.{◌≡◌, ℕ, suc, ◌+◌, List, [], ◌∷◌, ◌++◌, take, drop, length, get_or, set, refl, sym, ap, subst, ◌∙◌, arith}
+use Rattle.std.proofs.lemmas.List.{take-append-drop}
+use mathlib.Core.Option.{some}
+use lib.ListN.{get_elem?}
+use Rattle.atomic_table.specs.Table as table
+use Rattle.atomic_table.proofs.Lists.{set_else}
+use Rattle.alloc_core.proofs.Layouts.{length_shown}
+use Rattle.segment_machine.specs.declared.actor.Actor.{Actor}
+use Rattle.segment_machine.specs.Event.{spot, change, after, next}
+use Rattle.segment_machine.specs.Seats.{parent, newcomer, joined, spent}
+use Rattle.segment_machine.specs.State.{State, memory}
+use Rattle.segment_invariant.specs.Body.{layout_of}
+use Rattle.segment_invariant.specs.Keeps.{found_at}
+use Rattle.segment_invariant.proofs.Recorders.Splits.{splits_keep}
+use Rattle.segment_invariant.proofs.Recorders.Joins.{joins_keep}
+use Rattle.segment_promises.specs.Follows.{Told, TablesOpen, TablesClose, TablesFollow, TablesAnnounce, TablesSplit, TablesJoin, noted_by}
+use Rattle.segment_promises.proofs.Steps.{happens, notes_keep, with_actor}
+
+-- ---- opened and closed
+
+pub tables_open : (S : Type 0) → TablesOpen S
+tables_open S shape opened state opener anchor xs kept one =
+    record { anchor = anchor; segment = state; words = refl; views = sym one; kept = kept }
+
+pub tables_close : (S : Type 0) → TablesClose S
+tables_close S shape opened words xs opener final =
+    let (s, (run, first), same, more, homes) = final in
+    (run.anchor, run.segment, sym same ∙ run.words, run.kept, ap (λ list. get_elem? list 0) (sym run.views) ∙ first)
+
+-- ---- steps
+
+pub tables_follow : (S : Type 0) → TablesFollow S
+tables_follow S shape opened before event behind slots id me word event_keeps word_is records may ready goes s run wide mine small =
+    let seg : State = run.segment in
+    let size : length seg.words ≡ shape.size = length_shown shape seg.words (layout_of run.kept.anatomy) run.kept.shown in
+    let at : word ≡ suc (spot (length seg.words) event) = word_is ∙ (ap (λ (n : ℕ). spot n event + 1) (sym size) ∙ omega arith) in
+    let found : get_or s.words word 0 ≡ found_at seg event = (λ i. get_or (run.words i) (at i) 0) in
+    let there : get_elem? seg.actors id ≡ some me.0 = ap (λ list. get_elem? list id) (sym run.views) ∙ mine in
+    let first : Actor = noted_by me.0 before in
+    let n : ℕ = found_at seg event in
+    let last : Actor = noted_by (next first event n) (behind n) in
+    let did = happens shape opened seg id me.0 first before event run.kept there records may.0 may.1 event_keeps ready (behind n) last (goes n) in
+    let all = after (length seg.words) opened.version event (memory seg) in (
+      last,
+      table.keeps,
+      tt,
+      record {
+        anchor = run.anchor;
+        segment = record { words = take (length seg.words) all; cursors = drop (length seg.words) all; actors = set seg.actors id last };
+        words = (λ i. set (run.words i) (at i) (change opened.version event (found i)))
+            ∙ ap (λ list. run.anchor ∷ list) (sym (take-append-drop (length seg.words) all));
+        views = ap (λ list. set list id last) run.views;
+        kept = did.0;
+      },
+      subst (λ (x : ℕ). Told before event behind me x (last, me.1)) (sym found) (refl, refl, did.1),
+    )
+
+pub tables_announce : (S : Type 0) → TablesAnnounce S
+tables_announce S shape opened notes slots id me becomes same records may s run wide mine small =
+    let seg : State = run.segment in
+    let last : Actor = noted_by me.0 notes in
+    let there : get_elem? seg.actors id ≡ some me.0 = ap (λ list. get_elem? list id) (sym run.views) ∙ mine in (
+      last,
+      table.keeps,
+      tt,
+      record {
+        anchor = run.anchor;
+        segment = with_actor seg id last;
+        words = (λ i. set (run.words i) 0 (becomes (get_or (run.words i) 0 0))) ∙ ap (λ (n : ℕ). n ∷ memory seg) (same run.anchor);
+        views = ap (λ list. set list id last) run.views;
+        kept = (notes_keep shape opened notes seg id me.0 last run.kept there records may.0 may.1).0;
+      },
+      (refl, refl),
+    )
+
+-- ---- seats
+
+pub tables_split : (S : Type 0) → TablesSplit S
+tables_split S shape opened id units a may s run mine =
+    let seg : State = run.segment in
+    let both = λ (list : List Actor). set list id (parent a units) ++ newcomer a units ∷ [] in
+    let there : get_elem? seg.actors id ≡ some a = ap (λ list. get_elem? list id) (sym run.views) ∙ mine in record {
+      anchor = run.anchor;
+      segment = record seg { actors = both seg.actors };
+      words = run.words;
+      views = ap both run.views;
+      kept = splits_keep shape opened seg (record seg { actors = both seg.actors }) id units run.kept (a, there, may, refl);
+    }
+
+pub tables_join : (S : Type 0) → TablesJoin S
+tables_join S shape opened id other a b may s run mine apart theirs =
+    let seg : State = run.segment in
+    let all = λ (list : List Actor). set (set list id (joined a b)) other spent in
+    let view = λ (k : ℕ). ap (λ (list : List Actor). get_elem? list k) (sym run.views) in
+    let there : get_elem? seg.actors id ≡ some a = view id ∙ mine in
+    let beside : get_elem? seg.actors other ≡ some b = view other ∙ (sym (set_else s.views id other (joined a b) apart) ∙ theirs) in record {
+      anchor = run.anchor;
+      segment = record seg { actors = all seg.actors };
+      words = run.words;
+      views = ap all run.views;
+      kept = joins_keep shape opened seg (record seg { actors = all seg.actors }) id other run.kept
+          (a, b, (λ e. apart (sym e)), there, beside, may, refl);
+    }

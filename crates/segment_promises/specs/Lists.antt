@@ -1,0 +1,94 @@
+-- The list: how it grows, what `hist` answers, and what walks and shared cursors give.
+use Rattle.std.specs.Prelude.{◌≡◌, ◌≢◌, ◌⊎◌, ℕ, ◌+◌, ◌<◌, ◌≤◌, List, [], ◌∷◌, ◌++◌, map, take, length, slice_index, ◌==◌, if◌then◌else◌, None, IsPermutation}
+use Rattle.std.specs.List.{Contains}
+use mathlib.Core.Option.{some}
+use lib.ListN.{get_elem?}
+use Rattle.segment_image.specs.declared.layout.TheConstants.{BLOCK_NEXT, QUEUE}
+use Rattle.segment_image.specs.Shape.{Dimensions}
+use Rattle.segment_image.specs.Words.{word_at}
+use Rattle.segment_image.specs.Head.{head_of}
+use Rattle.bucket_ranges.specs.declared.spec.Spec.{Spec}
+use Rattle.bucket_ranges.specs.Spec.{SameSpec, spec_fault}
+use Rattle.bucket_ranges.specs.Reading.{spec_of}
+use Rattle.list_core.specs.Chain.{stops, IsChain}
+use Rattle.list_core.specs.Walk.{IsPrefix, stands_behind}
+use Rattle.segment_machine.specs.declared.place.Place.TheVariants.{CursorLoaded}
+use Rattle.segment_machine.specs.declared.actor.Actor.{Actor}
+use Rattle.segment_machine.specs.declared.actor.Known.{Known}
+use Rattle.segment_machine.specs.Actor.{Each, all_given, given_by}
+use Rattle.segment_machine.specs.Made.{AreNameWords, IsFirstNamed, SawOtherSpec}
+use Rattle.segment_machine.specs.Event.{Event, publishing_event}
+use Rattle.segment_machine.specs.Publishing.{link}
+use Rattle.segment_machine.specs.State.{State, IsStep}
+use Rattle.segment_invariant.specs.Body.{Anatomy}
+use Rattle.segment_invariant.specs.Consistent.{IsHistogram}
+use Rattle.segment_invariant.specs.Seen.{IsFirst}
+use Rattle.segment_invariant.specs.Invariant.{Invariant}
+use Rattle.segment_invariant.specs.Keeps.{found_at}
+
+-- ---- one step
+
+-- the chain after an event that found a number: longer by a record at its end, where a link succeeds
+abbrev pub chain_behind : Event → ℕ → List ℕ → List ℕ
+chain_behind (publishing_event (link tail at)) found chain = if found == QUEUE then chain ++ at ∷ [] else chain
+chain_behind _ found chain = chain
+
+-- a link puts its record at the end of the chain, and nothing else changes the chain: so records come in the order of their links
+abbrev pub LinksAppend : Type 0
+LinksAppend = (shape : Dimensions) (opened : Anatomy) (old new : State) (id : ℕ) (event : Event) (chain : List ℕ)
+    → Invariant shape opened old → IsStep opened.version old id event new → IsChain old.words (head_of old.words) chain
+    → IsChain new.words (head_of new.words) (chain_behind event (found_at old event) chain)
+
+-- ---- names
+
+-- a histogram that a `hist` was answered Ok with is the first of its name on the chain, and has the same spec
+abbrev pub NamesAreFirst : Type 0
+NamesAreFirst = (shape : Dimensions) (opened : Anatomy) (state : State) (chain : List ℕ) → Invariant shape opened state
+    → IsChain state.words (head_of state.words) chain
+    → Each state.actors (λ a. (known : Known) → Contains a.names known
+    → IsHistogram state.words chain known.name known.reference × SameSpec (spec_of state.words known.reference) known.spec)
+
+-- a `hist` is refused OtherSpec only where the first record of its name has another spec: what its caller saw of that record says so
+abbrev pub OthersDiffer : Type 0
+OthersDiffer = (shape : Dimensions) (opened : Anatomy) (state : State) → (kept : Invariant shape opened state)
+    → Each state.actors (λ a. (name letters : List ℕ) (spec : Spec) (at : ℕ) → spec_fault spec ≡ None → AreNameWords name letters
+    → IsFirstNamed a.seen name at → SawOtherSpec a.seen spec (length letters) at
+    → (kind : Spec) × IsFirst kept.anatomy.records name kind at × (¬ (SameSpec kind spec)))
+
+-- ---- what is met and given
+
+-- a record that an actor has made, or has seen as the next of another, as the tail, or where a shared cursor stands
+abbrev pub HasMet : Actor → ℕ → Type 0
+HasMet a reference =
+    (reference ≢ QUEUE)
+    × (Contains a.seen.chain reference ⊎ Contains (map (λ p. p.reference) a.published) reference
+    ⊎ Contains a.seen.tails reference ⊎ Contains (map (λ s. s.word) a.seen.cursors) reference)
+
+-- A walk along the list gives the records of the chain in their order; where it ends, it gave all that its caller had met. So does
+-- `records`, which gives them all, and so do the answers of `fresh_records`, one after the other, each from where the last one ended.
+abbrev pub WalksGiveAll : Type 0
+WalksGiveAll = (shape : Dimensions) (opened : Anatomy) (state : State) (chain : List ℕ) → Invariant shape opened state
+    → IsChain state.words (head_of state.words) chain
+    → Each state.actors (λ a. IsPrefix a.seen.chain chain × (word_at state.words (stands_behind a.seen.chain + BLOCK_NEXT) ≡ QUEUE
+    → (reference : ℕ) → HasMet a reference → Contains a.seen.chain reference))
+
+-- what a shared cursor gave one recorder stands in the order of the chain
+abbrev pub CursorsKeepOrder : Type 0
+CursorsKeepOrder = (shape : Dimensions) (opened : Anatomy) (state : State) (chain : List ℕ) → Invariant shape opened state
+    → IsChain state.words (head_of state.words) chain
+    → Each state.actors (λ a. (cursor i j k l x y : ℕ) → a.opener ≡ 0 → i < j
+    → get_elem? (given_by cursor a.given) i ≡ some x → get_elem? (given_by cursor a.given) j ≡ some y
+    → get_elem? chain k ≡ some x → get_elem? chain l ≡ some y → k < l)
+
+-- what it gave all is the front of the chain, each record once
+abbrev pub CursorsGiveFronts : Type 0
+CursorsGiveFronts = (shape : Dimensions) (opened : Anatomy) (state : State) (chain : List ℕ) (cursor : ℕ) → Invariant shape opened state
+    → IsChain state.words (head_of state.words) chain → cursor < length state.cursors
+    → (place : ℕ) × (place ≤ length chain) × (slice_index (stops chain) place ≡ slice_index state.cursors cursor)
+    × IsPermutation (all_given state.actors cursor) (take place chain)
+
+-- it answers None only where it found the end of the list behind the place that it loaded; then all that its caller had met was given
+abbrev pub CursorsGiveAll : Type 0
+CursorsGiveAll = (shape : Dimensions) (opened : Anatomy) (state : State) → Invariant shape opened state
+    → Each state.actors (λ a. (cursor at : ℕ) → a.place ≡ CursorLoaded cursor at → word_at state.words (at + BLOCK_NEXT) ≡ QUEUE
+    → (reference : ℕ) → HasMet a reference → Contains (all_given state.actors cursor) reference)

@@ -1,0 +1,109 @@
+-- What the words of a segment read as, by the definition of a reading: whenever everything stops, and after the joins. For both
+-- versions, all four kinds of histograms, and every opening.
+use Rattle.std.specs.Prelude.{◌≡◌, ◌↔◌, ℕ, ◌+◌, ◌<◌, ◌≤◌, ◌||◌, ℤ, List, [], ◌++◌, map, Some, None}
+use Rattle.std.specs.List.{zip, flat_map, Contains}
+use mathlib.Core.Option.{some}
+use lib.ListN.{get_elem?}
+use Rattle.segment_image.specs.Shape.{Dimensions}
+use Rattle.segment_image.specs.Head.{head_of}
+use Rattle.bucket_ranges.specs.declared.spec.Spec.{Spec}
+use Rattle.bucket_ranges.specs.Spec.{SameSpec}
+use Rattle.bucket_ranges.specs.Single.{packed_bucket}
+use Rattle.bucket_ranges.specs.Reading.{Histogram, Reading, IsReading, record_single}
+use Rattle.segment_machine.specs.declared.entry.Entry.{Entry}
+use Rattle.segment_machine.specs.declared.actor.Actor.{Actor}
+use Rattle.segment_machine.specs.declared.actor.Known.{Known}
+use Rattle.segment_machine.specs.Entry.{tally_units, tally_sum, tally_noted}
+use Rattle.segment_machine.specs.Actor.{log_of, all_counted, all_summed, all_noted, all_taken, units_listed, taken_units, taken_sum}
+use Rattle.segment_machine.specs.State.{State}
+use Rattle.segment_machine.specs.Reached.{IsJoined}
+use Rattle.segment_invariant.specs.Body.{Listed, Anatomy}
+use Rattle.segment_invariant.specs.Ledger.{key_of_bucket, noted_held, all_held, all_moving}
+use Rattle.segment_invariant.specs.Seen.{IsFirst}
+use Rattle.segment_invariant.specs.Invariant.{Invariant, IsSetBy}
+
+-- ---- what is read of a histogram
+
+-- the units of a key, and its mark
+abbrev pub units_read : Histogram → ℤ → ℕ
+units_read h key = units_listed h.counts key
+
+abbrev pub mark_read : Histogram → ℤ → ℕ
+mark_read h key = units_listed (zip (map (λ count. count.0) h.counts) h.marks) key
+
+-- the redundant count that a histogram had at the opening
+abbrev pub noted_at_opening : Anatomy → List ℕ → ℕ
+noted_at_opening opened name = all_held (noted_held name) opened.pieces
+
+-- the entries that actors have begun: those of ended calls, and those of running ones
+abbrev pub begun_of : Actor → List Entry
+begun_of a = log_of a ++ map (λ c. c.entry) a.running
+
+-- ---- whenever everything stops
+
+-- nothing is bad, and the list does not stop
+abbrev pub HasNoFault : Reading → Type 0
+HasNoFault reading = (reading.bad ≡ []) × (reading.stopped ≡ None)
+
+-- of each name that is on the list exactly one histogram is read: the first record of the name, with the spec that its maker was given
+pub record ReadsNames (records : List Listed) (reading : Reading) : Type 0 where
+  pub given : (h : Histogram) → Contains reading.hists h → (kind : Spec) × IsFirst records h.name kind h.reference × SameSpec h.spec kind
+  pub read : (name : List ℕ) (kind : Spec) (at : ℕ) → IsFirst records name kind at
+      → (h : Histogram) × Contains reading.hists h × (h.name ≡ name)
+  pub once : (i j : ℕ) (g h : Histogram) → get_elem? reading.hists i ≡ some g → get_elem? reading.hists j ≡ some h → g.name ≡ h.name → i ≡ j
+
+-- Of each key the units are those that were counted, less those in transit. So every unit of an ended call is there but these, and
+-- none is there whose call had not begun. Only the packed bucket, and only in version 1, has units in transit.
+pub record ReadsUnits (version : ℕ) (state : State) (h : Histogram) : Type 0 where
+  pub counted : (key : ℤ) → units_read h key + all_moving h.name key state.actors ≡ tally_units (all_counted state.actors) h.name key
+  pub ended : (key : ℤ) → tally_units (flat_map log_of state.actors) h.name key ≤ units_read h key + all_moving h.name key state.actors
+  pub begun : (key : ℤ) → units_read h key ≤ tally_units (flat_map begun_of state.actors) h.name key
+  pub local : (key : ℤ) → 0 < all_moving h.name key state.actors → (version ≡ 1)
+      × ((bucket : ℕ) × (packed_bucket (record_single 1 state.words h.reference) ≡ Some bucket) × (key_of_bucket h.spec bucket ≡ key))
+
+-- The sum is the sum of the amounts that were added, the redundant count that of the opening and the units that were noted; marks and
+-- sum mark are what deltas took.
+pub record ReadsAmounts (opened : Anatomy) (state : State) (h : Histogram) : Type 0 where
+  pub sum : h.sum ≡ tally_sum (all_summed state.actors) h.name
+  pub redundant : h.redundant ≡ noted_at_opening opened h.name + tally_noted (all_noted state.actors) h.name
+  pub marks : (key : ℤ) → mark_read h key ≡ taken_units (all_taken state.actors) h.name key
+  pub sum_mark : h.sum_mark ≡ taken_sum (all_taken state.actors) h.name
+
+-- the id is the opening's, and each flag is read where it was set at the opening or an actor has set it
+pub record ReadsHead (opened : Anatomy) (state : State) (reading : Reading) : Type 0 where
+  pub id : reading.id ≡ opened.id
+  pub corrupt : IsSetBy reading.corrupt opened.corrupt (map (λ a. a.spoiled) state.actors)
+  pub full : IsSetBy reading.full opened.full (map (λ a. a.filled) state.actors)
+
+-- Stopped after any step, the words read back as exactly the histograms that were published, each once, every bucket holding no unit
+-- that was not begun and all ended ones but those in transit.
+abbrev pub StoppedReads : Type 0
+StoppedReads = (shape : Dimensions) (opened : Anatomy) (state : State) (reading : Reading) → (kept : Invariant shape opened state)
+    → IsReading state.words (head_of state.words) reading
+    → HasNoFault reading × ReadsHead opened state reading × ReadsNames kept.anatomy.records reading
+    × ((h : Histogram) → Contains reading.hists h → ReadsUnits opened.version state h × ReadsAmounts opened state h)
+
+-- ---- after the joins
+
+-- the names that are read are exactly those that a `hist` was answered Ok with, each once, with the spec and the record of each answer
+pub record ReadsAnswers (answers : List Known) (reading : Reading) : Type 0 where
+  pub names : (name : List ℕ) → ((h : Histogram) × Contains reading.hists h × (h.name ≡ name)) ↔ ((known : Known) × Contains answers known × (known.name ≡ name))
+  pub same : (h : Histogram) (known : Known) → Contains reading.hists h → Contains answers known → known.name ≡ h.name
+      → (known.reference ≡ h.reference) × SameSpec h.spec known.spec
+  pub once : (i j : ℕ) (g h : Histogram) → get_elem? reading.hists i ≡ some g → get_elem? reading.hists j ≡ some h → g.name ≡ h.name → i ≡ j
+
+-- units and sum are the tally of a log, the redundant count that of the opening and the units noted since, marks and sum mark what was taken
+pub record ReadsLog (opened : Anatomy) (a : Actor) (h : Histogram) : Type 0 where
+  pub units : (key : ℤ) → units_read h key ≡ tally_units (log_of a) h.name key
+  pub sum : h.sum ≡ tally_sum (log_of a) h.name
+  pub redundant : h.redundant ≡ noted_at_opening opened h.name + tally_noted (map (λ c. c.entry) a.log) h.name
+  pub marks : (key : ℤ) → mark_read h key ≡ taken_units a.taken h.name key
+  pub sum_mark : h.sum_mark ≡ taken_sum a.taken h.name
+
+-- Once all recorders are joined, the words read as exactly the histograms that were answered, with the counts and the sum that one
+-- thread records of the accepted samples; and each flag is read where it was set at the opening or a call set it.
+abbrev pub JoinedReads : Type 0
+JoinedReads = (shape : Dimensions) (opened : Anatomy) (state : State) (a : Actor) (reading : Reading) → Invariant shape opened state
+    → IsJoined state a → IsReading state.words (head_of state.words) reading
+    → HasNoFault reading × ReadsAnswers a.names reading × ((h : Histogram) → Contains reading.hists h → ReadsLog opened a h)
+    × (reading.id ≡ opened.id) × (reading.corrupt ≡ (opened.corrupt || a.spoiled)) × (reading.full ≡ (opened.full || a.filled))

@@ -1,17 +1,16 @@
 -- The first record of a name, and of a value, on the list of a kept segment: by the words as by what each record was given.
-use Rattle.std.proofs.Common.{◌≡◌, ◌≢◌, true, ℕ, ◌<◌, ℤ, pos, negsuc, List, ◌∷◌, ◌++◌, map, refl, sym, ap, subst, ◌∙◌, arith, rules, Some, None}
+use Rattle.std.proofs.Common.{◌≡◌, ◌≢◌, ℕ, ◌<◌, ℤ, List, ◌∷◌, ◌++◌, map, refl, sym, ap, subst, ◌∙◌, arith, Some, None}
 use Rattle.std.specs.Prelude as std
-use Rattle.std.specs.Int.{w64, cast_signed, cast_unsigned}
+use Rattle.std.specs.Int.{w64, cast_signed}
 use Rattle.std.specs.List.{All, Contains}
-use Rattle.std.proofs.lemmas.Bool.{ltb-true}
-use Rattle.std.proofs.lemmas.Int.{to_z-of_z}
 use Rattle.std.proofs.lemmas.List.{map-append}
 use Rattle.std.proofs.lemmas.List.Elements.{All-map, All-contains, Contains-append_left, Contains-append_right}
 use Rattle.atomic_table.proofs.Lists.{at_map}
 use Rattle.segment_image.specs.Shape.{Dimensions}
 use Rattle.segment_image.specs.Blocks.{field_at}
 use Rattle.bucket_ranges.specs.declared.spec.Spec.{Spec}
-use Rattle.bucket_ranges.specs.Reading.{name_of, is_i32}
+use Rattle.bucket_ranges.specs.Reading.{name_of}
+use Rattle.segment_machine.proofs.Values.{value_word}
 use Rattle.segment_machine.specs.declared.actor.Made.{Made}
 use Rattle.segment_machine.specs.declared.actor.Made.TheVariants as made
 use Rattle.segment_machine.specs.State.{State}
@@ -62,11 +61,6 @@ module _ (records : List Listed) (P : Listed → Type 0) (Q : ℕ → Type 0)
       )
 
 -- ---- a kept state of a new segment
-
--- a sample's value by its word
-value_word : (value : ℤ) → is_i32 value ≡ true → cast_signed w64 (cast_unsigned w64 value) ≡ value
-value_word (pos n) is = let low = ltb-true n 2147483648 is in to_z-of_z w64 (pos n) (search rules)
-value_word (negsuc n) is = let low = ltb-true n 2147483648 is in to_z-of_z w64 (negsuc n) (search rules)
 
 module _ (shape : Dimensions) (version id : ℕ) (state : State) (kept : Invariant shape (blank version id shape.size) state) where
   abbrev Named : List ℕ → Spec → ℕ → Record → Type 0

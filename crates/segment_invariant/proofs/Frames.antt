@@ -13,3 +13,4 @@ pub mod Shown
 pub mod Spending
 pub mod Standing
 pub mod Together
+pub mod SeesMore

@@ -16,7 +16,7 @@ use Rattle.bucket_ranges.specs.Single.{packed_bucket}
 use Rattle.segment_machine.specs.declared.actor.Made.TheVariants as made
 use Rattle.segment_machine.specs.State.{State}
 use Rattle.segment_machine.specs.Form.{units_in}
-use Rattle.segment_invariant.specs.Body.{Record, Counts, Sample, Body, queue, plain, held, histogram, counts, sample, other, Piece, Listed, blank}
+use Rattle.segment_invariant.specs.Body.{Record, Counts, Sample, Body, queue, plain, held, histogram, counts, sample, other, Piece, Listed, Anatomy}
 use Rattle.segment_invariant.specs.Ledger.{form_at, of_name, at_bucket, keyed, key_of_bucket, units_held, marks_held, all_held}
 use Rattle.segment_invariant.specs.Seen.{HasRecord, HasCounts, HasSample, IsNamed, IsFirst, IsFirstOf}
 use Rattle.segment_invariant.specs.Invariant.{Invariant, CountsNothing}
@@ -24,7 +24,7 @@ use Rattle.segment_invariant.proofs.Lists.Elements.{at_from, split_at, first_uni
 use Rattle.segment_invariant.proofs.Blocks.Pieces.{one_piece, one_stands}
 use Rattle.segment_invariant.proofs.Lists.FewTerms.{sum_one, sum_pair}
 use Rattle.segment_invariant.proofs.Consistency.Blocks.{claimed_piece}
-use Rattle.segment_invariant.proofs.Consistency.Firsts.{name_of_first}
+use Rattle.segment_invariant.proofs.Consistency.Firsts.{record_of_first}
 use Rattle.segment_invariant.proofs.Consistency.Keys.{key_test, at_no_bucket, no_units, no_packed}
 use Rattle.segment_invariant.proofs.Consistency.Sums.{of_mine, nothing_of, published_at, other_nothing}
 
@@ -118,9 +118,9 @@ module _ (version : ℕ) (name : List ℕ) (key : ℤ) (holds : Body → ℕ) (p
       by_value false is nothing = refl
   nothing_held (other size tag next payload) record_is counts_are sample_is = book.of_other size tag next payload
 
--- ---- a kept state of a new segment
+-- ---- a kept state
 
-module _ (shape : Dimensions) (version id : ℕ) (state : State) (kept : Invariant shape (blank version id shape.size) state) where
+module _ (shape : Dimensions) (opened : Anatomy) (state : State) (kept : Invariant shape opened state) where
   abbrev pieces : List Piece
   pieces = kept.anatomy.pieces
 
@@ -139,7 +139,11 @@ module _ (shape : Dimensions) (version id : ℕ) (state : State) (kept : Invaria
 
   pub one_name : (name mine : List ℕ) (kind kind' : Spec) (at : ℕ) → IsFirst records name kind at → IsFirst records mine kind' at → name ≡ mine
   one_name name mine kind kind' at first second =
-      sym (name_of_first shape version id state kept name kind at first).named.1 ∙ (name_of_first shape version id state kept mine kind' at second).named.1
+      let (r, (has, named, specified)) = record_of_first shape opened state kept name kind at first in
+      let (q, (stands, its, sorted)) = record_of_first shape opened state kept mine kind' at second in
+      let bodies = (one_stands shape state.words kept.anatomy kept.shown at none none (histogram r) (histogram q) has stands).1 in
+      let same : r ≡ q = cc bodies in
+      sym named ∙ (ap (λ (r : Record). r.name) same ∙ its)
 
   -- a sample has the name of its histogram, which is sparse and the first of it
   pub sample_first : (at : ℕ) (s : Sample) → HasSample pieces at s → IsFirst records s.name spec.Sparse s.of
@@ -157,7 +161,7 @@ module _ (shape : Dimensions) (version id : ℕ) (state : State) (kept : Invaria
     counts_of : (j : ℕ) (p : Piece) (c : Counts) → get_elem? pieces j ≡ some p → p.body ≡ counts c → c.name ≡ name
         → r.counts ≡ p.at
     counts_of j p c there is mine =
-        let here = published_at shape version id state kept j p (counts c) there is refl (λ block e. cc e) in
+        let here = published_at shape opened state kept j p (counts c) there is refl (λ block e. cc e) in
         let (q, stands, leads) = kept.records.named p.at c here in
         let some_counts : q.counts ≢ 0 =
         λ none_there. let from = (claimed_piece shape state.words kept.anatomy kept.shown kept.blocks here.0 _ here.1 refl).from in omega (arith, from, none_there, leads) in
@@ -185,12 +189,12 @@ module _ (shape : Dimensions) (version id : ℕ) (state : State) (kept : Invaria
       record_nothing : (j : ℕ) (p : Piece) → get_elem? pieces j ≡ some p → j ≢ has.0 → (q : Record) → p.body ≡ histogram q → q.name ≡ name
           → at_bucket q.spec key (packed_bucket (form_at kept.anatomy.version q)) (packed q) ≡ 0
       record_nothing j p there apart q is mine =
-          let nothing = book.no_packed q (other_nothing shape version id state kept name kind at r first has j p there apart q is mine) in
+          let nothing = book.no_packed q (other_nothing shape opened state kept name kind at r first has j p there apart q is mine) in
           ap (at_bucket q.spec key (packed_bucket (form_at kept.anatomy.version q))) nothing ∙ at_no_bucket q.spec key (packed_bucket (form_at kept.anatomy.version q))
 
       no_sample : r.spec ≢ spec.Sparse → (j : ℕ) (p : Piece) → get_elem? pieces j ≡ some p → (s : Sample) → p.body ≡ sample s → s.name ≡ name → ⊥
       no_sample bucketed j p there s is mine =
-          let here = published_at shape version id state kept j p (sample s) there is refl (λ block e. cc e) in
+          let here = published_at shape opened state kept j p (sample s) there is refl (λ block e. cc e) in
           let its = subst (λ (name : List ℕ). IsFirst records name spec.Sparse s.of) mine (sample_first p.at s here) in
           bucketed (specified ∙ (one_first name kind spec.Sparse at s.of first its).1)
 
@@ -205,7 +209,7 @@ module _ (shape : Dimensions) (version id : ℕ) (state : State) (kept : Invaria
           (λ j p there apart. nothing_held kept.anatomy.version name key holds packed buckets valued book p.body
           (record_nothing j p there apart)
           (λ c is mine.
-          let here = published_at shape version id state kept j p (counts c) there is refl (λ block e. cc e) in
+          let here = published_at shape opened state kept j p (counts c) there is refl (λ block e. cc e) in
           let from = (claimed_piece shape state.words kept.anatomy kept.shown kept.blocks here.0 _ here.1 refl).from in
           let its = counts_of j p c there is mine in
           absurd (omega (arith, from, its, unmounted)))
@@ -246,12 +250,12 @@ module _ (shape : Dimensions) (version id : ℕ) (state : State) (kept : Invaria
               nothing_held kept.anatomy.version name key holds packed buckets valued book p.body
               (record_nothing j p there (others refl))
               (λ c is mine.
-              let here = published_at shape version id state kept j p (counts c) there is refl (λ block e. cc e) in
+              let here = published_at shape opened state kept j p (counts c) there is refl (λ block e. cc e) in
               let from = (claimed_piece shape state.words kept.anatomy kept.shown kept.blocks here.0 _ here.1 refl).from in
               let its = counts_of j p c there is mine in
               absurd (omega (arith, from, its, unmounted)))
               (λ t is mine value.
-              let here = published_at shape version id state kept j p (sample t) there is refl (λ block e. cc e) in
+              let here = published_at shape opened state kept j p (sample t) there is refl (λ block e. cc e) in
               let its = subst (λ (name : List ℕ). IsFirst records name spec.Sparse t.of) mine (sample_first p.at t here) in
               let same_histogram : t.of ≡ at = sym (one_first name kind spec.Sparse at t.of first its).0 in
               book.no_value t (kept.records.later_samples p.at place t here

@@ -16,7 +16,7 @@ use Rattle.segment_machine.specs.declared.actor.Made.TheVariants as made
 use Rattle.segment_machine.specs.State.{State}
 use Rattle.segment_invariant.specs.Consistent.{IsHistogram, IsSample, IsSampleOf}
 use Rattle.segment_invariant.specs.Consistent as consistent
-use Rattle.segment_invariant.specs.Body.{Record, Sample, Listed, order_of, blank}
+use Rattle.segment_invariant.specs.Body.{Record, Sample, Listed, Anatomy, order_of, blank}
 use Rattle.segment_invariant.specs.Seen.{HasRecord, HasSample, IsNamed, IsFirst, IsFirstOf}
 use Rattle.segment_invariant.specs.Invariant.{StandsAs, Invariant}
 use Rattle.segment_invariant.proofs.Lists.Elements.{all_from, all_at, contains_at, split_map}
@@ -60,13 +60,13 @@ module _ (records : List Listed) (P : Listed → Type 0) (Q : ℕ → Type 0)
         to l (among l (Contains-append_right xs (l ∷ ys) l (0, omega arith, refl))) this,
       )
 
--- ---- a kept state of a new segment
+-- ---- a kept state
 
-module _ (shape : Dimensions) (version id : ℕ) (state : State) (kept : Invariant shape (blank version id shape.size) state) where
-  abbrev Named : List ℕ → Spec → ℕ → Record → Type 0
+module _ (shape : Dimensions) (opened : Anatomy) (state : State) (kept : Invariant shape opened state) where
+  abbrev pub Named : List ℕ → Spec → ℕ → Record → Type 0
   Named name spec at r = HasRecord kept.anatomy.pieces at r × (r.name ≡ name) × (r.spec ≡ spec)
 
-  abbrev Valued : ℕ → ℤ → ℕ → Sample → Type 0
+  abbrev pub Valued : ℕ → ℤ → ℕ → Sample → Type 0
   Valued of value at s = HasSample kept.anatomy.pieces at s × (s.of ≡ of) × (s.value ≡ value)
 
   pub standing_of : (l : Listed) → Contains kept.anatomy.records l → StandsAs kept.anatomy.pieces l l.made
@@ -88,16 +88,46 @@ module _ (shape : Dimensions) (version id : ℕ) (state : State) (kept : Invaria
         ap (cast_signed w64) (word 5 (omega arith)) ∙ value_word s.value (kept.records.valued at s (k, there)).valued,
       )
 
+  -- the first record of a name stands as one of that name
+  pub record_of_first : (name : List ℕ) (spec : Spec) (at : ℕ) → IsFirst kept.anatomy.records name spec at → (r : Record) × Named name spec at r
+  record_of_first name spec at (xs, ys, split, none) =
+      let l : Listed = record { reference = at; made = Some (made.Histogram name spec) } in
+      let (r, has, named, specified) =
+      standing_of l (subst (λ (records : List Listed). Contains records l) (sym split) (Contains-append_right xs (l ∷ ys) l (0, omega arith, refl))) in
+      (r, (has, named, specified))
+
+  -- and that of a value as a sample of it
+  pub sample_of_first : (of : ℕ) (value : ℤ) (at : ℕ) → IsFirstOf kept.anatomy.records of value at → (s : Sample) × Valued of value at s
+  sample_of_first of value at (xs, ys, split, none) =
+      let l : Listed = record { reference = at; made = Some (made.Sample of value) } in
+      let (s, has, of_it, valued) =
+      standing_of l (subst (λ (records : List Listed). Contains records l) (sym split) (Contains-append_right xs (l ∷ ys) l (0, omega arith, refl))) in
+      (s, (has, of_it, valued))
+
+  -- the words say what was given
+  pub name_given : (l : Listed) (name : List ℕ) → Contains kept.anatomy.records l → IsNamed name l → consistent.IsNamed state.words name l.reference
+  name_given l name there (spec, is) =
+      let (r, has, mine, specified) = subst (StandsAs kept.anatomy.pieces l) is (standing_of l there) in
+      subst (λ (name : List ℕ). consistent.IsNamed state.words name l.reference) mine (is_named l.reference r has)
+
+  pub value_given : (l : Listed) (of : ℕ) (value : ℤ) → Contains kept.anatomy.records l → l.made ≡ Some (made.Sample of value) → IsSampleOf state.words of value l.reference
+  value_given l of value there is =
+      let (s, has, mine, valued) = subst (StandsAs kept.anatomy.pieces l) is (standing_of l there) in
+      subst (λ (p : ℕ × ℤ). IsSampleOf state.words p.0 p.1 l.reference) (λ i. (mine i, valued i)) (is_sample_of l.reference s has)
+
+-- ---- a new segment
+
+module _ (shape : Dimensions) (version id : ℕ) (state : State) (kept : Invariant shape (blank version id shape.size) state) where
   -- what was given to the maker of a record of a name
   pub given_name : (l : Listed) (name : List ℕ) → Contains kept.anatomy.records l → consistent.IsNamed state.words name l.reference
-      → (spec : Spec) × (r : Record) × (l.made ≡ Some (made.Histogram name spec)) × Named name spec l.reference r
+      → (spec : Spec) × (r : Record) × (l.made ≡ Some (made.Histogram name spec)) × Named shape (blank version id shape.size) state kept name spec l.reference r
   given_name l name there named =
-      by_made l.made refl (standing_of l there) (each_given state.words (blank version id shape.size) kept.anatomy state.actors l kept.list refl there)
+      by_made l.made refl (standing_of shape (blank version id shape.size) state kept l there) (each_given state.words (blank version id shape.size) kept.anatomy state.actors l kept.list refl there)
     where
       by_made : (m : std.Option Made) → l.made ≡ m → StandsAs kept.anatomy.pieces l m → m ≢ None
-          → (spec : Spec) × (r : Record) × (l.made ≡ Some (made.Histogram name spec)) × Named name spec l.reference r
+          → (spec : Spec) × (r : Record) × (l.made ≡ Some (made.Histogram name spec)) × Named shape (blank version id shape.size) state kept name spec l.reference r
       by_made (Some (made.Histogram other spec)) is (r, has, mine, specified) given =
-          let same : other ≡ name = sym mine ∙ (sym (says_name l.reference r has) ∙ named.1) in
+          let same : other ≡ name = sym mine ∙ (sym (says_name shape (blank version id shape.size) state kept l.reference r has) ∙ named.1) in
           (spec, r, is ∙ ap (λ (name : List ℕ). Some (made.Histogram name spec)) same, (has, mine ∙ same, specified))
       by_made (Some (made.Sample of value)) is (s, has, mine, valued) given =
           let three = sample_type shape state.words kept.anatomy kept.shown l.reference s has in
@@ -107,80 +137,69 @@ module _ (shape : Dimensions) (version id : ℕ) (state : State) (kept : Invaria
 
   -- and of a sample of a value
   pub given_value : (l : Listed) (of : ℕ) (value : ℤ) → Contains kept.anatomy.records l → IsSampleOf state.words of value l.reference
-      → (s : Sample) × (l.made ≡ Some (made.Sample of value)) × Valued of value l.reference s
+      → (s : Sample) × (l.made ≡ Some (made.Sample of value)) × Valued shape (blank version id shape.size) state kept of value l.reference s
   given_value l of value there valued =
-      by_made l.made refl (standing_of l there) (each_given state.words (blank version id shape.size) kept.anatomy state.actors l kept.list refl there)
+      by_made l.made refl (standing_of shape (blank version id shape.size) state kept l there) (each_given state.words (blank version id shape.size) kept.anatomy state.actors l kept.list refl there)
     where
       by_made : (m : std.Option Made) → l.made ≡ m → StandsAs kept.anatomy.pieces l m → m ≢ None
-          → (s : Sample) × (l.made ≡ Some (made.Sample of value)) × Valued of value l.reference s
+          → (s : Sample) × (l.made ≡ Some (made.Sample of value)) × Valued shape (blank version id shape.size) state kept of value l.reference s
       by_made (Some (made.Sample other number)) is (s, has, mine, numbered) given =
-          let says = is_sample_of l.reference s has in
+          let says = is_sample_of shape (blank version id shape.size) state kept l.reference s has in
           let same : other ≡ of = sym mine ∙ (sym says.1 ∙ valued.1) in
           let equal : number ≡ value = sym numbered ∙ (sym says.2 ∙ valued.2) in
           (s, is ∙ (λ i. Some (made.Sample (same i) (equal i))), (has, mine ∙ same, numbered ∙ equal))
       by_made (Some (made.Histogram name spec)) is (r, has, mine, specified) given =
-          let one = (is_named l.reference r has).0 in
+          let one = (is_named shape (blank version id shape.size) state kept l.reference r has).0 in
           let three = valued.0 in
           absurd (omega (arith, three, one))
       by_made None is standing given = absurd (given refl)
 
-  -- the words say what was given
-  name_given : (l : Listed) (name : List ℕ) → Contains kept.anatomy.records l → IsNamed name l → consistent.IsNamed state.words name l.reference
-  name_given l name there (spec, is) =
-      let (r, has, mine, specified) = subst (StandsAs kept.anatomy.pieces l) is (standing_of l there) in
-      subst (λ (name : List ℕ). consistent.IsNamed state.words name l.reference) mine (is_named l.reference r has)
-
-  value_given : (l : Listed) (of : ℕ) (value : ℤ) → Contains kept.anatomy.records l → l.made ≡ Some (made.Sample of value) → IsSampleOf state.words of value l.reference
-  value_given l of value there is =
-      let (s, has, mine, valued) = subst (StandsAs kept.anatomy.pieces l) is (standing_of l there) in
-      subst (λ (p : ℕ × ℤ). IsSampleOf state.words p.0 p.1 l.reference) (λ i. (mine i, valued i)) (is_sample_of l.reference s has)
-
   -- a histogram's record on the list
   pub listed_record : (at : ℕ) → Contains (order_of kept.anatomy) at → field_at state.words at 2 ≡ 1
       → (l : Listed) × (name : List ℕ) × (spec : Spec) × (r : Record) × Contains kept.anatomy.records l × (l.reference ≡ at)
-      × (l.made ≡ Some (made.Histogram name spec)) × Named name spec at r
+      × (l.made ≡ Some (made.Histogram name spec)) × Named shape (blank version id shape.size) state kept name spec at r
   listed_record at there one =
       let (l, among, place, standing) = listed_there state.words (blank version id shape.size) kept.anatomy state.actors at kept.list there in
       let name : List ℕ = name_of state.words l.reference in
       let (spec, r, made, has) = given_name l name among (subst (λ (at : ℕ). field_at state.words at 2 ≡ 1) (sym place) one, refl) in
-      (l, name, spec, r, among, place, made, subst (λ (at : ℕ). Named name spec at r) place has)
+      (l, name, spec, r, among, place, made, subst (λ (at : ℕ). Named shape (blank version id shape.size) state kept name spec at r) place has)
 
   -- ---- the first ones
 
   -- the histogram of a name is the first record of it
   pub first_of_name : (name : List ℕ) (at : ℕ) → IsHistogram state.words (order_of kept.anatomy) name at
-      → (spec : Spec) × (r : Record) × IsFirst kept.anatomy.records name spec at × Named name spec at r
+      → (spec : Spec) × (r : Record) × IsFirst kept.anatomy.records name spec at × Named shape (blank version id shape.size) state kept name spec at r
   first_of_name name at is =
       let (xs, ys, l, split, none, this, here) = first_listed kept.anatomy.records (IsNamed name) (consistent.IsNamed state.words name)
-      (λ l there. name_given l name there) (λ l there named. let (spec, r, made, has) = given_name l name there named in (spec, made))
+      (λ l there. name_given shape (blank version id shape.size) state kept l name there) (λ l there named. let (spec, r, made, has) = given_name l name there named in (spec, made))
       is.front is.behind at is.stands is.first is.named in
       let among = subst (λ (records : List Listed). Contains records l) (sym split) (Contains-append_right xs (l ∷ ys) l (0, omega arith, refl)) in
-      let (spec, r, made, has) = given_name l name among (name_given l name among this) in
-      (spec, r, (xs, ys, split ∙ (λ i. xs ++ record { reference = here i; made = made i } ∷ ys), none), subst (λ (at : ℕ). Named name spec at r) here has)
+      let (spec, r, made, has) = given_name l name among (name_given shape (blank version id shape.size) state kept l name among this) in
+      (spec, r, (xs, ys, split ∙ (λ i. xs ++ record { reference = here i; made = made i } ∷ ys), none), subst (λ (at : ℕ). Named shape (blank version id shape.size) state kept name spec at r) here has)
 
   pub name_of_first : (name : List ℕ) (spec : Spec) (at : ℕ) → IsFirst kept.anatomy.records name spec at → IsHistogram state.words (order_of kept.anatomy) name at
   name_of_first name spec at (xs, ys, split, none) =
       let l : Listed = record { reference = at; made = Some (made.Histogram name spec) } in
       let is = first_reference kept.anatomy.records (IsNamed name) (consistent.IsNamed state.words name)
-      (λ l there. name_given l name there) (λ l there named. let (spec, r, made, has) = given_name l name there named in (spec, made))
+      (λ l there. name_given shape (blank version id shape.size) state kept l name there) (λ l there named. let (spec, r, made, has) = given_name l name there named in (spec, made))
       xs ys l split none (spec, refl) in
       record { front = map (λ (l : Listed). l.reference) xs; behind = map (λ (l : Listed). l.reference) ys; stands = is.0; first = is.1; named = is.2 }
 
   -- and the sample of a value the first record of it
   pub first_of_value : (of : ℕ) (value : ℤ) (at : ℕ) → IsSample state.words (order_of kept.anatomy) of value at
-      → (s : Sample) × IsFirstOf kept.anatomy.records of value at × Valued of value at s
+      → (s : Sample) × IsFirstOf kept.anatomy.records of value at × Valued shape (blank version id shape.size) state kept of value at s
   first_of_value of value at is =
       let (xs, ys, l, split, none, this, here) = first_listed kept.anatomy.records (λ l. l.made ≡ Some (made.Sample of value)) (IsSampleOf state.words of value)
-      (λ l there. value_given l of value there) (λ l there valued. let (s, made, has) = given_value l of value there valued in made)
+      (λ l there. value_given shape (blank version id shape.size) state kept l of value there) (λ l there valued. let (s, made, has) = given_value l of value there valued in made)
       is.front is.behind at is.stands is.first is.valued in
       let among = subst (λ (records : List Listed). Contains records l) (sym split) (Contains-append_right xs (l ∷ ys) l (0, omega arith, refl)) in
-      let (s, made, has) = given_value l of value among (value_given l of value among this) in
-      (s, (xs, ys, split ∙ (λ i. xs ++ record { reference = here i; made = made i } ∷ ys), none), subst (λ (at : ℕ). Valued of value at s) here has)
+      let (s, made, has) = given_value l of value among (value_given shape (blank version id shape.size) state kept l of value among this) in
+      (s, (xs, ys, split ∙ (λ i. xs ++ record { reference = here i; made = made i } ∷ ys), none), subst (λ (at : ℕ). Valued shape (blank version id shape.size) state kept of value at s) here has)
 
   pub value_of_first : (of : ℕ) (value : ℤ) (at : ℕ) → IsFirstOf kept.anatomy.records of value at → IsSample state.words (order_of kept.anatomy) of value at
   value_of_first of value at (xs, ys, split, none) =
       let l : Listed = record { reference = at; made = Some (made.Sample of value) } in
       let is = first_reference kept.anatomy.records (λ l. l.made ≡ Some (made.Sample of value)) (IsSampleOf state.words of value)
-      (λ l there. value_given l of value there) (λ l there valued. let (s, made, has) = given_value l of value there valued in made)
+      (λ l there. value_given shape (blank version id shape.size) state kept l of value there) (λ l there valued. let (s, made, has) = given_value l of value there valued in made)
       xs ys l split none refl in
       record { front = map (λ (l : Listed). l.reference) xs; behind = map (λ (l : Listed). l.reference) ys; stands = is.0; first = is.1; valued = is.2 }

@@ -73,7 +73,7 @@ module _ (shape : Dimensions) (version id : ℕ) (state : State) (kept : Invaria
   has_form : HasForm kept.anatomy.version state.words at
   has_form = record {
     sparse = λ is i from below.
-        let kind = sparse_kind r.spec (sym (kind_word shape version id state kept at r has) ∙ is) in
+        let kind = sparse_kind r.spec (sym (kind_word shape (blank version id shape.size) state kept at r has) ∙ is) in
         let empty = right.sparse kind in
         let split : 8 + (i - 8) ≡ i = omega (arith, from) in
         subst (λ (i : ℕ). field_at state.words at i ≡ 0) split
@@ -94,7 +94,7 @@ module _ (shape : Dimensions) (version id : ℕ) (state : State) (kept : Invaria
         let below = packed_within kept.anatomy.version (buckets_of r.spec) r.single i here in
         let long : length c.marks ≡ buckets_of r.spec = of_it.marks in
         (λ j. field_at state.words (reference j) (4 + many j + i))
-        ∙ (mark_word shape version id state kept r.counts c (buckets_of r.spec) i mounted of_it.units (omega (arith, below, long)) ∙ of_it.packed i here);
+        ∙ (mark_word shape (blank version id shape.size) state kept r.counts c (buckets_of r.spec) i mounted of_it.units (omega (arith, below, long)) ∙ of_it.packed i here);
   }
 
   pub formed_as : HasForm version state.words at

@@ -44,11 +44,11 @@ module _ (shape : Dimensions) (version id : ℕ) (state : State) (kept : Invaria
   pub counts_nothing : (at : ℕ) (c : Counts) (n i : ℕ) → HasCounts kept.anatomy.pieces at c → length c.units ≡ n → length c.marks ≡ n
       → All (λ n. n ≡ 0) c.units → All (λ n. n ≡ 0) c.marks → i < 2 * n → field_at state.words at (4 + i) ≡ 0
   counts_nothing at c n i has units marks no_units no_marks below = elim (cases_lt i n) [
-    | inl low ↦ count_word shape version id state kept at c i has (omega (arith, units, low)) ∙ zero_index c.units i no_units
+    | inl low ↦ count_word shape (blank version id shape.size) state kept at c i has (omega (arith, units, low)) ∙ zero_index c.units i no_units
     | inr high ↦
         let place : 4 + i ≡ 4 + n + (i - n) = omega (arith, high) in
         ap (field_at state.words at) place
-        ∙ (mark_word shape version id state kept at c n (i - n) has units (omega (arith, marks, high, below)) ∙ zero_index c.marks (i - n) no_marks)
+        ∙ (mark_word shape (blank version id shape.size) state kept at c n (i - n) has units (omega (arith, marks, high, below)) ∙ zero_index c.marks (i - n) no_marks)
   ]
 
   -- no two records name one counts block
@@ -122,7 +122,7 @@ module _ (shape : Dimensions) (version id : ℕ) (state : State) (kept : Invaria
   later_record at place there one is apart =
       let (l, name, kind, r, among, spot, made, (has, named, specified)) = listed_record shape version id state kept at there one in
       let (first_kind, q, first, its) = first_of_name shape version id state kept (name_of state.words at) place is in
-      let mine : name_of state.words at ≡ r.name = (is_named shape version id state kept at r has).1 in
+      let mine : name_of state.words at ≡ r.name = (is_named shape (blank version id shape.size) state kept at r has).1 in
       let nothing = kept.records.later at place r first_kind has (subst (λ (name : List ℕ). IsFirst kept.anatomy.records name first_kind place) mine first) apart in
       λ i from below. six (λ i. field_at state.words at i ≡ 0) (word at r has 8 (omega arith) ∙ nothing.0) (word at r has 9 (omega arith) ∙ nothing.1)
       (word at r has 10 (omega arith) ∙ nothing.2) (word at r has 11 (omega arith) ∙ nothing.3) (word at r has 12 (omega arith) ∙ nothing.4)

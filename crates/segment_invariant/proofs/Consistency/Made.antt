@@ -84,7 +84,7 @@ module _ (shape : Dimensions) (version id : ℕ) (state : State) (lawful : IsSha
   holds_histogram at r has =
       let right = kept.records.lawful at r has in
       let word = λ (j : ℕ) (below : j < 15). record_word shape state.words kept.anatomy kept.shown at r j has below in
-      let named = says_name shape version id state kept at r has in
+      let named = says_name shape (blank version id shape.size) state kept at r has in
       let letters = name_long shape state.words kept.anatomy kept.shown kept.anatomy.version r right in
       let len = word 14 (omega arith) in
       let long = ap name_words len in
@@ -122,11 +122,11 @@ module _ (shape : Dimensions) (version id : ℕ) (state : State) (lawful : IsSha
   -- what a record of the list holds
   holds_given : (l : Listed) → Contains kept.anatomy.records l → (m : Made) → l.made ≡ Some m → HoldsMade state.words (order_of kept.anatomy) l.reference m
   holds_given l there (made.Histogram name kind) is =
-      let (r, has, named, specified) = subst (StandsAs kept.anatomy.pieces l) is (standing_of shape version id state kept l there) in
+      let (r, has, named, specified) = subst (StandsAs kept.anatomy.pieces l) is (standing_of shape (blank version id shape.size) state kept l there) in
       subst (λ (p : List ℕ × Spec). HoldsMade state.words (order_of kept.anatomy) l.reference (made.Histogram p.0 p.1)) (λ j. (named j, specified j))
       (holds_histogram l.reference r has)
   holds_given l there (made.Sample of value) is =
-      let (s, has, mine, valued) = subst (StandsAs kept.anatomy.pieces l) is (standing_of shape version id state kept l there) in
+      let (s, has, mine, valued) = subst (StandsAs kept.anatomy.pieces l) is (standing_of shape (blank version id shape.size) state kept l there) in
       let right = kept.records.valued l.reference s has in
       let sized = right.sized in
       let size = piece_word shape state.words kept.anatomy kept.shown has.0 _ 0 has.1 (omega arith) in
@@ -136,12 +136,12 @@ module _ (shape : Dimensions) (version id : ℕ) (state : State) (lawful : IsSha
       split ∙ ap (λ (m : Option Made). front ++ record { reference = l.reference; made = m } ∷ behind) is in
       let (name, (xs, ys, before, none_first), its_name) = kept.records.sampled front behind l.reference of value here in
       let first : IsFirst kept.anatomy.records s.name spec.Sparse of =
-      subst (IsFirst kept.anatomy.records s.name spec.Sparse) mine (sample_first shape version id state kept l.reference s has) in
+      subst (IsFirst kept.anatomy.records s.name spec.Sparse) mine (sample_first shape (blank version id shape.size) state kept l.reference s has) in
       let histogram_is = name_of_first shape version id state kept s.name spec.Sparse of first in
       let (kind, r, again, (stands, called, sorted)) = first_of_name shape version id state kept s.name of histogram_is in
-      let sparse : r.spec ≡ spec.Sparse = sorted ∙ (one_first shape version id state kept s.name kind spec.Sparse of of again first).1 in
+      let sparse : r.spec ≡ spec.Sparse = sorted ∙ (one_first shape (blank version id shape.size) state kept s.name kind spec.Sparse of of again first).1 in
       let references = λ (records : List Listed). map (λ (l : Listed). l.reference) records in
-      let says = is_sample_of shape version id state kept l.reference s has in (
+      let says = is_sample_of shape (blank version id shape.size) state kept l.reference s has in (
         (says.0, says.1 ∙ mine, says.2 ∙ valued),
         omega (arith, size, sized),
         subst (λ (v : ℤ). reading.is_i32 v ≡ true) valued right.valued,
@@ -150,7 +150,7 @@ module _ (shape : Dimensions) (version id : ℕ) (state : State) (lawful : IsSha
           references front,
           references behind,
           histogram_is,
-          kind_word shape version id state kept of r stands ∙ ap (λ (kind : Spec). slice_index (spec_fields kind) 0 == 4) sparse,
+          kind_word shape (blank version id shape.size) state kept of r stands ∙ ap (λ (kind : Spec). slice_index (spec_fields kind) 0 == 4) sparse,
           ap references split ∙ map-append (λ (l : Listed). l.reference) front (l ∷ behind),
           subst (λ (list : List ℕ). Contains list of) (sym (ap references before ∙ map-append (λ (l : Listed). l.reference) xs _))
               (Contains-append_right (references xs) (of ∷ references ys) of (0, omega arith, refl)),

@@ -98,17 +98,17 @@ module _ (shape : Dimensions) (version id : ℕ) (state : State) (kept : Invaria
           ≡ all_held (marks_held kept.anatomy.version name (key_of_bucket r.spec i)) kept.anatomy.pieces
       by_counts true none_there some_there =
           ap (λ (counts_ref : ℕ). mark_at state.words counts_ref (buckets_of r.spec) (form r) r.mark i) (none_there refl)
-          ∙ sym (bucket_alone shape version id state kept name kind at r first has named specified (key_of_bucket r.spec i) _ _ _ _
+          ∙ sym (bucket_alone shape (blank version id shape.size) state kept name kind at r first has named specified (key_of_bucket r.spec i) _ _ _ _
           (marks_book kept.anatomy.version name (key_of_bucket r.spec i)) bucketed (none_there refl) ∙ packed)
       by_counts false none_there some_there =
           let (c, mounted, of_it) = kept.records.mounted at r has (some_there refl) in
           let long : length c.marks ≡ buckets_of r.spec = of_it.marks in
-          let all = bucket_mounted shape version id state kept name kind at r first has named specified (key_of_bucket r.spec i) _ _ _ _
+          let all = bucket_mounted shape (blank version id shape.size) state kept name kind at r first has named specified (key_of_bucket r.spec i) _ _ _ _
           (marks_book kept.anatomy.version name (key_of_bucket r.spec i)) bucketed c mounted of_it.named in
           let one = ap (λ (kind : Spec). keyed kind (key_of_bucket r.spec i) c.marks) of_it.same
           ∙ keyed_one r.spec c.marks i (kept.records.lawful at r has).lawful bucketed long below in
           let word = ap (λ (b : Bool). if b then 0 else field_at state.words r.counts (4 + buckets_of r.spec + i)) (ne_eqb r.counts 0 (some_there refl))
-          ∙ mark_word shape version id state kept r.counts c (buckets_of r.spec) i mounted of_it.units (omega (arith, below, long)) in
+          ∙ mark_word shape (blank version id shape.size) state kept r.counts c (buckets_of r.spec) i mounted of_it.units (omega (arith, below, long)) in
           let says = ap (λ (rest : ℕ). if is_packed_bucket (form r) i then r.mark else rest) word in
           let parts = either (is_packed_bucket (form r) i) r.mark (slice_index c.marks i) (λ passes. of_it.packed i (packed_is (form r) i passes)) in
           omega (arith, says, parts, all, packed, one)
@@ -117,7 +117,7 @@ module _ (shape : Dimensions) (version id : ℕ) (state : State) (kept : Invaria
   mark_bound : (at : ℕ) (r : Record) → HasRecord kept.anatomy.pieces at r → kept.anatomy.version ≡ 1 → (i : ℕ) → packed_bucket (form r) ≡ Some i
       → r.mark ≤ max (total_of kept.anatomy.version state.words at i) 65535
   mark_bound at r has one i packed =
-      subst (λ (n : ℕ). r.mark ≤ max n 65535) (sym (total_words shape version id state kept at r has kept.anatomy.version i))
+      subst (λ (n : ℕ). r.mark ≤ max n 65535) (sym (total_words shape (blank version id shape.size) state kept at r has kept.anatomy.version i))
       (by_counts (r.counts == 0) (eqb-true r.counts 0) (eqb-false r.counts 0))
     where
       by_counts : (b : Bool) → (b ≡ true → r.counts ≡ 0) → (b ≡ false → r.counts ≢ 0)
@@ -131,7 +131,7 @@ module _ (shape : Dimensions) (version id : ℕ) (state : State) (kept : Invaria
           let long : length c.units ≡ buckets_of r.spec = of_it.units in
           let below = packed_within kept.anatomy.version (buckets_of r.spec) r.single i packed in
           let count = ap (λ (b : Bool). if b then 0 else field_at state.words r.counts (4 + i)) (ne_eqb r.counts 0 (some_there refl))
-          ∙ count_word shape version id state kept r.counts c i mounted (omega (arith, below, long)) in
+          ∙ count_word shape (blank version id shape.size) state kept r.counts c i mounted (omega (arith, below, long)) in
           subst (λ (n : ℕ). r.mark ≤ max (n + units_packed (form r) i) 65535) (sym count) (of_it.mark one i packed)
 
   -- a counter that was seen is at most the present one
@@ -146,7 +146,7 @@ marks_are_taken shape version id state lawful kept = record {
   buckets = λ name at i is plain below.
       let (kind, r, first, (has, named, specified)) = first_of_name shape version id state kept name at is in
       let right = kept.records.lawful at r has in
-      let bucketed = bucketed_kind r.spec (sym (kind_word shape version id state kept at r has) ∙ plain) in
+      let bucketed = bucketed_kind r.spec (sym (kind_word shape (blank version id shape.size) state kept at r has) ∙ plain) in
       let within : i < buckets_of r.spec = subst (λ (n : ℕ). i < n) (buckets_are shape state.words kept.anatomy kept.shown kept.anatomy.version at r has right) below in
       let held = mark_held shape version id state kept name kind at r first has named specified bucketed i within in
       let key = key_is shape state.words kept.anatomy kept.shown kept.anatomy.version at r has right i in
@@ -156,9 +156,9 @@ marks_are_taken shape version id state lawful kept = record {
       (taken, subst (λ (n : ℕ). n ≤ tally_units (all_counted state.actors) name (key_at state.words at i)) (sym taken) (kept.balanced.taken name (key_at state.words at i)));
   values = λ name at place value is sparse first_value.
       let (kind, r, first, (has, named, specified)) = first_of_name shape version id state kept name at is in
-      let sparse_spec = sparse_kind r.spec (sym (kind_word shape version id state kept at r has) ∙ sparse) in
+      let sparse_spec = sparse_kind r.spec (sym (kind_word shape (blank version id shape.size) state kept at r has) ∙ sparse) in
       let (s, first_of, (stands, of_it, valued)) = first_of_value shape version id state kept at value place first_value in
-      let held = value_held shape version id state kept name kind at r first has named specified value _ _ _ _
+      let held = value_held shape (blank version id shape.size) state kept name kind at r first has named specified value _ _ _ _
       (marks_book kept.anatomy.version name value) sparse_spec place s first_of stands of_it valued in
       let mark = piece_word shape state.words kept.anatomy kept.shown stands.0 _ 7 stands.1 (omega arith) in
       let units = piece_word shape state.words kept.anatomy kept.shown stands.0 _ 6 stands.1 (omega arith) in
@@ -184,7 +184,7 @@ marks_are_taken shape version id state lawful kept = record {
   sum = λ name at is.
       let (kind, r, first, (has, named, specified)) = first_of_name shape version id state kept name at is in
       ap (cast_signed w64) (record_word shape state.words kept.anatomy kept.shown at r 12 has (omega arith))
-      ∙ (sym (sum_mark_is shape version id state kept name kind at r first has named) ∙ kept.balanced.sum_marks name);
+      ∙ (sym (sum_mark_is shape (blank version id shape.size) state kept name kind at r first has named) ∙ kept.balanced.sum_marks name);
   seen = λ who a there lives. All-weaker (WasCounter kept.anatomy.pieces) (λ s. s.word ≤ word_at state.words s.at)
       (seen_within shape version id state kept) a.seen.counts (kept.each who a there lives).sees.counters;
   snapshots = λ who a there lives. (kept.each who a there lives).snapshots;

@@ -14,7 +14,7 @@ use Rattle.segment_machine.specs.declared.actor.Own.{Own}
 use Rattle.segment_machine.specs.State.{State}
 use Rattle.segment_invariant.specs.Consistent.{new_opening}
 use Rattle.segment_invariant.specs.Consistent.{redundant_at_opening}
-use Rattle.segment_invariant.specs.Body.{Record, Body, queue, plain, held, histogram, counts, sample, other, is_claimed, Piece, blank}
+use Rattle.segment_invariant.specs.Body.{Record, Body, queue, plain, held, histogram, counts, sample, other, is_claimed, Piece, Anatomy, blank}
 use Rattle.segment_invariant.specs.Ledger.{of_name, amount_of_name, sum_held, sum_mark_held, noted_held, all_held, all_amounts}
 use Rattle.segment_invariant.specs.Seen.{Stands, HasRecord, IsFirst}
 use Rattle.segment_invariant.specs.Invariant.{Invariant, CountsNothing}
@@ -82,9 +82,9 @@ no_noted name (counts c) empty = refl
 no_noted name (sample s) empty = refl
 no_noted name (other size tag next payload) empty = refl
 
--- ---- a kept state of a new segment
+-- ---- a kept state
 
-module _ (shape : Dimensions) (version id : ℕ) (state : State) (kept : Invariant shape (blank version id shape.size) state) where
+module _ (shape : Dimensions) (opened : Anatomy) (state : State) (kept : Invariant shape opened state) where
   -- a published block has no owner
   pub published_at : (j : ℕ) (p : Piece) (body : Body) → get_elem? kept.anatomy.pieces j ≡ some p → p.body ≡ body → is_claimed body ≡ true
       → ((block : Own) → body ≢ held block) → Stands kept.anatomy.pieces p.at none body
@@ -123,6 +123,9 @@ module _ (shape : Dimensions) (version id : ℕ) (state : State) (kept : Invaria
         (λ j p there apart. no_noted name p.body (λ r' is same. (other_nothing name spec at r first has j p there apart r' is same).5))
         ∙ of_mine r.name name r.noted named
 
+-- ---- a new segment
+
+module _ (shape : Dimensions) (version id : ℕ) (state : State) (kept : Invariant shape (blank version id shape.size) state) where
   -- no record was there at the opening
   not_before : (at : ℕ) (r : Record) → HasRecord kept.anatomy.pieces at r → redundant_at_opening (new_opening shape version id).words at ≡ 0
   not_before at r (k, there) =
@@ -137,11 +140,11 @@ sums_are_amounts shape version id state lawful kept = record {
   sum = λ name at is.
       let (spec, r, first, (has, named, specified)) = first_of_name shape version id state kept name at is in
       ap (cast_signed w64) (record_word shape state.words kept.anatomy kept.shown at r 11 has (omega arith))
-      ∙ (sym (sum_is shape version id state kept name spec at r first has named) ∙ kept.balanced.sums name);
+      ∙ (sym (sum_is shape (blank version id shape.size) state kept name spec at r first has named) ∙ kept.balanced.sums name);
   redundant = λ name at is.
       let (spec, r, first, (has, named, specified)) = first_of_name shape version id state kept name at is in
       let word = record_word shape state.words kept.anatomy kept.shown at r 13 has (omega arith) in
-      let held = noted_is shape version id state kept name spec at r first has named in
+      let held = noted_is shape (blank version id shape.size) state kept name spec at r first has named in
       let new = not_before shape version id state kept at r has in
       let balance = kept.balanced.noted name in
       omega (arith, word, held, new, balance);

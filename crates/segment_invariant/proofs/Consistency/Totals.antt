@@ -30,7 +30,7 @@ use Rattle.segment_invariant.proofs.Frames.OneActor.{moves_or_not}
 use Rattle.segment_invariant.proofs.Lists.Elements.{at_from}
 use Rattle.segment_invariant.proofs.Lists.FewTerms.{sum_none}
 use Rattle.segment_invariant.specs.Consistent.{HasPlace}
-use Rattle.segment_invariant.specs.Body.{Record, Counts, histogram, order_of, blank}
+use Rattle.segment_invariant.specs.Body.{Record, Counts, histogram, Anatomy, order_of, blank}
 use Rattle.segment_invariant.specs.Ledger.{form_at, key_of_bucket, at_bucket, keyed, units_held, all_held, moving_of, moving_at, all_moving}
 use Rattle.segment_invariant.specs.Seen.{HasRecord, HasCounts, IsFirst, Knows}
 use Rattle.segment_invariant.specs.Invariant.{StandsRight, Invariant, HasKey}
@@ -90,9 +90,9 @@ find_known (x ∷ xs) reference (suc k) known there same = either (x.reference =
     either false other (found, is, (i, below, at), names_it) =
         (found, ap (λ (b : Bool). if b then Some x else known_at xs reference) other ∙ is, (suc i, omega (arith, below), at), names_it)
 
--- ---- a kept state of a new segment
+-- ---- a kept state
 
-module _ (shape : Dimensions) (version id : ℕ) (state : State) (kept : Invariant shape (blank version id shape.size) state) where
+module _ (shape : Dimensions) (opened : Anatomy) (state : State) (kept : Invariant shape opened state) where
   -- a record's kind by its word
   pub kind_word : (at : ℕ) (r : Record) → HasRecord kept.anatomy.pieces at r → is_sparse state.words at ≡ (slice_index (spec_fields r.spec) 0 == 4)
   kind_word at r has = ap (λ (n : ℕ). n == 4) (record_word shape state.words kept.anatomy kept.shown at r 4 has (omega arith))
@@ -124,34 +124,6 @@ module _ (shape : Dimensions) (version id : ℕ) (state : State) (kept : Invaria
       let counts_ref = record_word shape state.words kept.anatomy kept.shown at r 8 has (omega arith) in
       let form = form_is shape state.words kept.anatomy kept.shown kept.anatomy.version at r has (kept.records.lawful at r has) v in
       (λ j. count_at state.words (counts_ref j) i + units_packed (form j) i)
-
-  -- what has the key of a bucket, or is the value of a sample, has a place by the words
-  pub placed : (name : List ℕ) (key : ℤ) → HasKey kept.anatomy.records name key → HasPlace state.words (order_of kept.anatomy) name key
-  placed name key (kind, at, first, keyed_by) =
-      let is = name_of_first shape version id state kept name kind at first in
-      let (other, r, again, (has, named, specified)) = first_of_name shape version id state kept name at is in
-      let same : r.spec ≡ kind = specified ∙ (one_first shape version id state kept name other kind at at again first).1 in
-      let lawful = kept.records.lawful at r has in (
-        at,
-        is,
-        ⊎_elim
-            (λ by_bucket.
-            let (bucket, below, key_is_it) = by_bucket in
-            inl (
-              bucket,
-              kind_word at r has ∙ (ap (λ (kind : Spec). slice_index (spec_fields kind) 0 == 4) same ∙ has_buckets kind bucket below),
-              subst (λ (n : ℕ). bucket < n) (sym (buckets_are shape state.words kept.anatomy kept.shown kept.anatomy.version at r has lawful ∙ ap buckets_of same)) below,
-              key_is_it ∙ sym (key_is shape state.words kept.anatomy kept.shown kept.anatomy.version at r has lawful bucket ∙ ap (λ (kind : Spec). key_of_bucket kind bucket) same),
-            ))
-            (λ by_value.
-            let (sparse, place, first_value) = by_value in
-            inr (
-              place,
-              kind_word at r has ∙ ap (λ (kind : Spec). slice_index (spec_fields kind) 0 == 4) (same ∙ sparse),
-              value_of_first shape version id state kept at key place first_value,
-            ))
-            keyed_by,
-      )
 
   module _ (name : List ℕ) (kind : Spec) (at : ℕ) (r : Record) (first : IsFirst kept.anatomy.records name kind at) (has : HasRecord kept.anatomy.pieces at r)
       (named : r.name ≡ name) (specified : r.spec ≡ kind) where
@@ -192,8 +164,8 @@ module _ (shape : Dimensions) (version id : ℕ) (state : State) (kept : Invaria
               → moving_of name (key_of_bucket r.spec i) (known_at a.names look.histogram) bucket units ≡ (if b && (bucket == i) then units else 0)
           by_record look bucket units (found, is, names_it, knows) (q, stands, packs, off) true same apart =
               let here = subst (λ (at : ℕ). IsFirst kept.anatomy.records found.name knows.first_spec at) (names_it ∙ same refl) knows.first in
-              let mine : found.name ≡ name = one_name shape version id state kept found.name name knows.first_spec kind at here first in
-              let its : knows.first_spec ≡ kind = (one_first shape version id state kept name knows.first_spec kind at at
+              let mine : found.name ≡ name = one_name shape opened state kept found.name name knows.first_spec kind at here first in
+              let its : knows.first_spec ≡ kind = (one_first shape opened state kept name knows.first_spec kind at at
               (subst (λ (name : List ℕ). IsFirst kept.anatomy.records name knows.first_spec at) mine here) first).1 in
               let bounds : boundaries_of found.spec ≡ boundaries_of r.spec =
               sym (same_boundaries knows.first_spec found.spec knows.same) ∙ ap boundaries_of (its ∙ sym specified) in
@@ -205,7 +177,7 @@ module _ (shape : Dimensions) (version id : ℕ) (state : State) (kept : Invaria
               ∙ ap (λ (b : Bool). if b then units else 0) (key_test r.spec (kept.records.lawful at r has).lawful bucketed i below bucket within)))
           by_record look bucket units (found, is, names_it, knows) (q, stands, packs, off) false same apart =
               ap (λ (known : Option Known). moving_of name (key_of_bucket r.spec i) known bucket units) is
-              ∙ nothing_of found.name name _ (λ mine. absurd (apart refl (sym names_it ∙ (one_first shape version id state kept name knows.first_spec kind found.reference at
+              ∙ nothing_of found.name name _ (λ mine. absurd (apart refl (sym names_it ∙ (one_first shape opened state kept name knows.first_spec kind found.reference at
               (subst (λ (name : List ℕ). IsFirst kept.anatomy.records name knows.first_spec found.reference) mine knows.first) first).0)))
 
       pub moved_all : all_moving name (key_of_bucket r.spec i) state.actors ≡ transit_of state.actors at i
@@ -226,14 +198,14 @@ module _ (shape : Dimensions) (version id : ℕ) (state : State) (kept : Invaria
           by_counts : (b : Bool) → (b ≡ true → r.counts ≡ 0) → (b ≡ false → r.counts ≢ 0)
               → total_of kept.anatomy.version state.words at i ≡ all_held (units_held kept.anatomy.version name (key_of_bucket r.spec i)) kept.anatomy.pieces
           by_counts true none_there some_there =
-              let all = bucket_alone shape version id state kept name kind at r first has named specified (key_of_bucket r.spec i) _ _ _ _
+              let all = bucket_alone shape opened state kept name kind at r first has named specified (key_of_bucket r.spec i) _ _ _ _
               (units_book kept.anatomy.version name (key_of_bucket r.spec i) kept.versions) bucketed (none_there refl) in
               let count = ap (λ (counts_ref : ℕ). count_at state.words counts_ref i) (none_there refl) in
               omega (arith, words_say, all, packed, count)
           by_counts false none_there some_there =
               let (c, mounted, of_it) = kept.records.mounted at r has (some_there refl) in
               let long : length c.units ≡ buckets_of r.spec = of_it.units in
-              let all = bucket_mounted shape version id state kept name kind at r first has named specified (key_of_bucket r.spec i) _ _ _ _
+              let all = bucket_mounted shape opened state kept name kind at r first has named specified (key_of_bucket r.spec i) _ _ _ _
               (units_book kept.anatomy.version name (key_of_bucket r.spec i) kept.versions) bucketed c mounted of_it.named in
               let one = ap (λ (kind : Spec). keyed kind (key_of_bucket r.spec i) c.units) of_it.same
               ∙ keyed_one r.spec c.units i (kept.records.lawful at r has).lawful bucketed long below in
@@ -252,7 +224,7 @@ module _ (shape : Dimensions) (version id : ℕ) (state : State) (kept : Invaria
         ap (moving_at a name key) place
         ∙ (ap (λ (known : Option Known). moving_of name key known bucket units) is
         ∙ nothing_of found.name name _ (λ mine.
-        let here = sym names_it ∙ (one_first shape version id state kept name knows.first_spec kind found.reference at
+        let here = sym names_it ∙ (one_first shape opened state kept name knows.first_spec kind found.reference at
         (subst (λ (name : List ℕ). IsFirst kept.anatomy.records name knows.first_spec found.reference) mine knows.first) first).0 in
         let empty = no_packed 1 (buckets_of r.spec) r.single (inl refl) ((kept.records.lawful at r has).sparse sparse).1 in
         let same = moving_record look q its here in
@@ -260,15 +232,46 @@ module _ (shape : Dimensions) (version id : ℕ) (state : State) (kept : Invaria
         (λ still. still.0 a name key)
         (moves_or_not a.place))
 
+-- ---- a new segment
+
+module _ (shape : Dimensions) (version id : ℕ) (state : State) (kept : Invariant shape (blank version id shape.size) state) where
+  -- what has the key of a bucket, or is the value of a sample, has a place by the words
+  pub placed : (name : List ℕ) (key : ℤ) → HasKey kept.anatomy.records name key → HasPlace state.words (order_of kept.anatomy) name key
+  placed name key (kind, at, first, keyed_by) =
+      let is = name_of_first shape version id state kept name kind at first in
+      let (other, r, again, (has, named, specified)) = first_of_name shape version id state kept name at is in
+      let same : r.spec ≡ kind = specified ∙ (one_first shape (blank version id shape.size) state kept name other kind at at again first).1 in
+      let lawful = kept.records.lawful at r has in (
+        at,
+        is,
+        ⊎_elim
+            (λ by_bucket.
+            let (bucket, below, key_is_it) = by_bucket in
+            inl (
+              bucket,
+              kind_word shape (blank version id shape.size) state kept at r has ∙ (ap (λ (kind : Spec). slice_index (spec_fields kind) 0 == 4) same ∙ has_buckets kind bucket below),
+              subst (λ (n : ℕ). bucket < n) (sym (buckets_are shape state.words kept.anatomy kept.shown kept.anatomy.version at r has lawful ∙ ap buckets_of same)) below,
+              key_is_it ∙ sym (key_is shape state.words kept.anatomy kept.shown kept.anatomy.version at r has lawful bucket ∙ ap (λ (kind : Spec). key_of_bucket kind bucket) same),
+            ))
+            (λ by_value.
+            let (sparse, place, first_value) = by_value in
+            inr (
+              place,
+              kind_word shape (blank version id shape.size) state kept at r has ∙ ap (λ (kind : Spec). slice_index (spec_fields kind) 0 == 4) (same ∙ sparse),
+              value_of_first shape version id state kept at key place first_value,
+            ))
+            keyed_by,
+      )
+
 pub totals_are_counted : KeptTotalsAreCounted
 totals_are_counted shape version id state lawful kept = record {
   buckets = λ name at i is plain below.
       let (kind, r, first, (has, named, specified)) = first_of_name shape version id state kept name at is in
       let right = kept.records.lawful at r has in
-      let bucketed = bucketed_kind r.spec (sym (kind_word shape version id state kept at r has) ∙ plain) in
+      let bucketed = bucketed_kind r.spec (sym (kind_word shape (blank version id shape.size) state kept at r has) ∙ plain) in
       let within : i < buckets_of r.spec = subst (λ (n : ℕ). i < n) (buckets_are shape state.words kept.anatomy kept.shown kept.anatomy.version at r has right) below in
-      let held = total_held shape version id state kept name kind at r first has named specified bucketed i within in
-      let moved = moved_all shape version id state kept name kind at r first has named specified bucketed i within in
+      let held = total_held shape (blank version id shape.size) state kept name kind at r first has named specified bucketed i within in
+      let moved = moved_all shape (blank version id shape.size) state kept name kind at r first has named specified bucketed i within in
       let balance = kept.balanced.units name (key_of_bucket r.spec i) in
       let sum : total_of kept.anatomy.version state.words at i + transit_of state.actors at i ≡ tally_units (all_counted state.actors) name (key_of_bucket r.spec i) =
       omega (arith, held, moved, balance) in
@@ -276,11 +279,11 @@ totals_are_counted shape version id state lawful kept = record {
       ∙ (sum ∙ ap (tally_units (all_counted state.actors) name) (sym (key_is shape state.words kept.anatomy kept.shown kept.anatomy.version at r has right i)));
   values = λ name at place value is sparse first_value.
       let (kind, r, first, (has, named, specified)) = first_of_name shape version id state kept name at is in
-      let sparse_spec = sparse_kind r.spec (sym (kind_word shape version id state kept at r has) ∙ sparse) in
+      let sparse_spec = sparse_kind r.spec (sym (kind_word shape (blank version id shape.size) state kept at r has) ∙ sparse) in
       let (s, first_of, (stands, of_it, valued)) = first_of_value shape version id state kept at value place first_value in
-      let held = value_held shape version id state kept name kind at r first has named specified value _ _ _ _
+      let held = value_held shape (blank version id shape.size) state kept name kind at r first has named specified value _ _ _ _
       (units_book kept.anatomy.version name value kept.versions) sparse_spec place s first_of stands of_it valued in
-      let moved = moved_none shape version id state kept name kind at r first has named specified sparse_spec value in
+      let moved = moved_none shape (blank version id shape.size) state kept name kind at r first has named specified sparse_spec value in
       let balance = kept.balanced.units name value in
       let word = piece_word shape state.words kept.anatomy kept.shown stands.0 _ 6 stands.1 (omega arith) in
       omega (arith, held, moved, balance, word);

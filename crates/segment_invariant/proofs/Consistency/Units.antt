@@ -75,7 +75,7 @@ units_are_kept shape version id state lawful kept = record {
       (λ a calls. counted_spent kept.anatomy a calls name));
   redundant = λ name at is.
       let (kind, r, first, (there, named, specified)) = first_of_name shape version id state kept name at is in
-      let noted = noted_is shape version id state kept name kind at r first there named in
+      let noted = noted_is shape (blank version id shape.size) state kept name kind at r first there named in
       let all = all_spent noted_of state.actors name (each_spent shape version id state kept name noted_of (omega arith)
       (λ a calls. noted_spent kept.anatomy a calls name)) in
       let word = record_word shape state.words kept.anatomy kept.shown at r 13 there (omega arith) in

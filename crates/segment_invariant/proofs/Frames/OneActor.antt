@@ -167,7 +167,7 @@ pub record SameDeeds (old new : List Actor) : Type 0 where
   pub opener : get_elem? new 0 ≡ get_elem? old 0
 
 -- of an actor that lives it is no matter where it stands
-living_at : (a : Actor) (p : Place) → p ≢ Spent → is_living (record a { place = p }) ≡ is_living (record a { place = Idle })
+pub living_at : (a : Actor) (p : Place) → p ≢ Spent → is_living (record a { place = p }) ≡ is_living (record a { place = Idle })
 living_at a Spent lives = absurd (lives refl)
 living_at a Idle lives = refl
 living_at a FlagsLoaded lives = refl

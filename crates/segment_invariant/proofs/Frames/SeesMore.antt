@@ -1,0 +1,281 @@
+-- A state is kept where one actor goes on to a place, sees more, and no word of the segment changes.
+use Rattle.std.proofs.Common.{◌≡◌, ◌≢◌, ℕ, ◌+◌, ◌-◌, ◌<◌, ◌≤◌, ℤ, List, ◌++◌, length, set, take, drop, All, Contains, inl, inr, refl, sym, ap, ◌∙◌, subst, arith, length-set}
+use Rattle.std.proofs.Math.Seq.{take-append_seam, drop-append_seam}
+use Rattle.std.specs.Prelude.{slice_index, IsPermutation, Some}
+use Rattle.std.proofs.lemmas.List.{set-append_right, get_or-append_right}
+use Rattle.std.proofs.lemmas.List.Elements.{All-weaker}
+use mathlib.Core.Option.{some}
+use lib.ListN.{get_elem?}
+use Rattle.atomic_table.proofs.Lists.{at_set, set_else}
+use Rattle.segment_image.specs.Shape.{Dimensions}
+use Rattle.segment_machine.specs.declared.actor.Actor.{Actor}
+use Rattle.segment_machine.specs.declared.actor.Claim.{Claim}
+use Rattle.segment_machine.specs.declared.actor.Given.{Given}
+use Rattle.segment_machine.specs.declared.actor.Moment.{Moment}
+use Rattle.segment_machine.specs.declared.actor.Taken.{Taken}
+use Rattle.segment_machine.specs.declared.entry.Entry.{Entry}
+use Rattle.segment_machine.specs.declared.place.Place.{Place}
+use Rattle.segment_machine.specs.declared.place.Place.TheVariants.{Spent, SumLoaded}
+use Rattle.segment_machine.specs.declared.seen.Seen.{Seen}
+use Rattle.segment_machine.specs.declared.seen.Sighting.{Sighting}
+use Rattle.segment_machine.specs.Entry.{tally_units, tally_sum, tally_noted}
+use Rattle.segment_machine.specs.Actor.{counted_of, summed_of, noted_of, units_of, all_counted, all_taken, taken_units, taken_sum, word_seen}
+use Rattle.segment_machine.specs.State.{State, memory}
+use Rattle.segment_machine.specs.Event.{Event, spot, change, next, Learned}
+use Rattle.segment_invariant.specs.Keeps.{found_at, happened}
+use Rattle.segment_invariant.specs.Body.{Anatomy, order_of, claims_of}
+use Rattle.segment_invariant.specs.Ledger.{moving_at}
+use Rattle.segment_invariant.specs.Seen.{IsNoLater, Sees}
+use Rattle.segment_invariant.specs.Invariant.{CursorsAreKept, SumsAreNear, CallsRight, LooksBack, IsMoment, FinalsAreExact, IsSetBy, StandsRight, Fits, Invariant, summed_cost}
+use Rattle.segment_invariant.proofs.Lists.Elements.{rows, column, sum_same}
+use Rattle.segment_invariant.proofs.Frames.Answers.{answered_set}
+use Rattle.segment_invariant.proofs.Frames.Books.{cursors_set, listed_set}
+use Rattle.segment_invariant.proofs.Frames.Deeds.{SameSums}
+use Rattle.segment_invariant.proofs.Frames.GoesOn.{not_opener}
+use Rattle.segment_invariant.proofs.Frames.OneActor.{living_at}
+use Rattle.segment_invariant.proofs.Frames.Roles.{SameRole, stood_set, roles_set, fits_beside}
+use Rattle.segment_invariant.proofs.Frames.Together.{balanced, sums_near, loaded_set}
+
+-- ---- the actor
+
+-- it stands there, has seen that, and was given that by shared cursors
+abbrev pub seer : Actor → Place → Seen → List Given → Actor
+seer a place seen given = record a { place = place; seen = seen; given = given }
+
+-- its calls are right, where it has walked no less and has seen no other words
+pub calls_more : (anatomy : Anatomy) (a : Actor) (place : Place) (seen : Seen) (given : List Given)
+    → ((at : ℕ) → Contains a.seen.chain at → Contains seen.chain at)
+    → ((at word : ℕ) → word_seen a.seen.words at ≡ Some word → word_seen seen.words at ≡ Some word)
+    → CallsRight anatomy a → CallsRight anatomy (seer a place seen given)
+calls_more anatomy a place seen given chain words calls = record {
+  ordered = calls.ordered;
+  within = calls.within;
+  held = calls.held;
+  ended = calls.ended;
+  spent = calls.spent;
+  met = λ entry of counted units first.
+      let (at, sampled, met, (tag, of_it, value, small)) = calls.met entry of counted units first in
+      (at, sampled, chain at met, (words _ _ tag, words _ _ of_it, words _ _ value, small));
+  taking = calls.taking;
+}
+
+-- it has the deltas, the snapshots and the log that it had
+seer_moment : (actors : List Actor) (opener : Actor) (id : ℕ) (a : Actor) (place : Place) (seen : Seen) (given : List Given) (m : Moment)
+    → IsMoment actors opener id a m → IsMoment actors opener id (seer a place seen given) m
+seer_moment actors opener id a place seen given m is = record { logged = is.logged; before = is.before; mine = is.mine; eldest = is.eldest }
+
+seer_finals : (actors : List Actor) (opener : Actor) (id : ℕ) (a : Actor) (place : Place) (seen : Seen) (given : List Given)
+    → FinalsAreExact actors opener id a → FinalsAreExact actors opener id (seer a place seen given)
+seer_finals actors opener id a place seen given finals = record {
+  deltas = finals.deltas;
+  snapshots = finals.snapshots;
+  moments = λ m is. seer_moment actors opener id a place seen given m (finals.moments m is);
+  swapped = finals.swapped;
+}
+
+-- ---- the shared cursors
+
+-- they are as many, and each stands where it stood or later
+pub record AreLater (chain old new : List ℕ) : Type 0 where
+  pub many : length new ≡ length old
+  pub later : (k at : ℕ) → k < length new → IsNoLater chain at (slice_index old k) → IsNoLater chain at (slice_index new k)
+
+pub later_itself : (chain cursors : List ℕ) → AreLater chain cursors cursors
+later_itself chain cursors = record { many = refl; later = λ k at below seen. seen }
+
+-- what was seen of them lies behind them on
+pub sees_later : (anatomy : Anatomy) (old new : List ℕ) (seen : Seen) → AreLater (order_of anatomy) old new → Sees anatomy old seen → Sees anatomy new seen
+sees_later anatomy old new seen are sees = record {
+  free = sees.free;
+  walked = sees.walked;
+  tails = sees.tails;
+  singles = sees.singles;
+  counters = sees.counters;
+  in_use = sees.in_use;
+  met = sees.met;
+  fixed = sees.fixed;
+  shared = All-weaker
+      (λ s. (s.at < length old) × IsNoLater (order_of anatomy) s.word (slice_index old s.at))
+      (λ s. (s.at < length new) × IsNoLater (order_of anatomy) s.word (slice_index new s.at))
+      (λ s t. let many = are.many in let below : s.at < length new = omega (arith, many, t.0) in (below, are.later s.at s.word below t.1))
+      seen.cursors sees.shared;
+}
+
+pub fits_later : (shape : Dimensions) (anatomy : Anatomy) (old new : List ℕ) (actors : List Actor) (opener : Actor) (id : ℕ) (a : Actor)
+    → AreLater (order_of anatomy) old new → Fits shape anatomy old actors opener id a → Fits shape anatomy new actors opener id a
+fits_later shape anatomy old new actors opener id a are fits = record {
+  shaped = fits.shaped;
+  versioned = fits.versioned;
+  numbered = fits.numbered ∙ sym are.many;
+  sees = sees_later anatomy old new a.seen are fits.sees;
+  names = fits.names;
+  own = fits.own;
+  apart = fits.apart;
+  owes = fits.owes;
+  calls = fits.calls;
+  looks = fits.looks;
+  finals = fits.finals;
+  snapshots = fits.snapshots;
+}
+
+-- ---- the state
+
+module _ (shape : Dimensions) (opened : Anatomy) (state : State) (kept : Invariant shape opened state) (id : ℕ) (a : Actor)
+    (mine : get_elem? state.actors id ≡ some a) (records : a.opener ≡ 0) (place : Place) (seen : Seen) (given : List Given)
+    (lived : a.place ≢ Spent) (lives : place ≢ Spent) (moves : (name : List ℕ) (key : ℤ) → moving_at a name key place ≡ moving_at a name key a.place) where
+  abbrev b : Actor
+  b = seer a place seen given
+
+  abbrev actors : List Actor
+  actors = set state.actors id b
+
+  role : SameRole b a
+  role = record {
+    living = living_at a place lives ∙ sym (living_at a a.place lived);
+    opener = refl;
+    first = refl;
+    first_noted = refl;
+    made = refl;
+    outstanding = refl;
+    inherited = refl;
+  }
+
+  counted : all_counted actors ≡ all_counted state.actors
+  counted = rows counted_of state.actors id a b mine refl
+
+  taken : all_taken actors ≡ all_taken state.actors
+  taken = rows (λ (a : Actor). a.taken) state.actors id a b mine refl
+
+  same : SameSums state.actors actors
+  same = record {
+    counted = λ name key. ap (λ entries. tally_units entries name key) counted;
+    summed = λ name. ap (λ entries. tally_sum entries name) (rows summed_of state.actors id a b mine refl);
+    noted = λ name. ap (λ entries. tally_noted entries name) (rows noted_of state.actors id a b mine refl);
+    taken = λ name key. ap (λ taken. taken_units taken name key) taken;
+    taken_sums = λ name. ap (λ taken. taken_sum taken name) taken;
+    moving = λ name key. sum_same (λ a. moving_at a name key a.place) state.actors id a b mine (moves name key);
+    costs = λ name. let costs = sum_same (summed_cost name) state.actors id a b mine refl in omega (arith, costs);
+  }
+
+  not_first : id ≢ 0
+  not_first = not_opener shape opened state kept id a mine records
+
+  -- sums are near on, where it has loaded none but the one that it had
+  pub near_on : ((at : ℕ) (sum : ℤ) → place ≡ SumLoaded at sum → a.place ≡ SumLoaded at sum) → SumsAreNear kept.anatomy.pieces actors
+  near_on sums = sums_near kept.anatomy.pieces state.actors actors same (loaded_set state.actors id a b mine sums) kept.sums
+
+  -- cursors are kept on, where it was given nothing
+  pub given_on : given ≡ a.given → CursorsAreKept (order_of kept.anatomy) state.cursors actors
+  given_on none_more = cursors_set (order_of kept.anatomy) state.cursors state.actors id a b mine records none_more kept.cursors
+
+  module _ (cursors : List ℕ) (are : AreLater (order_of kept.anatomy) state.cursors cursors) (near : SumsAreNear kept.anatomy.pieces actors)
+      (gave : CursorsAreKept (order_of kept.anatomy) cursors actors) (sees : Sees kept.anatomy cursors seen) (stands : StandsRight shape kept.anatomy id b place)
+      (calls : CallsRight kept.anatomy b) (looks : LooksBack kept.anatomy state.actors kept.roles.opener b) where
+    fits_mine : Fits shape kept.anatomy cursors state.actors kept.roles.opener id b
+    fits_mine =
+        let fits = kept.each id a mine lived in record {
+          shaped = fits.shaped;
+          versioned = fits.versioned;
+          numbered = fits.numbered ∙ sym are.many;
+          sees = sees;
+          names = fits.names;
+          own = fits.own;
+          apart = fits.apart;
+          owes = fits.owes;
+          calls = calls;
+          looks = λ recorder. looks;
+          finals = seer_finals state.actors kept.roles.opener id a place seen given fits.finals;
+          snapshots = fits.snapshots;
+        }
+
+    fits_all : (other : ℕ) (c : Actor) → get_elem? actors other ≡ some c → c.place ≢ Spent → Fits shape kept.anatomy cursors actors kept.roles.opener other c
+    fits_all other c there alive =
+        fits_beside shape kept.anatomy cursors state.actors actors kept.roles.opener kept.roles.opener other c kept.roles.stands
+        (set_else state.actors id 0 b (λ first. not_first (sym first)) ∙ kept.roles.stands) refl (refl, refl) same (stood_set state.actors id a b mine role)
+        (elim (at_set state.actors id other b c there) [
+          | inl t ↦ subst (λ (p : ℕ × Actor). Fits shape kept.anatomy cursors state.actors kept.roles.opener p.0 p.1) (λ i. (sym t.0 i, t.1 i)) fits_mine
+          | inr t ↦ fits_later shape kept.anatomy state.cursors cursors state.actors kept.roles.opener other c are (kept.each other c t.1 alive)
+        ])
+
+    stands_all : (other : ℕ) (c : Actor) → get_elem? actors other ≡ some c → StandsRight shape kept.anatomy other c c.place
+    stands_all other c there = elim (at_set state.actors id other b c there) [
+      | inl t ↦ subst (λ (p : ℕ × Actor). StandsRight shape kept.anatomy p.0 p.1 p.1.place) (λ i. (sym t.0 i, t.1 i)) stands
+      | inr t ↦ kept.standing other c t.1
+    ]
+
+    -- the state that is left is kept
+    pub sees_more : Invariant shape opened (record { words = state.words; cursors = cursors; actors = actors })
+    sees_more = record {
+      anatomy = kept.anatomy;
+      shown = kept.shown;
+      same = kept.same;
+      versions = kept.versions;
+      still = kept.still;
+      blocks = kept.blocks;
+      list = listed_set state.words opened kept.anatomy state.actors id a b mine refl kept.list;
+      claims = subst (λ (claims : List Claim). IsPermutation (claims_of kept.anatomy.pieces) (claims_of opened.pieces ++ claims))
+          (sym (rows (λ (a : Actor). a.claimed) state.actors id a b mine refl)) kept.claims;
+      records = kept.records;
+      balanced = balanced kept.anatomy.version opened.pieces kept.anatomy.pieces state.actors actors same kept.balanced;
+      keys = λ entry there. kept.keys entry (subst (λ (entries : List Entry). Contains entries entry) counted there);
+      taken_keys = λ t count there. kept.taken_keys t count (subst (λ (list : List Taken). Contains list t) taken there);
+      sums = near;
+      pool = sum_same units_of state.actors id a b mine refl ∙ kept.pool;
+      corrupt = subst (IsSetBy kept.anatomy.corrupt opened.corrupt) (sym (column (λ (a : Actor). a.spoiled) state.actors id a b mine refl)) kept.corrupt;
+      full = subst (IsSetBy kept.anatomy.full opened.full) (sym (column (λ (a : Actor). a.filled) state.actors id a b mine refl)) kept.full;
+      roles = roles_set state.actors id a b mine role not_first kept.roles;
+      first_noted = kept.first_noted;
+      answered = answered_set kept.anatomy.records state.actors id a b mine refl refl kept.answered;
+      cursors = gave;
+      standing = stands_all;
+      each = fits_all;
+    }
+
+-- ---- an event at a shared cursor
+
+-- the state after an event that acts on a shared cursor
+abbrev pub after_cursor_word : ℕ → State → ℕ → Actor → Event → ℕ → State
+after_cursor_word version state id a event cursor =
+    let found = slice_index state.cursors cursor in record {
+      words = state.words;
+      cursors = set state.cursors cursor (change version event found);
+      actors = set state.actors id (next a event found);
+    }
+
+module _ (version : ℕ) (state : State) (id : ℕ) (a : Actor) (event : Event) (cursor : ℕ)
+    (spots : spot (length state.words) event ≡ length state.words + cursor) where
+  abbrev size : ℕ
+  size = length state.words
+
+  found_cursor : found_at state event ≡ slice_index state.cursors cursor
+  found_cursor =
+      let from : size ≤ spot size event = omega (arith, spots) in
+      let behind : spot size event - size ≡ cursor = omega (arith, spots) in
+      get_or-append_right state.words state.cursors size (spot size event) 0 refl from ∙ ap (slice_index state.cursors) behind
+
+  memory_is : (v : ℕ) → set (memory state) (spot size event) v ≡ state.words ++ set state.cursors cursor v
+  memory_is v =
+      let from : size ≤ spot size event = omega (arith, spots) in
+      let behind : spot size event - size ≡ cursor = omega (arith, spots) in
+      set-append_right state.words state.cursors size (spot size event) v refl from
+      ∙ ap (λ (n : ℕ). state.words ++ set state.cursors n v) behind
+
+  state_is : happened version state id a event ≡ after_cursor_word version state id a event cursor
+  state_is =
+      let v : ℕ → ℕ = λ n. change version event n in
+      let words = λ (n : ℕ). ap (take size) (memory_is (v n)) ∙ take-append_seam state.words (set state.cursors cursor (v n)) in
+      let cursors = λ (n : ℕ). ap (drop size) (memory_is (v n)) ∙ drop-append_seam state.words (set state.cursors cursor (v n)) in
+      λ i. record {
+        words = words (found_at state event) i;
+        cursors = (cursors (found_at state event) ∙ ap (λ (n : ℕ). set state.cursors cursor (v n)) found_cursor) i;
+        actors = set state.actors id (next a event (found_cursor i));
+      }
+
+  -- so what is kept behind it is kept
+  pub happens_there : (shape : Dimensions) (opened : Anatomy)
+      → Invariant shape opened (after_cursor_word version state id a event cursor) × Learned a event (slice_index state.cursors cursor)
+      → Invariant shape opened (happened version state id a event) × Learned a event (found_at state event)
+  happens_there shape opened (kept, learned) = (
+    subst (Invariant shape opened) (sym state_is) kept,
+    subst (Learned a event) (sym found_cursor) learned,
+  )

@@ -3,6 +3,8 @@ pub mod Answers
 pub mod Books
 pub mod Deeds
 pub mod GoesOn
+pub mod Leads
+pub mod Onward
 pub mod Growth
 pub mod GrowthOfActors
 pub mod GrowthOfRecords

@@ -1,5 +1,6 @@
 pub mod Allocating
 pub mod Blocks
+pub mod Changes
 pub mod Consistency
 pub mod Counting
 pub mod Examples

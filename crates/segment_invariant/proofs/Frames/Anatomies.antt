@@ -1,17 +1,18 @@
 -- What holds of an anatomy, where blocks in the making change and what was published stays.
-use Rattle.std.proofs.Common.{◌≡◌, ℕ, ◌+◌, ℤ, Bool, List, inl, inr, ⊎_elim, refl, ap, ◌∙◌, All}
+use Rattle.std.proofs.Common.{◌≡◌, ℕ, ◌+◌, ℤ, Bool, List, inl, inr, ⊎_elim, refl, sym, subst, ap, ◌∙◌, All}
 use Rattle.std.proofs.lemmas.List.Elements.{All-weaker}
 use mathlib.Core.Option.{some}
 use Rattle.segment_image.specs.Shape.{Dimensions}
 use Rattle.alloc_core.specs.Laws.{Behind}
 use Rattle.list_core.specs.Chain.{IsLinked}
 use Rattle.list_core.specs.Laws.{IsStop}
+use Rattle.bucket_ranges.specs.declared.spec.Spec.TheVariants as spec
 use Rattle.segment_machine.specs.declared.actor.Actor.{Actor}
 use Rattle.segment_machine.specs.declared.actor.Known.{Known}
 use Rattle.segment_machine.specs.declared.seen.Seen.{Seen}
-use Rattle.segment_invariant.specs.Body.{Body, held, Piece, Anatomy, order_of, free_of}
+use Rattle.segment_invariant.specs.Body.{Body, held, Piece, Listed, Anatomy, order_of, free_of}
 use Rattle.segment_invariant.specs.Ledger.{units_held, marks_held, sum_held, sum_mark_held, noted_held, all_held, all_amounts, all_moving, IsBalanced}
-use Rattle.segment_invariant.specs.Seen.{Stands, HasPlain, AreNoLater, Knows, Sees}
+use Rattle.segment_invariant.specs.Seen.{Stands, HasPlain, IsFirst, IsFirstOf, AreNoLater, Knows, Sees}
 use Rattle.segment_invariant.specs.Invariant.{StandsAs, ListIsKept, RecordsAreKept, SumsAreNear, Fits, CallsRight, LooksBack}
 use Rattle.segment_invariant.proofs.Frames.Standing.{Grounds, own_stays}
 use Rattle.segment_invariant.proofs.Frames.Growth.{reshaped, Stays, Grows, grows_not, stands_as_grows, names_grow, sees_grow, grounds_grow}
@@ -35,6 +36,20 @@ balanced_same version opened old new actors same is = record {
   sum_marks = λ name. same.sum_marks name ∙ is.sum_marks name;
   noted = λ name. same.noted name ∙ is.noted name;
   taken = is.taken;
+}
+
+-- running calls rest on the records of the list alone
+pub calls_same : (old new : Anatomy) (a : Actor) → new.records ≡ old.records → CallsRight old a → CallsRight new a
+calls_same old new a same calls = record {
+  ordered = calls.ordered;
+  within = calls.within;
+  held = calls.held;
+  ended = calls.ended;
+  spent = calls.spent;
+  met = λ entry of there units first.
+      let (at, first_of, walked, saw) = calls.met entry of there units (subst (λ (records : List Listed). IsFirst records entry.name spec.Sparse of) same first) in
+      (at, subst (λ (records : List Listed). IsFirstOf records of entry.key at) (sym same) first_of, walked, saw);
+  taking = calls.taking;
 }
 
 module _ (anatomy : Anatomy) (pieces : List Piece) (spare : ℕ) (corrupt full : Bool) (tail : ℕ) (stays : Stays anatomy.pieces pieces) where
@@ -98,15 +113,7 @@ module _ (anatomy : Anatomy) (pieces : List Piece) (spare : ℕ) (corrupt full :
 
   -- running calls
   pub calls_along : (a : Actor) → CallsRight anatomy a → CallsRight later a
-  calls_along a calls = record {
-    ordered = calls.ordered;
-    within = calls.within;
-    held = calls.held;
-    ended = calls.ended;
-    spent = calls.spent;
-    met = calls.met;
-    taking = calls.taking;
-  }
+  calls_along a = calls_same anatomy later a refl
 
   -- what was seen since a delta or a snapshot began
   pub looks_along : (actors : List Actor) (opener a : Actor) → LooksBack anatomy actors opener a → LooksBack later actors opener a

@@ -368,6 +368,6 @@ module _ (old new : Anatomy) (added : ℕ → Body → Type 0) (grows : Grows ol
     version = grows.version;
     stop = stop_grows;
     near = neighbours_grow;
-    recorded = record_stays;
+    recorded = λ at r there. let (n, still) = record_stays at r there in (record r { next = n }, still, refl, λ off. refl);
     making = others;
   }

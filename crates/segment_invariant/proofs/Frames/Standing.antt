@@ -1,8 +1,10 @@
 -- Where an actor stands, it stands right on while it knows no less, and while the blocks and the list stay that this rests on.
-use Rattle.std.proofs.Common.{◌≡◌, ◌≢◌, ℕ, ◌+◌, List, All, Contains, refl, sym, ◌∙◌, subst}
+use Rattle.std.proofs.Common.{◌≡◌, ◌≢◌, ℕ, ◌+◌, List, All, Contains, refl, sym, ap, ◌∙◌, subst, true}
 use Rattle.std.specs.Prelude.{Some}
 use Rattle.std.proofs.lemmas.List.Elements.{All-weaker}
 use Rattle.segment_image.specs.Shape.{Dimensions}
+use Rattle.bucket_ranges.specs.Spec.{buckets_of}
+use Rattle.bucket_ranges.specs.Single.{single_of, packed_bucket}
 use Rattle.list_core.specs.Laws.{IsStop, AreNeighbours}
 use Rattle.segment_machine.specs.declared.place.Look.{Look}
 use Rattle.segment_machine.specs.declared.place.Place.{Place}
@@ -12,18 +14,21 @@ use Rattle.segment_machine.specs.declared.actor.Known.{Known}
 use Rattle.segment_machine.specs.declared.actor.Own.{Own}
 use Rattle.segment_machine.specs.declared.seen.Sighting.{Sighting}
 use Rattle.segment_machine.specs.Actor.{word_seen}
+use Rattle.segment_machine.specs.Form.{is_off}
 use Rattle.segment_invariant.specs.Body.{Record, Anatomy, order_of, Piece}
 use Rattle.segment_machine.specs.Seats.{spent}
 use Rattle.segment_invariant.specs.Seen.{HasPlain, HasOwn, HasRecord, WasMet}
 use Rattle.segment_invariant.specs.Invariant.{LooksRight, StandsRight, HoldsOwn}
 use Rattle.segment_machine.specs.declared.seen.Seen.{Seen}
 
--- what it rests on of the segment: the list, which may become longer, records, whose nexts may change, and its words in the making
+-- what it rests on of the segment: the list, which may become longer, records, whose specs stay and whose single words once they are off, and
+-- its words in the making
 pub record Grounds (old new : Anatomy) (id : ℕ) : Type 0 where
   pub version : new.version ≡ old.version
   pub stop : (at : ℕ) → IsStop (order_of old) at → IsStop (order_of new) at
   pub near : (at next : ℕ) → AreNeighbours (order_of old) at next → AreNeighbours (order_of new) at next
-  pub recorded : (at : ℕ) (r : Record) → HasRecord old.pieces at r → (n : ℕ) × HasRecord new.pieces at (record r { next = n })
+  pub recorded : (at : ℕ) (r : Record) → HasRecord old.pieces at r
+      → (s : Record) × HasRecord new.pieces at s × (s.spec ≡ r.spec) × (is_off r.single ≡ true → s.single ≡ r.single)
   pub making : (at : ℕ) (words : List ℕ) → HasPlain old.pieces id at words → HasPlain new.pieces id at words
 
 pub grounds_itself : (anatomy : Anatomy) (id : ℕ) → Grounds anatomy anatomy id
@@ -31,7 +36,7 @@ grounds_itself anatomy id = record {
   version = refl;
   stop = λ at there. there;
   near = λ at next there. there;
-  recorded = λ at r there. (r.next, there);
+  recorded = λ at r there. (r, there, refl, λ off. refl);
   making = λ at words there. there;
 }
 
@@ -88,13 +93,18 @@ module _ (shape : Dimensions) (old new : Anatomy) (id : ℕ) (x y : Actor) (grou
       let (still, has, same, kind) = follows.own block mine in
       (looks_on look right, there, apart, (still, has, same ∙ place, kind ∙ tag))
   stands_on (Moving look bucket units) (right, one, there, least, most, (r, stands, packed, off), apart) =
-      let (n, still) = grounds.recorded look.histogram r stands in (
+      let (s, still, kind, same) = grounds.recorded look.histogram r stands in (
         looks_on look right,
         grounds.version ∙ one,
         there,
         least,
         most,
-        (record r { next = n }, still, packed, off),
+        (
+          s,
+          still,
+          (λ i. packed_bucket (single_of 1 (buckets_of (kind i)) (same off i))) ∙ packed,
+          ap is_off (same off) ∙ off,
+        ),
         subst (All (λ s. s.at ≢ look.counts + 4 + bucket)) (sym follows.saw.3) apart,
       )
   stands_on (CountLoaded look bucket count) ((right, there, off), below, saw) = ((looks_on look right, there, off), below, counts_on _ saw)

@@ -186,7 +186,7 @@ listed_longer records more at (sample s) is = Contains-append_left records more 
 listed_longer records more at (other size tag next payload) is = Contains-append_left records more _ is
 
 -- of what is not claimed nothing is to be listed
-listed_claimed : (records : List Listed) (at : ℕ) (body : Body) → (is_claimed body ≡ true → IsListed records at body) → IsListed records at body
+pub listed_claimed : (records : List Listed) (at : ℕ) (body : Body) → (is_claimed body ≡ true → IsListed records at body) → IsListed records at body
 listed_claimed records at (queue next) is = tt
 listed_claimed records at (plain words) is = tt
 listed_claimed records at (held block) is = tt

@@ -1,0 +1,49 @@
+-- Single words that lead on from one another.
+use Rattle.std.proofs.Common.{◌≡◌, ◌≢◌, ◌⊎◌, Bool, true, false, ◌==◌, nat_lt, if◌then◌else◌, ℕ, ◌-◌, ◌^◌, ◌/◌, ◌%◌, ◌≤◌, Option, Some, None, inl, inr, refl, sym, ap, ◌∙◌, subst, arith}
+use Rattle.std.proofs.lemmas.Bool.{eqb-true, leb-false, lt-ltb}
+use Rattle.bucket_ranges.specs.declared.single.SingleWord.{SingleWord}
+use Rattle.bucket_ranges.specs.declared.single.SingleWord.TheVariants.{Empty, Packed}
+use Rattle.bucket_ranges.specs.Single.{single_of, is_packed_word, packed_of, packed_bucket}
+use Rattle.segment_machine.specs.Form.{is_off, units_in, Leads}
+
+-- a word that is off leads to itself alone
+pub off_leads : (version n old new : ℕ) → is_off old ≡ true → Leads version n old new → old ≡ new
+off_leads version n old new off (inl same) = same
+off_leads version n old new off (inr (inl empty)) = absurd (cc (sym (ap is_off empty) ∙ off))
+off_leads version n old new off (inr (inr (on, same, fewer))) = absurd (cc (sym on ∙ off))
+
+-- a form of a word below 2^63 that packs nothing is the empty one
+empty_by : (n word : ℕ) (empty low : Bool) (rest : Option SingleWord) → low ≡ true
+    → (if empty then Some Empty else (if low then packed_of n word else rest)) ≢ None
+    → packed_bucket (if empty then Some Empty else (if low then packed_of n word else rest)) ≡ None → empty ≡ true
+empty_by n word true low rest is formed packs = refl
+empty_by n word false false rest is formed packs = absurd (cc is)
+empty_by n word false true rest is formed packs = packed_by (is_packed_word n word) formed packs
+  where
+    packed_by : (b : Bool) → (if b then Some (Packed (word / 2 ^ 32) (word % 2 ^ 32)) else None) ≢ None
+        → packed_bucket (if b then Some (Packed (word / 2 ^ 32) (word % 2 ^ 32)) else None) ≡ None → false ≡ true
+    packed_by true formed packs = absurd (cc packs)
+    packed_by false formed packs = absurd (formed refl)
+
+pub empty_word : (version n word : ℕ) → single_of version n word ≢ None → is_off word ≡ false → packed_bucket (single_of version n word) ≡ None → word ≡ 0
+empty_word version n word formed on packs =
+    eqb-true word 0 (empty_by n word (word == 0) (nat_lt word (2 ^ 63)) _ (lt-ltb word (2 ^ 63) (leb-false (2 ^ 63) word on)) formed packs)
+
+-- what leads to a word that leads on leads on
+pub leads_on : (version n x y z : ℕ) → single_of version n x ≢ None → Leads version n x y → Leads version n y z → Leads version n x z
+leads_on version n x y z formed (inl same) next = subst (λ (w : ℕ). Leads version n w z) (sym same) next
+leads_on version n x y z formed (inr (inl empty)) next = inr (inl empty)
+leads_on version n x y z formed (inr (inr (on, packs, more))) next = onward next
+  where
+    most : (units_in (single_of version n x) ≤ units_in (single_of version n y)) ⊎ ((version ≡ 1) × (is_off y ≡ true))
+        → is_off y ≡ false → (units_in (single_of version n y) ≤ units_in (single_of version n z)) ⊎ ((version ≡ 1) × (is_off z ≡ true))
+        → (units_in (single_of version n x) ≤ units_in (single_of version n z)) ⊎ ((version ≡ 1) × (is_off z ≡ true))
+    most (inl few) still (inl many) = inl (omega (arith, few, many))
+    most (inl few) still (inr gone) = inr gone
+    most (inr (one, off)) still next = absurd (cc (sym off ∙ still))
+
+    onward : Leads version n y z → Leads version n x z
+    onward (inl same) = subst (Leads version n x) same (inr (inr (on, packs, more)))
+    onward (inr (inl empty)) =
+        inr (inl (empty_word version n x formed on (sym packs ∙ ap (λ (w : ℕ). packed_bucket (single_of version n w)) empty)))
+    onward (inr (inr (still, same, fewer))) = inr (inr (on, same ∙ packs, most more still fewer))

@@ -3,6 +3,7 @@ pub mod Blocks
 pub mod Changes
 pub mod Consistency
 pub mod Counting
+pub mod Cursors
 pub mod Examples
 pub mod Frames
 pub mod Lists

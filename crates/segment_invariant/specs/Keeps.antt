@@ -8,10 +8,11 @@ use Rattle.segment_image.specs.Shape.{Dimensions}
 use Rattle.segment_image.specs.Words.{word_at}
 use Rattle.alloc_core.specs.Layout.{IsShape}
 use Rattle.segment_machine.specs.declared.actor.Actor.{Actor}
-use Rattle.segment_machine.specs.Event.{Event, allocating_event, publishing_event, walking_event, spot, after, next, Ready, Learned}
+use Rattle.segment_machine.specs.Event.{Event, allocating_event, publishing_event, walking_event, spot, after, next, Ready, Learned, cursor_event}
 use Rattle.segment_machine.specs.Allocating.{AllocatingEvent}
 use Rattle.segment_machine.specs.Publishing.{PublishingEvent}
 use Rattle.segment_machine.specs.Walking.{WalkingEvent}
+use Rattle.segment_machine.specs.Cursors.{CursorEvent}
 use Rattle.segment_machine.specs.State.{State, memory}
 use Rattle.segment_invariant.specs.Consistent.{ListIsChain, FlagsAreSet, UnitsAreKept, RecordsHold, TotalsAreCounted, MarksAreTaken, SumsAreAmounts, TransitIsLocal, IsConsistent, new_opening}
 use Rattle.segment_machine.specs.Reached.{new_state, IsState, IsSplit, IsJoin, IsLent}
@@ -66,6 +67,10 @@ PublishingKeeps = (event : PublishingEvent) → EventKeeps (publishing_event eve
 -- the events that walk along it
 abbrev pub WalkingKeeps : Type 0
 WalkingKeeps = (event : WalkingEvent) → EventKeeps (walking_event event)
+
+-- the events of shared cursors
+abbrev pub CursorsKeep : Type 0
+CursorsKeep = (event : CursorEvent) → EventKeeps (cursor_event event)
 
 -- ---- at notes
 

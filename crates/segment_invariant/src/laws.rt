@@ -6,7 +6,7 @@
 ghost use Rattle.segment_invariant.specs.Examples.{PackedThenMounted, StoppedInTransit, PackingLimit, DeltasAndMarks, TwoTakers, SparseSamples, MountedIsConsistent, ListBreaks, RecordsBreak, TotalsBreak, MarksBreak, SumsBreak, TransitBreaks, FlagsBreak, UnitsBreak};
 ghost use Rattle.segment_invariant.specs.Accounts.{MountedAgrees, LimitAgrees, TakersAgree, SparseAgrees, BatchAgrees};
 ghost use Rattle.segment_invariant.specs.Refused.{CountsLoaded, UnitsSpent, CountsOwe, WordsFormed, KindsRead};
-ghost use Rattle.segment_invariant.specs.Keeps.{OpeningIsKept, OpeningsAreKept, AllocatingKeeps, PublishingKeeps, WalkingKeeps, SplitsKeep, JoinsKeep, LendsKeep, KeptFlagsAreSet, KeptIsChain, KeptUnitsAreKept, KeptTransitIsLocal, KeptSumsAreAmounts, KeptTotalsAreCounted, KeptMarksAreTaken, NotesKeep, KeptRecordsHold, KeptIsConsistent};
+ghost use Rattle.segment_invariant.specs.Keeps.{OpeningIsKept, OpeningsAreKept, AllocatingKeeps, PublishingKeeps, WalkingKeeps, CursorsKeep, SplitsKeep, JoinsKeep, LendsKeep, KeptFlagsAreSet, KeptIsChain, KeptUnitsAreKept, KeptTransitIsLocal, KeptSumsAreAmounts, KeptTotalsAreCounted, KeptMarksAreTaken, NotesKeep, KeptRecordsHold, KeptIsConsistent};
 
 /// Two packed units are moved to the counts, where the next sample is counted: the words become those of the segment, and the
 /// totals, the sum and the redundant count are those of the entries.
@@ -161,6 +161,11 @@ pub fn publishing_keeps()
 /// record, which with its name and its ranges lies within the segment.
 pub fn walking_keeps()
     ensures { WalkingKeeps }
+{}
+
+/// Each event of a shared cursor keeps what holds, and its actor learns that the cursor stood at a record, or before the first one.
+pub fn cursors_keep()
+    ensures { CursorsKeep }
 {}
 
 /// What holds between any two events holds on where an opener makes a recorder.

@@ -1,0 +1,96 @@
+-- A shared cursor is loaded.
+use Rattle.std.proofs.Common.{◌≡◌, ◌≢◌, ℕ, ◌+◌, ◌<◌, ℤ, List, ◌++◌, length, set, All, Contains, inl, inr, refl, sym, ap, ◌∙◌, subst, arith}
+use Rattle.std.specs.Prelude.{slice_index}
+use Rattle.std.proofs.lemmas.List.Elements.{All-push, Contains-push}
+use mathlib.Core.Option.{some}
+use lib.ListN.{get_elem?}
+use lib.Seq.{set-get_or}
+use Rattle.alloc_core.specs.Laws.{Behind}
+use Rattle.segment_image.specs.Shape.{Dimensions}
+use Rattle.list_core.specs.Laws.{IsStop}
+use Rattle.segment_machine.specs.declared.actor.Actor.{Actor}
+use Rattle.segment_machine.specs.declared.actor.Given.{Given}
+use Rattle.segment_machine.specs.declared.place.Place.{Place}
+use Rattle.segment_machine.specs.declared.place.Place.TheVariants.{Spent, SumLoaded, CursorLoaded}
+use Rattle.segment_machine.specs.declared.seen.Seen.{Seen}
+use Rattle.segment_machine.specs.declared.seen.Sighting.{Sighting}
+use Rattle.segment_machine.specs.Actor.{is_bound}
+use Rattle.segment_machine.specs.Calls.{sight}
+use Rattle.segment_machine.specs.State.{State}
+use Rattle.segment_machine.specs.Cursors.{load_cursor}
+use Rattle.segment_machine.specs.Event.{cursor_event, Ready}
+use Rattle.segment_invariant.specs.Body.{Anatomy, order_of}
+use Rattle.segment_invariant.specs.Seen.{IsNoLater, Sees}
+use Rattle.segment_invariant.specs.Invariant.{LooksBack, Invariant}
+use Rattle.segment_invariant.proofs.Frames.OneActor.{turns_unbound}
+use Rattle.segment_invariant.proofs.Frames.SeesMore.{seer, calls_more, later_itself, near_on, given_on, sees_more, happens_there}
+use Rattle.segment_invariant.proofs.Frames.Shown.{Goes}
+use Rattle.segment_invariant.proofs.Walking.Walks.{reference_is}
+use Rattle.segment_invariant.proofs.Walking.Nexts.{no_later_itself}
+
+-- what an actor looks back at, where it sees no more than cursors and has loaded no sum
+pub looks_past : (anatomy : Anatomy) (actors : _) (opener a : Actor) (place : Place) (cursors : List Sighting) (given : List Given)
+    → ((reference : ℕ) (sum : ℤ) → place ≢ SumLoaded reference sum) → LooksBack anatomy actors opener a
+    → LooksBack anatomy actors opener (seer a place (record a.seen { cursors = cursors }) given)
+looks_past anatomy actors opener a place cursors given none looks = record {
+  most = looks.most;
+  packed = looks.packed;
+  counted = looks.counted;
+  samples = looks.samples;
+  rising = looks.rising;
+  leading = looks.leading;
+  closed = looks.closed;
+  begun = looks.begun;
+  noted = looks.noted;
+  sum = λ reference sum r loaded. absurd (none reference sum loaded);
+}
+
+-- it has seen one more cursor
+pub sees_cursor : (anatomy : Anatomy) (cursors : List ℕ) (seen : Seen) (s : Sighting) → Sees anatomy cursors seen
+    → (s.at < length cursors) × IsNoLater (order_of anatomy) s.word (slice_index cursors s.at)
+    → Sees anatomy cursors (record seen { cursors = seen.cursors ++ sight s.at s.word })
+sees_cursor anatomy cursors seen s sees is = record {
+  free = sees.free;
+  walked = sees.walked;
+  tails = sees.tails;
+  singles = sees.singles;
+  counters = sees.counters;
+  in_use = sees.in_use;
+  met = sees.met;
+  fixed = sees.fixed;
+  shared = All-push (λ s. (s.at < length cursors) × IsNoLater (order_of anatomy) s.word (slice_index cursors s.at)) seen.cursors s sees.shared is;
+}
+
+module _ (shape : Dimensions) (opened : Anatomy) (state : State) (kept : Invariant shape opened state) (id : ℕ) (a : Actor)
+    (mine : get_elem? state.actors id ≡ some a) (records : a.opener ≡ 0) where
+  -- a cursor stands on the list
+  pub cursor_stop : (cursor : ℕ) → cursor < length state.cursors → IsStop (order_of kept.anatomy) (slice_index state.cursors cursor)
+  cursor_stop cursor below = let (place, within, is, gave) = kept.cursors.stand cursor below in (place, within, is)
+
+  pub cursor_loaded : (cursor : ℕ) → Ready a (cursor_event (load_cursor cursor)) → Goes shape opened state kept id a mine records (cursor_event (load_cursor cursor))
+  cursor_loaded cursor (unbound, below) =
+      let found : ℕ = slice_index state.cursors cursor in
+      let place : Place = CursorLoaded cursor found in
+      let turns = turns_unbound a place unbound refl in
+      let fits = kept.each id a mine turns.lived in
+      let within : cursor < length state.cursors = let n = fits.numbered in omega (arith, n, below) in
+      let stop = cursor_stop cursor within in
+      let s : Sighting = record { at = cursor; word = found } in
+      let seen : Seen = record a.seen { cursors = a.seen.cursors ++ sight cursor found } in
+      happens_there opened.version state id a (cursor_event (load_cursor cursor)) cursor refl shape opened (
+        subst (λ (cursors : List ℕ). Invariant shape opened (record {
+          words = state.words;
+          cursors = cursors;
+          actors = set state.actors id (seer a place seen a.given);
+        })) (sym (set-get_or state.cursors cursor 0))
+            (sees_more shape opened state kept id a mine records place seen a.given turns.lived turns.lives turns.moves state.cursors
+            (later_itself (order_of kept.anatomy) state.cursors)
+            (near_on shape opened state kept id a mine records place seen a.given turns.lived turns.lives turns.moves turns.sums)
+            (given_on shape opened state kept id a mine records place seen a.given turns.lived turns.lives turns.moves refl)
+            (sees_cursor kept.anatomy state.cursors a.seen s fits.sees (within, no_later_itself (order_of kept.anatomy) found stop))
+            (stop, Contains-push a.seen.cursors s)
+            (calls_more kept.anatomy a place seen a.given (λ at has. has) (λ at word has. has) fits.calls)
+            (looks_past kept.anatomy state.actors kept.roles.opener a place (a.seen.cursors ++ sight cursor found) a.given
+            (λ reference sum loaded. cc loaded) (fits.looks records))),
+        reference_is shape opened state kept id a mine records found turns.lived stop,
+      )

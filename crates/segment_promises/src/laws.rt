@@ -5,6 +5,7 @@
 ghost use Rattle.segment_promises.specs.States.{ReachedStatesFollow};
 ghost use Rattle.segment_promises.specs.Follows.{StepsFollow, TablesOpen, TablesClose, TablesFollow, TablesAnnounce, TablesSplit, TablesJoin};
 ghost use Rattle.segment_promises.specs.Tallies.{PartsAddUp};
+ghost use Rattle.segment_promises.specs.Deltas.{FinalDeltasTakeAll, FinalSnapshotsAreExact, SnapshotsStayBelow};
 ghost use Rattle.segment_promises.specs.Examples.{LinksLengthen, DeltaOwes, SnapshotOwes};
 
 /// Where each event and each note keeps what holds, every state that is reached from a kept one is kept.
@@ -50,6 +51,21 @@ pub fn tables_join<S>()
 /// The tallies of the parts of a list by number add up to that of the list.
 pub fn parts_add_up()
     ensures { PartsAddUp }
+{}
+
+/// Where a final delta was taken, all deltas together took the totals and the sum.
+pub fn final_deltas_take_all()
+    ensures { FinalDeltasTakeAll }
+{}
+
+/// A final snapshot has the totals, the sum and the redundant count.
+pub fn final_snapshots_are_exact()
+    ensures { FinalSnapshotsAreExact }
+{}
+
+/// No bucket and no value of a snapshot is above the final total.
+pub fn snapshots_stay_below()
+    ensures { SnapshotsStayBelow }
 {}
 
 /// A link that finds the end of the list makes the chain longer by its record.

@@ -30,7 +30,7 @@ use Rattle.segment_promises.specs.Deltas.{FinalDeltasTakeAll, FinalSnapshotsAreE
 -- ---- entries that have ended
 
 -- those that pass a test which ended entries pass are all of a list of ended entries
-all_pass : (test : Counting → Bool) → ((c : Counting) → has_ended c ≡ true → test c ≡ true) → (list : List Counting)
+pub all_pass : (test : Counting → Bool) → ((c : Counting) → has_ended c ≡ true → test c ≡ true) → (list : List Counting)
     → ((c : Counting) → Contains list c → has_ended c ≡ true) → filter test list ≡ list
 all_pass test passes [] ended = refl
 all_pass test passes (c ∷ rest) ended =

@@ -6,6 +6,7 @@ ghost use Rattle.segment_promises.specs.States.{ReachedStatesFollow};
 ghost use Rattle.segment_promises.specs.Follows.{StepsFollow, TablesOpen, TablesClose, TablesFollow, TablesAnnounce, TablesSplit, TablesJoin};
 ghost use Rattle.segment_promises.specs.Tallies.{PartsAddUp};
 ghost use Rattle.segment_promises.specs.Deltas.{FinalDeltasTakeAll, FinalSnapshotsAreExact, SnapshotsStayBelow};
+ghost use Rattle.segment_promises.specs.Refusals.{RefusedAddsFew};
 ghost use Rattle.segment_promises.specs.Examples.{LinksLengthen, DeltaOwes, SnapshotOwes};
 
 /// Where each event and each note keeps what holds, every state that is reached from a kept one is kept.
@@ -66,6 +67,11 @@ pub fn final_snapshots_are_exact()
 /// No bucket and no value of a snapshot is above the final total.
 pub fn snapshots_stay_below()
     ensures { SnapshotsStayBelow }
+{}
+
+/// A call that counts and is refused has counted and noted its first entries, and otherwise nothing.
+pub fn refused_adds_few()
+    ensures { RefusedAddsFew }
 {}
 
 /// A link that finds the end of the list makes the chain longer by its record.

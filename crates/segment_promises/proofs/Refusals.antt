@@ -1,0 +1,100 @@
+-- What a refused call that counts has done: its first entries.
+use Rattle.std.proofs.Common.{◌≡◌, ◌≢◌, ℕ, ◌+◌, Bool, true, false, ◌||◌, ℤ, pos, ◌+ℤ◌, List, [], ◌∷◌, ◌++◌, map, take, drop, refl, sym, ap, subst, ◌∙◌, append-nil, append_assoc, ⊎_elim}
+use Rattle.std.specs.Prelude.{if◌then◌else◌}
+use Rattle.std.specs.List.{filter, All, Contains}
+use Rattle.std.specs.Ordering.{int_eq}
+use Rattle.std.proofs.lemmas.Bool.{and_parts}
+use Rattle.std.proofs.lemmas.Bool.Decides.{Decides-int_eq}
+use Rattle.std.proofs.lemmas.List.{map-append, take-append-drop}
+use Rattle.std.proofs.lemmas.List.Elements.{All-contains, All-append}
+use Rattle.segment_machine.specs.declared.entry.Entry.{Entry}
+use Rattle.segment_machine.specs.declared.entry.Counting.{Counting}
+use Rattle.segment_machine.specs.declared.place.Place.{Place}
+use Rattle.segment_machine.specs.declared.place.Place.TheVariants.{Spent, Moving}
+use Rattle.segment_machine.specs.declared.actor.Actor.{Actor}
+use Rattle.segment_machine.specs.Entry.{is_counted, is_summed, is_noted, has_ended, tally_units, tally_sum, tally_noted, counted_among, summed_among, noted_among}
+use Rattle.segment_machine.specs.Actor.{log_of, counted_of, summed_of, noted_of, transit_at, is_bound}
+use Rattle.segment_machine.specs.Note.{is_untouched}
+use Rattle.segment_invariant.proofs.Lists.Countings.{or_false, beside_same, nothing_among, no_amount, sum_total, untouched_counts, untouched_sums, untouched_notes}
+use Rattle.segment_promises.specs.Refusals.{RefusedAddsFew}
+use Rattle.segment_promises.proofs.Joined.{all_pass}
+
+-- who is free to turn elsewhere has nothing in transit
+nothing_moves : (place : Place) → is_bound place ≡ false → (histogram bucket : ℕ) → transit_at place histogram bucket ≡ 0
+nothing_moves (Moving look bucket units) free histogram i = cc free
+nothing_moves place free histogram i = refl
+
+-- and was not joined
+lives : (a : Actor) → is_bound a.place ≡ false → a.place ≢ Spent
+lives a free is = cc (free, ap is_bound is)
+
+module _ (a : Actor) (added : ℕ) (logged : All (λ c. has_ended c ≡ true) a.log) (ended : All (λ c. has_ended c ≡ true) (take added a.running))
+    (untouched : All (λ c. is_untouched c ≡ true) (drop added a.running)) (unsummed : All (λ c. c.summed ≡ false) (take added a.running)) where
+  abbrev done : List Counting
+  done = take added a.running
+
+  abbrev left : List Counting
+  left = drop added a.running
+
+  abbrev entries : List Counting → List Entry
+  entries list = map (λ (c : Counting). c.entry) list
+
+  ran : a.log ++ a.running ≡ (a.log ++ done) ++ left
+  ran = ap (λ (list : List Counting). a.log ++ list) (sym (take-append-drop added a.running)) ∙ sym (append_assoc a.log done left)
+
+  each_left : (c : Counting) → Contains left c → is_untouched c ≡ true
+  each_left c has = All-contains (λ (c : Counting). is_untouched c ≡ true) left c untouched has
+
+  -- of ended entries those that pass are all
+  among : (test : Counting → Bool) → ((c : Counting) → has_ended c ≡ true → test c ≡ true) → (list : List Counting) → All (λ c. has_ended c ≡ true) list
+      → entries (filter test (list ++ [])) ≡ entries list
+  among test passes list all =
+      ap (λ (list : List Counting). entries (filter test list)) (append-nil list)
+      ∙ ap entries (all_pass test passes list (λ c has. All-contains (λ (c : Counting). has_ended c ≡ true) list c all has))
+
+  both : All (λ c. has_ended c ≡ true) (a.log ++ done)
+  both = All-append (λ (c : Counting). has_ended c ≡ true) a.log done logged ended
+
+  counts : (name : List ℕ) (key : ℤ) → tally_units (counted_of a) name key ≡ tally_units (log_of a ++ entries done) name key
+  counts name key =
+      ap (λ list. tally_units (a.first ++ counted_among list) name key) ran
+      ∙ untouched_counts a.first (a.log ++ done) left each_left name key
+      ∙ ap (λ list. tally_units list name key)
+      (ap (λ list. a.first ++ list) (among is_counted (λ c e. (and_parts (is_counted c) _ (and_parts _ _ e).0).0) (a.log ++ done) both ∙ map-append (λ (c : Counting). c.entry) a.log done)
+      ∙ sym (append_assoc a.first (entries a.log) (entries done)))
+
+  notes : (name : List ℕ) → tally_noted (noted_of a) name ≡ tally_noted (entries a.log ++ entries done) name
+  notes name =
+      ap (λ list. tally_noted (noted_among list) name) ran
+      ∙ untouched_notes [] (a.log ++ done) left each_left name
+      ∙ ap (λ list. tally_noted list name)
+      (among is_noted (λ c e. (and_parts _ (is_noted c) e).1) (a.log ++ done) both ∙ map-append (λ (c : Counting). c.entry) a.log done)
+
+  -- the first entries have no amount
+  no_amounts : (name : List ℕ) → tally_sum (summed_among done) name ≡ tally_sum [] name
+  no_amounts name = nothing_among ◌+ℤ◌ (λ list. tally_sum list name) (sum_total name) is_summed done
+      (λ c has passes. no_amount name c.entry
+      ((Decides-int_eq c.entry.amount (pos 0)).0
+      (or_false c.summed (int_eq c.entry.amount (pos 0)) (All-contains (λ (c : Counting). c.summed ≡ false) done c unsummed has) passes)))
+
+  sums : (name : List ℕ) → tally_sum (summed_of a) name ≡ tally_sum (log_of a) name
+  sums name =
+      ap (λ list. tally_sum (a.first ++ summed_among list) name) ran
+      ∙ untouched_sums a.first (a.log ++ done) left each_left name
+      ∙ ap (λ list. tally_sum (a.first ++ summed_among list) name) (append-nil (a.log ++ done))
+      ∙ beside_same ◌+ℤ◌ (λ list. tally_sum list name) (sum_total name) is_summed a.first a.log done [] (no_amounts name)
+      ∙ ap (λ list. tally_sum (a.first ++ list) name) (among is_summed (λ c e. (and_parts (is_counted c) _ (and_parts _ _ e).0).1) a.log logged)
+
+not_so : (b : Bool) → (b ≡ true → ⊥) → b ≡ false
+not_so true nor = absurd (nor refl)
+not_so false nor = refl
+
+pub refused_adds_few : RefusedAddsFew
+refused_adds_few shape opened state who a added kept mine runs (unbound, ended, untouched, unsummed) =
+    let calls = (kept.each who a mine (lives a unbound)).calls in record {
+      counted = counts a added calls.ended ended untouched unsummed;
+      noted = notes a added calls.ended ended untouched unsummed;
+      summed = sums a added calls.ended ended untouched unsummed;
+      moved = nothing_moves a.place unbound;
+      took = not_so a.taking (λ is. runs (calls.taking is).0);
+    }

@@ -1,17 +1,15 @@
 -- Where all recorders are joined, the opener alone has done what was done.
-use Rattle.std.proofs.Common.{◌≡◌, ◌≢◌, ℕ, zero, suc, ◌+◌, Bool, true, false, cond, ◌&&◌, ℤ, ◌⊎◌, ◌≤◌, ◌-◌, List, [], ◌∷◌, ◌++◌, map, take, drop, length, refl, sym, ap, subst, ◌∙◌, append-nil, ⊎_elim, arith}
-use Rattle.std.specs.Prelude.{if◌then◌else◌, sum_by}
+use Rattle.std.proofs.Common.{◌≡◌, ◌≢◌, ℕ, suc, Bool, true, false, cond, ℤ, ◌⊎◌, ◌≤◌, ◌-◌, List, [], ◌∷◌, ◌++◌, map, take, drop, length, refl, sym, ap, subst, ◌∙◌, append-nil, ⊎_elim, arith}
+use Rattle.std.specs.Prelude.{if◌then◌else◌}
 use Rattle.std.specs.List.{filter, flat_map, All, Contains}
 use mathlib.Core.Option.{some, some-injective, some-ne-none}
 use lib.ListN.{get_elem?}
 use Rattle.std.proofs.lemmas.Bool.{and_parts}
-use Rattle.std.proofs.lemmas.List.Elements.{All-contains, All-nil, All-weaker, Contains-append_right}
+use Rattle.std.proofs.lemmas.List.Elements.{All-contains, All-nil, Contains-append_right}
 use Rattle.segment_image.specs.Shape.{Dimensions}
 use Rattle.segment_machine.specs.declared.entry.Entry.{Entry}
 use Rattle.segment_machine.specs.declared.entry.Counting.{Counting}
-use Rattle.segment_machine.specs.declared.place.Place.TheVariants.{Spent}
 use Rattle.segment_machine.specs.declared.actor.Actor.{Actor}
-use Rattle.segment_machine.specs.declared.actor.Taken.{Taken}
 use Rattle.segment_machine.specs.Entry.{is_counted, is_summed, is_noted, has_ended, is_of, tally_units, tally_sum, tally_noted}
 use Rattle.segment_machine.specs.Actor.{log_of, counted_of, summed_of, noted_of, all_counted, all_summed, all_noted, all_taken, taken_units, taken_sum}
 use Rattle.segment_machine.specs.Note.{is_untouched}

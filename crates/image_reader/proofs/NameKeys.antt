@@ -1,15 +1,15 @@
 -- A name, from its key.
-use Rattle.std.proofs.Common.{◌≡◌, true, ◌&&◌, not, ◌==◌, ◌<◌, ◌≤◌, ℕ, zero, suc, ◌+◌, ◌*◌, ◌/◌, ◌%◌, ◌^◌, List, [], ◌∷◌, ◌++◌, refl, ap, sym, ◌∙◌, take, drop, length, min, arith, length-take, Vec, Global}
+use Rattle.std.proofs.Common.{◌≡◌, true, ◌&&◌, not, ◌==◌, ◌<◌, ◌≤◌, ℕ, zero, suc, ◌+◌, ◌*◌, ◌^◌, List, [], ◌∷◌, ◌++◌, refl, ap, sym, ◌∙◌, take, drop, length, min, arith, length-take, Vec, Global}
 use Rattle.std.specs.List.{list_all}
 use Rattle.std.specs.Prelude.{nat_le, slice_index}
 use Rattle.std.specs.Cmp.{first_so, second_so}
-use Rattle.std.specs.Int.Digits.{digits_of, number_from_digits, number_from_digits_after, AllBelowBase}
+use Rattle.std.specs.Int.Digits.{digits_of, number_from_digits_after, AllBelowBase}
 use Rattle.std.proofs.lemmas.Int.Digits.{digits_of_step}
 use Rattle.std.proofs.lemmas.Bool.{leb-true}
 use Rattle.std.proofs.lemmas.List.{take-append-drop, append-nil, append_assoc}
 use Rattle.std.proofs.lemmas.Nat.{div-mul-add, mod-mul-add}
 use Rattle.std.proofs.Math.Nat.{pow-suc}
-use Rattle.byteorder.specs.Endian.{big_number, big_from}
+use Rattle.byteorder.specs.Endian.{big_number}
 use Rattle.byteorder.specs.Numbers.{big_from-cons, big_from-take}
 use Rattle.bucket_ranges.specs.Reading.{is_name, is_name_byte}
 use Rattle.image_reader.specs.Names.{prefix_of, name_of_key}

@@ -1,9 +1,11 @@
 pub mod Actors
 pub mod Amounts
+pub mod Announcements
 pub mod Asks
 pub mod Begins
 pub mod Deltas
 pub mod Ends
+pub mod GoesOn
 pub mod Keeps
 pub mod Knows
 pub mod Letters

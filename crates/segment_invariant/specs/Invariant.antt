@@ -259,7 +259,7 @@ is_living a = (a.opener == 0) && not (is_spent a.place)
     is_spent Spent = true
     is_spent _ = false
 
--- The first actor is the one opener; it runs nothing. The recorders that live are as many as it has outstanding. Each was made at
+-- The first actor is the one opener; it runs nothing, and offers no more than it has. The recorders that live are as many as it has outstanding. Each was made at
 -- a time of its own; one that was made while none was outstanding is older than all that live; and what it inherited the opener
 -- has in its log, which is just that while only this one lives.
 pub record RolesAreKept (actors : List Actor) : Type 0 where
@@ -268,7 +268,8 @@ pub record RolesAreKept (actors : List Actor) : Type 0 where
   pub opens : opener.opener ≡ 1
   pub idle : opener.place ≡ Idle
   pub rests : (opener.running ≡ []) × (opener.held ≡ []) × (opener.taking ≡ false) × (opener.inherited ≡ []) × (opener.owed ≡ [])
-  pub only : (id : ℕ) (a : Actor) → get_elem? actors id ≡ some a → id ≢ 0 → (a.opener ≡ 0) × (a.first ≡ []) × (a.first_noted ≡ [])
+  pub only : (id : ℕ) (a : Actor) → get_elem? actors id ≡ some a → id ≢ 0 → (a.opener ≡ 0) × (a.first ≡ []) × (a.first_noted ≡ []) × (a.offered ≡ 0)
+  pub offers : opener.offered ≤ opener.share
   pub living : sum_by (λ a. if is_living a then 1 else 0) actors ≡ opener.outstanding
   pub few : opener.outstanding ≤ 256
   pub younger : (id : ℕ) (a : Actor) → get_elem? actors id ≡ some a → is_living a ≡ true → a.made < opener.made

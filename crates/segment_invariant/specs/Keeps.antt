@@ -1,6 +1,7 @@
 -- What is to be shown of what holds between any two events: it holds of a new segment, each event keeps it, recorders that are made
 -- and joined keep it, and it has the parts of consistency in it.
 use Rattle.std.specs.Prelude.{◌≡◌, ◌⊎◌, ℕ, zero, suc, [], take, drop, length, slice_set, ⊤}
+use Rattle.std.specs.List.{Contains}
 use mathlib.Core.Option.{some}
 use lib.ListN.{get_elem?}
 use Rattle.segment_image.specs.declared.layout.TheConstants.{VERSION_WORD}
@@ -15,10 +16,10 @@ use Rattle.segment_machine.specs.Walking.{WalkingEvent}
 use Rattle.segment_machine.specs.Cursors.{CursorEvent}
 use Rattle.segment_machine.specs.State.{State, memory}
 use Rattle.segment_invariant.specs.Consistent.{ListIsChain, FlagsAreSet, UnitsAreKept, RecordsHold, TotalsAreCounted, MarksAreTaken, SumsAreAmounts, TransitIsLocal, IsConsistent, new_opening}
-use Rattle.segment_machine.specs.Reached.{new_state, IsState, IsSplit, IsJoin, IsLent}
+use Rattle.segment_machine.specs.Reached.{new_state, IsState, IsAnnounced, IsOffered, IsSplit, IsJoin, IsLent, IsReturned}
 use Rattle.segment_invariant.specs.Body.{Anatomy, blank, order_of}
 use Rattle.segment_invariant.specs.Invariant.{Invariant}
-use Rattle.segment_machine.specs.Note.{Note, begins, amounts, asks, knows, takes, looks, ends, refused, MayNote, noted, declines}
+use Rattle.segment_machine.specs.Note.{Note, begins, goes_on, amounts, asks, knows, takes, looks, ends, refused, MayNote, noted, declines}
 
 -- ---- at the opening
 
@@ -27,10 +28,10 @@ abbrev pub OpeningIsKept : Type 0
 OpeningIsKept = (shape : Dimensions) (version id cursors : ℕ) → IsShape shape → (version ≡ 1) ⊎ (version ≡ 2)
     → Invariant shape (blank version id shape.size) (new_state shape version id cursors)
 
--- from one state the first actor has made so many recorders, one after the other, each with units of its own
+-- from one state the first actor has made so many recorders, one after the other, each with the units that were offered before
 abbrev pub HasMade : ℕ → State → State → Type 0
 HasMade zero old new = old ≡ new
-HasMade (suc n) old new = (mid : State) × (units : ℕ) × HasMade n old mid × IsSplit mid 0 units new
+HasMade (suc n) old new = (mid said : State) × (units : ℕ) × HasMade n old mid × IsOffered mid 0 units said × IsSplit said 0 new
 
 -- a new segment is kept with any number of recorders
 abbrev pub OpeningsAreKept : Type 0
@@ -84,6 +85,7 @@ NoteKeeps note = (shape : Dimensions) (opened : Anatomy) (state : State) (id : �
 -- they are to hold, and a `hist` is answered, or refused once its record is linked
 abbrev pub IsPlainNote : Note → Type 0
 IsPlainNote (begins name cost entries) = ⊤
+IsPlainNote (goes_on entry cost) = ⊤
 IsPlainNote (amounts amount) = ⊤
 IsPlainNote (asks at made) = ⊤
 IsPlainNote (knows known) = ⊤
@@ -97,17 +99,30 @@ IsPlainNote _ = ⊥
 abbrev pub NotesKeep : Type 0
 NotesKeep = (note : Note) → IsPlainNote note → NoteKeeps note
 
+-- an announcement whose notes keep what holds keeps it
+abbrev pub AnnouncementsKeep : Type 0
+AnnouncementsKeep = (shape : Dimensions) (opened : Anatomy) (old new : State) (id : ℕ) → Invariant shape opened old → (is : IsAnnounced old id new)
+    → ((note : Note) → Contains is.2 note → NoteKeeps note) → Invariant shape opened new
+
 -- ---- at seats
 
--- a recorder is made, joined, and lent units
+-- a recorder is offered units, made, and joined
+abbrev pub OffersKeep : Type 0
+OffersKeep = (shape : Dimensions) (opened : Anatomy) (old new : State) (id units : ℕ) → Invariant shape opened old → IsOffered old id units new → Invariant shape opened new
+
 abbrev pub SplitsKeep : Type 0
-SplitsKeep = (shape : Dimensions) (opened : Anatomy) (old new : State) (id units : ℕ) → Invariant shape opened old → IsSplit old id units new → Invariant shape opened new
+SplitsKeep = (shape : Dimensions) (opened : Anatomy) (old new : State) (id : ℕ) → Invariant shape opened old → IsSplit old id new → Invariant shape opened new
 
 abbrev pub JoinsKeep : Type 0
 JoinsKeep = (shape : Dimensions) (opened : Anatomy) (old new : State) (id other : ℕ) → Invariant shape opened old → IsJoin old id other new → Invariant shape opened new
 
+-- it is lent units, and gives units back
 abbrev pub LendsKeep : Type 0
 LendsKeep = (shape : Dimensions) (opened : Anatomy) (old new : State) (id other units : ℕ) → Invariant shape opened old → IsLent old id other units new
+    → Invariant shape opened new
+
+abbrev pub ReturnsKeep : Type 0
+ReturnsKeep = (shape : Dimensions) (opened : Anatomy) (old new : State) (id other units : ℕ) → Invariant shape opened old → IsReturned old id other units new
     → Invariant shape opened new
 
 -- ---- what it has in it

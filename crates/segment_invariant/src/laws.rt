@@ -6,7 +6,7 @@
 ghost use Rattle.segment_invariant.specs.Examples.{PackedThenMounted, StoppedInTransit, PackingLimit, DeltasAndMarks, TwoTakers, SparseSamples, MountedIsConsistent, ListBreaks, RecordsBreak, TotalsBreak, MarksBreak, SumsBreak, TransitBreaks, FlagsBreak, UnitsBreak};
 ghost use Rattle.segment_invariant.specs.Accounts.{MountedAgrees, LimitAgrees, TakersAgree, SparseAgrees, BatchAgrees};
 ghost use Rattle.segment_invariant.specs.Refused.{CountsLoaded, UnitsSpent, CountsOwe, WordsFormed, KindsRead};
-ghost use Rattle.segment_invariant.specs.Keeps.{OpeningIsKept, OpeningsAreKept, AllocatingKeeps, PublishingKeeps, WalkingKeeps, CursorsKeep, SplitsKeep, JoinsKeep, LendsKeep, KeptFlagsAreSet, KeptIsChain, KeptUnitsAreKept, KeptTransitIsLocal, KeptSumsAreAmounts, KeptTotalsAreCounted, KeptMarksAreTaken, NotesKeep, KeptRecordsHold, KeptIsConsistent};
+ghost use Rattle.segment_invariant.specs.Keeps.{OpeningIsKept, OpeningsAreKept, AllocatingKeeps, PublishingKeeps, WalkingKeeps, CursorsKeep, OffersKeep, SplitsKeep, JoinsKeep, LendsKeep, ReturnsKeep, AnnouncementsKeep, KeptFlagsAreSet, KeptIsChain, KeptUnitsAreKept, KeptTransitIsLocal, KeptSumsAreAmounts, KeptTotalsAreCounted, KeptMarksAreTaken, NotesKeep, KeptRecordsHold, KeptIsConsistent};
 
 /// Two packed units are moved to the counts, where the next sample is counted: the words become those of the segment, and the
 /// totals, the sum and the redundant count are those of the entries.
@@ -168,6 +168,11 @@ pub fn cursors_keep()
     ensures { CursorsKeep }
 {}
 
+/// What holds between any two events holds on where an opener says how many units its next recorder is to have.
+pub fn offers_keep()
+    ensures { OffersKeep }
+{}
+
 /// What holds between any two events holds on where an opener makes a recorder.
 pub fn splits_keep()
     ensures { SplitsKeep }
@@ -181,6 +186,16 @@ pub fn joins_keep()
 /// What holds between any two events holds on where an opener lends units to a recorder.
 pub fn lends_keep()
     ensures { LendsKeep }
+{}
+
+/// What holds between any two events holds on where an opener gets units back from a recorder.
+pub fn returns_keep()
+    ensures { ReturnsKeep }
+{}
+
+/// What holds between any two events holds on where a recorder tells notes that keep it, without an event.
+pub fn announcements_keep()
+    ensures { AnnouncementsKeep }
 {}
 
 /// The flags of a kept state are set exactly where an actor has set them.

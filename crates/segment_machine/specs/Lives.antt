@@ -5,33 +5,36 @@ use Rattle.segment_machine.specs.Actor.{units_of}
 use Rattle.segment_machine.specs.Allocating.{load_flags}
 use Rattle.segment_machine.specs.Event.{allocating_event, cursor_event, next}
 use Rattle.segment_machine.specs.Cursors.{load_cursor}
-use Rattle.segment_machine.specs.Seats.{opener_of, parent, newcomer, lender, borrower, joined, spent}
+use Rattle.segment_machine.specs.Seats.{opener_of, parent, newcomer, offering, giver, getter, joined, spent}
 use Rattle.segment_machine.specs.State.{State}
 use Rattle.segment_machine.specs.Reached.{new_state, IsState, IsJoined}
 use Rattle.segment_machine.specs.Examples.{shape}
 
--- a new segment with a shared cursor, whose opener makes a recorder with five units and lends it three more
+-- a new segment with a shared cursor, whose opener offers five units, makes a recorder with them, lends it three more, and gets one back
 abbrev pub opened : State
 opened = new_state shape 1 7 1
 
 abbrev pub with_actors : List Actor → State
 with_actors actors = record opened { actors = actors }
 
+abbrev pub offers : Actor
+offers = offering (opener_of shape 1 1) 5
+
 abbrev pub split_opener : Actor
-split_opener = parent (opener_of shape 1 1) 5
+split_opener = parent offers
 
 abbrev pub recorder : Actor
-recorder = newcomer (opener_of shape 1 1) 5
+recorder = newcomer offers
 
 abbrev pub lent : Actor
-lent = borrower recorder 3
+lent = giver (getter recorder 3) 1
 
 -- it loads the flags, and then the shared cursor
 abbrev pub looked : Actor
 looked = next (next lent (allocating_event load_flags) 0) (cursor_event (load_cursor 0)) 12
 
 abbrev pub last_opener : Actor
-last_opener = joined (lender split_opener 3) looked
+last_opener = joined (getter (giver split_opener 3) 1) looked
 
 abbrev pub joined_state : State
 joined_state = with_actors (last_opener ∷ spent ∷ [])
@@ -41,5 +44,5 @@ joined_state = with_actors (last_opener ∷ spent ∷ [])
 abbrev pub RecorderIsJoined : Type 0
 RecorderIsJoined =
     IsState shape 1 7 1 joined_state × IsJoined joined_state last_opener
-    × (units_of split_opener ≡ 4294967290) × (units_of lent ≡ 8) × (last_opener.share ≡ 4294967295) × (last_opener.made ≡ 1)
+    × (units_of split_opener ≡ 4294967290) × (units_of lent ≡ 7) × (last_opener.share ≡ 4294967295) × (last_opener.made ≡ 1)
     × (map (λ s. s.word) last_opener.seen.cursors ≡ 12 ∷ [])

@@ -1,5 +1,5 @@
--- What an actor notes in its own record, beside an event. A note changes no word; it comes at one of its actor's events, before
--- or behind what that event makes of it. So a step still changes one word and one actor at most.
+-- What an actor notes in its own record. A note changes no word; it comes at one of its actor's events, before or behind what that
+-- event makes of it, or in an announcement. So a step still changes one word and one actor at most.
 use Rattle.std.specs.Prelude.{◌≡◌, ◌≢◌, Bool, true, false, not, ◌&&◌, ◌==◌, ℕ, ◌+◌, ◌-◌, ◌*◌, ◌<◌, ◌≤◌, ℤ, pos, unsigned_abs, ◌⊎◌, List, [], ◌∷◌, ◌++◌, map, take, drop, length, Some, None}
 use mathlib.Core.Option.{some}
 use lib.ListN.{get_elem?}
@@ -30,6 +30,8 @@ use Rattle.segment_machine.specs.Calls.{change_last, change_own}
 pub data Note : Type 0 where
   -- a call that counts begins: entries of a histogram, and what it holds for them
   begins : (name : List ℕ) (cost : ℕ) (entries : List Entry) → Note
+  -- a call whose entries have all ended goes on with one more entry, and holds so many units beside: so a batch is told item by item
+  goes_on : (entry : Entry) (cost : ℕ) → Note
   -- the amount of the last entry becomes known, where it was told as 0: that of a sample, or of a batch's sum
   amounts : (amount : ℤ) → Note
   -- the block at a word is to hold this
@@ -76,6 +78,11 @@ noted a (begins name cost entries) = record a {
   share = a.share - cost;
   held = record { name = name; units = cost } ∷ [];
   running = map fresh entries;
+}
+noted a (goes_on entry cost) = record a {
+  share = a.share - cost;
+  held = map (λ (held : Cost). record held { units = held.units + cost }) a.held;
+  running = a.running ++ fresh entry ∷ [];
 }
 noted a (amounts amount) = record a {
   running = change_last (λ c. let entry = c.entry in record c { entry = record entry { amount = amount } }) a.running;
@@ -156,6 +163,10 @@ abbrev pub MayNote : Actor → Note → Type 0
 MayNote a (begins name cost entries) =
     (a.place ≢ Spent) × (a.opener ≡ 0) × (a.running ≡ []) × (a.held ≡ []) × (a.taking ≡ false) × (cost ≤ a.share)
     × Contains (map (λ known. known.name) a.names) name × AreWithin name cost entries
+MayNote a (goes_on entry cost) =
+    (a.running ≢ []) × All (λ c. has_ended c ≡ true) a.running × (cost ≤ a.share)
+    × ((name : List ℕ) × (units : ℕ) × (a.held ≡ record { name = name; units = units } ∷ [])
+    × AreWithin name (units + cost) (map (λ c. c.entry) a.running ++ entry ∷ []))
 MayNote a (amounts amount) =
     ((before : List Counting) × (last : Counting) × (a.running ≡ before ++ last ∷ []) × (last.summed ≡ false) × (last.noted ≡ false))
     × All (λ c. c.entry.amount ≡ pos 0) a.running

@@ -1,5 +1,5 @@
--- The states that are reached: a new segment, and from there steps, recorders that are made and joined, and units that are lent, in
--- whatever order.
+-- The states that are reached: a new segment, and from there steps, announcements, recorders that are made and joined, and units that
+-- are lent and given back, in whatever order.
 use Rattle.std.specs.Prelude.{◌≡◌, ◌≢◌, ◌⊎◌, ℕ, ◌≤◌, List, [], ◌∷◌, ◌++◌, slice_set, replicate}
 use mathlib.Core.Option.{some}
 use lib.ListN.{get_elem?}
@@ -10,7 +10,7 @@ use Rattle.segment_machine.specs.declared.actor.Actor.{Actor}
 use Rattle.segment_machine.specs.Event.{Event}
 use Rattle.segment_machine.specs.Note.{Note, Notes}
 use Rattle.segment_machine.specs.State.{State, IsStep}
-use Rattle.segment_machine.specs.Seats.{opener_of, MaySplit, parent, newcomer, MayLend, lender, borrower, MayJoin, joined, spent}
+use Rattle.segment_machine.specs.Seats.{opener_of, MayOffer, offering, MaySplit, parent, newcomer, MayLend, MayReturn, giver, getter, MayJoin, joined, spent}
 
 -- ---- the states that are reached
 
@@ -22,36 +22,50 @@ new_state shape version id cursors = record {
   actors = opener_of shape version cursors ∷ [];
 }
 
+-- Announcements, which change no word and are steps of their own: a recorder tells notes, and an opener how many units its next
+-- recorder is to have.
+abbrev pub IsAnnounced : State → ℕ → State → Type 0
+IsAnnounced old id new =
+    (a b : Actor) × (notes : List Note) × (get_elem? old.actors id ≡ some a) × (a.opener ≡ 0) × Notes a notes b
+    × (new ≡ record old { actors = slice_set old.actors id b })
+
+abbrev pub IsOffered : State → ℕ → ℕ → State → Type 0
+IsOffered old id units new =
+    (a : Actor) × (get_elem? old.actors id ≡ some a) × MayOffer a units
+    × (new ≡ record old { actors = slice_set old.actors id (offering a units) })
+
 -- an opener makes a recorder, and joins one
-abbrev pub IsSplit : State → ℕ → ℕ → State → Type 0
-IsSplit old id units new =
-    (a : Actor) × (get_elem? old.actors id ≡ some a) × MaySplit a units
-    × (new ≡ record old { actors = slice_set old.actors id (parent a units) ++ newcomer a units ∷ [] })
+abbrev pub IsSplit : State → ℕ → State → Type 0
+IsSplit old id new =
+    (a : Actor) × (get_elem? old.actors id ≡ some a) × MaySplit a
+    × (new ≡ record old { actors = slice_set old.actors id (parent a) ++ newcomer a ∷ [] })
 
 abbrev pub IsJoin : State → ℕ → ℕ → State → Type 0
 IsJoin old id other new =
     (a b : Actor) × (id ≢ other) × (get_elem? old.actors id ≡ some a) × (get_elem? old.actors other ≡ some b) × MayJoin a b
     × (new ≡ record old { actors = slice_set (slice_set old.actors id (joined a b)) other spent })
 
--- an opener lends units to a recorder
+-- an opener lends units to a recorder, and gets units back
 abbrev pub IsLent : State → ℕ → ℕ → ℕ → State → Type 0
 IsLent old id other units new =
     (a b : Actor) × (id ≢ other) × (get_elem? old.actors id ≡ some a) × (get_elem? old.actors other ≡ some b) × MayLend a b units
-    × (new ≡ record old { actors = slice_set (slice_set old.actors id (lender a units)) other (borrower b units) })
+    × (new ≡ record old { actors = slice_set (slice_set old.actors id (giver a units)) other (getter b units) })
 
--- a recorder announces something: it makes notes, and no word changes
-abbrev pub IsAnnounced : State → ℕ → State → Type 0
-IsAnnounced old id new =
-    (a b : Actor) × (notes : List Note) × (get_elem? old.actors id ≡ some a) × (a.opener ≡ 0) × Notes a notes b
-    × (new ≡ record old { actors = slice_set old.actors id b })
+abbrev pub IsReturned : State → ℕ → ℕ → ℕ → State → Type 0
+IsReturned old id other units new =
+    (a b : Actor) × (id ≢ other) × (get_elem? old.actors id ≡ some a) × (get_elem? old.actors other ≡ some b) × MayReturn a b units
+    × (new ≡ record old { actors = slice_set (slice_set old.actors id (getter a units)) other (giver b units) })
 
--- from one state steps, announcements, recorders that are made and joined, and units that are lent lead to another, in whatever order
+-- from one state steps, announcements, recorders that are made and joined, and units that are lent and given back lead to another, in
+-- whatever order
 pub data IsReached (version : ℕ) (start : State) : State → Type 0 where
   started : IsReached version start start
   stepped : (old new : State) (id : ℕ) (event : Event) → IsReached version start old → IsStep version old id event new → IsReached version start new
   announced : (old new : State) (id : ℕ) → IsReached version start old → IsAnnounced old id new → IsReached version start new
-  split : (old new : State) (id units : ℕ) → IsReached version start old → IsSplit old id units new → IsReached version start new
+  offered : (old new : State) (id units : ℕ) → IsReached version start old → IsOffered old id units new → IsReached version start new
+  split : (old new : State) (id : ℕ) → IsReached version start old → IsSplit old id new → IsReached version start new
   lent : (old new : State) (id other units : ℕ) → IsReached version start old → IsLent old id other units new → IsReached version start new
+  returned : (old new : State) (id other units : ℕ) → IsReached version start old → IsReturned old id other units new → IsReached version start new
   joined_in : (old new : State) (id other : ℕ) → IsReached version start old → IsJoin old id other new → IsReached version start new
 
 -- a state of a new segment of version 1 or 2

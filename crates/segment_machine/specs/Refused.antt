@@ -93,13 +93,13 @@ DebtsStay = ¬ (MayJoin (record (opener_of shape 1 1) { outstanding = 1 }) (reco
 abbrev pub TailsStay : Type 0
 TailsStay =
     ((joined (opener_of shape 1 1) (record recorder { seen = record recorder.seen { tails = 40 ∷ [] } })).seen.tails ≡ 40 ∷ [])
-    × ((newcomer (maker []) 0).seen.tails ≡ 16 ∷ [])
+    × ((newcomer (maker [])).seen.tails ≡ 16 ∷ [])
 
 -- the first entries of an opener were accepted, and stand in no redundant count that is kept
 abbrev pub FirstEntriesApart : Type 0
 FirstEntriesApart =
     let opener = record (opener_of shape 1 1) { first = one 1 ∷ one 0 ∷ []; log = whole (one 1) ∷ [] } in
-    (tally_noted (accepted_by (newcomer opener 0)) letter_a ≡ 3) × (tally_noted (accepted_since opener (newcomer opener 0)) letter_a ≡ 1)
+    (tally_noted (accepted_by (newcomer opener)) letter_a ≡ 3) × (tally_noted (accepted_since opener (newcomer opener)) letter_a ≡ 1)
 
 -- ---- what is counted
 

@@ -1,5 +1,5 @@
--- How recorders are made and joined, and how units are lent. These change no word of a segment, and the records of two actors:
--- an opener and a recorder. In the running segment the first two load a word beside it that never changes.
+-- How recorders are made and joined, and how units are offered, lent and given back. These change no word of a segment, and the
+-- records of two actors at most: an opener and a recorder. In the running segment they load a word beside it that never changes.
 use Rattle.std.specs.Prelude.{◌≡◌, ◌≢◌, ℕ, ◌+◌, ◌-◌, ◌<◌, ◌≤◌, max, false, ◌||◌, nat_lt, if◌then◌else◌, List, [], ◌++◌, map, length}
 use Rattle.segment_image.specs.declared.layout.TheConstants.{HEADER_WORDS}
 use Rattle.segment_image.specs.Shape.{Dimensions}
@@ -47,6 +47,7 @@ idle shape version cursors free share = record {
   opener = 0;
   made = 0;
   outstanding = 0;
+  offered = 0;
 }
 
 -- the opener of a new segment with so many shared cursors, with all its units
@@ -55,34 +56,46 @@ opener_of shape version cursors = record (idle shape version cursors HEADER_WORD
 
 -- ---- a recorder is made
 
-abbrev pub MaySplit : Actor → ℕ → Type 0
-MaySplit a units = (a.place ≡ Idle) × (a.opener ≡ 1) × (units ≤ a.share) × (a.outstanding < 256)
+-- before, its opener says how many of its units it is to have
+abbrev pub MayOffer : Actor → ℕ → Type 0
+MayOffer a units = (a.place ≡ Idle) × (a.opener ≡ 1) × (units ≤ a.share) × (a.outstanding < 256)
+
+abbrev pub offering : Actor → ℕ → Actor
+offering a units = record a { offered = units }
+
+abbrev pub MaySplit : Actor → Type 0
+MaySplit a = (a.place ≡ Idle) × (a.opener ≡ 1) × (a.offered ≤ a.share) × (a.outstanding < 256)
 
 -- what the opener is then: it has handed out the units
-abbrev pub parent : Actor → ℕ → Actor
-parent a units = record a { share = a.share - units; made = a.made + 1; outstanding = a.outstanding + 1 }
+abbrev pub parent : Actor → Actor
+parent a = record a { share = a.share - a.offered; offered = 0; made = a.made + 1; outstanding = a.outstanding + 1 }
 
 -- and the recorder: it has seen what its opener has, done nothing, and knows no histogram
-abbrev pub newcomer : Actor → ℕ → Actor
-newcomer a units = looking (record (idle a.shape a.version a.cursors a.seen.free units) {
+abbrev pub newcomer : Actor → Actor
+newcomer a = looking (record (idle a.shape a.version a.cursors a.seen.free a.offered) {
   inherited = log_of a;
   seen = a.seen;
   made = a.made;
   outstanding = a.outstanding;
 })
 
--- ---- units are lent
+-- ---- units are lent and given back
 
--- An opener may hand more of its units to a recorder: in the stepped world, where all actors draw on one pool, those that a call
--- costs, when it begins.
+-- An opener may hand more of its units to a recorder, but for those that it offers: in the stepped world, where all actors draw on
+-- one pool, those that a call costs, when it begins.
 abbrev pub MayLend : Actor → Actor → ℕ → Type 0
-MayLend a b units = (a.opener ≡ 1) × (b.opener ≡ 0) × (b.place ≢ Spent) × (units ≤ a.share)
+MayLend a b units = (a.opener ≡ 1) × (b.opener ≡ 0) × (b.place ≢ Spent) × (units + a.offered ≤ a.share)
 
-abbrev pub lender : Actor → ℕ → Actor
-lender a units = record a { share = a.share - units }
+-- And it may take units of a recorder back: those that a call did not spend.
+abbrev pub MayReturn : Actor → Actor → ℕ → Type 0
+MayReturn a b units = (a.opener ≡ 1) × (b.opener ≡ 0) × (b.place ≢ Spent) × (units ≤ b.share)
 
-abbrev pub borrower : Actor → ℕ → Actor
-borrower b units = record b { share = b.share + units }
+-- who gives units, and who gets them
+abbrev pub giver : Actor → ℕ → Actor
+giver a units = record a { share = a.share - units }
+
+abbrev pub getter : Actor → ℕ → Actor
+getter a units = record a { share = a.share + units }
 
 -- ---- a recorder is joined
 

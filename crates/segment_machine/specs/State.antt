@@ -19,7 +19,7 @@ memory state = state.words ++ state.cursors
 
 -- One step: a recorder does an event that it may do, with notes before and behind it. The event changes one word at most, by
 -- what it finds there, and the recorder's record alone. An opener does nothing but to make recorders, to lend them units and to
--- join them.
+-- get units back, and to join them.
 pub record IsStep (version : ℕ) (old : State) (id : ℕ) (event : Event) (new : State) : Type 0 where
   pub actor : Actor
   pub there : get_elem? old.actors id ≡ some actor

@@ -178,4 +178,6 @@ pub struct Actor {
     pub made: u64,
     /// How many of these are not joined; for a recorder, how many were not when it was made.
     pub outstanding: u64,
+    /// Of its share, the units that it said its next recorder is to have. An opener's alone.
+    pub offered: u64,
 }

@@ -65,7 +65,7 @@ pub fn batches()
     ensures { Batches }
 {}
 
-/// A recorder that is made, lent units and joined: the opener has all units again, and has seen what the recorder saw.
+/// A recorder that is made with the units that were offered, lent more, gives one back and is joined: the opener has all units again, and has seen what the recorder saw.
 pub fn recorder_is_joined()
     ensures { RecorderIsJoined }
 {}

@@ -1,13 +1,14 @@
 -- Every state that is reached from a kept one is kept, where each event and each note keeps what holds.
 use Rattle.std.proofs.Common.{sym, subst}
 use Rattle.segment_machine.specs.State.{State}
-use Rattle.segment_machine.specs.Reached.{IsReached, started, stepped, announced, split, lent, joined_in}
+use Rattle.segment_machine.specs.Reached.{IsReached, started, stepped, announced, offered, split, lent, returned, joined_in}
 use Rattle.segment_invariant.specs.Invariant.{Invariant}
+use Rattle.segment_invariant.proofs.Notes.Announcements.{announcements_keep}
 use Rattle.segment_invariant.proofs.Recorders.Splits.{splits_keep}
 use Rattle.segment_invariant.proofs.Recorders.Joins.{joins_keep}
-use Rattle.segment_invariant.proofs.Recorders.Lends.{lends_keep}
+use Rattle.segment_invariant.proofs.Recorders.Lends.{offers_keep, lends_keep, returns_keep}
 use Rattle.segment_promises.specs.States.{ReachedStatesFollow}
-use Rattle.segment_promises.proofs.Steps.{steps_follow, notes_keep}
+use Rattle.segment_promises.proofs.Steps.{steps_follow}
 
 pub reached_states_follow : ReachedStatesFollow
 reached_states_follow shape opened start state events notes kept reached = go state reached
@@ -16,8 +17,9 @@ reached_states_follow shape opened start state events notes kept reached = go st
     go state started = kept
     go state (stepped old new id event before step) =
         (steps_follow shape opened old new id event step (events event) (λ note among. notes note) (go old before)).0
-    go state (announced old new id before (a, b, list, there, records, may, is)) =
-        subst (Invariant shape opened) (sym is) (notes_keep shape opened list old id a b (go old before) there records may (λ note among. notes note)).0
-    go state (split old new id units before made) = splits_keep shape opened old new id units (go old before) made
+    go state (announced old new id before told) = announcements_keep shape opened old new id (go old before) told (λ note among. notes note)
+    go state (offered old new id units before made) = offers_keep shape opened old new id units (go old before) made
+    go state (split old new id before made) = splits_keep shape opened old new id (go old before) made
     go state (lent old new id other units before made) = lends_keep shape opened old new id other units (go old before) made
+    go state (returned old new id other units before made) = returns_keep shape opened old new id other units (go old before) made
     go state (joined_in old new id other before made) = joins_keep shape opened old new id other (go old before) made

@@ -26,49 +26,8 @@ use Rattle.segment_invariant.specs.Body.{Anatomy}
 use Rattle.segment_invariant.specs.Invariant.{Invariant}
 use Rattle.segment_invariant.specs.Keeps.{found_at}
 use Rattle.segment_invariant.specs.Keeps.{EventKeeps, NoteKeeps}
+use Rattle.segment_invariant.proofs.Notes.Announcements.{with_actor, notes_follow}
 use Rattle.segment_promises.specs.Follows.{StepsFollow}
-
--- ---- notes
-
--- a note makes no opener of a recorder
-still_records : (a : Actor) (note : Note) → (noted a note).opener ≡ a.opener
-still_records a (begins name cost entries) = refl
-still_records a (amounts amount) = refl
-still_records a (asks at made) = refl
-still_records a (knows known) = refl
-still_records a (declines mine) = refl
-still_records a (takes name) = refl
-still_records a has_taken = refl
-still_records a looks = refl
-still_records a (answers answered) = refl
-still_records a ends = refl
-still_records a (refused added) = refl
-
--- what holds of all but the first of a list
-behind_first : (note : Note) (notes : List Note) (holds : Note → Type 0) → ((n : Note) → Contains (note ∷ notes) n → holds n)
-    → (n : Note) → Contains notes n → holds n
-behind_first note notes holds all n (k, below, is) = all n (suc k, omega (arith, below), is)
-
--- the state with another record of an actor
-abbrev pub with_actor : State → ℕ → Actor → State
-with_actor state id a = record state { actors = set state.actors id a }
-
--- notes that keep what holds keep it one after the other
-pub notes_keep : (shape : Dimensions) (opened : Anatomy) (notes : List Note) (state : State) (id : ℕ) (a b : Actor) → Invariant shape opened state
-    → get_elem? state.actors id ≡ some a → a.opener ≡ 0 → Notes a notes b → ((note : Note) → Contains notes note → NoteKeeps note)
-    → Invariant shape opened (with_actor state id b) × (b.opener ≡ 0)
-notes_keep shape opened [] state id a b kept there records same keep = (
-  subst (λ actors. Invariant shape opened (record state { actors = actors }))
-      (sym (set_again state.actors id a there) ∙ ap (λ x. set state.actors id x) same) kept,
-  sym (ap (λ (x : Actor). x.opener) same) ∙ records,
-)
-notes_keep shape opened (note ∷ notes) state id a b kept there records (may, more) keep =
-    let first = keep note (0, omega arith, refl) shape opened state id a kept there records may in
-    let after_it = notes_keep shape opened notes (with_actor state id (noted a note)) id (noted a note) b first
-    (set_at state.actors id a (noted a note) there) (still_records a note ∙ records) more (behind_first note notes NoteKeeps keep) in (
-      subst (λ actors. Invariant shape opened (record state { actors = actors })) (set-set state.actors id (noted a note) b) after_it.0,
-      after_it.1,
-    )
 
 -- ---- steps
 
@@ -163,13 +122,13 @@ module _ (shape : Dimensions) (opened : Anatomy) (old : State) (id : ℕ) (a at 
       → (Learned at event found → Notes (next at event found) behind then_is × ((note : Note) → Contains behind note → NoteKeeps note))
       → Invariant shape opened (then_with then_is) × Learned at event found
   happens kept there records notes_before before_keeps event_keeps ready behind then_is goes =
-      let first = notes_keep shape opened before old id a at kept there records notes_before before_keeps in
+      let first = notes_follow shape opened before old id a at kept there records notes_before before_keeps in
       let did = event_keeps shape opened (with_actor old id at) id at first.0 (set_at old.actors id a at there) first.1 ready in
       let acted : Actor = next at event found in
       let mid : State = record { words = take (length old.words) all; cursors = drop (length old.words) all; actors = set (set old.actors id at) id acted } in
       let stands = set_at (set old.actors id at) id at acted (set_at old.actors id a at there) in
       let (may, behind_keeps) = goes did.1 in
-      let last = notes_keep shape opened behind mid id acted then_is did.0 stands (acts_on at event found ∙ first.1) may behind_keeps in
+      let last = notes_follow shape opened behind mid id acted then_is did.0 stands (acts_on at event found ∙ first.1) may behind_keeps in
       let actors = set-set (set old.actors id at) id acted then_is ∙ set-set old.actors id at then_is in (
         subst (λ list. Invariant shape opened (record (then_with then_is) { actors = list })) actors last.0,
         did.1,

@@ -15,7 +15,8 @@ use Rattle.segment_invariant.specs.Keeps.{found_at}
 use Rattle.segment_invariant.proofs.Recorders.Splits.{splits_keep}
 use Rattle.segment_invariant.proofs.Recorders.Joins.{joins_keep}
 use Rattle.segment_promises.specs.Follows.{Told, TablesOpen, TablesClose, TablesFollow, TablesAnnounce, TablesSplit, TablesJoin, noted_by}
-use Rattle.segment_promises.proofs.Steps.{happens, notes_keep, with_actor}
+use Rattle.segment_invariant.proofs.Notes.Announcements.{with_actor, notes_follow}
+use Rattle.segment_promises.proofs.Steps.{happens}
 
 -- ---- opened and closed
 
@@ -69,7 +70,7 @@ tables_announce S shape opened notes slots id me becomes same records may s run 
         segment = with_actor seg id last;
         words = (λ i. set (run.words i) 0 (becomes (get_or (run.words i) 0 0))) ∙ ap (λ (n : ℕ). n ∷ memory seg) (same run.anchor);
         views = ap (λ list. set list id last) run.views;
-        kept = (notes_keep shape opened notes seg id me.0 last run.kept there records may.0 may.1).0;
+        kept = (notes_follow shape opened notes seg id me.0 last run.kept there records may.0 may.1).0;
       },
       (refl, refl),
     )
@@ -77,15 +78,15 @@ tables_announce S shape opened notes slots id me becomes same records may s run 
 -- ---- seats
 
 pub tables_split : (S : Type 0) → TablesSplit S
-tables_split S shape opened id units a may s run mine =
+tables_split S shape opened id a may s run mine =
     let seg : State = run.segment in
-    let both = λ (list : List Actor). set list id (parent a units) ++ newcomer a units ∷ [] in
+    let both = λ (list : List Actor). set list id (parent a) ++ newcomer a ∷ [] in
     let there : get_elem? seg.actors id ≡ some a = ap (λ list. get_elem? list id) (sym run.views) ∙ mine in record {
       anchor = run.anchor;
       segment = record seg { actors = both seg.actors };
       words = run.words;
       views = ap both run.views;
-      kept = splits_keep shape opened seg (record seg { actors = both seg.actors }) id units run.kept (a, there, may, refl);
+      kept = splits_keep shape opened seg (record seg { actors = both seg.actors }) id run.kept (a, there, may, refl);
     }
 
 pub tables_join : (S : Type 0) → TablesJoin S

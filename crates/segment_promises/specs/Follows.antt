@@ -85,8 +85,8 @@ TablesAnnounce S = (shape : Dimensions) (opened : Anatomy) (notes : List Note) (
 
 -- an opener's seat may be cut in two where it may make a recorder
 abbrev pub TablesSplit : Type 0 → Type 0
-TablesSplit S = (shape : Dimensions) (opened : Anatomy) (id units : ℕ) (a : Actor) → MaySplit a units
-    → table.Splits (Running S shape opened) id a (parent a units) (newcomer a units)
+TablesSplit S = (shape : Dimensions) (opened : Anatomy) (id : ℕ) (a : Actor) → MaySplit a
+    → table.Splits (Running S shape opened) id a (parent a) (newcomer a)
 
 -- and it may take in a recorder's where it may join that
 abbrev pub TablesJoin : Type 0 → Type 0

@@ -97,6 +97,7 @@ module _ (shape : Dimensions) (opened : Anatomy) (state : State) (kept : Invaria
     made = refl;
     outstanding = refl;
     inherited = refl;
+    offered = refl;
   }
 
   stood : AllStood state.actors actors

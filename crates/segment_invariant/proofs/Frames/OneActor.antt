@@ -201,6 +201,7 @@ same_role a d turns = record {
   made = refl;
   outstanding = refl;
   inherited = refl;
+  offered = refl;
 }
 
 module _ (actors : List Actor) (id : ℕ) (a : Actor) (mine : get_elem? actors id ≡ some a) (d : Doing) (turns : TurnsTo a d.place) where

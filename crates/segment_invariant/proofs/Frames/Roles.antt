@@ -104,6 +104,7 @@ pub record SameRole (b c : Actor) : Type 0 where
   pub made : b.made ≡ c.made
   pub outstanding : b.outstanding ≡ c.outstanding
   pub inherited : b.inherited ≡ c.inherited
+  pub offered : b.offered ≡ c.offered
 
 module _ (actors : List Actor) (id : ℕ) (a b : Actor) (mine : get_elem? actors id ≡ some a) (same : SameRole b a) where
   pub stood_set : AllStood actors (set actors id b)
@@ -129,10 +130,11 @@ module _ (actors : List Actor) (id : ℕ) (a b : Actor) (mine : get_elem? actors
     only = λ k c at away. elim (at_set actors id k b c at) [
       | inl t ↦
           let was = roles.only id a mine records in
-          subst (λ (c : Actor). (c.opener ≡ 0) × (c.first ≡ []) × (c.first_noted ≡ [])) t.1
-          (same.opener ∙ was.0, same.first ∙ was.1, same.first_noted ∙ was.2)
+          subst (λ (c : Actor). (c.opener ≡ 0) × (c.first ≡ []) × (c.first_noted ≡ []) × (c.offered ≡ 0)) t.1
+          (same.opener ∙ was.0, same.first ∙ was.1, same.first_noted ∙ was.2, same.offered ∙ was.3)
       | inr t ↦ roles.only k c t.1 away
     ];
+    offers = roles.offers;
     living = sum_same (λ c. if is_living c then 1 else 0) actors id a b mine (ap (λ lives. if lives then 1 else 0) same.living) ∙ roles.living;
     few = roles.few;
     younger = still_younger actors (set actors id b) roles stood_set roles.opener.made (omega arith);

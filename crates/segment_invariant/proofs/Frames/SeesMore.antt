@@ -138,6 +138,7 @@ module _ (shape : Dimensions) (opened : Anatomy) (state : State) (kept : Invaria
     made = refl;
     outstanding = refl;
     inherited = refl;
+    offered = refl;
   }
 
   counted : all_counted actors ≡ all_counted state.actors

@@ -140,7 +140,7 @@ module _ (shape : Dimensions) (opened : Anatomy) (state : State) (kept : Invaria
 
       -- it has the role that it had
       role : SameRole later a
-      role = record { living = refl; opener = refl; first = refl; first_noted = refl; made = refl; outstanding = refl; inherited = refl }
+      role = record { living = refl; opener = refl; first = refl; first_noted = refl; made = refl; outstanding = refl; inherited = refl; offered = refl }
 
       not_first : id ≢ 0
       not_first = not_opener shape opened state kept id a mine records

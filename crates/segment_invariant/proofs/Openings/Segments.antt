@@ -96,6 +96,7 @@ module _ (shape : Dimensions) (version id cursors : ℕ) (lawful : IsShape shape
     idle = refl;
     rests = (refl, refl, refl, refl, refl);
     only = each_of_one opener (λ k a. k ≢ 0 → _) (λ apart. absurd (apart refl));
+    offers = omega arith;
     living = refl;
     few = omega arith;
     younger = each_of_one opener (λ k a. is_living a ≡ true → a.made < 0) (λ lives. cc lives);

@@ -119,10 +119,11 @@ module _ (shape : Dimensions) (opened : Anatomy) (old : State) (kept : Invariant
     opens = kept.roles.opens;
     idle = kept.roles.idle;
     rests = kept.roles.rests;
-    only = each_of_two (λ k c. k ≢ 0 → (c.opener ≡ 0) × (c.first ≡ []) × (c.first_noted ≡ [])) old.actors 0 other later spent
+    only = each_of_two (λ k c. k ≢ 0 → (c.opener ≡ 0) × (c.first ≡ []) × (c.first_noted ≡ []) × (c.offered ≡ 0)) old.actors 0 other later spent
         (λ ne. absurd (ne refl))
-        (λ ne. (refl, refl, refl))
+        (λ ne. (refl, refl, refl, refl))
         (λ k c past front at ne. kept.roles.only k c at ne);
+    offers = (let offers = kept.roles.offers in omega (arith, offers));
     living = (
         let one : Actor → ℕ = λ c. if is_living c then 1 else 0 in
         let now = sum_beside one (set old.actors 0 later) other b spent behind in

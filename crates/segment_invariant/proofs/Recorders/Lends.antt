@@ -1,119 +1,156 @@
--- Units that are lent keep what holds.
-use Rattle.std.proofs.Common.{◌≡◌, ◌≢◌, ℕ, ◌+◌, ◌-◌, ◌≤◌, true, List, [], ◌∷◌, set, refl, sym, ap, ◌∙◌, subst, subst₂, arith}
-use Rattle.std.specs.Prelude.{if◌then◌else◌}
-use mathlib.Core.Option.{some}
+-- Units that are offered, lent or given back keep what holds: of actors only their shares become other ones, and what an opener offers.
+use Rattle.std.proofs.Common.{◌≡◌, ◌≢◌, ℕ, suc, ◌+◌, ◌-◌, ◌≤◌, true, false, ◌||◌, fold, List, [], ◌∷◌, ◌++◌, map, length, set, inl, inr, refl, sym, ap, ◌∙◌, subst, subst₂, sum_by, arith, length-set}
+use mathlib.Core.Option.{some, some-injective}
 use lib.ListN.{get_elem?}
+use Rattle.std.specs.Prelude.{if◌then◌else◌, IsPermutation}
 use Rattle.std.specs.List.{flat_map, Contains, All}
 use Rattle.std.proofs.lemmas.List.Sorted.{IsPermutation-refl}
-use Rattle.atomic_table.proofs.Lists.{set_else, set_here}
+use Rattle.std.proofs.lemmas.List.Sums.{sum_by-cons}
+use Rattle.atomic_table.proofs.Lists.{at_set, set_else, set_here}
 use Rattle.segment_image.specs.Shape.{Dimensions}
 use Rattle.segment_machine.specs.declared.place.Place.TheVariants.{Spent, SumLoaded}
 use Rattle.segment_machine.specs.declared.actor.Actor.{Actor}
-use Rattle.segment_machine.specs.Actor.{all_counted, all_noted, all_published, all_given, all_names, all_owed}
+use Rattle.segment_machine.specs.Entry.{tally_sum}
+use Rattle.segment_machine.specs.Actor.{counted_of, summed_of, noted_of, given_by, taken_sum, units_of}
 use Rattle.segment_machine.specs.State.{State}
-use Rattle.segment_machine.specs.Seats.{MayLend, lender, borrower}
-use Rattle.segment_invariant.specs.Keeps.{LendsKeep}
+use Rattle.segment_machine.specs.Seats.{offering, giver, getter}
+use Rattle.segment_invariant.specs.Keeps.{OffersKeep, LendsKeep, ReturnsKeep}
 use Rattle.segment_invariant.specs.Body.{Anatomy, order_of}
-use Rattle.segment_invariant.specs.Invariant.{is_living, RolesAreKept, StandsRight, Fits, Invariant}
+use Rattle.segment_invariant.specs.Ledger.{moving_at}
+use Rattle.segment_invariant.specs.Invariant.{is_living, summed_cost, RolesAreKept, StandsRight, Fits, Invariant}
 use Rattle.segment_invariant.proofs.Lists.Elements.{sum_beside, below_length}
 use Rattle.segment_invariant.proofs.Lists.Maps.{each_of_two}
-use Rattle.segment_invariant.proofs.Frames.Deeds.{Deeds, took, deeds_set, sums_of}
+use Rattle.segment_invariant.proofs.Frames.Deeds.{Deeds, took, sums_of}
 use Rattle.segment_invariant.proofs.Frames.Together.{LoadedBefore}
 use Rattle.segment_invariant.proofs.Frames.Books.{GivenInOrder, books_of, books_by, kept_by}
-use Rattle.segment_invariant.proofs.Frames.Roles.{opens_nothing, Stood, AllStood, still_younger, still_apart, still_eldest, opens_first, still_heirs, fits_beside}
-use Rattle.segment_invariant.proofs.Recorders.Shares.{shared_fits}
+use Rattle.segment_invariant.proofs.Frames.Roles.{Stood, AllStood, still_younger, still_apart, still_eldest, opens_first, still_heirs, fits_beside}
+use Rattle.segment_invariant.proofs.Recorders.Shares.{sharing, shared_fits}
 use Rattle.segment_invariant.proofs.Frames.Standing.{grounds_itself, stands_on}
 
--- ---- what both did together
+-- ---- actors that share anew
 
-lent_deeds : (a b : Actor) (units : ℕ) → units ≤ a.share → Deeds (a ∷ b ∷ []) (lender a units ∷ borrower b units ∷ [])
-lent_deeds a b units enough = record {
-  counted = IsPermutation-refl (all_counted (a ∷ b ∷ []));
-  summed = λ name. refl;
-  noted = IsPermutation-refl (all_noted (a ∷ b ∷ []));
-  claimed = IsPermutation-refl (flat_map (λ (c : Actor). c.claimed) (a ∷ b ∷ []));
-  published = IsPermutation-refl (all_published (a ∷ b ∷ []));
-  names = IsPermutation-refl (all_names (a ∷ b ∷ []));
-  owed = IsPermutation-refl (all_owed (a ∷ b ∷ []));
-  given = λ k. IsPermutation-refl (all_given (a ∷ b ∷ []) k);
-  taken = IsPermutation-refl (flat_map took (a ∷ b ∷ []));
-  taken_sums = λ name. refl;
-  moving = λ name key. refl;
-  costs = λ name. refl;
-  units = omega (arith, enough);
-  spoiled = refl;
-  filled = refl;
-}
+-- an actor became another in its share and its offer alone; only an opener offers, and one that was joined has nothing
+pub record Shares (a b : Actor) : Type 0 where
+  pub same : b ≡ sharing a b.share b.offered
+  pub offers : a.opener ≡ 0 → b.offered ≡ a.offered
+  pub spent : a.place ≡ Spent → b ≡ a
 
--- ---- the state after it
+pub record ShareAnew (old new : List Actor) : Type 0 where
+  pub long : length new ≡ length old
+  pub each : (k : ℕ) (b : Actor) → get_elem? new k ≡ some b → (a : Actor) × (get_elem? old k ≡ some a) × Shares a b
 
-module _ (shape : Dimensions) (opened : Anatomy) (old : State) (kept : Invariant shape opened old) (other units : ℕ) (b : Actor)
-    (apart : 0 ≢ other) (there : get_elem? old.actors other ≡ some b) (may : MayLend kept.roles.opener b units) where
+pub shares_itself : (a : Actor) → Shares a a
+shares_itself a = record { same = refl; offers = λ records. refl; spent = λ is. refl }
+
+-- the first, and those behind it
+module _ (a b : Actor) (old new : List Actor) (anew : ShareAnew (a ∷ old) (b ∷ new)) where
+  first_shares : Shares a b
+  first_shares =
+      let (x, is, shares) = anew.each 0 b refl in
+      subst (λ (x : Actor). Shares x b) (sym (some-injective a x is)) shares
+
+  behind_share : ShareAnew old new
+  behind_share = let long = anew.long in record { long = omega (arith, long); each = λ k c at. anew.each (suc k) c at }
+
+-- what does not go by shares and offers is the same of all
+module _ {M : Type 0} (total : List Actor → M)
+    (step : (a b : Actor) (xs ys : List Actor) → b ≡ sharing a b.share b.offered → total ys ≡ total xs → total (b ∷ ys) ≡ total (a ∷ xs)) where
+  shared_total : (old new : List Actor) → ShareAnew old new → total new ≡ total old
+  shared_total [] [] anew = refl
+  shared_total (a ∷ old) (b ∷ new) anew =
+      step a b old new (first_shares a b old new anew).same (shared_total old new (behind_share a b old new anew))
+  shared_total [] (b ∷ new) anew = let long = anew.long in absurd (omega (arith, long))
+  shared_total (a ∷ old) [] anew = let long = anew.long in absurd (omega (arith, long))
+
+module _ (old new : List Actor) (anew : ShareAnew old new) where
+  module _ {B : Type 0} (f : Actor → List B) (same : (a : Actor) (share offered : ℕ) → f (sharing a share offered) ≡ f a) where
+    shared_rows : flat_map f new ≡ flat_map f old
+    shared_rows = shared_total (flat_map f) (λ a b xs ys is rest. (λ i. (ap f is ∙ same a b.share b.offered) i ++ rest i)) old new anew
+
+    shared_all : IsPermutation (flat_map f new) (flat_map f old)
+    shared_all = subst (λ (list : List B). IsPermutation list (flat_map f old)) (sym shared_rows) (IsPermutation-refl (flat_map f old))
+
+  shared_sum : (f : Actor → ℕ) → ((a : Actor) (share offered : ℕ) → f (sharing a share offered) ≡ f a) → sum_by f new ≡ sum_by f old
+  shared_sum f same = shared_total (sum_by f)
+      (λ a b xs ys is rest.
+      let now = sum_by-cons f b ys in
+      let was = sum_by-cons f a xs in
+      let one = ap f is ∙ same a b.share b.offered in
+      omega (arith, now, was, one, rest))
+      old new anew
+
+  shared_column : {B : Type 0} (f : Actor → B) → ((a : Actor) (share offered : ℕ) → f (sharing a share offered) ≡ f a) → map f new ≡ map f old
+  shared_column f same = shared_total (map f) (λ a b xs ys is rest. (λ i. (ap f is ∙ same a b.share b.offered) i ∷ rest i)) old new anew
+
+  shared_deeds : sum_by units_of new ≡ sum_by units_of old → Deeds old new
+  shared_deeds units = record {
+    counted = shared_all counted_of (λ a s o. refl);
+    summed = λ name. ap (λ entries. tally_sum entries name) (shared_rows summed_of (λ a s o. refl));
+    noted = shared_all noted_of (λ a s o. refl);
+    claimed = shared_all (λ (a : Actor). a.claimed) (λ a s o. refl);
+    published = shared_all (λ (a : Actor). a.published) (λ a s o. refl);
+    names = shared_all (λ (a : Actor). a.names) (λ a s o. refl);
+    owed = shared_all (λ (a : Actor). a.owed) (λ a s o. refl);
+    given = λ k. shared_all (λ (a : Actor). given_by k a.given) (λ a s o. refl);
+    taken = shared_all took (λ a s o. refl);
+    taken_sums = λ name. ap (λ taken. taken_sum taken name) (shared_rows (λ (a : Actor). a.taken) (λ a s o. refl));
+    moving = λ name key. shared_sum (λ a. moving_at a name key a.place) (λ a s o. refl);
+    costs = λ name. shared_sum (summed_cost name) (λ a s o. refl);
+    units = units;
+    spoiled = ap (fold ◌||◌ false) (shared_column (λ (a : Actor). a.spoiled) (λ a s o. refl));
+    filled = ap (fold ◌||◌ false) (shared_column (λ (a : Actor). a.filled) (λ a s o. refl));
+  }
+
+-- ---- the state with them
+
+module _ (shape : Dimensions) (opened : Anatomy) (old : State) (kept : Invariant shape opened old) (new : List Actor) (anew : ShareAnew old.actors new)
+    (share offered : ℕ) (first : get_elem? new 0 ≡ some (sharing kept.roles.opener share offered)) (enough : offered ≤ share)
+    (units : sum_by units_of new ≡ sum_by units_of old.actors) where
   abbrev opener : Actor
   opener = kept.roles.opener
 
   abbrev later : Actor
-  later = lender opener units
+  later = sharing opener share offered
 
-  abbrev lent : List Actor
-  lent = set (set old.actors 0 later) other (borrower b units)
+  deeds : Deeds old.actors new
+  deeds = shared_deeds old.actors new anew units
 
-  deeds : Deeds old.actors lent
-  deeds = deeds_set old.actors other opener b later (borrower b units) apart kept.roles.stands there (lent_deeds opener b units may.3)
+  -- what holds of each that it was holds of each that it is now
+  each_shared : (holds : ℕ → Actor → Type 0)
+      → ((k : ℕ) (a : Actor) (share offered : ℕ) → get_elem? old.actors k ≡ some a → (a.opener ≡ 0 → offered ≡ a.offered)
+      → (a.place ≡ Spent → sharing a share offered ≡ a) → holds k (sharing a share offered))
+      → (k : ℕ) (b : Actor) → get_elem? new k ≡ some b → holds k b
+  each_shared holds was k b at =
+      let (a, there, shares) = anew.each k b at in
+      subst (holds k) (sym shares.same) (was k a b.share b.offered there shares.offers (λ is. sym shares.same ∙ shares.spent is))
 
-  first : get_elem? lent 0 ≡ some later
-  first = set_else (set old.actors 0 later) other 0 (borrower b units) apart
-      ∙ set_here old.actors 0 later (below_length old.actors 0 opener kept.roles.stands)
+  stood : AllStood old.actors new
+  stood = each_shared (λ k c. is_living c ≡ true → Stood old.actors k c)
+      (λ k a s o at offers spent lives. record { was = a; at = at; lives = lives; made = refl; outstanding = refl; inherited = refl })
 
-  behind : get_elem? (set old.actors 0 later) other ≡ some b
-  behind = set_else old.actors 0 other later (λ e. apart (sym e)) ∙ there
-
-  stood : AllStood old.actors lent
-  stood = each_of_two (λ k c. is_living c ≡ true → Stood old.actors k c) old.actors 0 other later (borrower b units)
-      (λ lives. absurd (opens_nothing later kept.roles.opens lives))
-      (λ lives. record { was = b; at = there; lives = lives; made = refl; outstanding = refl; inherited = refl })
-      (λ k c past front at lives. record { was = c; at = at; lives = lives; made = refl; outstanding = refl; inherited = refl })
-
-  roles : RolesAreKept lent
+  roles : RolesAreKept new
   roles = record {
     opener = later;
     stands = first;
     opens = kept.roles.opens;
     idle = kept.roles.idle;
     rests = kept.roles.rests;
-    only = each_of_two (λ k c. k ≢ 0 → (c.opener ≡ 0) × (c.first ≡ []) × (c.first_noted ≡ [])) old.actors 0 other later (borrower b units)
-        (λ away. absurd (away refl))
-        (λ away. kept.roles.only other b there away)
-        (λ k c past front at away. kept.roles.only k c at away);
-    living = (
-        let one : Actor → ℕ = λ c. if is_living c then 1 else 0 in
-        let now = sum_beside one (set old.actors 0 later) other b (borrower b units) behind in
-        let before = sum_beside one old.actors 0 opener later kept.roles.stands in
-        let was = kept.roles.living in
-        omega (arith, now, before, was));
+    only = each_shared (λ k c. k ≢ 0 → (c.opener ≡ 0) × (c.first ≡ []) × (c.first_noted ≡ []) × (c.offered ≡ 0))
+        (λ k a s o at offers spent away.
+        let was = kept.roles.only k a at away in
+        (was.0, was.1, was.2, offers was.0 ∙ was.3));
+    offers = enough;
+    living = shared_sum old.actors new anew (λ c. if is_living c then 1 else 0) (λ a s o. refl) ∙ kept.roles.living;
     few = kept.roles.few;
-    younger = still_younger old.actors lent kept.roles stood later.made (omega arith);
-    apart = still_apart old.actors lent kept.roles stood;
-    eldest = still_eldest old.actors lent kept.roles stood;
-    heirs = still_heirs old.actors lent kept.roles stood later refl refl;
+    younger = still_younger old.actors new kept.roles stood later.made (omega arith);
+    apart = still_apart old.actors new kept.roles stood;
+    eldest = still_eldest old.actors new kept.roles stood;
+    heirs = still_heirs old.actors new kept.roles stood later refl refl;
   }
 
-  ordered : (k : ℕ) (c : Actor) → get_elem? lent k ≡ some c → c.opener ≡ 0 → GivenInOrder (order_of kept.anatomy) c.given
-  ordered = each_of_two (λ k c. c.opener ≡ 0 → GivenInOrder (order_of kept.anatomy) c.given) old.actors 0 other later (borrower b units)
-      (λ records. let opens = kept.roles.opens in absurd (omega (arith, records, opens)))
-      (kept.cursors.ordered other b there)
-      (λ k c past front at. kept.cursors.ordered k c at)
-
-  given : (k : ℕ) (c : Actor) → get_elem? lent k ≡ some c → All (λ g. Contains (order_of kept.anatomy) g.reference) c.given
-  given = each_of_two (λ k c. All (λ g. Contains (order_of kept.anatomy) g.reference) c.given) old.actors 0 other later (borrower b units)
-      (kept.cursors.given 0 opener kept.roles.stands)
-      (kept.cursors.given other b there)
-      (λ k c past front at. kept.cursors.given k c at)
-
-  standing : (k : ℕ) (c : Actor) → get_elem? lent k ≡ some c → StandsRight shape kept.anatomy k c c.place
-  standing = each_of_two (λ k c. StandsRight shape kept.anatomy k c c.place) old.actors 0 other later (borrower b units)
-      (subst (StandsRight shape kept.anatomy 0 later) (sym kept.roles.idle) tt)
-      (stands_on shape kept.anatomy kept.anatomy other b (borrower b units) (grounds_itself kept.anatomy other)
+  standing : (k : ℕ) (c : Actor) → get_elem? new k ≡ some c → StandsRight shape kept.anatomy k c c.place
+  standing = each_shared (λ k c. StandsRight shape kept.anatomy k c c.place)
+      (λ k a s o at offers spent. stands_on shape kept.anatomy kept.anatomy k a (sharing a s o) (grounds_itself kept.anatomy k)
       (record {
         saw = (refl, refl, refl, refl, refl);
         names = λ known has. has;
@@ -121,43 +158,116 @@ module _ (shape : Dimensions) (opened : Anatomy) (old : State) (kept : Invariant
         seen = λ at word has. has;
         chain = λ at has. has;
         own = λ block has. (block, has, refl, refl);
-        spent = λ is. absurd (may.2 (ap (λ (c : Actor). c.place) is));
+        spent = λ is. spent (ap (λ (c : Actor). c.place) is) ∙ is;
       })
-      b.place (kept.standing other b there))
-      (λ k c past front at. kept.standing k c at)
+      a.place (kept.standing k a at))
 
-  beside : (k : ℕ) (c : Actor) → Fits shape kept.anatomy old.cursors old.actors opener k c → Fits shape kept.anatomy old.cursors lent later k c
-  beside k c = fits_beside shape kept.anatomy old.cursors old.actors lent opener later k c kept.roles.stands first refl (refl, refl) (sums_of old.actors lent deeds) stood
+  each : (k : ℕ) (c : Actor) → get_elem? new k ≡ some c → c.place ≢ Spent → Fits shape kept.anatomy old.cursors new later k c
+  each = each_shared (λ k c. c.place ≢ Spent → Fits shape kept.anatomy old.cursors new later k c)
+      (λ k a s o at offers spent live. shared_fits shape kept.anatomy old.cursors new later k a s o
+      (fits_beside shape kept.anatomy old.cursors old.actors new opener later k a kept.roles.stands first refl (refl, refl) (sums_of old.actors new deeds) stood
+      (kept.each k a at live)))
 
-  each : (k : ℕ) (c : Actor) → get_elem? lent k ≡ some c → c.place ≢ Spent → Fits shape kept.anatomy old.cursors lent later k c
-  each = each_of_two (λ k c. c.place ≢ Spent → Fits shape kept.anatomy old.cursors lent later k c) old.actors 0 other later (borrower b units)
-      (λ live. shared_fits shape kept.anatomy old.cursors lent later 0 opener (opener.share - units) (beside 0 opener (kept.each 0 opener kept.roles.stands live)))
-      (λ live. shared_fits shape kept.anatomy old.cursors lent later other b (b.share + units) (beside other b (kept.each other b there live)))
-      (λ k c past front at live. beside k c (kept.each k c at live))
+  loaded : LoadedBefore old.actors new
+  loaded at sum = each_shared (λ k c. c.place ≡ SumLoaded at sum → (j : ℕ) × (d : Actor) × (get_elem? old.actors j ≡ some d) × (d.place ≡ SumLoaded at sum))
+      (λ k a s o there offers spent stands. (k, a, there, stands))
 
-  loaded : LoadedBefore old.actors lent
-  loaded at sum = each_of_two
-      (λ k c. c.place ≡ SumLoaded at sum → (j : ℕ) × (d : Actor) × (get_elem? old.actors j ≡ some d) × (d.place ≡ SumLoaded at sum))
-      old.actors 0 other later (borrower b units)
-      (λ stands. (0, opener, kept.roles.stands, stands))
-      (λ stands. (other, b, there, stands))
-      (λ k c past front is stands. (k, c, is, stands))
-
-  pub lent_kept : Invariant shape opened (record old { actors = lent })
+  pub shared_kept : Invariant shape opened (record old { actors = new })
   unfolding roles
-  lent_kept = kept_by shape opened kept.anatomy old.words old.cursors lent
-      (books_by shape opened kept.anatomy old.words old.cursors old.actors lent deeds loaded (books_of shape opened old kept))
-      roles kept.first_noted ordered given standing each
+  shared_kept = kept_by shape opened kept.anatomy old.words old.cursors new
+      (books_by shape opened kept.anatomy old.words old.cursors old.actors new deeds loaded (books_of shape opened old kept))
+      roles kept.first_noted
+      (each_shared (λ k c. c.opener ≡ 0 → GivenInOrder (order_of kept.anatomy) c.given) (λ k a s o at offers spent. kept.cursors.ordered k a at))
+      (each_shared (λ k c. All (λ g. Contains (order_of kept.anatomy) g.reference) c.given) (λ k a s o at offers spent. kept.cursors.given k a at))
+      standing each
+
+-- ---- units go from one to the other
+
+module _ (shape : Dimensions) (opened : Anatomy) (old : State) (kept : Invariant shape opened old) (other : ℕ) (b : Actor) (apart : 0 ≢ other)
+    (there : get_elem? old.actors other ≡ some b) (records : b.opener ≡ 0) (live : b.place ≢ Spent) (mine theirs : ℕ)
+    (enough : kept.roles.opener.offered ≤ mine) (units : mine + theirs ≡ kept.roles.opener.share + b.share) where
+  abbrev lender : Actor
+  lender = sharing kept.roles.opener mine kept.roles.opener.offered
+
+  abbrev borrower : Actor
+  borrower = sharing b theirs b.offered
+
+  abbrev lent : List Actor
+  lent = set (set old.actors 0 lender) other borrower
+
+  -- the one opener and a recorder that lives have other shares, and all have as many units as before
+  pub moved_kept : Invariant shape opened (record old { actors = lent })
+  moved_kept =
+      let opener : Actor = kept.roles.opener in
+      let behind = set_else old.actors 0 other lender (λ e. apart (sym e)) ∙ there in
+      let now = sum_beside units_of (set old.actors 0 lender) other b borrower behind in
+      let before = sum_beside units_of old.actors 0 opener lender kept.roles.stands in
+      shared_kept shape opened old kept lent
+      (record {
+        long = length-set (set old.actors 0 lender) other borrower ∙ length-set old.actors 0 lender;
+        each = each_of_two (λ k c. (a : Actor) × (get_elem? old.actors k ≡ some a) × Shares a c) old.actors 0 other lender borrower
+            (opener, kept.roles.stands, record { same = refl; offers = λ records. refl; spent = λ is. absurd (cc (sym kept.roles.idle ∙ is)) })
+            (b, there, record { same = refl; offers = λ records. refl; spent = λ is. absurd (live is) })
+            (λ k c past front at. (c, at, shares_itself c));
+      })
+      mine opener.offered
+      (set_else (set old.actors 0 lender) other 0 borrower apart ∙ set_here old.actors 0 lender (below_length old.actors 0 opener kept.roles.stands))
+      enough (omega (arith, now, before, units))
+
+-- the one that opens is the first
+module _ (shape : Dimensions) (opened : Anatomy) (old : State) (kept : Invariant shape opened old) (id other : ℕ) (a : Actor) (stands : get_elem? old.actors id ≡ some a)
+    (opens : a.opener ≡ 1) (x : Actor → Actor) (y : Actor) where
+  first_kept : (((id ≡ 0) × (kept.roles.opener ≡ a)) → Invariant shape opened (record old { actors = set (set old.actors 0 (x kept.roles.opener)) other y }))
+      → Invariant shape opened (record old { actors = set (set old.actors id (x a)) other y })
+  first_kept keeps =
+      let opener = opens_first old.actors kept.roles id a stands opens in
+      subst₂ (λ (k : ℕ) (c : Actor). Invariant shape opened (record old { actors = set (set old.actors k (x c)) other y })) (sym opener.0) opener.1 (keeps opener)
 
 pub lends_keep : LendsKeep
-lends_keep shape opened old new id other units kept lending =
-    let a = lending.0 in
-    let b = lending.1 in
-    let may = lending.5 in
-    let opener = opens_first old.actors kept.roles id a lending.3 may.0 in
-    subst (Invariant shape opened) (sym lending.6)
-    (subst₂
-    (λ (k : ℕ) (c : Actor). Invariant shape opened (record old { actors = set (set old.actors k (lender c units)) other (borrower b units) }))
-    (sym opener.0) opener.1
-    (lent_kept shape opened old kept other units b
-    (λ e. lending.2 (opener.0 ∙ e)) lending.4 (subst (λ (c : Actor). MayLend c b units) (sym opener.1) may)))
+lends_keep shape opened old new id other units kept (a, b, apart, stands, there, (opens, records, live, enough), is) =
+    subst (Invariant shape opened) (sym is)
+    (first_kept shape opened old kept id other a stands opens (λ c. giver c units) (getter b units)
+    (λ opener.
+    let share = ap (λ (c : Actor). c.share) opener.1 in
+    let offered = ap (λ (c : Actor). c.offered) opener.1 in
+    moved_kept shape opened old kept other b (λ e. apart (opener.0 ∙ e)) there records live (kept.roles.opener.share - units) (b.share + units)
+    (omega (arith, enough, share, offered)) (omega (arith, enough, share, offered))))
+
+pub returns_keep : ReturnsKeep
+returns_keep shape opened old new id other units kept (a, b, apart, stands, there, (opens, records, live, enough), is) =
+    subst (Invariant shape opened) (sym is)
+    (first_kept shape opened old kept id other a stands opens (λ c. getter c units) (giver b units)
+    (λ opener.
+    let offers = kept.roles.offers in
+    moved_kept shape opened old kept other b (λ e. apart (opener.0 ∙ e)) there records live (kept.roles.opener.share + units) (b.share - units)
+    (omega (arith, offers)) (omega (arith, enough))))
+
+-- ---- units are offered
+
+pub offers_keep : OffersKeep
+offers_keep shape opened old new id units kept (a, stands, (idle, opens, enough, few), is) =
+    let opener : Actor = kept.roles.opener in
+    let (front, same) = opens_first old.actors kept.roles id a stands opens in
+    let later : Actor = offering opener units in
+    let share = ap (λ (c : Actor). c.share) same in
+    let all = sum_beside units_of old.actors 0 opener later kept.roles.stands in
+    subst (Invariant shape opened) (sym is)
+    (subst₂ (λ (k : ℕ) (c : Actor). Invariant shape opened (record old { actors = set old.actors k (offering c units) })) (sym front) same
+    (shared_kept shape opened old kept (set old.actors 0 later)
+    (record {
+      long = length-set old.actors 0 later;
+      each = λ k c at. elim (at_set old.actors 0 k later c at) [
+        | inl t ↦
+            subst₂ (λ (k : ℕ) (c : Actor). (a : Actor) × (get_elem? old.actors k ≡ some a) × Shares a c) (sym t.0) t.1 (
+              opener,
+              kept.roles.stands,
+              record {
+                same = refl;
+                offers = λ records. let opening = kept.roles.opens in absurd (omega (arith, records, opening));
+                spent = λ is. absurd (cc (sym kept.roles.idle ∙ is));
+              },
+            )
+        | inr t ↦ (c, t.1, shares_itself c)
+      ];
+    })
+    opener.share units (set_here old.actors 0 later (below_length old.actors 0 opener kept.roles.stands)) (omega (arith, enough, share)) (omega (arith, all))))

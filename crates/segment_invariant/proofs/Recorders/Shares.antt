@@ -1,16 +1,20 @@
--- An actor whose share, or whose recorders, are other ones has seen and done what it had.
+-- An actor whose share, whose offer, or whose recorders are other ones has seen and done what it had.
 use Rattle.std.proofs.Common.{◌≡◌, ℕ, List, false, true≢false, sym, ◌∙◌, arith}
 use Rattle.segment_image.specs.Shape.{Dimensions}
 use Rattle.segment_machine.specs.declared.actor.Actor.{Actor}
 use Rattle.segment_invariant.specs.Body.{Anatomy}
 use Rattle.segment_invariant.specs.Invariant.{CallsRight, LooksBack, FinalsAreExact, Fits}
 
--- with another share and other recorders
-abbrev pub turned : Actor → (share made outstanding : ℕ) → Actor
-turned a share made outstanding = record a { share = share; made = made; outstanding = outstanding }
+-- with another share, another offer and other recorders
+abbrev pub turned : Actor → (share offered made outstanding : ℕ) → Actor
+turned a share offered made outstanding = record a { share = share; offered = offered; made = made; outstanding = outstanding }
 
-module _ (anatomy : Anatomy) (a : Actor) (share made outstanding : ℕ) where
-  pub turned_calls : CallsRight anatomy a → CallsRight anatomy (turned a share made outstanding)
+-- with another share and another offer alone
+abbrev pub sharing : Actor → (share offered : ℕ) → Actor
+sharing a share offered = record a { share = share; offered = offered }
+
+module _ (anatomy : Anatomy) (a : Actor) (share offered made outstanding : ℕ) where
+  pub turned_calls : CallsRight anatomy a → CallsRight anatomy (turned a share offered made outstanding)
   turned_calls calls = record {
     ordered = calls.ordered;
     within = calls.within;
@@ -21,9 +25,9 @@ module _ (anatomy : Anatomy) (a : Actor) (share made outstanding : ℕ) where
     taking = calls.taking;
   }
 
--- with another share alone, an actor fits as before
-module _ (shape : Dimensions) (anatomy : Anatomy) (cursors : List ℕ) (actors : List Actor) (opener : Actor) (id : ℕ) (a : Actor) (share : ℕ) where
-  shared_looks : LooksBack anatomy actors opener a → LooksBack anatomy actors opener (record a { share = share })
+-- so an actor fits as before
+module _ (shape : Dimensions) (anatomy : Anatomy) (cursors : List ℕ) (actors : List Actor) (opener : Actor) (id : ℕ) (a : Actor) (share offered : ℕ) where
+  shared_looks : LooksBack anatomy actors opener a → LooksBack anatomy actors opener (sharing a share offered)
   shared_looks looks = record {
     most = looks.most;
     packed = looks.packed;
@@ -37,7 +41,7 @@ module _ (shape : Dimensions) (anatomy : Anatomy) (cursors : List ℕ) (actors :
     sum = looks.sum;
   }
 
-  shared_finals : FinalsAreExact actors opener id a → FinalsAreExact actors opener id (record a { share = share })
+  shared_finals : FinalsAreExact actors opener id a → FinalsAreExact actors opener id (sharing a share offered)
   shared_finals exact = record {
     deltas = exact.deltas;
     snapshots = exact.snapshots;
@@ -45,7 +49,7 @@ module _ (shape : Dimensions) (anatomy : Anatomy) (cursors : List ℕ) (actors :
     swapped = exact.swapped;
   }
 
-  pub shared_fits : Fits shape anatomy cursors actors opener id a → Fits shape anatomy cursors actors opener id (record a { share = share })
+  pub shared_fits : Fits shape anatomy cursors actors opener id a → Fits shape anatomy cursors actors opener id (sharing a share offered)
   shared_fits fit = record {
     shaped = fit.shaped;
     versioned = fit.versioned;
@@ -55,7 +59,7 @@ module _ (shape : Dimensions) (anatomy : Anatomy) (cursors : List ℕ) (actors :
     own = fit.own;
     apart = fit.apart;
     owes = fit.owes;
-    calls = turned_calls anatomy a share a.made a.outstanding fit.calls;
+    calls = turned_calls anatomy a share offered a.made a.outstanding fit.calls;
     looks = λ records. shared_looks (fit.looks records);
     finals = shared_finals fit.finals;
     snapshots = fit.snapshots;
@@ -63,8 +67,8 @@ module _ (shape : Dimensions) (anatomy : Anatomy) (cursors : List ℕ) (actors :
 
 -- with other recorders, an opener that takes nothing fits as before
 module _ (shape : Dimensions) (anatomy : Anatomy) (cursors : List ℕ) (actors : List Actor) (opener : Actor) (id : ℕ) (a : Actor)
-    (share made outstanding : ℕ) (opens : a.opener ≡ 1) (rests : a.taking ≡ false) where
-  opener_finals : FinalsAreExact actors opener id a → FinalsAreExact actors opener id (turned a share made outstanding)
+    (share offered made outstanding : ℕ) (opens : a.opener ≡ 1) (rests : a.taking ≡ false) where
+  opener_finals : FinalsAreExact actors opener id a → FinalsAreExact actors opener id (turned a share offered made outstanding)
   opener_finals exact = record {
     deltas = exact.deltas;
     snapshots = exact.snapshots;
@@ -77,7 +81,7 @@ module _ (shape : Dimensions) (anatomy : Anatomy) (cursors : List ℕ) (actors :
     swapped = λ before last taking. absurd (true≢false (sym taking ∙ rests));
   }
 
-  pub opener_fits : Fits shape anatomy cursors actors opener id a → Fits shape anatomy cursors actors opener id (turned a share made outstanding)
+  pub opener_fits : Fits shape anatomy cursors actors opener id a → Fits shape anatomy cursors actors opener id (turned a share offered made outstanding)
   opener_fits fit = record {
     shaped = fit.shaped;
     versioned = fit.versioned;
@@ -87,7 +91,7 @@ module _ (shape : Dimensions) (anatomy : Anatomy) (cursors : List ℕ) (actors :
     own = fit.own;
     apart = fit.apart;
     owes = fit.owes;
-    calls = turned_calls anatomy a share made outstanding fit.calls;
+    calls = turned_calls anatomy a share offered made outstanding fit.calls;
     looks = λ records. absurd (omega (arith, records, opens));
     finals = opener_finals fit.finals;
     snapshots = fit.snapshots;

@@ -38,8 +38,8 @@ use Rattle.segment_invariant.proofs.Recorders.Shares.{opener_fits}
 
 -- ---- what both did together
 
-split_deeds : (a : Actor) (units : ℕ) → units ≤ a.share → Deeds (a ∷ []) (parent a units ∷ newcomer a units ∷ [])
-split_deeds a units enough = record {
+split_deeds : (a : Actor) → a.offered ≤ a.share → Deeds (a ∷ []) (parent a ∷ newcomer a ∷ [])
+split_deeds a enough = record {
   counted = IsPermutation-refl (all_counted (a ∷ []));
   summed = λ name. refl;
   noted = IsPermutation-refl (all_noted (a ∷ []));
@@ -76,9 +76,9 @@ logged_counted a entry ended there = Contains-append_right a.inherited (counted_
         (contains_map (λ (c : Counting). c.entry) _ c.0
         (contains_filter is_counted (a.log ++ a.running) c.0 (Contains-append_left a.log a.running c.0 c.1) passes))
 
-module _ (anatomy : Anatomy) (cursors : List ℕ) (actors : List Actor) (later a : Actor) (units : ℕ) where
+module _ (anatomy : Anatomy) (cursors : List ℕ) (actors : List Actor) (later a : Actor) where
   abbrev fresh : Actor
-  fresh = newcomer a units
+  fresh = newcomer a
 
   fresh_calls : CallsRight anatomy a → CallsRight anatomy fresh
   fresh_calls calls = record {
@@ -140,22 +140,21 @@ module _ (anatomy : Anatomy) (cursors : List ℕ) (actors : List Actor) (later a
 
 -- ---- the state after it
 
-module _ (shape : Dimensions) (opened : Anatomy) (old : State) (kept : Invariant shape opened old) (units : ℕ)
-    (may : MaySplit kept.roles.opener units) where
+module _ (shape : Dimensions) (opened : Anatomy) (old : State) (kept : Invariant shape opened old) (may : MaySplit kept.roles.opener) where
   abbrev opener : Actor
   opener = kept.roles.opener
 
   abbrev later : Actor
-  later = parent opener units
+  later = parent opener
 
   abbrev made : Actor
-  made = newcomer opener units
+  made = newcomer opener
 
   abbrev split : List Actor
   split = set old.actors 0 later ++ made ∷ []
 
   deeds : Deeds old.actors split
-  deeds = deeds_more old.actors opener later made kept.roles.stands (split_deeds opener units may.2)
+  deeds = deeds_more old.actors opener later made kept.roles.stands (split_deeds opener may.2)
 
   first : get_elem? split 0 ≡ some later
   first = at_longer (set old.actors 0 later) (made ∷ []) 0 later (set_here old.actors 0 later (below_length old.actors 0 opener kept.roles.stands))
@@ -210,10 +209,11 @@ module _ (shape : Dimensions) (opened : Anatomy) (old : State) (kept : Invariant
     opens = kept.roles.opens;
     idle = kept.roles.idle;
     rests = kept.roles.rests;
-    only = each_of_more (λ k c. k ≢ 0 → (c.opener ≡ 0) × (c.first ≡ []) × (c.first_noted ≡ [])) old.actors 0 later made
+    only = each_of_more (λ k c. k ≢ 0 → (c.opener ≡ 0) × (c.first ≡ []) × (c.first_noted ≡ []) × (c.offered ≡ 0)) old.actors 0 later made
         (λ away. absurd (away refl))
-        (λ away. (refl, refl, refl))
+        (λ away. (refl, refl, refl, refl))
         (λ k c within front at away. kept.roles.only k c at away);
+    offers = omega arith;
     living = (
         let one : Actor → ℕ = λ c. if is_living c then 1 else 0 in
         let all = sum_by-append one (set old.actors 0 later) (made ∷ []) in
@@ -280,7 +280,7 @@ module _ (shape : Dimensions) (opened : Anatomy) (old : State) (kept : Invariant
 
   each : (k : ℕ) (c : Actor) → get_elem? split k ≡ some c → c.place ≢ Spent → Fits shape kept.anatomy old.cursors split later k c
   each = each_of_more (λ k c. c.place ≢ Spent → Fits shape kept.anatomy old.cursors split later k c) old.actors 0 later made
-      (λ live. opener_fits shape kept.anatomy old.cursors split later 0 opener (opener.share - units) (opener.made + 1) (opener.outstanding + 1)
+      (λ live. opener_fits shape kept.anatomy old.cursors split later 0 opener (opener.share - opener.offered) 0 (opener.made + 1) (opener.outstanding + 1)
       kept.roles.opens kept.roles.rests.2
       (fits shape kept.anatomy old.cursors old.actors split opener later 0 opener (sums_of old.actors split deeds) since
       (λ either. absurd (⊎_elim
@@ -288,7 +288,7 @@ module _ (shape : Dimensions) (opened : Anatomy) (old : State) (kept : Invariant
       (λ taking. true≢false (sym taking ∙ kept.roles.rests.2))
       either))
       (kept.each 0 opener kept.roles.stands live)))
-      (λ live. fresh_fits kept.anatomy old.cursors split later opener units shape old.actors opener (length old.actors) 0
+      (λ live. fresh_fits kept.anatomy old.cursors split later opener shape old.actors opener (length old.actors) 0
       (kept.each 0 opener kept.roles.stands opener_lives))
       (λ k c within front at live. fits shape kept.anatomy old.cursors old.actors split opener later k c (sums_of old.actors split deeds) since
       (λ either alone. absurd (not_alone k c at (lives_on c (kept.roles.only k c at front).0 live) alone))
@@ -312,12 +312,12 @@ module _ (shape : Dimensions) (opened : Anatomy) (old : State) (kept : Invariant
       roles kept.first_noted ordered given standing each
 
 pub splits_keep : SplitsKeep
-splits_keep shape opened old new id units kept splitting =
+splits_keep shape opened old new id kept splitting =
     let a = splitting.0 in
     let may = splitting.2 in
     let opener = opens_first old.actors kept.roles id a splitting.1 may.1 in
     subst (Invariant shape opened) (sym splitting.3)
     (subst₂
-    (λ (k : ℕ) (c : Actor). Invariant shape opened (record old { actors = set old.actors k (parent c units) ++ newcomer c units ∷ [] }))
+    (λ (k : ℕ) (c : Actor). Invariant shape opened (record old { actors = set old.actors k (parent c) ++ newcomer c ∷ [] }))
     (sym opener.0) opener.1
-    (split_kept shape opened old kept units (subst (λ (c : Actor). MaySplit c units) (sym opener.1) may)))
+    (split_kept shape opened old kept (subst MaySplit (sym opener.1) may)))

@@ -4,22 +4,28 @@ use Rattle.segment_machine.specs.declared.actor.Actor.{Actor}
 use Rattle.segment_machine.specs.Allocating.{load_flags}
 use Rattle.segment_machine.specs.Event.{allocating_event, cursor_event, next}
 use Rattle.segment_machine.specs.Cursors.{load_cursor}
-use Rattle.segment_machine.specs.Seats.{opener_of, lender}
+use Rattle.segment_machine.specs.Seats.{opener_of, giver, getter}
 use Rattle.segment_machine.specs.State.{State, IsStep}
-use Rattle.segment_machine.specs.Reached.{IsSplit, IsLent, IsJoin, IsReached, started, stepped, split, lent, joined_in}
+use Rattle.segment_machine.specs.Reached.{IsOffered, IsSplit, IsLent, IsReturned, IsJoin, IsReached, started, stepped, offered, split, lent, returned, joined_in}
 use Rattle.segment_machine.specs.Examples.{shape}
 use Rattle.segment_machine.specs.Lives as lives
 use Rattle.segment_machine.proofs.laws.recorder_is_joined.Goals as goal
 
 abbrev opener : Actor
-opener = lender lives.split_opener 3
+opener = getter (giver lives.split_opener 3) 1
 
 abbrev loaded : Actor
 loaded = next lives.lent (allocating_event load_flags) 0
 
 -- the states one after the other
+abbrev said : State
+said = lives.with_actors (lives.offers ∷ [])
+
 abbrev made : State
 made = lives.with_actors (lives.split_opener ∷ lives.recorder ∷ [])
+
+abbrev lending : State
+lending = lives.with_actors (giver lives.split_opener 3 ∷ getter lives.recorder 3 ∷ [])
 
 abbrev holding : State
 holding = lives.with_actors (opener ∷ lives.lent ∷ [])
@@ -30,14 +36,20 @@ flagged = lives.with_actors (opener ∷ loaded ∷ [])
 abbrev looked : State
 looked = lives.with_actors (opener ∷ lives.looked ∷ [])
 
-splits : IsSplit lives.opened 0 5 made
-splits = (opener_of shape 1 1, refl, (refl, refl, omega arith, omega arith), refl)
+offers : IsOffered lives.opened 0 5 said
+offers = (opener_of shape 1 1, refl, (refl, refl, omega arith, omega arith), refl)
+
+splits : IsSplit said 0 made
+splits = (lives.offers, refl, (refl, refl, omega arith, omega arith), refl)
 
 apart : (n : ℕ) → n ≡ 0 → n ≢ 1
 apart n is e = omega (arith, is, e)
 
-lends : IsLent made 0 1 3 holding
+lends : IsLent made 0 1 3 lending
 lends = (lives.split_opener, lives.recorder, apart 0 refl, refl, refl, (refl, refl, (λ e. cc e), omega arith), refl)
+
+returns_one : IsReturned lending 0 1 1 holding
+returns_one = (giver lives.split_opener 3, getter lives.recorder 3, apart 0 refl, refl, refl, (refl, refl, (λ e. cc e), omega arith), refl)
 
 loads : IsStep 1 holding 1 (allocating_event load_flags) flagged
 loads = record {
@@ -80,7 +92,8 @@ reached : IsReached 1 lives.opened lives.joined_state
 reached =
     joined_in looked lives.joined_state 0 1
     (stepped flagged looked 1 (cursor_event (load_cursor 0))
-    (stepped holding flagged 1 (allocating_event load_flags) (lent made holding 0 1 3 (split lives.opened made 0 5 started splits) lends) loads) looks)
+    (stepped holding flagged 1 (allocating_event load_flags) (returned lending holding 0 1 1
+    (lent made lending 0 1 3 (split said made 0 (offered lives.opened said 0 5 started offers) splits) lends) returns_one) loads) looks)
     joins
 
 lawful : IsShape shape

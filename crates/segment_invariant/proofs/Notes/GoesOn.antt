@@ -1,0 +1,122 @@
+-- A running call may go on with one more entry: what holds is kept.
+use Rattle.std.proofs.Common.{◌≡◌, ◌≢◌, ◌⊎◌, ℕ, ◌+◌, ◌-◌, ◌≤◌, true, false, true≢false, List, [], ◌∷◌, ◌++◌, map, length, All, Contains, inl, inr, refl, sym, ap, ◌∙◌, subst, arith, append-nil, append_assoc, length-append}
+use Rattle.std.specs.Prelude.{if◌then◌else◌, ◌==◌}
+use Rattle.std.specs.List.{filter}
+use Rattle.std.specs.Str.{bytes_eq}
+use Rattle.std.proofs.lemmas.List.{map-append}
+use Rattle.std.proofs.lemmas.List.Elements.{All-push, filter-append}
+use Rattle.segment_invariant.proofs.Frames.Answers.{answered_set}
+use Rattle.segment_machine.specs.declared.entry.Entry.{Entry}
+use Rattle.segment_machine.specs.declared.entry.Counting.{Counting}
+use Rattle.segment_machine.specs.declared.place.Place.TheVariants.{Spent}
+use Rattle.segment_machine.specs.declared.actor.Actor.{Actor}
+use Rattle.segment_machine.specs.declared.actor.Cost.{Cost}
+use Rattle.segment_machine.specs.Entry.{is_counted, is_summed, has_ended, fresh, AreWithin, is_of, tally_units, tally_sum, tally_noted, counted_among, summed_among, noted_among}
+use Rattle.segment_machine.specs.Actor.{cost_of, cost_total}
+use Rattle.segment_machine.specs.Note.{goes_on, is_untouched}
+use Rattle.segment_invariant.specs.Invariant.{AreInOrder, StandsRight, summed_cost, IsQuiet}
+use Rattle.segment_invariant.specs.Keeps.{NoteKeeps}
+use Rattle.segment_invariant.proofs.Lists.Elements.{one_in, below_length, all_at, at_snoc_index}
+use Rattle.segment_invariant.proofs.Lists.Maps.{all_left}
+use Rattle.segment_invariant.proofs.Lists.Countings.{untouched_counts, untouched_sums, untouched_notes}
+use Rattle.segment_invariant.proofs.Notes.Notes.{Noting, noting, noting_of, SameCounts, notes_on}
+use Rattle.segment_invariant.proofs.Notes.Actors.{noting_fits, looks_on, finals_on, calls_by}
+use Rattle.segment_invariant.proofs.Notes.Begins.{takes_nothing}
+
+module _ (a : Actor) (entry : Entry) (cost : ℕ) where
+  abbrev more : List Counting
+  more = fresh entry ∷ []
+
+  abbrev dearer : Cost → Cost
+  dearer held = record held { units = held.units + cost }
+
+  abbrev further : Noting
+  further = record (noting_of a) { share = a.share - cost; held = map dearer a.held; running = a.running ++ more }
+
+  untouched : (c : Counting) → Contains more c → is_untouched c ≡ true
+  untouched c has = ap is_untouched (sym (one_in (fresh entry) c has))
+
+  -- its entries are as they were, with one behind them of which nothing has happened
+  ran : (a.log ++ a.running) ++ more ≡ a.log ++ (a.running ++ more)
+  ran = append_assoc a.log a.running more
+
+  as_summed : filter (λ (c : Counting). c.summed) (a.running ++ more) ≡ filter (λ (c : Counting). c.summed) a.running
+  as_summed = filter-append (λ (c : Counting). c.summed) a.running more ∙ append-nil (filter (λ (c : Counting). c.summed) a.running)
+
+  goes_on_counts : cost ≤ a.share → (name : List ℕ) (units : ℕ) → a.held ≡ record { name = name; units = units } ∷ [] → SameCounts a (noting a further)
+  goes_on_counts enough name units holds = record {
+    counted = λ name key. ap (λ list. tally_units (a.first ++ counted_among list) name key) (sym ran)
+        ∙ (untouched_counts a.first (a.log ++ a.running) more untouched name key
+        ∙ ap (λ list. tally_units (a.first ++ counted_among list) name key) (append-nil (a.log ++ a.running)));
+    summed = λ name. ap (λ list. tally_sum (a.first ++ summed_among list) name) (sym ran)
+        ∙ (untouched_sums a.first (a.log ++ a.running) more untouched name
+        ∙ ap (λ list. tally_sum (a.first ++ summed_among list) name) (append-nil (a.log ++ a.running)));
+    noted = λ name. ap (λ list. tally_noted (noted_among list) name) (sym ran)
+        ∙ (untouched_notes [] (a.log ++ a.running) more untouched name
+        ∙ ap (λ list. tally_noted (noted_among list) name) (append-nil (a.log ++ a.running)));
+    costs = λ of.
+        let now : summed_cost of (noting a further) ≡ cost_of a.costs of + (if length (filter (λ (c : Counting). c.summed) a.running) == 0 then 0 else cost_of (map dearer a.held) of) =
+        ap (λ (list : List Counting). cost_of a.costs of + (if length list == 0 then 0 else cost_of (map dearer a.held) of)) as_summed in
+        let bound = covers (length (filter (λ (c : Counting). c.summed) a.running) == 0) (cost_of a.costs of) _ _
+        (subst (λ held. cost_of held of ≤ cost_of (map dearer held) of) (sym holds) (costs_more (bytes_eq name of))) in
+        omega (arith, now, bound);
+    units =
+        let all = ap cost_total holds in
+        let more = ap (λ held. cost_total (map dearer held)) holds in
+        omega (arith, all, more, enough);
+  }
+    where
+      costs_more : (b : _) → 0 + (if b then units else 0) ≤ 0 + (if b then units + cost else 0)
+      costs_more true = omega arith
+      costs_more false = omega arith
+
+      covers : (b : _) (before least most : ℕ) → least ≤ most → before + (if b then 0 else least) ≤ before + (if b then 0 else most)
+      covers true before least most bound = omega arith
+      covers false before least most bound = omega (arith, bound)
+
+  -- those before it have ended
+  goes_on_ordered : All (λ c. has_ended c ≡ true) a.running → AreInOrder a.running → AreInOrder (a.running ++ more)
+  goes_on_ordered done ordered = record {
+    one_by_one = λ i j x y below first second. elim (at_snoc_index a.running (fresh entry) x i first) [
+      | inl old ↦ inl (all_at (λ c. has_ended c ≡ true) a.running i x done old)
+      | inr new ↦
+          let low = below_length (a.running ++ more) j y second in
+          let long = length-append a.running more in
+          let at = new.0 in
+          absurd (omega (arith, below, low, long, at))
+    ];
+    counted_first = All-push (λ (c : Counting). c.summed ≡ true → is_counted c ≡ true) a.running (fresh entry) ordered.counted_first (λ summed. absurd (true≢false (sym summed)));
+    summed_next = All-push (λ (c : Counting). c.noted ≡ true → is_summed c ≡ true) a.running (fresh entry) ordered.summed_next (λ noted. absurd (true≢false (sym noted)));
+  }
+
+  goes_on_quiet : (name : List ℕ) (k : ℕ) → IsQuiet (noting a further) name k → IsQuiet a name k
+  goes_on_quiet name k quiet = (quiet.0, all_left (λ (c : Counting). (is_of name c.entry ≡ false) ⊎ (is_untouched c ≡ true)) a.running more quiet.1)
+
+pub goes_on_kept : (entry : Entry) (cost : ℕ) → NoteKeeps (goes_on entry cost)
+goes_on_kept entry cost shape opened state id a kept mine records (runs, done, enough, (name, units, holds, within)) =
+    let n : Noting = further a entry cost in
+    let counts = goes_on_counts a entry cost enough name units holds in
+    let lived : a.place ≢ Spent = λ is_spent. runs (ap (λ (a : Actor). a.running) (subst (StandsRight shape kept.anatomy id a) is_spent (kept.standing id a mine))) in
+    notes_on shape opened state kept id a mine records n lived counts (takes_nothing a n) (λ name key. refl) (λ known has. has)
+    (answered_set kept.anatomy.records state.actors id a (noting a n) mine refl refl)
+    (λ fit.
+    let (other, spends, same, before, known) = fit.calls.within runs in
+    let named : other ≡ name = ap (λ (held : List Cost). first_name held) (sym same ∙ holds) in
+    noting_fits shape kept.anatomy state.cursors _ kept.roles.opener id a n fit fit.names fit.owes
+    (calls_by kept.anatomy a n fit.calls counts (goes_on_ordered a entry cost done fit.calls.ordered)
+    (λ some_run. (
+      name,
+      units + cost,
+      ap (map (dearer a entry cost)) holds,
+      subst (AreWithin name (units + cost)) (sym (map-append (λ (c : Counting). c.entry) a.running (fresh entry ∷ []))) within,
+      subst (λ name. Contains (map (λ known. known.name) a.names) name) named known,
+    ))
+    (subst (λ held. length (map (dearer a entry cost) held) ≤ 1) (sym holds) (omega arith)) fit.calls.ended fit.calls.spent
+    (λ taking. absurd (runs (fit.calls.taking taking).0)))
+    (looks_on kept.anatomy _ kept.roles.opener a n (fit.looks records))
+    (finals_on _ kept.roles.opener id a n (omega arith) (λ of k low quiet. goes_on_quiet a entry cost of k quiet) fit.finals)
+    fit.snapshots)
+  where
+    first_name : List Cost → List ℕ
+    first_name [] = []
+    first_name (cost ∷ costs) = cost.name

@@ -1,5 +1,5 @@
 -- A script while it is read.
-use Rattle.std.specs.Prelude.{◌≡◌, true, false, if◌then◌else◌, ℕ, ◌≤◌, List, ◌∷◌, [], ◌++◌, Option, Some, None, option_to_list, Result, MatchResult, ⊤}
+use Rattle.std.specs.Prelude.{◌≡◌, true, false, if◌then◌else◌, ℕ, ◌≤◌, List, [], ◌++◌, Option, Some, None, option_to_list, Result, MatchResult, ⊤}
 use Rattle.std.specs.declared.alloc.Global.{Global}
 use Rattle.std.specs.declared.vec.Vec.{Vec}
 use Rattle.std.specs.HashMap.{HashMap, get_by}

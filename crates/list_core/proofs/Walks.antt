@@ -52,7 +52,7 @@ prefix_goes chain given said (rest, is) (inl (lt, says)) = subst (IsGiven given 
 prefix_goes chain given said (rest, is) (inr (same, says)) = subst (IsGiven given chain) (sym says) (nothing_behind given rest chain is same)
 
 -- the place where a walk stands that gave a prefix
-place_of : (given rest chain : List ℕ) → chain ≡ given ++ rest → slice_index (stops chain) (length given) ≡ stands_behind given
+pub place_of : (given rest chain : List ℕ) → chain ≡ given ++ rest → slice_index (stops chain) (length given) ≡ stands_behind given
 place_of [] rest chain is = refl
 place_of (x ∷ xs) rest chain is = ap (λ (l : List ℕ). get_or l (length xs) 0) is ∙ get_or_append_left (x ∷ xs) rest 0 (length xs) (omega arith)
 

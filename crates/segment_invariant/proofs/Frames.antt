@@ -1,3 +1,4 @@
+pub mod Ahead
 pub mod Anatomies
 pub mod Answers
 pub mod Books

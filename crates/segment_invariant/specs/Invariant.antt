@@ -43,7 +43,7 @@ use Rattle.segment_machine.specs.Seats.{spent}
 use Rattle.segment_machine.specs.State.{State}
 use Rattle.segment_invariant.specs.Body.{Record, Counts, Sample, Body, held, histogram, sample, other, words_of, is_claimed, Piece, extent_of, Listed, listed, Anatomy, layout_of, order_of, claims_of}
 use Rattle.segment_invariant.specs.Ledger.{form_at, key_of_bucket, noted_held, all_held, IsBalanced}
-use Rattle.segment_invariant.specs.Seen.{Stands, HasPlain, HasOwn, HasRecord, HasCounts, HasSample, IsFirst, IsFirstOf, Sees, Knows}
+use Rattle.segment_invariant.specs.Seen.{Stands, HasPlain, HasOwn, HasRecord, HasCounts, HasSample, IsFirst, IsFirstOf, IsReachedAt, Sees, Knows}
 
 -- ---- the list
 
@@ -165,8 +165,9 @@ StandsRight shape anatomy id a (Raised at size) = IsPlace shape at size × HasPl
 StandsRight shape anatomy id a (Sized at size) = IsPlace shape at size × HasPlain anatomy.pieces id at (size ∷ replicate (size - 1) 0)
 StandsRight shape anatomy id a (Marked at size) =
     IsPlace shape at size × HasPlain anatomy.pieces id at (size ∷ CLAIMED_COOKIE ∷ replicate (size - 2) 0)
-StandsRight shape anatomy id a (TailLoaded tail) = Contains a.seen.tails tail × IsStop (order_of anatomy) tail
-StandsRight shape anatomy id a (Beaten tail behind) = AreNeighbours (order_of anatomy) tail behind
+StandsRight shape anatomy id a (TailLoaded tail) = Contains a.seen.tails tail × IsReachedAt (order_of anatomy) a.beaten tail
+StandsRight shape anatomy id a (Beaten tail behind) =
+    AreNeighbours (order_of anatomy) tail behind × Contains a.seen.tails tail × IsReachedAt (order_of anatomy) a.beaten behind
 StandsRight shape anatomy id a (Linked at tail) = AreNeighbours (order_of anatomy) tail at
 StandsRight shape anatomy id a (Looking look) = LooksRight a look
 StandsRight shape anatomy id a (Losing look at) =
@@ -182,9 +183,10 @@ StandsRight shape anatomy id a (SampleLoaded reference count) =
     MetSample a reference × Contains a.seen.counts (record { at = reference + SAMPLE_COUNT; word = count })
 StandsRight shape anatomy id a (SumLoaded reference sum) = (known : Known) × Contains a.names known × (known.reference ≡ reference)
 StandsRight shape anatomy id a (CursorLoaded cursor at) =
-    IsStop (order_of anatomy) at × Contains a.seen.cursors (record { at = cursor; word = at })
+    IsReachedAt (order_of anatomy) (slice_index a.lost cursor) at × Contains a.seen.cursors (record { at = cursor; word = at })
 StandsRight shape anatomy id a (BehindCursor cursor at next) =
     AreNeighbours (order_of anatomy) at next × Contains a.seen.cursors (record { at = cursor; word = at })
+    × IsReachedAt (order_of anatomy) (slice_index a.lost cursor) at
 
 -- a block of its own stands as it was stored, and has room for its payload
 pub record HoldsOwn (shape : Dimensions) (pieces : List Piece) (id : ℕ) (own : Own) : Type 0 where
@@ -383,6 +385,20 @@ HasPublished published mine = Contains published (record { reference = mine.refe
 abbrev pub OwesPublished : List Published → List Known → Type 0
 OwesPublished published owed = All (HasPublished published) owed
 
+-- ---- what came too late
+
+-- its link has come too late, and it has not moved the tail on yet
+abbrev pub is_beaten : Place → Bool
+is_beaten (Beaten tail behind) = true
+is_beaten _ = false
+
+-- The list is ahead of what came too late: the tail stands behind one record at least for each link of an actor that did, but where the
+-- actor is still to move it on, and each shared cursor behind one for each exchange that did.
+pub record IsAhead (chain : List ℕ) (present : ℕ) (cursors : List ℕ) (place : Place) (beaten : ℕ) (lost : List ℕ) : Type 0 where
+  pub links : is_beaten place ≡ false → IsReachedAt chain beaten present
+  pub many : length lost ≡ length cursors
+  pub exchanges : (k : ℕ) → k < length cursors → IsReachedAt chain (slice_index lost k) (slice_index cursors k)
+
 -- ---- all of it
 
 -- what holds of one actor that was not joined
@@ -391,6 +407,7 @@ pub record Fits (shape : Dimensions) (anatomy : Anatomy) (cursors : List ℕ) (a
   pub versioned : a.version ≡ anatomy.version
   pub numbered : a.cursors ≡ length cursors
   pub sees : Sees anatomy cursors a.seen
+  pub ahead : IsAhead (order_of anatomy) anatomy.tail cursors a.place a.beaten a.lost
   pub names : All (Knows anatomy) a.names
   pub own : All (HoldsOwn shape anatomy.pieces id) a.own
   pub apart : (i j : ℕ) (x y : Own) → get_elem? a.own i ≡ some x → get_elem? a.own j ≡ some y → x.at ≡ y.at → i ≡ j

@@ -109,7 +109,11 @@ abbrev pub IsNoLater : List ℕ → ℕ → ℕ → Type 0
 IsNoLater chain seen present =
     (i j : ℕ) × (i ≤ j) × (j ≤ length chain) × (slice_index (stops chain) i ≡ seen) × (slice_index (stops chain) j ≡ present)
 
--- so are some places
+-- a place is reached behind so many records of the list, or later
+abbrev pub IsReachedAt : List ℕ → ℕ → ℕ → Type 0
+IsReachedAt chain least at = (k : ℕ) × (least ≤ k) × (k ≤ length chain) × (slice_index (stops chain) k ≡ at)
+
+-- some places are no later than another
 abbrev pub AreNoLater : List ℕ → List ℕ → ℕ → Type 0
 AreNoLater chain seen present = All (λ place. IsNoLater chain place present) seen
 

@@ -91,7 +91,9 @@ next a (set_flag flag) found =
 
 -- ---- what it learns
 
+-- the flags have the corrupt one, where it has set it; a free pointer is lawful, and no earlier than the one that it knew
 abbrev pub Learned : Actor → AllocatingEvent → ℕ → Type 0
+Learned a load_flags found = a.spoiled ≡ true → bit_and found FLAG_CORRUPT ≡ FLAG_CORRUPT
 Learned a load_free found = Behind a.seen.free found × (is_pointer a.shape found ≡ true)
 Learned a (exchange_free old new) found = Behind old found × (is_pointer a.shape found ≡ true)
 Learned a _ found = ⊤

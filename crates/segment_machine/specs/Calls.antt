@@ -2,7 +2,7 @@
 use Rattle.std.specs.Prelude.{◌≡◌, ◌≢◌, Bool, true, false, not, ℕ, ◌+◌, ◌*◌, ◌<◌, ◌≤◌, ℤ, List, [], ◌∷◌, Some, None, ◌==◌, if◌then◌else◌, Option}
 use Rattle.std.specs.List.{filter, Contains}
 use Rattle.bucket_ranges.specs.Spec.{buckets_of}
-use Rattle.segment_image.specs.declared.layout.TheConstants.{BLOCK_HEADER, HISTOGRAM_COUNTS}
+use Rattle.segment_image.specs.declared.layout.TheConstants.{BLOCK_HEADER, HISTOGRAM_COUNTS, HISTOGRAM_SINGLE}
 use Rattle.bucket_ranges.specs.Single.{single_of}
 use Rattle.segment_machine.specs.declared.entry.Counting.{Counting}
 use Rattle.segment_machine.specs.declared.place.Look.{Look}
@@ -13,9 +13,10 @@ use Rattle.segment_machine.specs.declared.actor.Known.{Known}
 use Rattle.segment_machine.specs.declared.actor.Own.{Own}
 use Rattle.segment_machine.specs.Entry.{is_counted, has_ended}
 use Rattle.segment_machine.specs.Form.{is_off}
-use Rattle.segment_machine.specs.Actor.{is_bound, Buckets, bucket_key, known_at, known_buckets}
+use Rattle.segment_machine.specs.Actor.{is_bound, Buckets, bucket_key, known_at, known_buckets, word_seen}
 use Rattle.bucket_ranges.specs.declared.single.SingleWord.{SingleWord}
 use Rattle.list_core.specs.Chain.{is_reference}
+use Rattle.segment_machine.specs.declared.seen.Seen.{Seen}
 use Rattle.segment_machine.specs.declared.seen.Sighting.{Sighting}
 
 -- ---- lists of which one element changes
@@ -133,3 +134,9 @@ IsUnits found = found ≤ 4294967295
 abbrev pub AreCountsOf : Actor → ℕ → ℕ → Type 0
 AreCountsOf a histogram found = (known : Known) → Buckets a histogram known → found ≢ 0
     → found + (BLOCK_HEADER + 2 * buckets_of known.spec) ≤ a.shape.size
+
+-- a counts reference stays once it was seen, and is there once a single word that is off was seen
+abbrev pub CountsStay : Seen → ℕ → ℕ → Type 0
+CountsStay seen histogram found =
+    ((counts : ℕ) → word_seen seen.words (histogram + HISTOGRAM_COUNTS) ≡ Some counts → found ≡ counts)
+    × ((word : ℕ) → Contains seen.singles (record { at = histogram + HISTOGRAM_SINGLE; word = word }) → is_off word ≡ true → found ≢ 0)

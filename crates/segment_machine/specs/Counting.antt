@@ -14,7 +14,7 @@ use Rattle.segment_machine.specs.Made.{IsFirstSample}
 use Rattle.std.specs.Int.{w64, cast_unsigned}
 use Rattle.alloc_core.specs.Event as atomic
 use Rattle.segment_machine.specs.Operation.{Operation, single, add}
-use Rattle.segment_machine.specs.Calls.{MayTurn, IsNext, CountsNext, HasKey, LooksOff, change_next, count_next, sight, sight_counts, look_of, IsUnits, AreCountsOf}
+use Rattle.segment_machine.specs.Calls.{MayTurn, IsNext, CountsNext, HasKey, LooksOff, change_next, count_next, sight, sight_counts, look_of, IsUnits, AreCountsOf, CountsStay}
 
 pub data CountingEvent : Type 0 where
   load_counts : (histogram : ℕ) → CountingEvent
@@ -79,7 +79,7 @@ next a (add_redundant histogram units) found =
 -- ---- what it learns
 
 abbrev pub Learned : Actor → CountingEvent → ℕ → Type 0
-Learned a (load_counts histogram) found = AreCountsOf a histogram found
+Learned a (load_counts histogram) found = AreCountsOf a histogram found × CountsStay a.seen histogram found
 Learned a (add_count at units) found = IsUnits (found + units)
 Learned a (add_redundant histogram units) found = IsUnits (found + units)
 Learned a _ found = ⊤

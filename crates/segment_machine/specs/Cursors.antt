@@ -1,6 +1,7 @@
 -- Shared cursors, by their numbers.
 -- An event is read here in one place: what it acts on, when it is ready, what becomes of its actor, and what this learns.
-use Rattle.std.specs.Prelude.{◌≡◌, Bool, true, false, ℕ, ◌+◌, ◌<◌, [], ◌∷◌, ◌++◌, ◌==◌}
+use Rattle.std.specs.Prelude.{◌≡◌, ◌≢◌, Bool, true, false, ℕ, ◌+◌, ◌*◌, ◌<◌, ◌≤◌, [], ◌∷◌, ◌++◌, ◌==◌, slice_index, slice_set}
+use Rattle.segment_image.specs.declared.layout.TheConstants.{BLOCK_LEAST, HEADER_WORDS}
 use Rattle.segment_machine.specs.declared.place.Place.TheVariants.{CursorLoaded, BehindCursor, Idle}
 use Rattle.segment_machine.specs.declared.actor.Actor.{Actor}
 use Rattle.alloc_core.specs.Event as atomic
@@ -32,7 +33,11 @@ after_cursor true a cursor new found = record a {
   given = a.given ++ record { cursor = cursor; reference = new } ∷ [];
   seen = record a.seen { cursors = a.seen.cursors ++ sight cursor new };
 }
-after_cursor false a cursor new found = record a { place = Idle; seen = record a.seen { cursors = a.seen.cursors ++ sight cursor found } }
+after_cursor false a cursor new found = record a {
+  place = Idle;
+  lost = slice_set a.lost cursor (slice_index a.lost cursor + 1);
+  seen = record a.seen { cursors = a.seen.cursors ++ sight cursor found };
+}
 
 abbrev pub next : Actor → CursorEvent → ℕ → Actor
 next a (load_cursor cursor) found =
@@ -41,6 +46,7 @@ next a (move_cursor cursor old new) found = after_cursor (found == old) a cursor
 
 -- ---- what it learns
 
+-- an exchange that comes too late is one more of few: for each there is a record of five words on the list
 abbrev pub Learned : Actor → CursorEvent → ℕ → Type 0
 Learned a (load_cursor cursor) found = IsReference a found
-Learned a (move_cursor cursor old new) found = IsReference a found
+Learned a (move_cursor cursor old new) found = IsReference a found × (found ≢ old → BLOCK_LEAST * (slice_index a.lost cursor + 1) + HEADER_WORDS ≤ a.shape.size)

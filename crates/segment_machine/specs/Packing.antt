@@ -18,7 +18,7 @@ use Rattle.segment_machine.specs.Actor.{Buckets}
 use Rattle.bucket_ranges.specs.declared.single.SingleWord.{SingleWord}
 use Rattle.alloc_core.specs.Event as atomic
 use Rattle.segment_machine.specs.Operation.{Operation, single, add}
-use Rattle.segment_machine.specs.Calls.{MayTurn, IsNext, CountsNext, HasKey, LooksOpen, count_next, change_own, without, sight, sight_counts, look_of, back, form_seen, IsUnits, AreCountsOf}
+use Rattle.segment_machine.specs.Calls.{MayTurn, IsNext, CountsNext, HasKey, LooksOpen, count_next, change_own, without, sight, sight_counts, look_of, back, form_seen, IsUnits, AreCountsOf, CountsStay}
 
 pub data PackingEvent : Type 0 where
   load_single : (histogram : ℕ) → PackingEvent
@@ -126,7 +126,7 @@ IsSingleOf a histogram found = (known : Known) → Buckets a histogram known
 abbrev pub Learned : Actor → PackingEvent → ℕ → Type 0
 Learned a (load_single histogram) found = IsSingleOf a histogram found
 Learned a (pack histogram old new) found = IsSingleOf a histogram found
-Learned a (mount_counts histogram at) found = AreCountsOf a histogram found
+Learned a (mount_counts histogram at) found = AreCountsOf a histogram found × CountsStay a.seen histogram found
 Learned a (disable histogram old) found = IsSingleOf a histogram found
 Learned a (add_moved counts bucket units) found = IsUnits (found + units)
 Learned a _ found = ⊤

@@ -1,10 +1,10 @@
 -- Publishing: the next of a record of its own, the tail, and the next behind which it links.
 -- An event is read here in one place: what it acts on, when it is ready, what becomes of its actor, and what this learns.
-use Rattle.std.specs.Prelude.{◌≡◌, ◌⊎◌, Bool, true, false, ℕ, ◌+◌, ◌*◌, ◌≤◌, List, [], ◌∷◌, ◌++◌, Some, None, ◌==◌, if◌then◌else◌, Option, ⊤}
+use Rattle.std.specs.Prelude.{◌≡◌, ◌≢◌, ◌⊎◌, Bool, true, false, ℕ, ◌+◌, ◌*◌, ◌≤◌, List, [], ◌∷◌, ◌++◌, Some, None, ◌==◌, if◌then◌else◌, Option, ⊤}
 use Rattle.std.specs.List.{Contains}
 use Rattle.bucket_ranges.specs.Spec.{buckets_of, spec_fault}
 use Rattle.bucket_ranges.specs.Reading.{is_name, is_i32}
-use Rattle.segment_image.specs.declared.layout.TheConstants.{BLOCK_HEADER, QUEUE, SAMPLE_LEAST, TYPE_HISTOGRAM, TYPE_SAMPLE}
+use Rattle.segment_image.specs.declared.layout.TheConstants.{BLOCK_HEADER, BLOCK_LEAST, HEADER_WORDS, QUEUE, SAMPLE_LEAST, TYPE_HISTOGRAM, TYPE_SAMPLE}
 use Rattle.segment_machine.specs.declared.actor.Made.TheVariants.{Histogram, Sample}
 use Rattle.segment_machine.specs.declared.place.Place.TheVariants.{TailLoaded, Beaten, Linked, Idle}
 use Rattle.segment_machine.specs.declared.actor.Actor.{Actor}
@@ -88,7 +88,7 @@ after_link true a tail at found = record a {
   owed = a.owed ++ owed_for (own_at a.own at) at;
   own = without at a.own;
 }
-after_link false a tail at found = record a { place = Beaten tail found }
+after_link false a tail at found = record a { place = Beaten tail found; beaten = a.beaten + 1 }
 
 abbrev pub next : Actor → PublishingEvent → ℕ → Actor
 next a (store_own_next at) found = record a { own = change_own at (λ own. record own { next = QUEUE }) a.own }
@@ -99,8 +99,9 @@ next a (move_tail old new) found =
 
 -- ---- what it learns
 
+-- a link that comes too late is one more of few: for each there is a record of five words on the list
 abbrev pub Learned : Actor → PublishingEvent → ℕ → Type 0
 Learned a load_tail found = IsReference a found
-Learned a (link tail at) found = IsReference a found
+Learned a (link tail at) found = IsReference a found × (found ≢ QUEUE → BLOCK_LEAST * (a.beaten + 1) + HEADER_WORDS ≤ a.shape.size)
 Learned a (move_tail old new) found = IsReference a found
 Learned a _ found = ⊤

@@ -1,6 +1,6 @@
 -- How recorders are made and joined, and how units are offered, lent and given back. These change no word of a segment, and the
 -- records of two actors at most: an opener and a recorder. In the running segment they load a word beside it that never changes.
-use Rattle.std.specs.Prelude.{◌≡◌, ◌≢◌, ℕ, ◌+◌, ◌-◌, ◌<◌, ◌≤◌, max, false, ◌||◌, nat_lt, if◌then◌else◌, List, [], ◌++◌, map, length}
+use Rattle.std.specs.Prelude.{◌≡◌, ◌≢◌, ℕ, ◌+◌, ◌-◌, ◌<◌, ◌≤◌, max, false, ◌||◌, nat_lt, if◌then◌else◌, List, [], ◌++◌, map, length, replicate}
 use Rattle.segment_image.specs.declared.layout.TheConstants.{HEADER_WORDS}
 use Rattle.segment_image.specs.Shape.{Dimensions}
 use Rattle.segment_machine.specs.declared.place.Place.TheVariants.{Spent, Idle}
@@ -35,6 +35,8 @@ idle shape version cursors free share = record {
   published = [];
   spoiled = false;
   filled = false;
+  beaten = 0;
+  lost = replicate cursors 0;
   seen = record nothing_seen { free = free };
   names = [];
   owed = [];

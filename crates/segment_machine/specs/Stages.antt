@@ -1,6 +1,6 @@
 -- An allocation, a publish and a walk are stepped by themselves, an event at a time. Here an actor goes along with each: while the
 -- two agree, the event that is next is one that the actor may do, and behind it they agree again.
-use Rattle.std.specs.Prelude.{◌≡◌, true, false, ℕ, ◌+◌, ◌<◌, ◌≤◌, List, length, slice_index, Option, Some, None}
+use Rattle.std.specs.Prelude.{◌≡◌, true, false, ℕ, ◌+◌, ◌≤◌, List, Option, Some, None}
 use Rattle.std.specs.List.{Contains}
 use Rattle.segment_image.specs.declared.layout.TheConstants.{BLOCK_NEXT, FLAG_FULL, QUEUE, TYPE_HISTOGRAM, TYPE_SAMPLE}
 use Rattle.alloc_core.specs.declared.alloc.Stage.{Stage as AllocStage}
@@ -116,13 +116,9 @@ PublishesAgree = (size version : ℕ) (a : Actor) (made : Made) (p : Publishing)
 abbrev pub Walks : Actor → List ℕ → Type 0
 Walks a given = MayTurn a × IsPrefix given a.seen.chain
 
--- behind records that it passed before the actor meets what it met there
-abbrev pub MeetsAgain : Actor → List ℕ → ℕ → Type 0
-MeetsAgain a given found = length given < length a.seen.chain → found ≡ slice_index a.seen.chain (length given)
-
 abbrev pub WalksAgree : Type 0
 WalksAgree = (size version : ℕ) (a : Actor) (given : List ℕ) → Walks a given
     → let act = load_next (stands_behind given) in
     (walking.operation size version act ≡ single (atomic.load (stands_behind given + BLOCK_NEXT))) × walking.Ready a act
-    × ((found : ℕ) → walking.Learned a act found → MeetsAgain a given found
+    × ((found : ℕ) → walking.Learned a act found
     → Walks (walking.next a act found) (given_after given (said_of a.shape.size found)))

@@ -13,7 +13,7 @@ use Rattle.segment_machine.specs.declared.actor.Known.{Known}
 use Rattle.segment_machine.specs.declared.actor.Taken.{Taken}
 use Rattle.segment_machine.specs.Form.{units_in}
 use Rattle.segment_machine.specs.Actor.{Buckets, Sparse, bucket_key, word_seen, SawSingle, known_at}
-use Rattle.segment_machine.specs.Made.{SawSample}
+use Rattle.segment_machine.specs.Made.{SawSample, IsFirstSample}
 use Rattle.std.specs.Int.{w64, cast_signed, cast_unsigned}
 use Rattle.alloc_core.specs.Event as atomic
 use Rattle.segment_machine.specs.Operation.{Operation, single, raise, swap}
@@ -148,10 +148,17 @@ next a (load_redundant histogram) found = record a { seen = record a.seen { coun
 abbrev pub IsSum : ℕ → Type 0
 IsSum found = unsigned_abs (cast_signed w64 found) ≤ 2147483648 * 4294967295
 
+-- a later sample of a value counts nothing
+abbrev pub IsLaterSample : Actor → ℕ → Type 0
+IsLaterSample a sample =
+    (known : Known) × (value : ℤ) × (first : ℕ) × Sparse a known.reference known × SawSample a.seen known.reference value sample
+    × IsFirstSample a.seen known.reference value first × (first ≢ sample)
+
 abbrev pub Learned : Actor → TakingEvent → ℕ → Type 0
-Learned a (load_count at) found = IsUnits found
+Learned a (load_count at) found = IsUnits found × ((sample : ℕ) → at ≡ sample + SAMPLE_COUNT → IsLaterSample a sample → found ≡ 0)
 Learned a (raise_mark at least) found = IsUnits found
 Learned a (raise_single_mark histogram least) found = IsUnits found
 Learned a (load_sum histogram) found = IsSum found
-Learned a (swap_sum_mark histogram sum) found = IsSum found × (unsigned_abs sum ≤ 2147483648 * 4294967295)
+Learned a (swap_sum_mark histogram sum) found =
+    IsSum found × (unsigned_abs sum ≤ 2147483648 * 4294967295) × (unsigned_abs (sum -ℤ cast_signed w64 found) ≤ 2147483648 * 4294967295)
 Learned a (load_redundant histogram) found = IsUnits found

@@ -1,14 +1,15 @@
 -- Walking: a next, and a word of a published record that never changes.
 -- An event is read here in one place: what it acts on, when it is ready, what becomes of its actor, and what this learns.
-use Rattle.std.specs.Prelude.{◌≡◌, ◌⊎◌, not, ℕ, ◌+◌, ◌-◌, ◌<◌, ◌≤◌, List, [], ◌∷◌, ◌++◌, length, Some, ◌&&◌, ◌==◌, if◌then◌else◌, slice_index}
-use Rattle.std.specs.List.{Contains}
+use Rattle.std.specs.Prelude.{◌≡◌, ◌⊎◌, not, ℕ, ◌+◌, ◌-◌, ◌*◌, ◌<◌, ◌≤◌, List, [], ◌∷◌, ◌++◌, map, length, Some, ◌&&◌, ◌==◌, if◌then◌else◌, slice_index}
+use Rattle.std.specs.List.{filter, All, Contains}
 use Rattle.bucket_ranges.specs.Reading.{name_words}
-use Rattle.segment_image.specs.declared.layout.TheConstants.{BLOCK_TYPE, HISTOGRAM_BUCKETS, HISTOGRAM_COUNTS, HISTOGRAM_KIND, HISTOGRAM_NAME, HISTOGRAM_NAME_LENGTH, KIND_CUSTOM, QUEUE, SAMPLE_COUNT, SAMPLE_HISTOGRAM, SAMPLE_LEAST, TYPE_HISTOGRAM, TYPE_SAMPLE, BLOCK_NEXT}
+use Rattle.segment_image.specs.declared.layout.TheConstants.{BLOCK_LEAST, BLOCK_TYPE, HEADER_WORDS, HISTOGRAM_BUCKETS, HISTOGRAM_COUNTS, HISTOGRAM_KIND, HISTOGRAM_NAME, HISTOGRAM_NAME_LENGTH, KIND_CUSTOM, QUEUE, SAMPLE_COUNT, SAMPLE_HISTOGRAM, SAMPLE_LEAST, TYPE_HISTOGRAM, TYPE_SAMPLE, BLOCK_NEXT}
 use Rattle.segment_machine.specs.declared.place.Place.{Place}
 use Rattle.segment_machine.specs.declared.place.Place.TheVariants.{CursorLoaded, BehindCursor, Idle}
 use Rattle.segment_machine.specs.declared.actor.Actor.{Actor}
 use Rattle.segment_machine.specs.Actor.{word_seen}
 use Rattle.list_core.specs.Chain.{stops}
+use Rattle.list_core.specs.Walk.{IsPrefix, stands_behind}
 use Rattle.alloc_core.specs.Event as atomic
 use Rattle.segment_machine.specs.Operation.{Operation, single}
 use Rattle.segment_machine.specs.Calls.{MayTurn, sight, IsReference}
@@ -78,6 +79,26 @@ EndsWithin a at index found =
     × ((len : ℕ) → index ≡ HISTOGRAM_BUCKETS → word_seen a.seen.words (at + HISTOGRAM_KIND) ≡ Some KIND_CUSTOM → word_seen a.seen.words (at + HISTOGRAM_NAME_LENGTH) ≡ Some len
     → at + HISTOGRAM_NAME + name_words len + (found - 1) ≤ a.shape.size)
 
+-- the records that it made, was given, or saw as tail or cursor
+abbrev pub records_met : Actor → List ℕ
+records_met a =
+    map (λ p. p.reference) a.published ++ map (λ g. g.reference) a.given
+    ++ filter (λ at. not (at == QUEUE)) (a.seen.tails ++ map (λ s. s.word) a.seen.cursors)
+
+-- A next: what was found there before; on a list that fits in the segment. At the end of the chain that it saw, all records that it met
+-- are in that chain; at the end behind a shared cursor, they are in a chain that ends where the cursor stands, and so is all that it saw.
+pub record IsNextOf (a : Actor) (at found : ℕ) : Type 0 where
+  pub reference : IsReference a found
+  pub again : (i : ℕ) → i < length a.seen.chain → slice_index (stops a.seen.chain) i ≡ at → found ≡ slice_index a.seen.chain i
+  pub few : BLOCK_LEAST * length (extended a.seen.chain at found) + HEADER_WORDS ≤ a.shape.size
+  pub all : stands_behind a.seen.chain ≡ at → found ≡ QUEUE → All (Contains a.seen.chain) (records_met a)
+  pub given : (cursor : ℕ) → a.place ≡ CursorLoaded cursor at → found ≡ QUEUE
+      → (chain : List ℕ) × IsPrefix a.seen.chain chain × (stands_behind chain ≡ at) × All (Contains chain) (records_met a)
+
+-- a word that it saw stays
+abbrev pub IsSame : Actor → ℕ → ℕ → Type 0
+IsSame a at found = (word : ℕ) → word_seen a.seen.words at ≡ Some word → found ≡ word
+
 abbrev pub Learned : Actor → WalkingEvent → ℕ → Type 0
-Learned a (load_next at) found = IsReference a found
-Learned a (load_published at index) found = EndsWithin a at index found
+Learned a (load_next at) found = IsNextOf a at found
+Learned a (load_published at index) found = EndsWithin a at index found × IsSame a (at + index) found

@@ -146,6 +146,13 @@ pub struct Actor {
     /// Whether an allocation of it has set the full flag.
     pub filled: bool,
 
+    // ---- how often it came too late
+
+    /// How often its link found another record behind the tail.
+    pub beaten: u64,
+    /// Of each shared cursor, how often its exchange found that another had moved it on.
+    pub lost: LinkedList<u64>,
+
     // ---- what it has seen
 
     /// What it has seen of the segment.

@@ -17,6 +17,7 @@ use Rattle.segment_machine.specs.declared.actor.Claim.{Claim}
 use Rattle.segment_machine.specs.declared.actor.Own.{Own}
 use Rattle.segment_machine.specs.declared.place.Place.{Place}
 use Rattle.segment_machine.specs.State.{State}
+use Rattle.segment_invariant.proofs.Frames.Ahead.{KeepsUp}
 use Rattle.segment_invariant.specs.Body.{held, is_claimed, Piece, extent_of, Anatomy, layout_of, order_of, free_of, claims_of}
 use Rattle.segment_invariant.specs.Invariant.{StandsRight, HoldsOwn, IsSetBy, ClaimedRight, Invariant}
 use Rattle.segment_invariant.proofs.Lists.Elements.{rows, rows_more, column}
@@ -86,13 +87,13 @@ module _ (shape : Dimensions) (opened : Anatomy) (state : State) (kept : Invaria
 
   -- ---- nothing changes but where it stands, and what it saw of the free pointer
 
-  pub waits : (p : Place) (seen : ℕ) → TurnsTo a p → Behind seen (free_of anatomy)
+  pub waits : (p : Place) (seen : ℕ) → TurnsTo a p → KeepsUp a.place p → Behind seen (free_of anatomy)
       → StandsRight shape anatomy id (record a { place = p; seen = record a.seen { free = seen } }) p
       → GoesTo state.words (record (doing_of a) { place = p; seen_free = seen })
-  waits p seen turns behind stands =
+  waits p seen turns up behind stands =
       let d : Doing = record (doing_of a) { place = p; seen_free = seen } in
       let fits = kept.each id a mine turns.lived in
-      acts_on shape opened state kept id a mine records d turns anatomy.pieces anatomy.spare anatomy.corrupt anatomy.full state.words
+      acts_on shape opened state kept id a mine records d turns up anatomy.pieces anatomy.spare anatomy.corrupt anatomy.full state.words
       (record {
         shown = kept.shown;
         stays = stays_same anatomy.pieces;
@@ -120,13 +121,13 @@ module _ (shape : Dimensions) (opened : Anatomy) (state : State) (kept : Invaria
     free_stays seen = subst (Behind seen) (sym (free_with anatomy k p q store.there store.long))
 
     -- with what it has of blocks then
-    pub stores : (d : Doing) → TurnsTo a d.place → Claims after.pieces d → d.spoiled ≡ a.spoiled → d.filled ≡ a.filled → d.seen_free ≡ a.seen.free
+    pub stores : (d : Doing) → TurnsTo a d.place → KeepsUp a.place d.place → Claims after.pieces d → d.spoiled ≡ a.spoiled → d.filled ≡ a.filled → d.seen_free ≡ a.seen.free
         → StandsRight shape after id (doing a (unlisted a d)) d.place → All (HoldsOwn shape after.pieces id) d.own
         → ((i j : ℕ) (x y : Own) → get_elem? d.own i ≡ some x → get_elem? d.own j ≡ some y → x.at ≡ y.at → i ≡ j)
         → GoesTo words d
-    stores d turns claims spoiled filled seen stands own apart =
+    stores d turns up claims spoiled filled seen stands own apart =
         let fits = kept.each id a mine turns.lived in
-        acts_on shape opened state kept id a mine records d turns after.pieces anatomy.spare anatomy.corrupt anatomy.full words
+        acts_on shape opened state kept id a mine records d turns up after.pieces anatomy.spare anatomy.corrupt anatomy.full words
         (record {
           shown = store.shown;
           stays = stays_put anatomy.pieces k id p q store.there store.mine store.still_mine store.making store.still_making;
@@ -159,12 +160,12 @@ module _ (shape : Dimensions) (opened : Anatomy) (state : State) (kept : Invaria
         a.own own
 
     -- words that nobody has claimed become others, and the actor stands elsewhere
-    pub makes : is_claimed p.body ≡ false → is_claimed q.body ≡ false → (place : Place) → TurnsTo a place
+    pub makes : is_claimed p.body ≡ false → is_claimed q.body ≡ false → (place : Place) → TurnsTo a place → KeepsUp a.place place
         → StandsRight shape after id (record a { place = place }) place → GoesTo words (record (doing_of a) { place = place })
-    makes was is place turns stands =
+    makes was is place turns up stands =
         let d : Doing = record (doing_of a) { place = place } in
         let fits = kept.each id a mine turns.lived in
-        stores d turns
+        stores d turns up
         (claims_kept after.pieces d (claims_same anatomy.pieces k p q store.there (is ∙ sym was) store.place store.long) refl)
         refl refl refl stands (own_beside was fits.own) fits.apart
 
@@ -173,17 +174,17 @@ module _ (shape : Dimensions) (opened : Anatomy) (state : State) (kept : Invaria
   abbrev Taken : ℕ → Anatomy
   Taken new = grown_by anatomy id (new - free_of anatomy)
 
-  pub takes : (new : ℕ) (place : Place) → TurnsTo a place → IsRise shape (free_of anatomy) new
+  pub takes : (new : ℕ) (place : Place) → TurnsTo a place → KeepsUp a.place place → IsRise shape (free_of anatomy) new
       → StandsRight shape (Taken new) id (record a { place = place; seen = record a.seen { free = new } }) place
       → GoesTo (set state.words 7 new) (record (doing_of a) { place = place; seen_free = new })
-  takes new place turns rise stands =
+  takes new place turns up rise stands =
       let d : Doing = record (doing_of a) { place = place; seen_free = new } in
       let fits = kept.each id a mine turns.lived in
       let size : ℕ = new - free_of anatomy in
       let q : Piece = raw_piece (free_of anatomy) id size in
       let five = rise.five in
       let ends : free_of (Taken new) ≡ new = omega (arith, free_more anatomy id size, five) in
-      acts_on shape opened state kept id a mine records d turns (Taken new).pieces (anatomy.spare - size) anatomy.corrupt anatomy.full (set state.words 7 new)
+      acts_on shape opened state kept id a mine records d turns up (Taken new).pieces (anatomy.spare - size) anatomy.corrupt anatomy.full (set state.words 7 new)
       (record {
         shown = subst (IsShown shape (set state.words 7 new)) (layout_grown anatomy id size)
             (shown_grown shape state.words (layout_of anatomy) id new kept.shown rise);
@@ -212,16 +213,16 @@ module _ (shape : Dimensions) (opened : Anatomy) (state : State) (kept : Invaria
 
   -- ---- a flag is set
 
-  pub flags_set : (corrupt full : Bool) (v : ℕ) (place : Place) (spoiled filled : Bool) → TurnsTo a place
+  pub flags_set : (corrupt full : Bool) (v : ℕ) (place : Place) (spoiled filled : Bool) → TurnsTo a place → KeepsUp a.place place
       → IsShown shape (set state.words 6 v) (layout_of (record anatomy { corrupt = corrupt; full = full }))
       → IsSetBy corrupt opened.corrupt (map (λ a. a.spoiled) (set state.actors id (record a { place = place; spoiled = spoiled; filled = filled })))
       → IsSetBy full opened.full (map (λ a. a.filled) (set state.actors id (record a { place = place; spoiled = spoiled; filled = filled })))
       → StandsRight shape (record anatomy { corrupt = corrupt; full = full }) id (record a { place = place; spoiled = spoiled; filled = filled }) place
       → GoesTo (set state.words 6 v) (record (doing_of a) { place = place; spoiled = spoiled; filled = filled })
-  flags_set corrupt full v place spoiled filled turns shown is_corrupt is_full stands =
+  flags_set corrupt full v place spoiled filled turns up shown is_corrupt is_full stands =
       let d : Doing = record (doing_of a) { place = place; spoiled = spoiled; filled = filled } in
       let fits = kept.each id a mine turns.lived in
-      acts_on shape opened state kept id a mine records d turns anatomy.pieces anatomy.spare corrupt full (set state.words 6 v)
+      acts_on shape opened state kept id a mine records d turns up anatomy.pieces anatomy.spare corrupt full (set state.words 6 v)
       (record {
         shown = shown;
         stays = stays_same anatomy.pieces;

@@ -15,6 +15,7 @@ use Rattle.list_core.specs.Chain.{IsLinked}
 use Rattle.segment_machine.specs.declared.actor.Actor.{Actor}
 use Rattle.segment_machine.specs.declared.actor.Own.{Own}
 use Rattle.segment_machine.specs.State.{State}
+use Rattle.segment_invariant.proofs.Frames.Ahead.{KeepsUp, ahead_at}
 use Rattle.segment_invariant.specs.Body.{Body, queue, plain, held, Piece, Anatomy, layout_of, order_of, free_of, claims_of}
 use Rattle.segment_invariant.specs.Seen.{Stands}
 use Rattle.segment_invariant.specs.Invariant.{StandsRight, HoldsOwn, IsSetBy, ClaimedRight, StandStill, Invariant}
@@ -131,14 +132,14 @@ pub record Acts (shape : Dimensions) (opened : Anatomy) (state : State) (old new
 
 -- such a doing: it sees nothing of the list, and publishes nothing
 abbrev pub unlisted : Actor → Doing → Doing
-unlisted a d = sees_no_more a (record d { published = a.published; owed = a.owed })
+unlisted a d = sees_no_more a (record d { published = a.published; owed = a.owed; beaten = a.beaten })
 
 module _ (shape : Dimensions) (opened : Anatomy) (state : State) (kept : Invariant shape opened state) (id : ℕ) (a : Actor)
     (mine : get_elem? state.actors id ≡ some a) (records : a.opener ≡ 0) where
   abbrev before : Anatomy
   before = kept.anatomy
 
-  module _ (d : Doing) (turns : TurnsTo a d.place) (pieces : List Piece) (spare : ℕ) (corrupt full : Bool) (words : List ℕ)
+  module _ (d : Doing) (turns : TurnsTo a d.place) (up : KeepsUp a.place d.place) (pieces : List Piece) (spare : ℕ) (corrupt full : Bool) (words : List ℕ)
       (acts : Acts shape opened state before (reshaped before pieces spare corrupt full before.tail) id a (unlisted a d) words) where
     -- it goes on, and the state is kept
     pub acts_on : Invariant shape opened (record { words = words; cursors = state.cursors; actors = set state.actors id (doing a (unlisted a d)) })
@@ -165,6 +166,7 @@ module _ (shape : Dimensions) (opened : Anatomy) (state : State) (kept : Invaria
           sees = sees_doing new a (unlisted a d) state.cursors acts.seen
               (sees_along before pieces spare corrupt full before.tail acts.stays state.cursors a.seen (acts.free a.seen.free fits.sees.free)
               fits.sees.tails fits.sees);
+          ahead = ahead_at (order_of before) before.tail state.cursors a.place a.beaten a.lost fits.ahead d.place up;
           own = acts.own;
           apart = acts.apart;
           calls = calls_doing new a (unlisted a d) (calls_along before pieces spare corrupt full before.tail acts.stays a fits.calls);

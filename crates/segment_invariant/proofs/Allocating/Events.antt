@@ -14,7 +14,7 @@ use Rattle.segment_image.specs.Words.{word_at}
 use Rattle.alloc_core.specs.Laws.{Behind}
 use Rattle.alloc_core.specs.Alloc.{IsRise}
 use Rattle.alloc_core.specs.Planned.{room_at, is_pointer}
-use Rattle.alloc_core.proofs.Layouts.{free_word, shown_corrupt, shown_full, length_shown}
+use Rattle.alloc_core.proofs.Layouts.{free_word, shown_corrupt, shown_full, length_shown, flags_word}
 use Rattle.alloc_core.proofs.Owners.{set_at}
 use Rattle.segment_machine.specs.declared.actor.Actor.{Actor}
 use Rattle.segment_machine.specs.declared.place.Place.TheVariants.{Spent, Idle, FlagsLoaded, FreeLoaded, Raised}
@@ -22,21 +22,27 @@ use Rattle.segment_machine.specs.Actor.{is_bound}
 use Rattle.segment_machine.specs.State.{State}
 use Rattle.segment_machine.specs.Event.{Event, allocating_event, spot, Ready, Learned}
 use Rattle.segment_machine.specs.Allocating.{load_flags, load_free, exchange_free, set_flag, after_free}
+use Rattle.alloc_core.proofs.Flags.{corrupt_bit}
+use Rattle.segment_invariant.proofs.Frames.Ahead.{unbound_unbeaten}
 use Rattle.segment_invariant.specs.Body.{Anatomy, layout_of, free_of}
-use Rattle.segment_invariant.specs.Invariant.{StandsRight, IsSetBy, Invariant}
+use Rattle.segment_invariant.specs.Invariant.{StandsRight, IsSetBy, Invariant, is_beaten}
 use Rattle.segment_invariant.proofs.Lists.Elements.{any_there, column}
 use Rattle.segment_invariant.proofs.Blocks.Pieces.{raw_piece, stands_last, free_least, free_within}
 use Rattle.segment_invariant.proofs.Frames.OneActor.{is_plain, turns_plain, turns_unbound}
 use Rattle.segment_invariant.proofs.Frames.GoesOn.{after_word}
 use Rattle.segment_invariant.proofs.Allocating.Blocks.{waits, takes, flags_set}
 
--- a flag that an actor sets is set
+-- a flag that an actor has set is set
+set_there : (opened : Bool) (actors : List Actor) (id : ℕ) (a : Actor) (flag : Actor → Bool) → get_elem? actors id ≡ some a → flag a ≡ true
+    → IsSetBy true opened (map flag actors)
+set_there opened actors id a flag there is =
+    sym (or-true opened)
+    ∙ ap (λ now. opened || now) (sym (any_there (map flag actors) id false (at_map flag actors id a there ∙ ap some is)))
+
+-- so is one that it sets
 set_now : (opened : Bool) (actors : List Actor) (id : ℕ) (a b : Actor) (flag : Actor → Bool) → get_elem? actors id ≡ some a → flag b ≡ true
     → IsSetBy true opened (map flag (set actors id b))
-set_now opened actors id a b flag there is =
-    sym (or-true opened)
-    ∙ ap (λ now. opened || now)
-    (sym (any_there (map flag (set actors id b)) id false (at_map flag (set actors id b) id b (set_at actors id a b there) ∙ ap some is)))
+set_now opened actors id a b flag there is = set_there opened (set actors id b) id b flag (set_at actors id a b there) is
 
 module _ (shape : Dimensions) (opened : Anatomy) (state : State) (kept : Invariant shape opened state) (id : ℕ) (a : Actor)
     (mine : get_elem? state.actors id ≡ some a) (records : a.opener ≡ 0) where
@@ -65,13 +71,19 @@ module _ (shape : Dimensions) (opened : Anatomy) (state : State) (kept : Invaria
       → Invariant shape opened (record { words = state.words; cursors = state.cursors; actors = set state.actors id (record a { place = if clear then FlagsLoaded else Idle }) })
   flags_at true turn =
       let turns = turns_unbound a FlagsLoaded turn refl in
-      waits shape opened state kept id a mine records FlagsLoaded a.seen.free turns (kept.each id a mine turns.lived).sees.free tt
+      waits shape opened state kept id a mine records FlagsLoaded a.seen.free turns (λ no. unbound_unbeaten a.place turn) (kept.each id a mine turns.lived).sees.free tt
   flags_at false turn =
       let turns = turns_unbound a Idle turn refl in
-      waits shape opened state kept id a mine records Idle a.seen.free turns (kept.each id a mine turns.lived).sees.free tt
+      waits shape opened state kept id a mine records Idle a.seen.free turns (λ no. unbound_unbeaten a.place turn) (kept.each id a mine turns.lived).sees.free tt
+
+  -- an actor that has set the corrupt flag finds it
+  corrupt_learned : a.spoiled ≡ true → bit_and (word_at state.words 6) 1 ≡ 1
+  corrupt_learned is = subst (λ (n : ℕ). bit_and n 1 ≡ 1) (sym (flags_word shape state.words (layout_of anatomy) kept.shown))
+      ((corrupt_bit anatomy.corrupt anatomy.full anatomy.other_flags).1
+      (kept.corrupt ∙ sym (set_there opened.corrupt state.actors id a (λ (x : Actor). x.spoiled) mine is)))
 
   pub flags_loaded : Ready a (allocating_event load_flags) → Keeps (allocating_event load_flags)
-  flags_loaded ready = (leaves 6 (word_at state.words 6) _ refl (flags_at (bit_and (word_at state.words 6) 1 == 0) ready), tt)
+  flags_loaded ready = (leaves 6 (word_at state.words 6) _ refl (flags_at (bit_and (word_at state.words 6) 1 == 0) ready), corrupt_learned)
 
   -- the free pointer
   free_is : word_at state.words 7 ≡ free_of anatomy
@@ -99,7 +111,7 @@ module _ (shape : Dimensions) (opened : Anatomy) (state : State) (kept : Invaria
   free_loaded ready =
       let found : ℕ = word_at state.words 7 in
       let turns = turns_plain a (FreeLoaded found) (ap is_plain ready) refl in (
-        leaves 7 found _ refl (waits shape opened state kept id a mine records (FreeLoaded found) found turns (inl free_is) refl),
+        leaves 7 found _ refl (waits shape opened state kept id a mine records (FreeLoaded found) found turns (λ no. ap is_beaten ready) (inl free_is) refl),
         pointer_learned turns.lived,
       )
 
@@ -120,7 +132,7 @@ module _ (shape : Dimensions) (opened : Anatomy) (state : State) (kept : Invaria
       let from = free_least shape state.words anatomy kept.shown in
       let five = rise.five in
       let within = rise.within in
-      takes shape opened state kept id a mine records new (Raised old size) (turns_plain a (Raised old size) (ap is_plain ready) refl) rise (
+      takes shape opened state kept id a mine records new (Raised old size) (turns_plain a (Raised old size) (ap is_plain ready) refl) (λ no. ap is_beaten ready) rise (
         record { from = from; five = omega (arith, five); within = omega (arith, five, within); one_page = rise.one_page },
         stands_last anatomy.pieces (raw_piece old id size),
       )
@@ -139,7 +151,7 @@ module _ (shape : Dimensions) (opened : Anatomy) (state : State) (kept : Invaria
             (subst (λ n. Exchanged n new true) is
             (exchanged new (ready ∙ ap FreeLoaded (sym is)) (subst (λ (p : Dimensions × ℕ). IsRise p.0 p.1 new) (λ i. (fits.shaped i, sym is i)) rise))))
             (λ other. subst (Exchanged old new) (sym (ne_eqb found old other))
-            (leaves 7 found _ refl (waits shape opened state kept id a mine records Idle found turns (inl free_is) tt))),
+            (leaves 7 found _ refl (waits shape opened state kept id a mine records Idle found turns (λ no. ap is_beaten ready) (inl free_is) tt))),
         (subst (λ n. Behind n found) seen learned.0, learned.1),
       )
 
@@ -148,7 +160,7 @@ module _ (shape : Dimensions) (opened : Anatomy) (state : State) (kept : Invaria
   corrupt_set turn =
       let b : Actor = record a { place = Idle; spoiled = true } in (
         flags_set shape opened state kept id a mine records true anatomy.full (bit_or (word_at state.words 6) 1) Idle true a.filled
-            (turns_unbound a Idle turn refl) (shown_corrupt shape state.words (layout_of anatomy) kept.shown)
+            (turns_unbound a Idle turn refl) (λ no. unbound_unbeaten a.place turn) (shown_corrupt shape state.words (layout_of anatomy) kept.shown)
             (set_now opened.corrupt state.actors id a b (λ (x : Actor). x.spoiled) mine refl)
             (kept.full ∙ ap (λ set. opened.full || fold ◌||◌ false set) (sym (column (λ (x : Actor). x.filled) state.actors id a b mine refl))) tt,
         tt,
@@ -158,7 +170,7 @@ module _ (shape : Dimensions) (opened : Anatomy) (state : State) (kept : Invaria
   full_set turn =
       let b : Actor = record a { place = Idle; filled = true } in (
         flags_set shape opened state kept id a mine records anatomy.corrupt true (bit_or (word_at state.words 6) 2) Idle a.spoiled true
-            (turns_unbound a Idle turn refl) (shown_full shape state.words (layout_of anatomy) kept.shown)
+            (turns_unbound a Idle turn refl) (λ no. unbound_unbeaten a.place turn) (shown_full shape state.words (layout_of anatomy) kept.shown)
             (kept.corrupt ∙ ap (λ set. opened.corrupt || fold ◌||◌ false set) (sym (column (λ (x : Actor). x.spoiled) state.actors id a b mine refl)))
             (set_now opened.full state.actors id a b (λ (x : Actor). x.filled) mine refl) tt,
         tt,

@@ -1,5 +1,5 @@
 -- Each store into the header of a block in its making keeps what holds: its size, its cookie, and its type, which claims it.
-use Rattle.std.proofs.Common.{◌≡◌, ◌≢◌, ℕ, suc, ◌+◌, ◌-◌, ◌<◌, ◌≤◌, ◌==◌, true, true≢false, List, [], ◌∷◌, ◌++◌, length, replicate, set, All, inl, inr, refl, sym, ap, ◌∙◌, subst, arith}
+use Rattle.std.proofs.Common.{◌≡◌, ◌≢◌, ℕ, suc, ◌+◌, ◌-◌, ◌<◌, ◌≤◌, ◌==◌, true, true≢false, List, [], ◌∷◌, ◌++◌, length, replicate, set, All, inl, inr, refl, sym, ap, ◌∙◌, subst, arith, false}
 use Rattle.std.specs.Prelude.{if◌then◌else◌, IsPermutation}
 use Rattle.std.proofs.lemmas.List.{length-replicate}
 use Rattle.std.proofs.lemmas.List.Elements.{All-push}
@@ -21,7 +21,7 @@ use Rattle.segment_machine.specs.Allocating.{store_size, store_cookie, store_typ
 use Rattle.segment_machine.specs.Event.{allocating_event, Ready}
 use Rattle.segment_invariant.specs.Body.{plain, held, own_words, is_claimed, Piece, block_of, Anatomy, layout_of, claims_of}
 use Rattle.segment_invariant.specs.Seen.{Stands, HasPlain}
-use Rattle.segment_invariant.specs.Invariant.{StandsRight, HoldsOwn, Invariant}
+use Rattle.segment_invariant.specs.Invariant.{StandsRight, HoldsOwn, Invariant, is_beaten}
 use Rattle.segment_invariant.proofs.Lists.Elements.{all_at, at_snoc_index}
 use Rattle.segment_invariant.proofs.Blocks.Pieces.{shown_with, stands_here, one_stands, claims_more}
 use Rattle.segment_invariant.proofs.Blocks.Stops.{linked_beside_own}
@@ -75,12 +75,12 @@ module _ (shape : Dimensions) (opened : Anatomy) (state : State) (kept : Invaria
     }
 
     -- and the actor stands behind that
-    made : (place : Place) → is_plain a.place ≡ true → is_plain place ≡ true
+    made : (place : Place) → is_plain a.place ≡ true → is_beaten a.place ≡ false → is_plain place ≡ true
         → (HasPlain (set anatomy.pieces there.0 (raw at new)) id at new → StandsRight shape (record anatomy { pieces = set anatomy.pieces there.0 (raw at new) }) id (record a { place = place }) place)
         → Goes (at + j) v (record a { place = place })
-    made place was is stands =
+    made place was unbeaten is stands =
         makes shape opened state kept id a mine records there.0 (raw at old) (raw at new) (set state.words (at + j) v) raw_store refl refl place
-        (turns_plain a place was is) (stands (stands_here anatomy.pieces there.0 (raw at old) (raw at new) there.1))
+        (turns_plain a place was is) (λ no. unbeaten) (stands (stands_here anatomy.pieces there.0 (raw at old) (raw at new) there.1))
 
   -- its size
   pub size_kept : (at size : ℕ) → Ready a (allocating_event (store_size at size)) → Keeps shape opened state kept id a mine records (allocating_event (store_size at size))
@@ -93,7 +93,7 @@ module _ (shape : Dimensions) (opened : Anatomy) (state : State) (kept : Invaria
         subst (λ n. Goes n size (record a { place = Sized at size })) none_on
             (made at 0 size (replicate size 0) (sized size) (k, there) (omega (arith, long, five)) (omega (arith, long, length-sized size five))
             (subst (λ n. IsShown shape (set state.words n size) (put (layout_of anatomy) k (own id at (sized size)))) (sym none_on) shown)
-            (Sized at size) (ap is_plain ready) refl (λ has. (placed, has))),
+            (Sized at size) (ap is_plain ready) (ap is_beaten ready) refl (λ has. (placed, has))),
         tt,
       )
 
@@ -108,7 +108,7 @@ module _ (shape : Dimensions) (opened : Anatomy) (state : State) (kept : Invaria
       let long = length-sized size five in
       made at 1 cookie (sized size) (marked size cookie) (k, there) (omega (arith, long, five)) (omega (arith, long, length-marked size cookie five))
       (cookie_stored shape state.words (layout_of anatomy) id at size cookie k kept.shown (at_map block_of anatomy.pieces k (raw at (sized size)) there) five)
-      place (ap is_plain ready) plain_place (λ has. stands _ placed has)
+      place (ap is_plain ready) (ap is_beaten ready) plain_place (λ has. stands _ placed has)
 
   -- that of a block, or that of a wasted rest of a page
   pub cookie_kept : (at cookie : ℕ) → Ready a (allocating_event (store_cookie at cookie)) → Keeps shape opened state kept id a mine records (allocating_event (store_cookie at cookie))
@@ -208,7 +208,7 @@ module _ (shape : Dimensions) (opened : Anatomy) (state : State) (kept : Invaria
         let fits = kept.each id a mine turns.lived in
         let d : Doing = record (doing_of a) { place = Idle; own = a.own ++ block ∷ []; claimed = a.claimed ++ claim ∷ [] } in
         let store = claim_store placed k there in
-        stores shape opened state kept id a mine records k (p placed k there) (q placed k there) words store d turns
+        stores shape opened state kept id a mine records k (p placed k there) (q placed k there) words store d turns (λ no. ap is_beaten ready)
         (claims_longer shape opened state kept id a mine records (pieces placed k there) d claim (claim_more placed k there) refl)
         refl refl refl tt
         (All-push (HoldsOwn shape (pieces placed k there) id) a.own block

@@ -184,7 +184,7 @@ module _ (shape : Dimensions) (opened : Anatomy) (state : State) (kept : Invaria
         let d : Doing = record (doing_of a) { own = set a.own i y } in
         let after : Anatomy = with_piece anatomy k q in
         let stays : Stays anatomy.pieces pieces = stays_put anatomy.pieces k id p q at_k refl refl tt tt in
-        stores shape opened state kept id a mine records k p q words store d (turns_not a lived)
+        stores shape opened state kept id a mine records k p q words store d (turns_not a lived) (λ no. no)
         (claims_kept shape opened state kept id a mine records pieces d (claims_same anatomy.pieces k p q at_k refl same_at long) refl)
         refl refl refl
         (stands_on shape anatomy after id a (doing a d)
@@ -192,6 +192,7 @@ module _ (shape : Dimensions) (opened : Anatomy) (state : State) (kept : Invaria
         stands_beside anatomy.pieces k p q at_k at (some id) (plain ws) (λ same. true≢false (sym (ap (λ (piece : Piece). is_claimed piece.body) same)))))
         (record {
           saw = (refl, refl, refl, refl, refl);
+          late = (refl, refl);
           names = λ known has. has;
           words = λ s has. has;
           seen = λ at word has. has;

@@ -1,8 +1,7 @@
 -- A state is kept where a recorder counts, packs or takes: it changes a word of a published block, and itself.
-use Rattle.std.proofs.Common.{◌≡◌, ◌≢◌, ℕ, ◌+◌, ◌<◌, ◌≤◌, ℤ, true, List, [], ◌∷◌, ◌++◌, map, set, All, Contains, IsPermutation, inl, inr, ⊎_elim, refl, sym, ap, ◌∙◌, subst, arith}
-use Rattle.std.specs.List.{flat_map}
+use Rattle.std.proofs.Common.{◌≡◌, ◌≢◌, ℕ, ◌<◌, ◌≤◌, ℤ, true, List, ◌++◌, set, All, Contains, IsPermutation, inl, inr, ⊎_elim, refl, sym, ap, ◌∙◌, subst, arith}
 use Rattle.std.proofs.lemmas.List.Elements.{All-weaker}
-use mathlib.Core.Option.{some, none}
+use mathlib.Core.Option.{some}
 use lib.ListN.{get_elem?}
 use Rattle.atomic_table.proofs.Lists.{at_set, set_else}
 use Rattle.segment_image.specs.Shape.{Dimensions}
@@ -18,10 +17,11 @@ use Rattle.segment_machine.specs.declared.actor.Own.{Own}
 use Rattle.segment_machine.specs.declared.actor.Taken.{Taken}
 use Rattle.segment_machine.specs.declared.place.Place.TheVariants.{Spent}
 use Rattle.segment_machine.specs.Entry.{tally_units}
-use Rattle.segment_machine.specs.Actor.{counted_of, all_counted, all_taken, units_of}
+use Rattle.segment_machine.specs.Actor.{counted_of, all_counted, units_of}
 use Rattle.segment_machine.specs.State.{State}
+use Rattle.segment_invariant.proofs.Frames.Ahead.{KeepsUp, ahead_at}
 use Rattle.segment_invariant.specs.Consistent.{IsWithinCounts}
-use Rattle.segment_invariant.specs.Body.{Record, Body, plain, held, histogram, Piece, Listed, Anatomy, layout_of, order_of, free_of, claims_of}
+use Rattle.segment_invariant.specs.Body.{Record, Body, plain, held, histogram, Piece, Anatomy, layout_of, order_of, free_of, claims_of}
 use Rattle.segment_invariant.specs.Ledger.{IsBalanced}
 use Rattle.segment_invariant.specs.Seen.{Stands, Knows, Sees}
 use Rattle.segment_invariant.specs.Invariant.{StandsAs, IsListed, RecordsAreKept, StandsRight, HoldsOwn, CallsRight, HasKey, SumsAreNear, LooksBack, FinalsAreExact, Fits, IsSetBy, ClaimedRight, StandStill, is_living, Invariant}
@@ -63,6 +63,7 @@ pub record Changes (shape : Dimensions) (opened : Anatomy) (state : State) (old 
   pub lives : d.place ≢ Spent
   pub stands : StandsRight shape new id (changed a d) d.place
   pub sees : Sees new state.cursors d.seen
+  pub up : KeepsUp a.place d.place
   pub own : All (HoldsOwn shape new.pieces id) d.own
   pub apart : (i j : ℕ) (x y : Own) → get_elem? d.own i ≡ some x → get_elem? d.own j ≡ some y → x.at ≡ y.at → i ≡ j
   pub calls : CallsRight new (changed a d)
@@ -127,7 +128,7 @@ module _ (shape : Dimensions) (opened : Anatomy) (state : State) (kept : Invaria
   grounds : (other : ℕ) → other ≢ id → Grounds old new other
   grounds other ne = record {
     version = refl;
-    stop = λ at stop. stop;
+    reached = λ n at reached. reached;
     near = λ at next near. near;
     recorded = λ at r there.
         let (s, stands, goes) = record_on old new added changes.onward at r there in
@@ -144,6 +145,7 @@ module _ (shape : Dimensions) (opened : Anatomy) (state : State) (kept : Invaria
         numbered = fits.numbered;
         sees = sees_on old new added changes.onward state.cursors c.seen (subst (Behind c.seen.free) (sym changes.free) fits.sees.free) fits.sees.walked fits.sees.tails
             fits.sees.shared fits.sees;
+        ahead = fits.ahead;
         names = names c.names fits.names;
         own = own_stays shape old new other (λ own. changes.others other own.at (held own) ne) c.own fits.own;
         apart = fits.apart;
@@ -168,6 +170,7 @@ module _ (shape : Dimensions) (opened : Anatomy) (state : State) (kept : Invaria
         versioned = fits.versioned;
         numbered = fits.numbered;
         sees = changes.sees;
+        ahead = ahead_at (order_of old) old.tail state.cursors a.place a.beaten a.lost fits.ahead d.place changes.up;
         names = names a.names fits.names;
         own = changes.own;
         apart = changes.apart;

@@ -5,7 +5,7 @@ use Rattle.std.specs.Int.{w64, cast_signed}
 use Rattle.std.specs.Prelude.{drop}
 use Rattle.std.proofs.lemmas.List.Elements.{All-contains, All-contains_itself, All-drop}
 use mathlib.Core.Logic.{dite}
-use mathlib.Core.Option.{some, none, some-injective}
+use mathlib.Core.Option.{some, none}
 use native.Mathlib.Decide.{ℕ_discrete}
 use lib.ListN.{get_elem?}
 use Rattle.segment_image.specs.Shape.{Dimensions}
@@ -17,7 +17,6 @@ use Rattle.segment_machine.specs.declared.entry.Counting.{Counting}
 use Rattle.segment_machine.specs.declared.place.Place.{Place}
 use Rattle.segment_machine.specs.declared.place.Place.TheVariants.{Spent, SumLoaded}
 use Rattle.segment_machine.specs.declared.actor.Actor.{Actor}
-use Rattle.segment_machine.specs.declared.actor.Answered.{Answered}
 use Rattle.segment_machine.specs.declared.actor.Known.{Known}
 use Rattle.segment_machine.specs.declared.actor.Moment.{Moment}
 use Rattle.segment_machine.specs.declared.actor.Own.{Own}
@@ -27,8 +26,7 @@ use Rattle.segment_machine.specs.declared.seen.Sighting.{Sighting}
 use Rattle.segment_machine.specs.Form.{is_off, Leads}
 use Rattle.segment_machine.specs.Entry.{tally_units}
 use Rattle.segment_machine.specs.Actor.{accepted_by, all_counted, bucket_key, SawCount}
-use Rattle.segment_invariant.specs.Consistent.{IsWithinCounts}
-use Rattle.segment_invariant.specs.Body.{Record, Counts, Body, histogram, counts, words_of, Listed, Anatomy, layout_of}
+use Rattle.segment_invariant.specs.Body.{Record, Counts, Body, histogram, counts, Listed, Anatomy, layout_of}
 use Rattle.segment_invariant.specs.Ledger.{form_at}
 use Rattle.segment_invariant.specs.Seen.{HasRecord, HasCounts, IsFirstOf, WasCounter, WasInUse}
 use Rattle.segment_invariant.specs.Invariant.{is_living, RolesAreKept, RecordsAreKept, IsMoment, IsAlone, IsSettled, LooksBack, FinalsAreExact}
@@ -37,7 +35,7 @@ use Rattle.segment_invariant.proofs.Blocks.Pieces.{one_stands, piece_from}
 use Rattle.segment_invariant.proofs.Blocks.Places.{counter_within}
 use Rattle.segment_invariant.proofs.Frames.Leads.{off_leads}
 use Rattle.segment_invariant.proofs.Frames.OneActor.{lives_on}
-use Rattle.segment_invariant.proofs.Frames.Onward.{Onward, RecordGoes, record_on, record_from, counts_from}
+use Rattle.segment_invariant.proofs.Frames.Onward.{Onward, RecordGoes, record_from, counts_from}
 use Rattle.segment_invariant.proofs.Frames.Roles.{AllStood}
 use Rattle.segment_invariant.proofs.Frames.Together.{IsLater, moment, ended_began}
 

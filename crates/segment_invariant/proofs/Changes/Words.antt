@@ -23,6 +23,7 @@ use Rattle.segment_machine.specs.State.{State}
 use Rattle.segment_invariant.specs.Body.{Body, held, words_of, is_claimed, Piece, extent_of, Anatomy, layout_of, order_of}
 use Rattle.segment_invariant.specs.Seen.{Stands, Sees}
 use Rattle.segment_invariant.specs.Invariant.{RecordsAreKept, StandsRight, HoldsOwn, CallsRight, HasKey, SumsAreNear, LooksBack, FinalsAreExact, Invariant}
+use Rattle.segment_invariant.proofs.Frames.Ahead.{KeepsUp}
 use Rattle.segment_invariant.proofs.Allocating.Claimers.{still_put, right_put}
 use Rattle.segment_invariant.proofs.Blocks.Pieces.{one_index, one_piece, first_piece, piece_stored, free_with, claims_same, stands_beside, stood_beside, stands_here}
 use Rattle.segment_invariant.proofs.Blocks.Stops.{stop_open}
@@ -125,6 +126,7 @@ module _ (shape : Dimensions) (opened : Anatomy) (state : State) (kept : Invaria
     pub lives : d.place ≢ Spent
     pub stood : StandsRight shape behind id (changed a d) d.place
     pub sees : Sees behind state.cursors d.seen
+    pub up : KeepsUp a.place d.place
     pub own : d.own ≡ a.own
     pub calls : CallsRight behind (changed a d)
     pub looks : LooksBack behind (set state.actors id (changed a d)) opener (changed a d)
@@ -168,6 +170,7 @@ module _ (shape : Dimensions) (opened : Anatomy) (state : State) (kept : Invaria
         lives = shows.lives;
         stands = shows.stood;
         sees = shows.sees;
+        up = shows.up;
         own = subst (All (HoldsOwn shape turned id)) (sym shows.own)
             (own_stays shape kept.anatomy behind id (λ own. stands_owned id own.at (held own)) a.own fits.own);
         apart = subst (λ (list : List Own). (i j : ℕ) (x y : Own) → get_elem? list i ≡ some x → get_elem? list j ≡ some y → x.at ≡ y.at → i ≡ j)

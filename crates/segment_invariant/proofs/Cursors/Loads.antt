@@ -1,24 +1,23 @@
 -- A shared cursor is loaded.
-use Rattle.std.proofs.Common.{◌≡◌, ◌≢◌, ℕ, ◌+◌, ◌<◌, ℤ, List, ◌++◌, length, set, All, Contains, inl, inr, refl, sym, ap, ◌∙◌, subst, arith}
+use Rattle.std.proofs.Common.{◌≡◌, ◌≢◌, ℕ, ◌<◌, ℤ, List, ◌++◌, length, set, refl, sym, subst, arith}
 use Rattle.std.specs.Prelude.{slice_index}
 use Rattle.std.proofs.lemmas.List.Elements.{All-push, Contains-push}
 use mathlib.Core.Option.{some}
 use lib.ListN.{get_elem?}
 use lib.Seq.{set-get_or}
-use Rattle.alloc_core.specs.Laws.{Behind}
 use Rattle.segment_image.specs.Shape.{Dimensions}
 use Rattle.list_core.specs.Laws.{IsStop}
 use Rattle.segment_machine.specs.declared.actor.Actor.{Actor}
 use Rattle.segment_machine.specs.declared.actor.Given.{Given}
 use Rattle.segment_machine.specs.declared.place.Place.{Place}
-use Rattle.segment_machine.specs.declared.place.Place.TheVariants.{Spent, SumLoaded, CursorLoaded}
+use Rattle.segment_machine.specs.declared.place.Place.TheVariants.{SumLoaded, CursorLoaded}
 use Rattle.segment_machine.specs.declared.seen.Seen.{Seen}
 use Rattle.segment_machine.specs.declared.seen.Sighting.{Sighting}
-use Rattle.segment_machine.specs.Actor.{is_bound}
 use Rattle.segment_machine.specs.Calls.{sight}
 use Rattle.segment_machine.specs.State.{State}
 use Rattle.segment_machine.specs.Cursors.{load_cursor}
 use Rattle.segment_machine.specs.Event.{cursor_event, Ready}
+use Rattle.segment_invariant.proofs.Frames.Ahead.{ahead_at, unbound_unbeaten}
 use Rattle.segment_invariant.specs.Body.{Anatomy, order_of}
 use Rattle.segment_invariant.specs.Seen.{IsNoLater, Sees}
 use Rattle.segment_invariant.specs.Invariant.{LooksBack, Invariant}
@@ -29,10 +28,10 @@ use Rattle.segment_invariant.proofs.Walking.Walks.{reference_is}
 use Rattle.segment_invariant.proofs.Walking.Nexts.{no_later_itself}
 
 -- what an actor looks back at, where it sees no more than cursors and has loaded no sum
-pub looks_past : (anatomy : Anatomy) (actors : _) (opener a : Actor) (place : Place) (cursors : List Sighting) (given : List Given)
+pub looks_past : (anatomy : Anatomy) (actors : _) (opener a : Actor) (place : Place) (cursors : List Sighting) (given : List Given) (lost : List ℕ)
     → ((reference : ℕ) (sum : ℤ) → place ≢ SumLoaded reference sum) → LooksBack anatomy actors opener a
-    → LooksBack anatomy actors opener (seer a place (record a.seen { cursors = cursors }) given)
-looks_past anatomy actors opener a place cursors given none looks = record {
+    → LooksBack anatomy actors opener (seer a place (record a.seen { cursors = cursors }) given lost)
+looks_past anatomy actors opener a place cursors given lost none looks = record {
   most = looks.most;
   packed = looks.packed;
   counted = looks.counted;
@@ -81,16 +80,17 @@ module _ (shape : Dimensions) (opened : Anatomy) (state : State) (kept : Invaria
         subst (λ (cursors : List ℕ). Invariant shape opened (record {
           words = state.words;
           cursors = cursors;
-          actors = set state.actors id (seer a place seen a.given);
+          actors = set state.actors id (seer a place seen a.given a.lost);
         })) (sym (set-get_or state.cursors cursor 0))
-            (sees_more shape opened state kept id a mine records place seen a.given turns.lived turns.lives turns.moves state.cursors
+            (sees_more shape opened state kept id a mine records place seen a.given a.lost turns.lived turns.lives turns.moves state.cursors
             (later_itself (order_of kept.anatomy) state.cursors)
-            (near_on shape opened state kept id a mine records place seen a.given turns.lived turns.lives turns.moves turns.sums)
-            (given_on shape opened state kept id a mine records place seen a.given turns.lived turns.lives turns.moves refl)
+            (near_on shape opened state kept id a mine records place seen a.given a.lost turns.lived turns.lives turns.moves turns.sums)
+            (given_on shape opened state kept id a mine records place seen a.given a.lost turns.lived turns.lives turns.moves refl)
             (sees_cursor kept.anatomy state.cursors a.seen s fits.sees (within, no_later_itself (order_of kept.anatomy) found stop))
-            (stop, Contains-push a.seen.cursors s)
-            (calls_more kept.anatomy a place seen a.given (λ at has. has) (λ at word has. has) fits.calls)
-            (looks_past kept.anatomy state.actors kept.roles.opener a place (a.seen.cursors ++ sight cursor found) a.given
+            (ahead_at (order_of kept.anatomy) kept.anatomy.tail state.cursors a.place a.beaten a.lost fits.ahead place (λ no. unbound_unbeaten a.place unbound))
+            (fits.ahead.exchanges cursor within, Contains-push a.seen.cursors s)
+            (calls_more kept.anatomy a place seen a.given a.lost (λ at has. has) (λ at word has. has) fits.calls)
+            (looks_past kept.anatomy state.actors kept.roles.opener a place (a.seen.cursors ++ sight cursor found) a.given a.lost
             (λ reference sum loaded. cc loaded) (fits.looks records))),
         reference_is shape opened state kept id a mine records found turns.lived stop,
       )

@@ -1,9 +1,9 @@
 -- A shared cursor is moved on, or another actor was before.
-use Rattle.std.proofs.Common.{◌≡◌, ◌≢◌, ℕ, suc, ◌+◌, ◌<◌, ◌≤◌, ◌==◌, ℤ, Bool, true, false, List, [], ◌∷◌, ◌++◌, map, filter, length, set, take, All, Contains, inl, inr, ⊎_elim, refl, sym, ap, ◌∙◌, subst, arith, eq-eqb, ne_eqb, length-set, append-nil, length-take, get_or-take}
+use Rattle.std.proofs.Common.{◌≡◌, ◌≢◌, ℕ, suc, ◌+◌, ◌<◌, ◌≤◌, ◌==◌, Bool, List, [], ◌∷◌, ◌++◌, map, length, set, take, All, Contains, inl, inr, ⊎_elim, refl, sym, ap, ◌∙◌, subst, arith, eq-eqb, ne_eqb, length-set, append-nil, length-take, get_or-take}
 use Rattle.std.specs.Prelude.{slice_index, if◌then◌else◌, IsPermutation}
 use Rattle.std.proofs.Math.Seq.{take-suc}
 use Rattle.std.proofs.lemmas.List.{map-append, get_or-set_other}
-use Rattle.std.proofs.lemmas.List.Elements.{All-push, All-contains, Contains-push, filter-append}
+use Rattle.std.proofs.lemmas.List.Elements.{All-push, All-contains, filter-append}
 use Rattle.std.proofs.lemmas.Grind.{get_or-set_at}
 use Rattle.std.proofs.lemmas.List.Sorted.{Contains-permutation, IsPermutation-append, IsPermutation-refl, IsPermutation-trans}
 use mathlib.Core.Logic.{dite}
@@ -18,20 +18,22 @@ use Rattle.list_core.specs.Laws.{IsStop, AreNeighbours}
 use Rattle.list_core.proofs.Chains.{one_place}
 use Rattle.segment_machine.specs.declared.actor.Actor.{Actor}
 use Rattle.segment_machine.specs.declared.actor.Given.{Given}
-use Rattle.segment_machine.specs.declared.place.Place.TheVariants.{Spent, Idle, SumLoaded, BehindCursor}
+use Rattle.segment_machine.specs.declared.place.Place.TheVariants.{Spent, Idle, BehindCursor}
 use Rattle.segment_machine.specs.declared.seen.Seen.{Seen}
 use Rattle.segment_machine.specs.declared.seen.Sighting.{Sighting}
 use Rattle.segment_machine.specs.Actor.{given_by, all_given}
 use Rattle.segment_machine.specs.Calls.{sight}
 use Rattle.segment_machine.specs.State.{State}
 use Rattle.segment_machine.specs.Cursors.{move_cursor, after_cursor}
-use Rattle.segment_machine.specs.Event.{cursor_event, Ready}
+use Rattle.segment_machine.specs.Event.{cursor_event}
+use Rattle.segment_invariant.proofs.Walking.Room.{list_fits}
+use Rattle.segment_invariant.proofs.Frames.Ahead.{ahead_at}
 use Rattle.segment_invariant.specs.Body.{Anatomy, order_of}
-use Rattle.segment_invariant.specs.Seen.{IsNoLater}
-use Rattle.segment_invariant.specs.Invariant.{StandsRight, CursorsAreKept, Invariant}
+use Rattle.segment_invariant.specs.Seen.{IsNoLater, IsReachedAt}
+use Rattle.segment_invariant.specs.Invariant.{StandsRight, CursorsAreKept, Invariant, is_beaten, IsAhead}
 use Rattle.segment_invariant.proofs.Lists.Elements.{rows, rows_more, row_in, contains_at, at_snoc_index, at_from, index_at, below_length, there_below, contains_filter}
 use Rattle.segment_invariant.proofs.Frames.OneActor.{is_plain, turns_plain}
-use Rattle.segment_invariant.proofs.Frames.SeesMore.{seer, calls_more, AreLater, later_itself, near_on, given_on, sees_more, sees_later, happens_there}
+use Rattle.segment_invariant.proofs.Frames.SeesMore.{seer, calls_more, AreLater, later_itself, near_on, given_on, sees_more, sees_later, happens_there, ahead_behind}
 use Rattle.segment_invariant.proofs.Frames.Shown.{Goes}
 use Rattle.segment_invariant.proofs.Walking.Walks.{reference_is}
 use Rattle.segment_invariant.proofs.Walking.Nexts.{no_later_itself}
@@ -73,12 +75,43 @@ module _ (shape : Dimensions) (opened : Anatomy) (state : State) (kept : Invaria
     lived : a.place ≢ Spent
     lived spent = cc (placed, spent)
 
-    stands : AreNeighbours order old new × Contains a.seen.cursors (record { at = cursor; word = old })
+    stands : AreNeighbours order old new × Contains a.seen.cursors (record { at = cursor; word = old }) × IsReachedAt order (slice_index a.lost cursor) old
     stands = subst (StandsRight shape kept.anatomy id a) placed (kept.standing id a mine)
 
     within : cursor < length state.cursors
     within = (All-contains (λ s. (s.at < length state.cursors) × IsNoLater order s.word (slice_index state.cursors s.at)) a.seen.cursors
         (record { at = cursor; word = old }) (kept.each id a mine lived).sees.shared stands.1).0
+
+    -- what was seen of it lies no later than where it stands
+    passed : IsNoLater order old (slice_index state.cursors cursor)
+    passed = (All-contains (λ s. (s.at < length state.cursors) × IsNoLater order s.word (slice_index state.cursors s.at)) a.seen.cursors
+        (record { at = cursor; word = old }) (kept.each id a mine lived).sees.shared stands.1).1
+
+    -- where another actor moved it on first, it stands behind one record more
+    goes_past : slice_index state.cursors cursor ≢ old → IsReachedAt order (slice_index a.lost cursor + 1) (slice_index state.cursors cursor)
+    goes_past miss =
+        let (k, low, within_list, is) = stands.2 in
+        let (i, j, le, inside, i_is, j_is) = passed in
+        let same : i ≡ k = one_place state.words order i k kept.list.linked (omega (arith, le, inside)) within_list (i_is ∙ sym is) in
+        let apart : i ≢ j = λ e. miss (sym j_is ∙ (ap (slice_index (stops order)) (sym e) ∙ i_is)) in
+        (j, omega (arith, low, same, le, apart), inside, j_is)
+
+    abbrev lost : List ℕ
+    lost = set a.lost cursor (slice_index a.lost cursor + 1)
+
+    lost_more : slice_index state.cursors cursor ≢ old → IsAhead order kept.anatomy.tail state.cursors Idle a.beaten lost
+    lost_more miss =
+        let ahead = (kept.each id a mine lived).ahead in
+        let many = ahead.many in record {
+          links = λ no. ahead.links (ap is_beaten placed);
+          many = length-set a.lost cursor (slice_index a.lost cursor + 1) ∙ many;
+          exchanges = λ k below. dite (ℕ_discrete k cursor)
+              (λ same. subst (λ (n : ℕ). IsReachedAt order (slice_index lost n) (slice_index state.cursors n)) (sym same)
+              (subst (λ (n : ℕ). IsReachedAt order n (slice_index state.cursors cursor))
+              (sym (get_or-set_at a.lost cursor cursor (slice_index a.lost cursor + 1) 0 refl (omega (arith, many, within)))) (goes_past miss)))
+              (λ apart. subst (λ (n : ℕ). IsReachedAt order n (slice_index state.cursors k))
+              (sym (get_or-set_other a.lost cursor k (slice_index a.lost cursor + 1) 0 apart)) (ahead.exchanges k below));
+        }
 
     -- another actor moved it on first
     beaten : slice_index state.cursors cursor ≢ old → Goes shape opened state kept id a mine records (cursor_event (move_cursor cursor old new))
@@ -99,16 +132,24 @@ module _ (shape : Dimensions) (opened : Anatomy) (state : State) (kept : Invaria
                 sym (ne_eqb found old miss) i,
                 sym (ap (λ (b : Bool). set state.cursors cursor (if b then new else found)) (ne_eqb found old miss) ∙ set-get_or state.cursors cursor 0) i,
               ))
-              (sees_more shape opened state kept id a mine records Idle seen a.given turns.lived turns.lives turns.moves state.cursors
+              (sees_more shape opened state kept id a mine records Idle seen a.given lost turns.lived turns.lives turns.moves state.cursors
               (later_itself order state.cursors)
-              (near_on shape opened state kept id a mine records Idle seen a.given turns.lived turns.lives turns.moves turns.sums)
-              (given_on shape opened state kept id a mine records Idle seen a.given turns.lived turns.lives turns.moves refl)
+              (near_on shape opened state kept id a mine records Idle seen a.given lost turns.lived turns.lives turns.moves turns.sums)
+              (given_on shape opened state kept id a mine records Idle seen a.given lost turns.lived turns.lives turns.moves refl)
               (sees_cursor kept.anatomy state.cursors a.seen s fits.sees (within, no_later_itself order found stop))
+              (lost_more miss)
               tt
-              (calls_more kept.anatomy a Idle seen a.given (λ at has. has) (λ at word has. has) fits.calls)
-              (looks_past kept.anatomy state.actors kept.roles.opener a Idle (a.seen.cursors ++ sight cursor found) a.given
+              (calls_more kept.anatomy a Idle seen a.given lost (λ at has. has) (λ at word has. has) fits.calls)
+              (looks_past kept.anatomy state.actors kept.roles.opener a Idle (a.seen.cursors ++ sight cursor found) a.given lost
               (λ reference sum loaded. cc loaded) (fits.looks records))),
-          reference_is shape opened state kept id a mine records found lived stop,
+          (
+              reference_is shape opened state kept id a mine records found lived stop,
+              λ other.
+                  let (j, low, inside, is) = goes_past miss in
+                  let room = list_fits shape state.words kept.anatomy kept.shown kept.blocks kept.list.standing kept.list.linked in
+                  let sized = ap (λ (s : Dimensions). s.size) fits.shaped in
+                  omega (arith, low, inside, room, sized),
+          ),
         )
 
     -- it moves the cursor on
@@ -123,7 +164,7 @@ module _ (shape : Dimensions) (opened : Anatomy) (state : State) (kept : Invaria
       then_seen = record a.seen { cursors = a.seen.cursors ++ sight cursor new }
 
       abbrev b : Actor
-      b = seer a Idle then_seen (a.given ++ gift ∷ [])
+      b = seer a Idle then_seen (a.given ++ gift ∷ []) a.lost
 
       abbrev actors : List Actor
       actors = set state.actors id b
@@ -255,16 +296,21 @@ module _ (shape : Dimensions) (opened : Anatomy) (state : State) (kept : Invaria
               cursors = set state.cursors cursor (if hits then new else found);
               actors = set state.actors id (after_cursor hits a cursor new found);
             })) (sym (eq-eqb found old hit))
-                (sees_more shape opened state kept id a mine records Idle then_seen (a.given ++ gift ∷ []) turns.lived turns.lives turns.moves cursors later
-                (near_on shape opened state kept id a mine records Idle then_seen (a.given ++ gift ∷ []) turns.lived turns.lives turns.moves turns.sums)
+                (sees_more shape opened state kept id a mine records Idle then_seen (a.given ++ gift ∷ []) a.lost turns.lived turns.lives turns.moves cursors later
+                (near_on shape opened state kept id a mine records Idle then_seen (a.given ++ gift ∷ []) a.lost turns.lived turns.lives turns.moves turns.sums)
                 kept_cursors
                 (sees_cursor kept.anatomy cursors a.seen s (sees_later kept.anatomy state.cursors cursors a.seen later fits.sees)
                 (omega (arith, many, within), subst (IsNoLater order new) (sym here) (no_later_itself order new stop_new)))
+                (ahead_behind state.words order kept.anatomy.tail state.cursors cursors Idle a.beaten a.lost kept.list.linked later
+                (ahead_at order kept.anatomy.tail state.cursors a.place a.beaten a.lost fits.ahead Idle (λ no. ap is_beaten placed)))
                 tt
-                (calls_more kept.anatomy a Idle then_seen (a.given ++ gift ∷ []) (λ at has. has) (λ at word has. has) fits.calls)
-                (looks_past kept.anatomy state.actors kept.roles.opener a Idle (a.seen.cursors ++ sight cursor new) (a.given ++ gift ∷ [])
+                (calls_more kept.anatomy a Idle then_seen (a.given ++ gift ∷ []) a.lost (λ at has. has) (λ at word has. has) fits.calls)
+                (looks_past kept.anatomy state.actors kept.roles.opener a Idle (a.seen.cursors ++ sight cursor new) (a.given ++ gift ∷ []) a.lost
                 (λ reference sum loaded. cc loaded) (fits.looks records))),
-            reference_is shape opened state kept id a mine records found lived (cursor_stop shape opened state kept id a mine records cursor within),
+            (
+                reference_is shape opened state kept id a mine records found lived (cursor_stop shape opened state kept id a mine records cursor within),
+                λ other. absurd (other hit),
+            ),
           )
 
     pub cursor_moved : Goes shape opened state kept id a mine records (cursor_event (move_cursor cursor old new))

@@ -13,7 +13,7 @@ use Rattle.segment_machine.specs.declared.seen.Seen.{Seen}
 use Rattle.segment_invariant.specs.Body.{Body, held, Piece, Listed, Anatomy, order_of, free_of}
 use Rattle.segment_invariant.specs.Ledger.{units_held, marks_held, sum_held, sum_mark_held, noted_held, all_held, all_amounts, all_moving, IsBalanced}
 use Rattle.segment_invariant.specs.Seen.{Stands, HasPlain, IsFirst, IsFirstOf, AreNoLater, Knows, Sees}
-use Rattle.segment_invariant.specs.Invariant.{StandsAs, ListIsKept, RecordsAreKept, SumsAreNear, Fits, CallsRight, LooksBack}
+use Rattle.segment_invariant.specs.Invariant.{StandsAs, ListIsKept, RecordsAreKept, SumsAreNear, Fits, CallsRight, LooksBack, IsAhead}
 use Rattle.segment_invariant.proofs.Frames.Standing.{Grounds, own_stays}
 use Rattle.segment_invariant.proofs.Frames.Growth.{reshaped, Stays, Grows, grows_not, stands_as_grows, names_grow, sees_grow, grounds_grow}
 use Rattle.segment_invariant.proofs.Frames.OneActor.{Doing, doing, TurnsTo}
@@ -136,11 +136,13 @@ module _ (anatomy : Anatomy) (pieces : List Piece) (spare : ℕ) (corrupt full :
   pub fits_along : (shape : Dimensions) (cursors : List ℕ) (actors : List Actor) (opener : Actor) (id : ℕ) (a : Actor)
       → ((at : ℕ) (body : Body) → Stands anatomy.pieces at (some id) body → Stands pieces at (some id) body)
       → Behind a.seen.free (free_of later) → AreNoLater (order_of anatomy) a.seen.tails tail
+      → IsAhead (order_of anatomy) tail cursors a.place a.beaten a.lost
       → Fits shape anatomy cursors actors opener id a → Fits shape later cursors actors opener id a
-  fits_along shape cursors actors opener id a others free no_later fits = record {
+  fits_along shape cursors actors opener id a others free no_later ahead fits = record {
     shaped = fits.shaped;
     versioned = fits.versioned;
     numbered = fits.numbered;
+    ahead = ahead;
     sees = sees_along cursors a.seen free no_later fits.sees;
     names = names_along a.names fits.names;
     own = own_stays shape anatomy later id (λ own. others own.at (held own)) a.own fits.own;

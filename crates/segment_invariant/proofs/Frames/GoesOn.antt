@@ -14,6 +14,7 @@ use Rattle.alloc_core.specs.Layout.{IsShown}
 use Rattle.alloc_core.specs.Laws.{Behind}
 use Rattle.list_core.specs.Chain.{IsLinked}
 use Rattle.list_core.specs.Laws.{IsStop}
+use Rattle.segment_invariant.proofs.Frames.Ahead.{ahead_later}
 use Rattle.segment_invariant.proofs.Frames.Answers.{answered_set}
 use Rattle.segment_machine.specs.declared.actor.Actor.{Actor}
 use Rattle.segment_machine.specs.declared.actor.Own.{Own}
@@ -23,7 +24,7 @@ use Rattle.segment_machine.specs.Event.{Event, spot, change, next, Learned}
 use Rattle.segment_invariant.specs.Keeps.{found_at, happened}
 use Rattle.segment_invariant.specs.Body.{Body, plain, Piece, Anatomy, layout_of, order_of, free_of, claims_of}
 use Rattle.segment_invariant.specs.Seen.{Stands, IsNoLater, Sees}
-use Rattle.segment_invariant.specs.Invariant.{StandsRight, HoldsOwn, CallsRight, LooksBack, OwesPublished, Fits, IsSetBy, ClaimedRight, StandStill, Invariant}
+use Rattle.segment_invariant.specs.Invariant.{StandsRight, HoldsOwn, CallsRight, LooksBack, OwesPublished, Fits, IsSetBy, ClaimedRight, StandStill, Invariant, IsAhead}
 use Rattle.segment_invariant.proofs.Frames.Standing.{follows_itself, stands_on}
 use Rattle.segment_invariant.proofs.Frames.Together.{balanced, sums_near}
 use Rattle.segment_invariant.proofs.Frames.Books.{cursors_set, listed_set}
@@ -50,6 +51,7 @@ pub record Goes (shape : Dimensions) (opened : Anatomy) (state : State) (old new
   pub full : IsSetBy new.full opened.full (map (λ a. a.filled) (set state.actors id (doing a d)))
   pub stands : StandsRight shape new id (doing a d) d.place
   pub sees : Sees new state.cursors (doing a d).seen
+  pub ahead : IsAhead (order_of new) new.tail state.cursors d.place d.beaten a.lost
   pub own : All (HoldsOwn shape new.pieces id) d.own
   pub apart : (i j : ℕ) (x y : Own) → get_elem? d.own i ≡ some x → get_elem? d.own j ≡ some y → x.at ≡ y.at → i ≡ j
   pub calls : CallsRight new (doing a d)
@@ -84,7 +86,8 @@ module _ (shape : Dimensions) (opened : Anatomy) (state : State) (kept : Invaria
         → Fits shape behind state.cursors state.actors kept.roles.opener other b
     fits_else other b ne fits = fits_along before pieces spare corrupt full tail goes.stays shape state.cursors state.actors kept.roles.opener other b
         (λ at body. goes.others other at body ne) (goes.free b.seen.free fits.sees.free) (All-weaker (λ place. IsNoLater (order_of before) place before.tail) (λ place. IsNoLater (order_of before) place tail)
-        goes.tail_later b.seen.tails fits.sees.tails) fits
+        goes.tail_later b.seen.tails fits.sees.tails)
+        (ahead_later (order_of before) before.tail state.cursors b.place b.beaten b.lost fits.ahead state.words tail kept.list.linked goes.tail_later) fits
 
     -- the actor that goes on
     fits_mine : Fits shape behind state.cursors state.actors kept.roles.opener id (doing a d)
@@ -94,6 +97,7 @@ module _ (shape : Dimensions) (opened : Anatomy) (state : State) (kept : Invaria
           versioned = fits.versioned;
           numbered = fits.numbered;
           sees = goes.sees;
+          ahead = goes.ahead;
           names = names_along before pieces spare corrupt full tail goes.stays a.names fits.names;
           own = goes.own;
           apart = goes.apart;

@@ -23,7 +23,7 @@ use Rattle.bucket_ranges.specs.Single.{single_of}
 use Rattle.segment_machine.specs.Form.{Leads}
 use Rattle.segment_invariant.specs.Body.{Record, Counts, Sample, Body, queue, plain, held, histogram, counts, sample, other, words_of, is_claimed, Piece, Listed, Anatomy, order_of, free_of}
 use Rattle.segment_invariant.specs.Ledger.{all_held, all_amounts}
-use Rattle.segment_invariant.specs.Seen.{Stands, HasPlain, HasRecord, HasCounts, HasSample, IsNamed, IsFirst, IsFirstOf, IsFixedIn, IsCounterIn, WasFixed, WasCounter, WasInUse, WasSingle, IsNoLater, AreNoLater, Knows, Sees, WasMet}
+use Rattle.segment_invariant.specs.Seen.{Stands, HasPlain, HasRecord, HasCounts, HasSample, IsNamed, IsFirst, IsFirstOf, IsFixedIn, IsCounterIn, WasFixed, WasCounter, WasInUse, WasSingle, IsReachedAt, IsNoLater, AreNoLater, Knows, Sees, WasMet}
 use Rattle.segment_invariant.specs.Invariant.{StandsAs}
 use Rattle.segment_invariant.proofs.Frames.Standing.{Grounds}
 use Rattle.segment_invariant.proofs.Lists.Elements.{all_of}
@@ -132,6 +132,9 @@ neighbours_longer chain more at next (k, lt, is, then) =
     let long = longer_by chain more in
     (k, omega (arith, lt, long), stop_at chain more k (omega (arith, lt)) ∙ is, get_or_append_left chain more 0 k lt ∙ then)
 
+pub reached_longer : (chain more : List ℕ) (n at : ℕ) → IsReachedAt chain n at → IsReachedAt (chain ++ more) n at
+reached_longer chain more n at (k, low, le, is) = let long = longer_by chain more in (k, low, omega (arith, le, long), stop_at chain more k le ∙ is)
+
 pub no_later_longer : (chain more : List ℕ) (seen present : ℕ) → IsNoLater chain seen present → IsNoLater (chain ++ more) seen present
 no_later_longer chain more seen present (i, j, le, within, is, then) =
     let long = longer_by chain more in
@@ -235,6 +238,9 @@ module _ (old new : Anatomy) (added : ℕ → Body → Type 0) (grows : Grows ol
   -- what is on the list stays where it is
   pub stop_grows : (at : ℕ) → IsStop (order_of old) at → IsStop (order_of new) at
   stop_grows at stop = subst (λ (chain : List ℕ). IsStop chain at) (sym order_grows) (stop_longer (order_of old) _ at stop)
+
+  pub reached_grows : (n at : ℕ) → IsReachedAt (order_of old) n at → IsReachedAt (order_of new) n at
+  reached_grows n at reached = subst (λ (chain : List ℕ). IsReachedAt chain n at) (sym order_grows) (reached_longer (order_of old) _ n at reached)
 
   pub neighbours_grow : (at next : ℕ) → AreNeighbours (order_of old) at next → AreNeighbours (order_of new) at next
   neighbours_grow at next near =
@@ -366,7 +372,7 @@ module _ (old new : Anatomy) (added : ℕ → Body → Type 0) (grows : Grows ol
   pub grounds_grow : (id : ℕ) → ((at : ℕ) (words : List ℕ) → HasPlain old.pieces id at words → HasPlain new.pieces id at words) → Grounds old new id
   grounds_grow id others = record {
     version = grows.version;
-    stop = stop_grows;
+    reached = reached_grows;
     near = neighbours_grow;
     recorded = λ at r there. let (n, still) = record_stays at r there in (record r { next = n }, still, refl, λ off. refl);
     making = others;

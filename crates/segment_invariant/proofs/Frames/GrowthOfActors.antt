@@ -20,10 +20,10 @@ use Rattle.segment_machine.specs.Entry.{tally_units}
 use Rattle.segment_machine.specs.Actor.{word_seen, counted_of, bucket_key, SawCount}
 use Rattle.segment_machine.specs.Note.{SawBucket}
 use Rattle.segment_machine.specs.Actor.{accepted_by}
-use Rattle.segment_invariant.specs.Body.{Record, Body, histogram, sample, words_of, Listed, Anatomy}
+use Rattle.segment_invariant.specs.Body.{Record, Body, histogram, sample, words_of, Listed, Anatomy, order_of}
 use Rattle.segment_invariant.specs.Ledger.{form_at}
 use Rattle.segment_invariant.specs.Seen.{HasRecord, IsNamed, IsFirstOf, WasCounter, Sees, WasSingle, HasCounts}
-use Rattle.segment_invariant.specs.Invariant.{HoldsOwn, CallsRight, HasKey, IsSettled, LooksBack, OwesPublished, Fits}
+use Rattle.segment_invariant.specs.Invariant.{HoldsOwn, CallsRight, HasKey, IsSettled, LooksBack, OwesPublished, Fits, IsAhead}
 use Rattle.segment_invariant.proofs.Blocks.Places.{counter_within}
 use Rattle.segment_invariant.proofs.Frames.OneActor.{Doing, doing, doing_of, finals_doing}
 use Rattle.segment_invariant.proofs.Frames.Growth.{Grows, names_grow, first_of_longer, record_stays, record_came, counts_came}
@@ -155,14 +155,16 @@ module _ (shape : Dimensions) (old new : Anatomy) (added : ℕ → Body → Type
   }
 
   -- all that holds of it
-  pub fits_grow : (cursors : List ℕ) (id : ℕ) → Sees new cursors (doing x c).seen → All (HoldsOwn shape new.pieces id) c.own
+  pub fits_grow : (cursors : List ℕ) (id : ℕ) → Sees new cursors (doing x c).seen
+      → IsAhead (order_of new) new.tail cursors c.place c.beaten x.lost → All (HoldsOwn shape new.pieces id) c.own
       → ((i j : ℕ) (y z : Own) → get_elem? c.own i ≡ some y → get_elem? c.own j ≡ some z → y.at ≡ z.at → i ≡ j)
       → OwesPublished c.published c.owed
       → Fits shape old cursors actors opener id x → Fits shape new cursors actors opener id (doing x c)
-  fits_grow cursors id sees own apart owes fits = record {
+  fits_grow cursors id sees ahead own apart owes fits = record {
     shaped = fits.shaped;
     versioned = fits.versioned ∙ sym grows.version;
     numbered = fits.numbered;
+    ahead = ahead;
     sees = sees;
     names = names_grow old new added grows x.names fits.names;
     own = own;

@@ -18,10 +18,10 @@ use Rattle.segment_machine.specs.declared.actor.Own.{Own}
 use Rattle.segment_machine.specs.declared.place.Place.TheVariants.{Spent, SumLoaded}
 use Rattle.segment_machine.specs.Entry.{is_counted, has_ended, counted_among}
 use Rattle.segment_machine.specs.Actor.{log_of, counted_of, all_counted}
-use Rattle.segment_invariant.specs.Body.{Record, Body, Listed, Anatomy}
+use Rattle.segment_invariant.specs.Body.{Record, Body, Listed, Anatomy, order_of}
 use Rattle.segment_invariant.specs.Seen.{HasRecord, Knows, Sees}
 use Rattle.segment_machine.specs.State.{State}
-use Rattle.segment_invariant.specs.Invariant.{StandsAs, HasKey, StandsRight, HoldsOwn, Fits, Invariant, OwesPublished}
+use Rattle.segment_invariant.specs.Invariant.{StandsAs, HasKey, StandsRight, HoldsOwn, Fits, Invariant, OwesPublished, IsAhead}
 use Rattle.segment_invariant.proofs.Lists.Elements.{row_in}
 use Rattle.segment_invariant.proofs.Frames.OneActor.{Doing, doing, lives_on}
 use Rattle.segment_invariant.proofs.Frames.Growth.{Grows}
@@ -94,11 +94,12 @@ module _ (shape : Dimensions) (opened : Anatomy) (state : State) (kept : Invaria
   -- running calls, and what was seen since a delta or a snapshot began, where one actor goes on and the segment grows
   module _ (new : Anatomy) (added : ℕ → Body → Type 0) (grows : Grows kept.anatomy new added) where
     pub fits_on : (id : ℕ) (x : Actor) (d : Doing) → get_elem? state.actors id ≡ some x → x.place ≢ Spent → SawMore x d
-        → Sees new state.cursors (doing x d).seen → All (HoldsOwn shape new.pieces id) d.own
+        → Sees new state.cursors (doing x d).seen → IsAhead (order_of new) new.tail state.cursors d.place d.beaten x.lost
+        → All (HoldsOwn shape new.pieces id) d.own
         → ((i j : ℕ) (y z : Own) → get_elem? d.own i ≡ some y → get_elem? d.own j ≡ some z → y.at ≡ z.at → i ≡ j)
         → OwesPublished d.published d.owed
         → Fits shape new state.cursors state.actors kept.roles.opener id (doing x d)
-    fits_on id x d there lives more sees own apart owes =
+    fits_on id x d there lives more sees ahead own apart owes =
         let fits = kept.each id x there lives in
         fits_grow shape kept.anatomy new added grows state.actors kept.roles.opener x d more (keyed id x there lives) (known_record id x there lives)
-        (λ reference sum is. loaded_record id x reference sum there is) fits.sees.singles fits.sees.counters state.cursors id sees own apart owes fits
+        (λ reference sum is. loaded_record id x reference sum there is) fits.sees.singles fits.sees.counters state.cursors id sees ahead own apart owes fits

@@ -28,7 +28,7 @@ use Rattle.segment_invariant.proofs.Frames.Roles.{AllStood, SameRole, stood_set,
 
 -- ---- one actor
 
--- what changes of an actor that goes on so: where it stands, its blocks, the flags that it set, and what it saw of the free pointer,
+-- what changes of an actor that goes on so: where it stands, its blocks, the flags that it set, how often its link came too late, and what it saw of the free pointer,
 -- the list and words that stay
 pub record Doing : Type 0 where
   pub place : Place
@@ -38,6 +38,7 @@ pub record Doing : Type 0 where
   pub owed : List Known
   pub spoiled : Bool
   pub filled : Bool
+  pub beaten : ℕ
   pub seen_free : ℕ
   pub seen_chain : List ℕ
   pub seen_tails : List ℕ
@@ -53,6 +54,7 @@ doing a d = record a {
   owed = d.owed;
   spoiled = d.spoiled;
   filled = d.filled;
+  beaten = d.beaten;
   seen = record a.seen { free = d.seen_free; chain = d.seen_chain; tails = d.seen_tails; words = d.seen_words };
 }
 
@@ -66,6 +68,7 @@ doing_of a = record {
   owed = a.owed;
   spoiled = a.spoiled;
   filled = a.filled;
+  beaten = a.beaten;
   seen_free = a.seen.free;
   seen_chain = a.seen.chain;
   seen_tails = a.seen.tails;

@@ -1,5 +1,5 @@
 -- How published blocks go on: what is fixed in them stays, counters rise, single words lead on. So what was seen stays true.
-use Rattle.std.proofs.Common.{◌≡◌, ◌≢◌, ◌⊎◌, ℕ, ◌+◌, ◌-◌, ◌<◌, ◌≤◌, ℤ, true, false, List, [], ◌∷◌, ◌++◌, length, All, Contains, inl, inr, ⊎_elim, refl, sym, ap, ◌∙◌, subst, arith}
+use Rattle.std.proofs.Common.{◌≡◌, ◌≢◌, ◌⊎◌, ℕ, ◌+◌, ◌-◌, ◌<◌, ◌≤◌, true, List, [], ◌∷◌, ◌++◌, length, All, Contains, inl, inr, ⊎_elim, refl, sym, ap, ◌∙◌, subst, arith}
 use Rattle.std.specs.Prelude.{slice_index, Some, None}
 use Rattle.std.specs.Prelude as std
 use Rattle.std.proofs.lemmas.List.{get_or-append_right, get_or_append_left}
@@ -10,14 +10,13 @@ use Rattle.bucket_ranges.specs.Spec.{buckets_of, spec_ranges}
 use Rattle.bucket_ranges.specs.Single.{single_of}
 use Rattle.segment_machine.specs.declared.actor.Made.{Made}
 use Rattle.segment_machine.specs.declared.actor.Made.TheVariants as made
-use Rattle.segment_machine.specs.declared.actor.Own.{Own}
 use Rattle.segment_machine.specs.declared.seen.Seen.{Seen}
 use Rattle.segment_machine.specs.declared.seen.Sighting.{Sighting}
 use Rattle.alloc_core.specs.Laws.{Behind}
 use Rattle.list_core.specs.Walk.{IsPrefix}
 use Rattle.segment_machine.specs.Form.{is_off, Leads}
 use Rattle.segment_machine.specs.Made.{SawSample}
-use Rattle.segment_invariant.specs.Body.{Record, Counts, Sample, Body, queue, plain, held, histogram, counts, sample, other, spec_field, words_of, is_claimed, Piece, Listed, Anatomy, order_of, free_of}
+use Rattle.segment_invariant.specs.Body.{Record, Counts, Sample, Body, queue, plain, held, histogram, counts, sample, other, spec_field, words_of, is_claimed, Listed, Anatomy, order_of, free_of}
 use Rattle.segment_invariant.specs.Seen.{Stands, HasRecord, HasCounts, HasSample, IsFixedIn, IsCounterIn, WasFixed, WasCounter, WasInUse, WasSingle, IsNoLater, AreNoLater, Sees, WasMet}
 use Rattle.segment_invariant.specs.Invariant.{StandsAs, IsListed}
 use Rattle.segment_invariant.proofs.Blocks.Places.{counter_within}

@@ -1,5 +1,5 @@
 -- A state is kept where one actor goes on to a place, sees more, and no word of the segment changes.
-use Rattle.std.proofs.Common.{◌≡◌, ◌≢◌, ℕ, ◌+◌, ◌-◌, ◌<◌, ◌≤◌, ℤ, List, ◌++◌, length, set, take, drop, All, Contains, inl, inr, refl, sym, ap, ◌∙◌, subst, arith, length-set}
+use Rattle.std.proofs.Common.{◌≡◌, ◌≢◌, ℕ, ◌+◌, ◌-◌, ◌<◌, ◌≤◌, ℤ, List, ◌++◌, length, set, take, drop, Contains, inl, inr, refl, sym, ap, ◌∙◌, subst, arith}
 use Rattle.std.proofs.Math.Seq.{take-append_seam, drop-append_seam}
 use Rattle.std.specs.Prelude.{slice_index, IsPermutation, Some}
 use Rattle.std.proofs.lemmas.List.{set-append_right, get_or-append_right}
@@ -8,6 +8,7 @@ use mathlib.Core.Option.{some}
 use lib.ListN.{get_elem?}
 use Rattle.atomic_table.proofs.Lists.{at_set, set_else}
 use Rattle.segment_image.specs.Shape.{Dimensions}
+use Rattle.list_core.specs.Chain.{IsLinked}
 use Rattle.segment_machine.specs.declared.actor.Actor.{Actor}
 use Rattle.segment_machine.specs.declared.actor.Claim.{Claim}
 use Rattle.segment_machine.specs.declared.actor.Given.{Given}
@@ -17,7 +18,6 @@ use Rattle.segment_machine.specs.declared.entry.Entry.{Entry}
 use Rattle.segment_machine.specs.declared.place.Place.{Place}
 use Rattle.segment_machine.specs.declared.place.Place.TheVariants.{Spent, SumLoaded}
 use Rattle.segment_machine.specs.declared.seen.Seen.{Seen}
-use Rattle.segment_machine.specs.declared.seen.Sighting.{Sighting}
 use Rattle.segment_machine.specs.Entry.{tally_units, tally_sum, tally_noted}
 use Rattle.segment_machine.specs.Actor.{counted_of, summed_of, noted_of, units_of, all_counted, all_taken, taken_units, taken_sum, word_seen}
 use Rattle.segment_machine.specs.State.{State, memory}
@@ -26,8 +26,9 @@ use Rattle.segment_invariant.specs.Keeps.{found_at, happened}
 use Rattle.segment_invariant.specs.Body.{Anatomy, order_of, claims_of}
 use Rattle.segment_invariant.specs.Ledger.{moving_at}
 use Rattle.segment_invariant.specs.Seen.{IsNoLater, Sees}
-use Rattle.segment_invariant.specs.Invariant.{CursorsAreKept, SumsAreNear, CallsRight, LooksBack, IsMoment, FinalsAreExact, IsSetBy, StandsRight, Fits, Invariant, summed_cost}
+use Rattle.segment_invariant.specs.Invariant.{CursorsAreKept, SumsAreNear, CallsRight, LooksBack, IsMoment, FinalsAreExact, IsSetBy, StandsRight, IsAhead, Fits, Invariant, summed_cost}
 use Rattle.segment_invariant.proofs.Lists.Elements.{rows, column, sum_same}
+use Rattle.segment_invariant.proofs.Frames.Ahead.{reached_later}
 use Rattle.segment_invariant.proofs.Frames.Answers.{answered_set}
 use Rattle.segment_invariant.proofs.Frames.Books.{cursors_set, listed_set}
 use Rattle.segment_invariant.proofs.Frames.Deeds.{SameSums}
@@ -38,16 +39,16 @@ use Rattle.segment_invariant.proofs.Frames.Together.{balanced, sums_near, loaded
 
 -- ---- the actor
 
--- it stands there, has seen that, and was given that by shared cursors
-abbrev pub seer : Actor → Place → Seen → List Given → Actor
-seer a place seen given = record a { place = place; seen = seen; given = given }
+-- it stands there, has seen that, was given that by shared cursors, and came too late there so often
+abbrev pub seer : Actor → Place → Seen → List Given → List ℕ → Actor
+seer a place seen given lost = record a { place = place; seen = seen; given = given; lost = lost }
 
 -- its calls are right, where it has walked no less and has seen no other words
-pub calls_more : (anatomy : Anatomy) (a : Actor) (place : Place) (seen : Seen) (given : List Given)
+pub calls_more : (anatomy : Anatomy) (a : Actor) (place : Place) (seen : Seen) (given : List Given) (lost : List ℕ)
     → ((at : ℕ) → Contains a.seen.chain at → Contains seen.chain at)
     → ((at word : ℕ) → word_seen a.seen.words at ≡ Some word → word_seen seen.words at ≡ Some word)
-    → CallsRight anatomy a → CallsRight anatomy (seer a place seen given)
-calls_more anatomy a place seen given chain words calls = record {
+    → CallsRight anatomy a → CallsRight anatomy (seer a place seen given lost)
+calls_more anatomy a place seen given lost chain words calls = record {
   ordered = calls.ordered;
   within = calls.within;
   held = calls.held;
@@ -60,16 +61,16 @@ calls_more anatomy a place seen given chain words calls = record {
 }
 
 -- it has the deltas, the snapshots and the log that it had
-seer_moment : (actors : List Actor) (opener : Actor) (id : ℕ) (a : Actor) (place : Place) (seen : Seen) (given : List Given) (m : Moment)
-    → IsMoment actors opener id a m → IsMoment actors opener id (seer a place seen given) m
-seer_moment actors opener id a place seen given m is = record { logged = is.logged; before = is.before; mine = is.mine; eldest = is.eldest }
+seer_moment : (actors : List Actor) (opener : Actor) (id : ℕ) (a : Actor) (place : Place) (seen : Seen) (given : List Given) (lost : List ℕ) (m : Moment)
+    → IsMoment actors opener id a m → IsMoment actors opener id (seer a place seen given lost) m
+seer_moment actors opener id a place seen given lost m is = record { logged = is.logged; before = is.before; mine = is.mine; eldest = is.eldest }
 
-seer_finals : (actors : List Actor) (opener : Actor) (id : ℕ) (a : Actor) (place : Place) (seen : Seen) (given : List Given)
-    → FinalsAreExact actors opener id a → FinalsAreExact actors opener id (seer a place seen given)
-seer_finals actors opener id a place seen given finals = record {
+seer_finals : (actors : List Actor) (opener : Actor) (id : ℕ) (a : Actor) (place : Place) (seen : Seen) (given : List Given) (lost : List ℕ)
+    → FinalsAreExact actors opener id a → FinalsAreExact actors opener id (seer a place seen given lost)
+seer_finals actors opener id a place seen given lost finals = record {
   deltas = finals.deltas;
   snapshots = finals.snapshots;
-  moments = λ m is. seer_moment actors opener id a place seen given m (finals.moments m is);
+  moments = λ m is. seer_moment actors opener id a place seen given lost m (finals.moments m is);
   swapped = finals.swapped;
 }
 
@@ -101,13 +102,25 @@ sees_later anatomy old new seen are sees = record {
       seen.cursors sees.shared;
 }
 
-pub fits_later : (shape : Dimensions) (anatomy : Anatomy) (old new : List ℕ) (actors : List Actor) (opener : Actor) (id : ℕ) (a : Actor)
-    → AreLater (order_of anatomy) old new → Fits shape anatomy old actors opener id a → Fits shape anatomy new actors opener id a
-fits_later shape anatomy old new actors opener id a are fits = record {
+-- and the list is ahead of what came too late on
+pub ahead_behind : (words chain : List ℕ) (present : ℕ) (old new : List ℕ) (place : Place) (beaten : ℕ) (lost : List ℕ) → IsLinked words chain
+    → AreLater chain old new → IsAhead chain present old place beaten lost → IsAhead chain present new place beaten lost
+ahead_behind words chain present old new place beaten lost linked are ahead = record {
+  links = ahead.links;
+  many = ahead.many ∙ sym are.many;
+  exchanges = λ k below.
+      let many = are.many in
+      reached_later words chain (slice_index lost k) (slice_index old k) (slice_index new k) linked (λ at. are.later k at below) (ahead.exchanges k (omega (arith, many, below)));
+}
+
+pub fits_later : (shape : Dimensions) (words : List ℕ) (anatomy : Anatomy) (old new : List ℕ) (actors : List Actor) (opener : Actor) (id : ℕ) (a : Actor)
+    → IsLinked words (order_of anatomy) → AreLater (order_of anatomy) old new → Fits shape anatomy old actors opener id a → Fits shape anatomy new actors opener id a
+fits_later shape words anatomy old new actors opener id a linked are fits = record {
   shaped = fits.shaped;
   versioned = fits.versioned;
   numbered = fits.numbered ∙ sym are.many;
   sees = sees_later anatomy old new a.seen are fits.sees;
+  ahead = ahead_behind words (order_of anatomy) anatomy.tail old new a.place a.beaten a.lost linked are fits.ahead;
   names = fits.names;
   own = fits.own;
   apart = fits.apart;
@@ -121,10 +134,10 @@ fits_later shape anatomy old new actors opener id a are fits = record {
 -- ---- the state
 
 module _ (shape : Dimensions) (opened : Anatomy) (state : State) (kept : Invariant shape opened state) (id : ℕ) (a : Actor)
-    (mine : get_elem? state.actors id ≡ some a) (records : a.opener ≡ 0) (place : Place) (seen : Seen) (given : List Given)
+    (mine : get_elem? state.actors id ≡ some a) (records : a.opener ≡ 0) (place : Place) (seen : Seen) (given : List Given) (lost : List ℕ)
     (lived : a.place ≢ Spent) (lives : place ≢ Spent) (moves : (name : List ℕ) (key : ℤ) → moving_at a name key place ≡ moving_at a name key a.place) where
   abbrev b : Actor
-  b = seer a place seen given
+  b = seer a place seen given lost
 
   abbrev actors : List Actor
   actors = set state.actors id b
@@ -170,7 +183,8 @@ module _ (shape : Dimensions) (opened : Anatomy) (state : State) (kept : Invaria
   given_on none_more = cursors_set (order_of kept.anatomy) state.cursors state.actors id a b mine records none_more kept.cursors
 
   module _ (cursors : List ℕ) (are : AreLater (order_of kept.anatomy) state.cursors cursors) (near : SumsAreNear kept.anatomy.pieces actors)
-      (gave : CursorsAreKept (order_of kept.anatomy) cursors actors) (sees : Sees kept.anatomy cursors seen) (stands : StandsRight shape kept.anatomy id b place)
+      (gave : CursorsAreKept (order_of kept.anatomy) cursors actors) (sees : Sees kept.anatomy cursors seen)
+      (ahead : IsAhead (order_of kept.anatomy) kept.anatomy.tail cursors place a.beaten lost) (stands : StandsRight shape kept.anatomy id b place)
       (calls : CallsRight kept.anatomy b) (looks : LooksBack kept.anatomy state.actors kept.roles.opener b) where
     fits_mine : Fits shape kept.anatomy cursors state.actors kept.roles.opener id b
     fits_mine =
@@ -179,13 +193,14 @@ module _ (shape : Dimensions) (opened : Anatomy) (state : State) (kept : Invaria
           versioned = fits.versioned;
           numbered = fits.numbered ∙ sym are.many;
           sees = sees;
+          ahead = ahead;
           names = fits.names;
           own = fits.own;
           apart = fits.apart;
           owes = fits.owes;
           calls = calls;
           looks = λ recorder. looks;
-          finals = seer_finals state.actors kept.roles.opener id a place seen given fits.finals;
+          finals = seer_finals state.actors kept.roles.opener id a place seen given lost fits.finals;
           snapshots = fits.snapshots;
         }
 
@@ -195,7 +210,7 @@ module _ (shape : Dimensions) (opened : Anatomy) (state : State) (kept : Invaria
         (set_else state.actors id 0 b (λ first. not_first (sym first)) ∙ kept.roles.stands) refl (refl, refl) same (stood_set state.actors id a b mine role)
         (elim (at_set state.actors id other b c there) [
           | inl t ↦ subst (λ (p : ℕ × Actor). Fits shape kept.anatomy cursors state.actors kept.roles.opener p.0 p.1) (λ i. (sym t.0 i, t.1 i)) fits_mine
-          | inr t ↦ fits_later shape kept.anatomy state.cursors cursors state.actors kept.roles.opener other c are (kept.each other c t.1 alive)
+          | inr t ↦ fits_later shape state.words kept.anatomy state.cursors cursors state.actors kept.roles.opener other c kept.list.linked are (kept.each other c t.1 alive)
         ])
 
     stands_all : (other : ℕ) (c : Actor) → get_elem? actors other ≡ some c → StandsRight shape kept.anatomy other c c.place

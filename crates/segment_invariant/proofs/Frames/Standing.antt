@@ -1,11 +1,11 @@
 -- Where an actor stands, it stands right on while it knows no less, and while the blocks and the list stay that this rests on.
 use Rattle.std.proofs.Common.{◌≡◌, ◌≢◌, ℕ, ◌+◌, List, All, Contains, refl, sym, ap, ◌∙◌, subst, true}
-use Rattle.std.specs.Prelude.{Some}
+use Rattle.std.specs.Prelude.{Some, slice_index}
 use Rattle.std.proofs.lemmas.List.Elements.{All-weaker}
 use Rattle.segment_image.specs.Shape.{Dimensions}
 use Rattle.bucket_ranges.specs.Spec.{buckets_of}
 use Rattle.bucket_ranges.specs.Single.{single_of, packed_bucket}
-use Rattle.list_core.specs.Laws.{IsStop, AreNeighbours}
+use Rattle.list_core.specs.Laws.{AreNeighbours}
 use Rattle.segment_machine.specs.declared.place.Look.{Look}
 use Rattle.segment_machine.specs.declared.place.Place.{Place}
 use Rattle.segment_machine.specs.declared.place.Place.TheVariants.{Spent, Idle, FlagsLoaded, FreeLoaded, Raised, Sized, Marked, TailLoaded, Beaten, Linked, Looking, Losing, Moving, CountLoaded, SampleLoaded, SumLoaded, CursorLoaded, BehindCursor}
@@ -17,7 +17,7 @@ use Rattle.segment_machine.specs.Actor.{word_seen}
 use Rattle.segment_machine.specs.Form.{is_off}
 use Rattle.segment_invariant.specs.Body.{Record, Anatomy, order_of, Piece}
 use Rattle.segment_machine.specs.Seats.{spent}
-use Rattle.segment_invariant.specs.Seen.{HasPlain, HasOwn, HasRecord, WasMet}
+use Rattle.segment_invariant.specs.Seen.{IsReachedAt, HasPlain, HasOwn, HasRecord, WasMet}
 use Rattle.segment_invariant.specs.Invariant.{LooksRight, StandsRight, HoldsOwn}
 use Rattle.segment_machine.specs.declared.seen.Seen.{Seen}
 
@@ -25,7 +25,7 @@ use Rattle.segment_machine.specs.declared.seen.Seen.{Seen}
 -- its words in the making
 pub record Grounds (old new : Anatomy) (id : ℕ) : Type 0 where
   pub version : new.version ≡ old.version
-  pub stop : (at : ℕ) → IsStop (order_of old) at → IsStop (order_of new) at
+  pub reached : (n at : ℕ) → IsReachedAt (order_of old) n at → IsReachedAt (order_of new) n at
   pub near : (at next : ℕ) → AreNeighbours (order_of old) at next → AreNeighbours (order_of new) at next
   pub recorded : (at : ℕ) (r : Record) → HasRecord old.pieces at r
       → (s : Record) × HasRecord new.pieces at s × (s.spec ≡ r.spec) × (is_off r.single ≡ true → s.single ≡ r.single)
@@ -34,16 +34,17 @@ pub record Grounds (old new : Anatomy) (id : ℕ) : Type 0 where
 pub grounds_itself : (anatomy : Anatomy) (id : ℕ) → Grounds anatomy anatomy id
 grounds_itself anatomy id = record {
   version = refl;
-  stop = λ at there. there;
+  reached = λ n at there. there;
   near = λ at next there. there;
   recorded = λ at r there. (r, there, refl, λ off. refl);
   making = λ at words there. there;
 }
 
--- what it rests on of the actor: what it saw and knows, and its blocks, each of which has one of the same place and type
+-- what it rests on of the actor: what it saw and knows, how often it came too late, and its blocks, each of which has one of the same place and type
 pub record Follows (x y : Actor) : Type 0 where
   pub saw : (y.seen.free ≡ x.seen.free) × (y.seen.tails ≡ x.seen.tails) × (y.seen.singles ≡ x.seen.singles)
       × (y.seen.counts ≡ x.seen.counts) × (y.seen.cursors ≡ x.seen.cursors)
+  pub late : (y.beaten ≡ x.beaten) × (y.lost ≡ x.lost)
   pub names : (known : Known) → Contains x.names known → Contains y.names known
   pub words : (s : Sighting) → Contains x.seen.words s → Contains y.seen.words s
   pub seen : (at word : ℕ) → word_seen x.seen.words at ≡ Some word → word_seen y.seen.words at ≡ Some word
@@ -54,6 +55,7 @@ pub record Follows (x y : Actor) : Type 0 where
 pub follows_itself : (x : Actor) → Follows x x
 follows_itself x = record {
   saw = (refl, refl, refl, refl, refl);
+  late = (refl, refl);
   names = λ known there. there;
   words = λ s there. there;
   seen = λ at word there. there;
@@ -77,6 +79,16 @@ module _ (shape : Dimensions) (old new : Anatomy) (id : ℕ) (x y : Actor) (grou
   cursors_on : (s : Sighting) → Contains x.seen.cursors s → Contains y.seen.cursors s
   cursors_on s = subst (λ seen. Contains seen s) (sym follows.saw.4)
 
+  tails_on : (tail : ℕ) → Contains x.seen.tails tail → Contains y.seen.tails tail
+  tails_on tail = subst (λ tails. Contains tails tail) (sym follows.saw.1)
+
+  beaten_on : (at : ℕ) → IsReachedAt (order_of old) x.beaten at → IsReachedAt (order_of new) y.beaten at
+  beaten_on at reached = subst (λ n. IsReachedAt (order_of new) n at) (sym follows.late.0) (grounds.reached x.beaten at reached)
+
+  lost_on : (cursor at : ℕ) → IsReachedAt (order_of old) (slice_index x.lost cursor) at → IsReachedAt (order_of new) (slice_index y.lost cursor) at
+  lost_on cursor at reached =
+      subst (λ lost. IsReachedAt (order_of new) (slice_index lost cursor) at) (sym follows.late.1) (grounds.reached (slice_index x.lost cursor) at reached)
+
   pub stands_on : (place : Place) → StandsRight shape old id x place → StandsRight shape new id y place
   stands_on Spent stands = follows.spent stands
   stands_on Idle stands = tt
@@ -85,8 +97,8 @@ module _ (shape : Dimensions) (old new : Anatomy) (id : ℕ) (x y : Actor) (grou
   stands_on (Raised at size) stands = (stands.0, grounds.making at _ stands.1)
   stands_on (Sized at size) stands = (stands.0, grounds.making at _ stands.1)
   stands_on (Marked at size) stands = (stands.0, grounds.making at _ stands.1)
-  stands_on (TailLoaded tail) stands = (subst (λ tails. Contains tails tail) (sym follows.saw.1) stands.0, grounds.stop tail stands.1)
-  stands_on (Beaten tail behind) stands = grounds.near tail behind stands
+  stands_on (TailLoaded tail) stands = (tails_on tail stands.0, beaten_on tail stands.1)
+  stands_on (Beaten tail behind) stands = (grounds.near tail behind stands.0, tails_on tail stands.1, beaten_on behind stands.2)
   stands_on (Linked at tail) stands = grounds.near tail at stands
   stands_on (Looking look) stands = looks_on look stands
   stands_on (Losing look at) (right, there, apart, (block, mine, place, tag)) =
@@ -120,8 +132,8 @@ module _ (shape : Dimensions) (old new : Anatomy) (id : ℕ) (x y : Actor) (grou
     counts_on _ saw,
   )
   stands_on (SumLoaded reference sum) (known, has, same) = (known, follows.names known has, same)
-  stands_on (CursorLoaded cursor at) stands = (grounds.stop at stands.0, cursors_on _ stands.1)
-  stands_on (BehindCursor cursor at next) stands = (grounds.near at next stands.0, cursors_on _ stands.1)
+  stands_on (CursorLoaded cursor at) stands = (lost_on cursor at stands.0, cursors_on _ stands.1)
+  stands_on (BehindCursor cursor at next) stands = (grounds.near at next stands.0, cursors_on _ stands.1, lost_on cursor at stands.2)
 
 -- ---- its blocks
 

@@ -190,6 +190,7 @@ fits shape anatomy cursors old new opener later id a same since alone fit = reco
   versioned = fit.versioned;
   numbered = fit.numbered;
   sees = fit.sees;
+  ahead = fit.ahead;
   names = fit.names;
   own = fit.own;
   apart = fit.apart;

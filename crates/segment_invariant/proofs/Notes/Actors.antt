@@ -30,6 +30,7 @@ module _ (shape : Dimensions) (anatomy : Anatomy) (cursors : List ℕ) (actors :
     versioned = fit.versioned;
     numbered = fit.numbered;
     sees = fit.sees;
+    ahead = fit.ahead;
     names = names;
     own = fit.own;
     apart = fit.apart;

@@ -167,6 +167,7 @@ module _ (shape : Dimensions) (opened : Anatomy) (state : State) (kept : Invaria
               (stands_on shape kept.anatomy kept.anatomy id a later (grounds_itself kept.anatomy id)
               (record {
                 saw = (refl, refl, refl, refl, refl);
+                late = (refl, refl);
                 names = knows;
                 words = λ s has. has;
                 seen = λ at word has. has;

@@ -21,6 +21,7 @@ use Rattle.segment_invariant.specs.Body.{Body, queue, histogram, counts, sample,
 use Rattle.segment_invariant.specs.Seen.{Stands, HasRecord, HasCounts, HasSample, Sees}
 use Rattle.segment_invariant.specs.Invariant.{ListIsKept, IsListed, RecordsAreKept, RolesAreKept, CursorsAreKept, CallsRight, IsMomentOf, FinalsAreExact, Fits, Invariant, ClaimedRight, StandsRight, is_living}
 use Rattle.segment_invariant.specs.Keeps.{OpeningIsKept}
+use Rattle.segment_invariant.proofs.Frames.Ahead.{ahead_anew}
 use Rattle.segment_invariant.proofs.Lists.Elements.{none_in, none_at, not_empty, each_of_one}
 
 -- ---- a list of one
@@ -160,6 +161,8 @@ module _ (shape : Dimensions) (version id cursors : ℕ) (lawful : IsShape shape
     versioned = refl;
     numbered = sym (length-replicate {A = ℕ} cursors 12);
     sees = sees;
+    ahead = ahead_anew [] 12 (replicate cursors 12) cursors (0, omega arith, refl) (sym (length-replicate {A = ℕ} cursors 12))
+        (λ k below. (0, omega arith, sym (get_or-replicate cursors k 12 0 (omega (arith, below, length-replicate {A = ℕ} cursors 12)))));
     names = All-nil _;
     own = All-nil _;
     apart = λ i j x y there. absurd (none_at i x there);

@@ -18,6 +18,8 @@ use Rattle.list_core.specs.Laws.{IsStop, AreNeighbours}
 use Rattle.list_core.proofs.Chains.{one_place}
 use Rattle.list_core.proofs.EventKinds.{link_through}
 use Rattle.alloc_core.proofs.Owners.{set_at}
+use Rattle.segment_machine.specs.declared.place.Place.{Place}
+use Rattle.segment_invariant.proofs.Frames.Ahead.{ahead_at, ahead_longer, reached_stop}
 use Rattle.segment_invariant.proofs.Frames.Answers.{answered_more, owed_is, owes_both, owes_linked}
 use Rattle.segment_machine.specs.declared.actor.Known.{Known}
 use Rattle.segment_machine.specs.declared.entry.Entry.{Entry}
@@ -36,7 +38,7 @@ use Rattle.segment_machine.specs.Calls.{without}
 use Rattle.segment_machine.specs.Publishing.{own_at, published_as, owed_for}
 use Rattle.segment_invariant.specs.Body.{Record, Counts, Sample, Body, queue, plain, held, histogram, counts, sample, other, words_of, is_claimed, Piece, extent_of, Listed, listed, Anatomy, layout_of, order_of, free_of, claims_of}
 use Rattle.segment_invariant.specs.Seen.{Stands, Sees, IsNamed, IsNoLater}
-use Rattle.segment_invariant.specs.Invariant.{StandsAs, IsListed, ListIsKept, StandsRight, HoldsOwn, Fits, CursorsAreKept, IsSetBy, ClaimedRight, Invariant, AreAnswered}
+use Rattle.segment_invariant.specs.Invariant.{StandsAs, IsListed, ListIsKept, StandsRight, HoldsOwn, Fits, CursorsAreKept, IsSetBy, ClaimedRight, Invariant, AreAnswered, IsAhead, is_beaten}
 use Rattle.segment_invariant.proofs.Lists.Elements.{rows, rows_more, column, at_from, below_length, index_at, all_at, row_in}
 use Rattle.segment_invariant.proofs.Blocks.Pieces.{piece_word, first_piece, some_first, one_index, one_piece, with_piece, piece_stored, free_with, queue_piece, queue_stored, claims_same}
 use Rattle.segment_invariant.proofs.Blocks.Stops.{stop_open}
@@ -241,7 +243,7 @@ module _ (shape : Dimensions) (opened : Anatomy) (state : State) (kept : Invaria
   words' = set state.words (tail + 3) own.at
 
   pub stop : IsStop (order_of anatomy) tail
-  stop = (subst (StandsRight shape anatomy id a) placed (kept.standing id a mine)).1
+  stop = reached_stop (order_of anatomy) a.beaten tail (subst (StandsRight shape anatomy id a) placed (kept.standing id a mine)).1
 
   pub turns : TurnsTo a (Linked own.at tail)
   turns = turns_plain a (Linked own.at tail) (ap is_plain placed) refl
@@ -427,6 +429,12 @@ module _ (shape : Dimensions) (opened : Anatomy) (state : State) (kept : Invaria
         (All-weaker (λ place. IsNoLater (order_of anatomy) place anatomy.tail) (λ place. IsNoLater (order_of new) place anatomy.tail)
         (λ place. no_later_grows anatomy new added grows place anatomy.tail) b.seen.tails sees.tails) sees
 
+    -- the list is ahead of what came too late
+    ahead_now : (place : Place) (beaten : ℕ) (lost : List ℕ) → IsAhead (order_of anatomy) anatomy.tail state.cursors place beaten lost
+        → IsAhead (order_of new) new.tail state.cursors place beaten lost
+    ahead_now place beaten lost ahead = subst (λ (chain : List ℕ). IsAhead chain anatomy.tail state.cursors place beaten lost) (sym order_is)
+        (ahead_longer (order_of anatomy) anatomy.tail state.cursors place beaten lost ahead (own.at ∷ []))
+
     fits_mine : Fits shape new state.cursors state.actors kept.roles.opener id (doing a d)
     fits_mine =
         let old = sees_now a mine_fits.sees in
@@ -448,6 +456,8 @@ module _ (shape : Dimensions) (opened : Anatomy) (state : State) (kept : Invaria
           fixed = old.fixed;
           shared = old.shared;
         })
+        (ahead_now (Linked own.at tail) a.beaten a.lost
+        (ahead_at (order_of anatomy) anatomy.tail state.cursors a.place a.beaten a.lost mine_fits.ahead (Linked own.at tail) (λ no. ap is_beaten placed)))
         own_now apart_now
         (owes_both a.published (published_as (own_at a.own own.at) own.at) a.owed (owed_for (own_at a.own own.at) own.at)
         mine_fits.owes (owes_linked (own_at a.own own.at) own.at))
@@ -456,7 +466,7 @@ module _ (shape : Dimensions) (opened : Anatomy) (state : State) (kept : Invaria
         → Fits shape new state.cursors state.actors kept.roles.opener who b
     fits_else who b ne here lives =
         let fits = kept.each who b here lives in
-        fits_on shape opened state kept new added grows who b (doing_of b) here lives (saw_itself b) (sees_now b fits.sees)
+        fits_on shape opened state kept new added grows who b (doing_of b) here lives (saw_itself b) (sees_now b fits.sees) (ahead_now b.place b.beaten b.lost fits.ahead)
         (own_stays shape anatomy new who (λ x stands. others_stay who x.at (held x) ne stands) b.own fits.own) fits.apart fits.owes
 
     pub links_on : Invariant shape opened (record { words = words'; cursors = state.cursors; actors = actors' })

@@ -1,7 +1,7 @@
 -- The tail is loaded and moved on, and a link finds another record: each keeps the state, and its actor learns that it found the end or a record.
-use Rattle.std.proofs.Common.{◌≡◌, ◌≢◌, ℕ, suc, ◌+◌, ◌<◌, ◌==◌, Bool, true, false, List, [], ◌∷◌, ◌++◌, length, set, inl, inr, refl, sym, ap, ◌∙◌, subst, arith, eq-eqb, ne_eqb}
-use Rattle.std.specs.Prelude.{if◌then◌else◌}
-use Rattle.std.proofs.lemmas.List.Elements.{All-weaker, All-push, Contains-push}
+use Rattle.std.proofs.Common.{◌≡◌, ◌≢◌, ℕ, suc, ◌+◌, ◌<◌, ◌==◌, Bool, true, false, List, [], ◌∷◌, ◌++◌, length, set, inl, inr, refl, sym, ap, ◌∙◌, subst, arith, eq-eqb, ne_eqb, Contains}
+use Rattle.std.specs.Prelude.{if◌then◌else◌, slice_index}
+use Rattle.std.proofs.lemmas.List.Elements.{All-weaker, All-push, Contains-push, All-contains}
 use mathlib.Core.Option.{some}
 use mathlib.Core.Logic.{dite}
 use native.Mathlib.Decide.{ℕ_discrete}
@@ -15,13 +15,16 @@ use Rattle.list_core.proofs.EventKinds.{link_missed, behind_stop}
 use Rattle.segment_machine.specs.declared.actor.Actor.{Actor}
 use Rattle.segment_machine.specs.declared.actor.Own.{Own}
 use Rattle.segment_machine.specs.declared.place.Place.{Place}
-use Rattle.segment_machine.specs.declared.place.Place.TheVariants.{Idle, TailLoaded, Beaten}
+use Rattle.segment_machine.specs.declared.place.Place.TheVariants.{Idle, TailLoaded, Beaten, Spent}
 use Rattle.segment_machine.specs.State.{State}
 use Rattle.segment_machine.specs.Event.{publishing_event, next, Ready}
 use Rattle.segment_machine.specs.Publishing.{load_tail, link, move_tail, after_link}
+use Rattle.list_core.specs.Chain.{stops}
+use Rattle.segment_invariant.proofs.Walking.Room.{list_fits}
+use Rattle.segment_invariant.proofs.Frames.Ahead.{ahead_at, unbound_unbeaten, reached_stop, reached_later}
 use Rattle.segment_invariant.specs.Body.{Anatomy, layout_of, order_of}
-use Rattle.segment_invariant.specs.Seen.{IsNoLater}
-use Rattle.segment_invariant.specs.Invariant.{StandsRight, Invariant}
+use Rattle.segment_invariant.specs.Seen.{IsNoLater, IsReachedAt}
+use Rattle.segment_invariant.specs.Invariant.{StandsRight, Invariant, is_beaten}
 use Rattle.segment_invariant.proofs.Blocks.Stops.{linked_beside_head}
 use Rattle.segment_invariant.proofs.Frames.OneActor.{TurnsTo, is_plain, turns_plain, turns_unbound}
 use Rattle.segment_invariant.proofs.Frames.GoesOn.{happens}
@@ -43,9 +46,9 @@ module _ (shape : Dimensions) (opened : Anatomy) (state : State) (kept : Invaria
       omega (arith, size, wide, one)
 
   -- it saw nothing more
-  saw_no_more : (place : Place) (own : List Own) (tails : List ℕ) → TurnsTo a place
-      → SawMore a (walking shape opened state kept id a mine records place own tails a.seen.chain a.seen.words)
-  saw_no_more place own tails turns = record {
+  saw_no_more : (place : Place) (beaten : ℕ) (own : List Own) (tails : List ℕ) → TurnsTo a place
+      → SawMore a (walking shape opened state kept id a mine records place beaten own tails a.seen.chain a.seen.words)
+  saw_no_more place beaten own tails turns = record {
     chain = λ at has. has;
     words = λ at word has. has;
     counts = λ known word named has. has;
@@ -64,9 +67,15 @@ module _ (shape : Dimensions) (opened : Anatomy) (state : State) (kept : Invaria
       let fits = kept.each id a mine turns.lived in
       happens opened.version state id a (publishing_event load_tail) eight_within shape opened (
         loaded shape opened state kept id a mine records 8 (next a (publishing_event load_tail) found)
-            (looks_on shape opened state kept id a mine records (TailLoaded found) (a.seen.tails ++ found ∷ []) a.seen.chain a.seen.words turns
-            (saw_no_more (TailLoaded found) a.own (a.seen.tails ++ found ∷ []) turns) kept.anatomy.tail state.words kept.shown kept.list.linked kept.list.tail
-            (λ seen before. before) (Contains-push a.seen.tails found, tail_stop) fits.sees.walked
+            (looks_on shape opened state kept id a mine records (TailLoaded found) a.beaten (a.seen.tails ++ found ∷ []) a.seen.chain a.seen.words turns
+            (saw_no_more (TailLoaded found) a.beaten a.own (a.seen.tails ++ found ∷ []) turns) kept.anatomy.tail state.words kept.shown kept.list.linked kept.list.tail
+            (λ seen before. before)
+            (ahead_at order kept.anatomy.tail state.cursors a.place a.beaten a.lost fits.ahead (TailLoaded found) (λ no. unbound_unbeaten a.place unbound))
+            (
+                Contains-push a.seen.tails found,
+                subst (IsReachedAt order a.beaten) (sym (tail_word shape opened state kept)) (fits.ahead.links (unbound_unbeaten a.place unbound)),
+            )
+            fits.sees.walked
             (All-push (λ place. IsNoLater order place kept.anatomy.tail) a.seen.tails found fits.sees.tails
             (subst (IsNoLater order found) (tail_word shape opened state kept) (no_later_itself order found tail_stop))) fits.sees.fixed),
         reference_is shape opened state kept id a mine records found turns.lived tail_stop,
@@ -76,7 +85,7 @@ module _ (shape : Dimensions) (opened : Anatomy) (state : State) (kept : Invaria
 
   moves_near : (old new : ℕ) → Ready a (publishing_event (move_tail old new)) → AreNeighbours order old new × (is_plain a.place ≡ true)
   moves_near old new (inl linked) = (subst (StandsRight shape kept.anatomy id a) linked (kept.standing id a mine), ap is_plain linked)
-  moves_near old new (inr beaten) = (subst (StandsRight shape kept.anatomy id a) beaten (kept.standing id a mine), ap is_plain beaten)
+  moves_near old new (inr beaten) = ((subst (StandsRight shape kept.anatomy id a) beaten (kept.standing id a mine)).0, ap is_plain beaten)
 
   abbrev Onward : ℕ → Type 0
   Onward v = IsStop order v × ((seen : ℕ) → IsNoLater order seen kept.anatomy.tail → IsNoLater order seen v)
@@ -96,6 +105,33 @@ module _ (shape : Dimensions) (opened : Anatomy) (state : State) (kept : Invaria
       ))
       (λ miss. subst by (sym (ne_eqb found old miss)) (tail_stop, λ seen before. subst (IsNoLater order seen) (sym tail) before))
 
+  -- where its link had come too late, the tail is then at the record that beat it, or behind
+  goes_behind : (old new : ℕ) → a.place ≢ Spent → AreNeighbours order old new → Contains a.seen.tails old → IsReachedAt order a.beaten new
+      → IsReachedAt order a.beaten (if word_at state.words 8 == old then new else word_at state.words 8)
+  goes_behind old new lives (k, lt, is, next_is) saw (m, low, most, new_is) =
+      let found : ℕ = word_at state.words 8 in
+      let tail = tail_word shape opened state kept in
+      let by : Bool → Type 0 = λ b. IsReachedAt order a.beaten (if b then new else found) in
+      dite (ℕ_discrete found old)
+      (λ hit. subst by (sym (eq-eqb found old hit)) (m, low, most, new_is))
+      (λ miss. subst by (sym (ne_eqb found old miss)) (
+      let before = All-contains (λ place. IsNoLater order place kept.anatomy.tail) a.seen.tails old (kept.each id a mine lives).sees.tails saw in
+      let (i, j, le, within, i_is, j_is) = before in
+      let one : i ≡ k = one_place state.words order i k kept.list.linked (omega (arith, le, within)) (omega (arith, lt)) (i_is ∙ sym is) in
+      let two : m ≡ suc k = one_place state.words order m (suc k) kept.list.linked most lt (new_is ∙ sym next_is) in
+      let apart : i ≢ j = λ same. miss (tail ∙ (sym j_is ∙ (ap (slice_index (stops order)) (sym same) ∙ i_is))) in
+      (j, omega (arith, low, one, two, le, apart), within, j_is ∙ sym tail)))
+
+  -- and it is not behind what came too late before
+  moves_ahead : (old new : ℕ) → a.place ≢ Spent → Ready a (publishing_event (move_tail old new))
+      → ((seen : ℕ) → IsNoLater order seen kept.anatomy.tail → IsNoLater order seen (if word_at state.words 8 == old then new else word_at state.words 8))
+      → IsReachedAt order a.beaten (if word_at state.words 8 == old then new else word_at state.words 8)
+  moves_ahead old new lives (inl linked) later =
+      reached_later state.words order a.beaten kept.anatomy.tail _ kept.list.linked later ((kept.each id a mine lives).ahead.links (ap is_beaten linked))
+  moves_ahead old new lives (inr beaten) later =
+      let (near, saw, reached) = subst (StandsRight shape kept.anatomy id a) beaten (kept.standing id a mine) in
+      goes_behind old new lives near saw reached
+
   pub tail_moved_on : (old new : ℕ) → Ready a (publishing_event (move_tail old new)) → Goes shape opened state kept id a mine records (publishing_event (move_tail old new))
   tail_moved_on old new ready =
       let found : ℕ = word_at state.words 8 in
@@ -105,11 +141,17 @@ module _ (shape : Dimensions) (opened : Anatomy) (state : State) (kept : Invaria
       let turns = turns_plain a Idle plain refl in
       let fits = kept.each id a mine turns.lived in
       happens opened.version state id a (publishing_event (move_tail old new)) eight_within shape opened (
-        looks_on shape opened state kept id a mine records Idle (a.seen.tails ++ v ∷ []) a.seen.chain a.seen.words turns
-            (saw_no_more Idle a.own (a.seen.tails ++ v ∷ []) turns) v (set state.words 8 v)
+        looks_on shape opened state kept id a mine records Idle a.beaten (a.seen.tails ++ v ∷ []) a.seen.chain a.seen.words turns
+            (saw_no_more Idle a.beaten a.own (a.seen.tails ++ v ∷ []) turns) v (set state.words 8 v)
             (shown_tail shape state.words (layout_of kept.anatomy) v kept.shown)
             (linked_beside_head shape state.words kept.anatomy kept.shown kept.list.standing 8 v (omega arith) kept.list.linked)
-            stop later tt fits.sees.walked
+            stop later
+            (record {
+              links = λ no. moves_ahead old new turns.lived ready later;
+              many = fits.ahead.many;
+              exchanges = fits.ahead.exchanges;
+            })
+            tt fits.sees.walked
             (All-push (λ place. IsNoLater order place v) a.seen.tails v
             (All-weaker (λ place. IsNoLater order place kept.anatomy.tail) (λ place. IsNoLater order place v) later a.seen.tails fits.sees.tails)
             (no_later_itself order v stop)) fits.sees.fixed,
@@ -118,10 +160,17 @@ module _ (shape : Dimensions) (opened : Anatomy) (state : State) (kept : Invaria
 
   -- ---- a link finds another record
 
+  -- the record behind the tail is reached by one more
+  next_reached : (tail found : ℕ) → IsReachedAt order a.beaten tail → AreNeighbours order tail found → IsReachedAt order (a.beaten + 1) found
+  next_reached tail found (k, low, within, is) (m, lt, here, next_is) =
+      let same : k ≡ m = one_place state.words order k m kept.list.linked within (omega (arith, lt)) (is ∙ sym here) in
+      (suc m, omega (arith, low, same), lt, next_is)
+
   pub link_beaten : (tail at : ℕ) → Ready a (publishing_event (link tail at)) → word_at state.words (tail + 3) ≢ 12 → Goes shape opened state kept id a mine records (publishing_event (link tail at))
   link_beaten tail at (own, made, placed, waits, here, asked, payload, may) other =
       let found : ℕ = word_at state.words (tail + 3) in
-      let stop = (subst (StandsRight shape kept.anatomy id a) placed (kept.standing id a mine)).1 in
+      let (saw, reached) = subst (StandsRight shape kept.anatomy id a) placed (kept.standing id a mine) in
+      let stop = reached_stop order a.beaten tail reached in
       let near = link_missed state.words order tail kept.list.linked stop other in
       let turns = turns_plain a (Beaten tail found) (ap is_plain placed) refl in
       let fits = kept.each id a mine turns.lived in
@@ -129,8 +178,17 @@ module _ (shape : Dimensions) (opened : Anatomy) (state : State) (kept : Invaria
       happens opened.version state id a (publishing_event (link tail at)) (stop_within shape opened state kept tail stop) shape opened (
         subst by (sym (ne_eqb found 12 other))
             (loaded shape opened state kept id a mine records (tail + 3) (after_link false a tail at found)
-            (looks_on shape opened state kept id a mine records (Beaten tail found) a.seen.tails a.seen.chain a.seen.words turns
-            (saw_no_more (Beaten tail found) a.own a.seen.tails turns) kept.anatomy.tail state.words kept.shown kept.list.linked kept.list.tail
-            (λ seen before. before) near fits.sees.walked fits.sees.tails fits.sees.fixed)),
-        reference_is shape opened state kept id a mine records found turns.lived (behind_stop order tail found near),
+            (looks_on shape opened state kept id a mine records (Beaten tail found) (a.beaten + 1) a.seen.tails a.seen.chain a.seen.words turns
+            (saw_no_more (Beaten tail found) (a.beaten + 1) a.own a.seen.tails turns) kept.anatomy.tail state.words kept.shown kept.list.linked kept.list.tail
+            (λ seen before. before)
+            (record { links = λ no. cc no; many = fits.ahead.many; exchanges = fits.ahead.exchanges })
+            (near, saw, next_reached tail found reached near) fits.sees.walked fits.sees.tails fits.sees.fixed)),
+        (
+            reference_is shape opened state kept id a mine records found turns.lived (behind_stop order tail found near),
+            λ other.
+                let (k, low, most, is) = next_reached tail found reached near in
+                let room = list_fits shape state.words kept.anatomy kept.shown kept.blocks kept.list.standing kept.list.linked in
+                let sized = ap (λ (s : Dimensions). s.size) fits.shaped in
+                omega (arith, low, most, room, sized),
+        ),
       )

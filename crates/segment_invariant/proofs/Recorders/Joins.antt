@@ -166,6 +166,7 @@ module _ (shape : Dimensions) (opened : Anatomy) (old : State) (kept : Invariant
     shaped = mine.shaped;
     versioned = mine.versioned;
     numbered = mine.numbered;
+    ahead = mine.ahead;
     sees = sees_passed other 0 kept.anatomy old.cursors later.seen (joined_sees shape old.words kept.anatomy kept.shown old.cursors opener b mine.sees theirs.sees);
     names = names_passed other 0 kept.anatomy later.names (All-append (Knows kept.anatomy) opener.names b.names mine.names theirs.names);
     own = joined_own shape old.words kept.anatomy kept.shown other apart opener b mine.own theirs.own;

@@ -153,6 +153,7 @@ module _ (shape : Dimensions) (opened : Anatomy) (old : State) (kept : Invariant
       (λ k a s o at offers spent. stands_on shape kept.anatomy kept.anatomy k a (sharing a s o) (grounds_itself kept.anatomy k)
       (record {
         saw = (refl, refl, refl, refl, refl);
+        late = (refl, refl);
         names = λ known has. has;
         words = λ s has. has;
         seen = λ at word has. has;

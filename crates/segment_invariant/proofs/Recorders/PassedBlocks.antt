@@ -195,4 +195,4 @@ module _ (from to : ℕ) (anatomy : Anatomy) where
       → Fits shape anatomy cursors actors opener id a → Fits shape (handed from to anatomy) cursors actors opener id a
   fits_passed shape cursors actors opener id a apart fit =
       fits_along anatomy pieces anatomy.spare anatomy.corrupt anatomy.full anatomy.tail (stays_passed from to anatomy.pieces) shape cursors actors opener id a
-      (stands_left from to anatomy.pieces id apart) (subst (Behind a.seen.free) (sym (free_passed from to anatomy)) fit.sees.free) fit.sees.tails fit
+      (stands_left from to anatomy.pieces id apart) (subst (Behind a.seen.free) (sym (free_passed from to anatomy)) fit.sees.free) fit.sees.tails fit.ahead fit

@@ -55,6 +55,7 @@ module _ (shape : Dimensions) (anatomy : Anatomy) (cursors : List ℕ) (actors :
     versioned = fit.versioned;
     numbered = fit.numbered;
     sees = fit.sees;
+    ahead = fit.ahead;
     names = fit.names;
     own = fit.own;
     apart = fit.apart;
@@ -87,6 +88,7 @@ module _ (shape : Dimensions) (anatomy : Anatomy) (cursors : List ℕ) (actors :
     versioned = fit.versioned;
     numbered = fit.numbered;
     sees = fit.sees;
+    ahead = fit.ahead;
     names = fit.names;
     own = fit.own;
     apart = fit.apart;

@@ -1,6 +1,6 @@
 -- A recorder that is made keeps what holds.
 use Rattle.std.proofs.Common.{◌≡◌, ◌≢◌, ◌⊎◌, ℕ, ◌+◌, ◌-◌, ◌<◌, ◌≤◌, Bool, true, ◌&&◌, true≢false, List, [], ◌∷◌, ◌++◌, map, set, length, inl, inr, ⊎_elim, refl, sym, ap, ◌∙◌, subst, subst₂, append-nil, arith, drop}
-use Rattle.std.specs.Prelude.{if◌then◌else◌}
+use Rattle.std.specs.Prelude.{if◌then◌else◌, slice_index}
 use mathlib.Core.Option.{some}
 use lib.ListN.{get_elem?}
 use Rattle.std.specs.List.{flat_map, Contains, All}
@@ -12,6 +12,8 @@ use Rattle.std.proofs.lemmas.List.Sums.{sum_by-append}
 use Rattle.std.proofs.lemmas.List.Sorted.{IsPermutation-refl}
 use Rattle.atomic_table.proofs.Lists.{at_longer, set_here}
 use Rattle.segment_image.specs.Shape.{Dimensions}
+use Rattle.list_core.specs.Laws.{IsStop}
+use Rattle.segment_invariant.proofs.Frames.Ahead.{ahead_anew, reached_stop}
 use Rattle.segment_machine.specs.declared.entry.Entry.{Entry}
 use Rattle.segment_machine.specs.declared.entry.Counting.{Counting}
 use Rattle.segment_machine.specs.declared.place.Place.TheVariants.{Spent, SumLoaded}
@@ -121,13 +123,15 @@ module _ (anatomy : Anatomy) (cursors : List ℕ) (actors : List Actor) (later a
     swapped = λ before last taking. absurd (true≢false (sym taking));
   }
 
-  fresh_fits : (shape : Dimensions) (old : List Actor) (opener : Actor) (id k : ℕ) → Fits shape anatomy cursors old opener k a
+  fresh_fits : (shape : Dimensions) (old : List Actor) (opener : Actor) (id k : ℕ) → IsStop (order_of anatomy) anatomy.tail → Fits shape anatomy cursors old opener k a
       → Fits shape anatomy cursors actors later id fresh
-  fresh_fits shape old opener id k fit = record {
+  fresh_fits shape old opener id k stop fit = record {
     shaped = fit.shaped;
     versioned = fit.versioned;
     numbered = fit.numbered;
     sees = fit.sees;
+    ahead = ahead_anew (order_of anatomy) anatomy.tail cursors a.cursors stop fit.numbered
+        (λ k below. reached_stop (order_of anatomy) (slice_index a.lost k) (slice_index cursors k) (fit.ahead.exchanges k below));
     names = All-nil (Knows anatomy);
     own = All-nil (HoldsOwn shape anatomy.pieces id);
     apart = λ i j x y first. absurd (none_at i x first);
@@ -288,7 +292,7 @@ module _ (shape : Dimensions) (opened : Anatomy) (old : State) (kept : Invariant
       (λ taking. true≢false (sym taking ∙ kept.roles.rests.2))
       either))
       (kept.each 0 opener kept.roles.stands live)))
-      (λ live. fresh_fits kept.anatomy old.cursors split later opener shape old.actors opener (length old.actors) 0
+      (λ live. fresh_fits kept.anatomy old.cursors split later opener shape old.actors opener (length old.actors) 0 kept.list.tail
       (kept.each 0 opener kept.roles.stands opener_lives))
       (λ k c within front at live. fits shape kept.anatomy old.cursors old.actors split opener later k c (sums_of old.actors split deeds) since
       (λ either alone. absurd (not_alone k c at (lives_on c (kept.roles.only k c at front).0 live) alone))

@@ -22,6 +22,8 @@ use Rattle.segment_machine.specs.Actor.{is_bound}
 use Rattle.segment_machine.specs.State.{State}
 use Rattle.segment_machine.specs.Event.{walking_event, next, Ready}
 use Rattle.segment_machine.specs.Walking.{load_next, behind, extended, MayFollow}
+use Rattle.segment_invariant.proofs.Walking.Learned.{next_learned}
+use Rattle.segment_invariant.proofs.Frames.Ahead.{ahead_at, unbound_unbeaten, reached_stop}
 use Rattle.segment_invariant.specs.Body.{Anatomy, order_of}
 use Rattle.segment_invariant.specs.Seen.{IsNoLater}
 use Rattle.segment_invariant.specs.Invariant.{StandsRight, Invariant}
@@ -102,7 +104,8 @@ module _ (shape : Dimensions) (opened : Anatomy) (state : State) (kept : Invaria
   follows_stop : (at : ℕ) → a.place ≢ Spent → MayFollow a at → IsStop order at
   follows_stop at lives (inl queue) = (0, omega arith, sym queue)
   follows_stop at lives (inr (inl seen)) = front_stop a.seen.chain order at (kept.each id a mine lives).sees.walked seen
-  follows_stop at lives (inr (inr (cursor, placed))) = (subst (StandsRight shape kept.anatomy id a) placed (kept.standing id a mine)).0
+  follows_stop at lives (inr (inr (cursor, placed))) = 
+      reached_stop order (slice_index a.lost cursor) at (subst (StandsRight shape kept.anatomy id a) placed (kept.standing id a mine)).0
 
   -- what a load finds behind a stop
   found_stop : (at : ℕ) → IsStop order at → IsStop order (word_at state.words (at + 3))
@@ -112,15 +115,15 @@ module _ (shape : Dimensions) (opened : Anatomy) (state : State) (kept : Invaria
 
   module _ (d : Doing) (follows : Follows a (doing a d)) (from found : ℕ) (near : found ≢ 12 → AreNeighbours order from found) where
     stands_behind : (place : Place) → StandsRight shape kept.anatomy id a place → StandsRight shape kept.anatomy id (doing a d) (behind place from found)
-    stands_behind (CursorLoaded cursor at) (stop, saw) =
+    stands_behind (CursorLoaded cursor at) (reached, saw) =
         let by : Bool → Bool → Type 0 =
         λ b c. StandsRight shape kept.anatomy id (doing a d) (if b then (if c then Idle else BehindCursor cursor at found) else CursorLoaded cursor at) in
         dite (ℕ_discrete from at)
         (λ here. dite (ℕ_discrete found 12)
         (λ ends. subst (λ (b : Bool × Bool). by b.0 b.1) (λ i. (sym (eq-eqb from at here) i, sym (eq-eqb found 12 ends) i)) tt)
         (λ goes. subst (λ (b : Bool × Bool). by b.0 b.1) (λ i. (sym (eq-eqb from at here) i, sym (ne_eqb found 12 goes) i))
-        (subst (λ (n : ℕ). AreNeighbours order n found) here (near goes), saw)))
-        (λ apart. subst (λ (b : Bool). by b (found == 12)) (sym (ne_eqb from at apart)) (stop, saw))
+        (subst (λ (n : ℕ). AreNeighbours order n found) here (near goes), saw, reached)))
+        (λ apart. subst (λ (b : Bool). by b (found == 12)) (sym (ne_eqb from at apart)) (reached, saw))
     stands_behind place stands =
         stands_on shape kept.anatomy kept.anatomy id a (doing a d) (grounds_itself kept.anatomy id) follows place stands
 
@@ -133,9 +136,10 @@ module _ (shape : Dimensions) (opened : Anatomy) (state : State) (kept : Invaria
       let stop = follows_stop at lives follow in
       let turns = turns_behind a at found a.place refl lives in
       let fits = kept.each id a mine lives in
-      let d : Doing = walking shape opened state kept id a mine records place a.own a.seen.tails chain a.seen.words in
+      let d : Doing = walking shape opened state kept id a mine records place a.beaten a.own a.seen.tails chain a.seen.words in
       let follows : Follows a (doing a d) = record {
         saw = (refl, refl, refl, refl, refl);
+        late = (refl, refl);
         names = λ known has. has;
         words = λ s has. has;
         seen = λ x word has. has;
@@ -151,9 +155,12 @@ module _ (shape : Dimensions) (opened : Anatomy) (state : State) (kept : Invaria
       } in
       happens opened.version state id a (walking_event (load_next at)) (stop_within shape opened state kept at stop) shape opened (
         loaded shape opened state kept id a mine records (at + 3) (next a (walking_event (load_next at)) found)
-            (looks_on shape opened state kept id a mine records place a.seen.tails chain a.seen.words turns more kept.anatomy.tail state.words
+            (looks_on shape opened state kept id a mine records place a.beaten a.seen.tails chain a.seen.words turns more kept.anatomy.tail state.words
             kept.shown kept.list.linked kept.list.tail (λ seen before. before)
+            (ahead_at order kept.anatomy.tail state.cursors a.place a.beaten a.lost fits.ahead place (λ no. unbound_unbeaten a.place unbound))
             (stands_behind d follows at found (λ goes. link_missed state.words order at kept.list.linked stop goes) a.place (kept.standing id a mine))
             (extended_front state.words order a.seen.chain at kept.list.linked stop fits.sees.walked) fits.sees.tails fits.sees.fixed),
-        reference_is shape opened state kept id a mine records found lives (found_stop at stop),
+        next_learned shape opened state kept id a mine lives at stop
+            (reference_is shape opened state kept id a mine records found lives (found_stop at stop)) fits.sees.walked
+            (extended_front state.words order a.seen.chain at kept.list.linked stop fits.sees.walked),
       )

@@ -28,7 +28,7 @@ use Rattle.segment_machine.specs.State.{State}
 use Rattle.segment_machine.specs.Calls.{IsReference}
 use Rattle.segment_invariant.specs.Body.{Body, histogram, sample, other, words_of, is_claimed, Piece, Listed, Anatomy, layout_of, order_of, free_of, claims_of}
 use Rattle.segment_invariant.specs.Seen.{Stands, WasFixed, IsNoLater, AreNoLater, Sees, WasMet}
-use Rattle.segment_invariant.specs.Invariant.{StandsAs, StandsRight, HoldsOwn, IsSetBy, StandStill, Invariant}
+use Rattle.segment_invariant.specs.Invariant.{StandsAs, StandsRight, HoldsOwn, IsSetBy, StandStill, Invariant, IsAhead}
 use Rattle.segment_invariant.proofs.Lists.Elements.{rows, column, there_below, index_at, all_at}
 use Rattle.segment_invariant.proofs.Blocks.Pieces.{piece_from, piece_ends, free_within}
 use Rattle.segment_invariant.proofs.Frames.OneActor.{Doing, doing, doing_of, TurnsTo}
@@ -107,10 +107,10 @@ module _ (shape : Dimensions) (opened : Anatomy) (state : State) (kept : Invaria
   -- ---- an actor that sees more of the list
 
   module _ (id : ℕ) (a : Actor) (mine : get_elem? state.actors id ≡ some a) (records : a.opener ≡ 0) where
-    -- where it stands, its blocks, the tail, the chain and the words that it saw
-    abbrev pub walking : Place → List Own → List ℕ → List ℕ → List Sighting → Doing
-    walking place own tails chain words =
-        record (doing_of a) { place = place; own = own; seen_tails = tails; seen_chain = chain; seen_words = words }
+    -- where it stands, how often its link came too late, its blocks, the tail, the chain and the words that it saw
+    abbrev pub walking : Place → ℕ → List Own → List ℕ → List ℕ → List Sighting → Doing
+    walking place beaten own tails chain words =
+        record (doing_of a) { place = place; beaten = beaten; own = own; seen_tails = tails; seen_chain = chain; seen_words = words }
 
     -- a stop is a reference that it may find
     pub reference_is : (at : ℕ) → a.place ≢ Spent → IsStop order at → IsReference a at
@@ -118,8 +118,8 @@ module _ (shape : Dimensions) (opened : Anatomy) (state : State) (kept : Invaria
         subst (λ (s : Dimensions). is_reference s.size at ≡ true) (sym (kept.each id a mine lives).shaped) (stop_reference at stop)
 
     -- it goes on so, where the words of the header but the tail, and all but its own blocks, stay
-    pub walks_on : (place : Place) (own : List Own) (tails chain : List ℕ) (words : List Sighting) → TurnsTo a place
-        → SawMore a (walking place own tails chain words)
+    pub walks_on : (place : Place) (beaten : ℕ) (own : List Own) (tails chain : List ℕ) (words : List Sighting) → TurnsTo a place
+        → SawMore a (walking place beaten own tails chain words)
         → (pieces : List Piece) (present : ℕ) (words' : List ℕ)
         → Stays anatomy.pieces pieces
         → ((who at : ℕ) (body : Body) → who ≢ id → Stands anatomy.pieces at (some who) body → Stands pieces at (some who) body)
@@ -131,15 +131,16 @@ module _ (shape : Dimensions) (opened : Anatomy) (state : State) (kept : Invaria
         → IsLinked words' order
         → IsStop order present
         → ((seen : ℕ) → IsNoLater order seen anatomy.tail → IsNoLater order seen present)
-        → StandsRight shape (reshaped anatomy pieces anatomy.spare anatomy.corrupt anatomy.full present) id (doing a (walking place own tails chain words)) place
+        → IsAhead order present state.cursors place beaten a.lost
+        → StandsRight shape (reshaped anatomy pieces anatomy.spare anatomy.corrupt anatomy.full present) id (doing a (walking place beaten own tails chain words)) place
         → IsPrefix chain order
         → AreNoLater order tails present
         → All (WasFixed pieces) words
         → All (HoldsOwn shape pieces id) own
         → ((i j : ℕ) (x y : Own) → get_elem? own i ≡ some x → get_elem? own j ≡ some y → x.at ≡ y.at → i ≡ j)
-        → Invariant shape opened (record { words = words'; cursors = state.cursors; actors = set state.actors id (doing a (walking place own tails chain words)) })
-    walks_on place own tails chain words turns more pieces present words' stays others still blocks claims free shown linked stop later stands prefix no_later fixed holds apart =
-        let d : Doing = walking place own tails chain words in
+        → Invariant shape opened (record { words = words'; cursors = state.cursors; actors = set state.actors id (doing a (walking place beaten own tails chain words)) })
+    walks_on place beaten own tails chain words turns more pieces present words' stays others still blocks claims free shown linked stop later ahead stands prefix no_later fixed holds apart =
+        let d : Doing = walking place beaten own tails chain words in
         let new : Anatomy = reshaped anatomy pieces anatomy.spare anatomy.corrupt anatomy.full present in
         let fits = kept.each id a mine turns.lived in
         let old_sees : Sees new state.cursors a.seen =
@@ -157,7 +158,7 @@ module _ (shape : Dimensions) (opened : Anatomy) (state : State) (kept : Invaria
           shared = old_sees.shared;
         } in
         let on = fits_on shape opened state kept new (λ at body. ⊥)
-        (grows_not anatomy pieces anatomy.spare anatomy.corrupt anatomy.full present stays) id a d mine turns.lived more sees holds apart fits.owes in
+        (grows_not anatomy pieces anatomy.spare anatomy.corrupt anatomy.full present stays) id a d mine turns.lived more sees ahead holds apart fits.owes in
         goes_on shape opened state kept id a mine records d turns pieces anatomy.spare anatomy.corrupt anatomy.full present words'
         (record {
           shown = shown;
@@ -177,6 +178,7 @@ module _ (shape : Dimensions) (opened : Anatomy) (state : State) (kept : Invaria
           full = subst (IsSetBy anatomy.full opened.full) (sym (column (λ (b : Actor). b.filled) state.actors id a (doing a d) mine refl)) kept.full;
           stands = stands;
           sees = sees;
+          ahead = ahead;
           own = holds;
           apart = apart;
           calls = on.calls;
@@ -184,19 +186,20 @@ module _ (shape : Dimensions) (opened : Anatomy) (state : State) (kept : Invaria
         })
 
     -- where no block changes
-    pub looks_on : (place : Place) (tails chain : List ℕ) (words : List Sighting) → TurnsTo a place
-        → SawMore a (walking place a.own tails chain words)
+    pub looks_on : (place : Place) (beaten : ℕ) (tails chain : List ℕ) (words : List Sighting) → TurnsTo a place
+        → SawMore a (walking place beaten a.own tails chain words)
         → (present : ℕ) (words' : List ℕ)
         → IsShown shape words' (layout_of (record anatomy { tail = present }))
         → IsLinked words' order
         → IsStop order present
         → ((seen : ℕ) → IsNoLater order seen anatomy.tail → IsNoLater order seen present)
-        → StandsRight shape (record anatomy { tail = present }) id (doing a (walking place a.own tails chain words)) place
+        → IsAhead order present state.cursors place beaten a.lost
+        → StandsRight shape (record anatomy { tail = present }) id (doing a (walking place beaten a.own tails chain words)) place
         → IsPrefix chain order
         → AreNoLater order tails present
         → All (WasFixed anatomy.pieces) words
-        → Invariant shape opened (record { words = words'; cursors = state.cursors; actors = set state.actors id (doing a (walking place a.own tails chain words)) })
-    looks_on place tails chain words turns more present words' shown linked stop later stands prefix no_later fixed =
+        → Invariant shape opened (record { words = words'; cursors = state.cursors; actors = set state.actors id (doing a (walking place beaten a.own tails chain words)) })
+    looks_on place beaten tails chain words turns more present words' shown linked stop later ahead stands prefix no_later fixed =
         let fits = kept.each id a mine turns.lived in
-        walks_on place a.own tails chain words turns more anatomy.pieces present words' (stays_same anatomy.pieces)
-        (λ who at body ne has. has) (still_same anatomy.pieces) kept.blocks refl refl shown linked stop later stands prefix no_later fixed fits.own fits.apart
+        walks_on place beaten a.own tails chain words turns more anatomy.pieces present words' (stays_same anatomy.pieces)
+        (λ who at body ne has. has) (still_same anatomy.pieces) kept.blocks refl refl shown linked stop later ahead stands prefix no_later fixed fits.own fits.apart

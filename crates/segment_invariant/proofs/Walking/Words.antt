@@ -156,9 +156,10 @@ module _ (shape : Dimensions) (opened : Anatomy) (state : State) (kept : Invaria
         let lt = fixed_within body index fixed in
         let size = length_shown shape state.words (layout_of anatomy) kept.shown in
         let (from, five, within) = block_within shape opened state kept at body stands claimed in
-        let d : Doing = walking shape opened state kept id a mine records a.place a.own a.seen.tails a.seen.chain words in
+        let d : Doing = walking shape opened state kept id a mine records a.place a.beaten a.own a.seen.tails a.seen.chain words in
         let follows : Follows a (doing a d) = record {
           saw = (refl, refl, refl, refl, refl);
+          late = (refl, refl);
           names = λ known has. has;
           words = λ t has. Contains-append_left a.seen.words (sight (at + index) found) t has;
           seen = λ x word seen. word_still a.seen.words x word (sight (at + index) found) seen;
@@ -180,12 +181,15 @@ module _ (shape : Dimensions) (opened : Anatomy) (state : State) (kept : Invaria
         } in
         happens opened.version state id a (walking_event (load_published at index)) (omega (arith, lt, size, within)) shape opened (
           loaded shape opened state kept id a mine records (at + index) (next a (walking_event (load_published at index)) found)
-              (looks_on shape opened state kept id a mine records a.place a.seen.tails a.seen.chain words turns more anatomy.tail state.words
-              kept.shown kept.list.linked kept.list.tail (λ seen before. before)
+              (looks_on shape opened state kept id a mine records a.place a.beaten a.seen.tails a.seen.chain words turns more anatomy.tail state.words
+              kept.shown kept.list.linked kept.list.tail (λ seen before. before) fits.ahead
               (stands_on shape anatomy anatomy id a (doing a d) (grounds_itself anatomy id) follows a.place (kept.standing id a mine))
               fits.sees.walked fits.sees.tails
               (All-push (WasFixed anatomy.pieces) a.seen.words s fits.sees.fixed (at, index, body, stands, refl, fixed, sym found_is))),
-          subst (EndsWithin a at index) (sym found_is) ends,
+          (
+              subst (EndsWithin a at index) (sym found_is) ends,
+              λ word seen. found_is ∙ seen_is at index word body stands lt seen,
+          ),
         )
 
   -- of a histogram

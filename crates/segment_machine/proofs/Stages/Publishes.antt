@@ -135,7 +135,7 @@ goes size version a made reference (Link tail) event (stands, offers) is =
       refl,
       cc is,
       (offers.0, made, stands, (block.0, offers.2), block.1, offers.3, offers.4, offers.5),
-      λ found learned. linked a reference made offers found tail a.shape.size (found == 12) (is_reference a.shape.size found) refl learned,
+      λ found learned. linked a reference made offers found tail a.shape.size (found == 12) (is_reference a.shape.size found) refl learned.0,
     )
 goes size version a made reference (MoveTail old new true) event (stands, done) is =
     (move_tail old new, refl, cc is, inl stands, λ found learned. (refl, done))

@@ -8,6 +8,7 @@ use Rattle.list_core.specs.declared.walk.WalkStep.TheVariants.{Record, End, Stra
 use Rattle.list_core.specs.Chain.{is_reference, stops}
 use Rattle.list_core.specs.Walk.{IsPrefix, given_after, stands_behind}
 use Rattle.list_core.proofs.Prefixes.{prefix_of_prefix}
+use Rattle.list_core.proofs.Walks.{place_of}
 use Rattle.segment_machine.specs.declared.place.Place.{Place}
 use Rattle.segment_machine.specs.declared.place.Place.TheVariants.{Idle, CursorLoaded, BehindCursor}
 use Rattle.segment_machine.specs.Actor.{is_bound}
@@ -75,8 +76,9 @@ walks_agree size version a given (turns, (rest, is)) = (
     turns,
     ⊎_elim inl (λ met. inr (inl (subst (λ (l : List ℕ). Contains l (stands_behind given)) (sym is) (Contains-append_left given rest _ met)))) (stands_among given),
   ),
-  λ found learned again. (
+  λ found learned. (
     may_turn a.place (stands_behind given) found turns,
-    gives given rest a.seen.chain a.shape.size found (found == 12) (is_reference a.shape.size found) is again refl,
+    gives given rest a.seen.chain a.shape.size found (found == 12) (is_reference a.shape.size found) is
+        (λ passed. learned.again (length given) passed (place_of given rest a.seen.chain is)) refl,
   ),
 )

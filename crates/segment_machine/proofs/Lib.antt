@@ -3,3 +3,4 @@ pub mod Keys
 pub mod SmallNumbers
 pub mod Stages
 pub mod Values
+pub mod Runs

@@ -25,3 +25,4 @@ pub mod Laws
 pub mod Examples
 pub mod Lives
 pub mod Refused
+pub mod Worked

@@ -6,6 +6,7 @@ ghost use Rattle.segment_machine.specs.Laws.{StepsChangeOne, KeysAreLeast};
 ghost use Rattle.segment_machine.specs.Stages.{AllocationsAgree, PublishesAgree, WalksAgree};
 ghost use Rattle.segment_machine.specs.Examples.{Keys, PackedRun, MountingRun, TakerRuns, TakingRun, Batches};
 ghost use Rattle.segment_machine.specs.Lives.{RecorderIsJoined};
+ghost use Rattle.segment_machine.specs.Worked.{WorkedRun, FrozenRun};
 ghost use Rattle.segment_machine.specs.Refused.{ValuesApart, MovesFirst, CursorsThere, SamplesMet, WordsSince, SwapsAdd, RecordsAlone, DebtsStay, TailsStay, FirstEntriesApart, WordsOffFirst, UnitsRemembered, SumsStay, FirstSamplesCount, CountsBound, SingleMarksApart, MarksRise, HonestAnswers};
 
 /// A step changes one word and one actor at most.
@@ -158,4 +159,14 @@ pub fn marks_rise()
 /// The honest answer of a sparse snapshot may be given.
 pub fn honest_answers()
     ensures { HonestAnswers }
+{}
+
+/// Two recorders pack, mount, move, sample and count a batch, with deltas and their joins; a third takes the rest. In version 1.
+pub fn worked_run()
+    ensures { WorkedRun }
+{}
+
+/// The same in version 2, where the frozen word keeps its units.
+pub fn frozen_run()
+    ensures { FrozenRun }
 {}

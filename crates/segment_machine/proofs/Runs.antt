@@ -1,0 +1,5 @@
+pub mod Tests
+pub mod Blocks
+pub mod Counts
+pub mod Notes
+pub mod Reached

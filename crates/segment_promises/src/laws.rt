@@ -7,6 +7,7 @@ ghost use Rattle.segment_promises.specs.Follows.{StepsFollow, TablesOpen, Tables
 ghost use Rattle.segment_promises.specs.Tallies.{PartsAddUp};
 ghost use Rattle.segment_promises.specs.Deltas.{FinalDeltasTakeAll, FinalSnapshotsAreExact, SnapshotsStayBelow};
 ghost use Rattle.segment_promises.specs.Refusals.{RefusedAddsFew};
+ghost use Rattle.segment_promises.specs.Lists.{WalksGiveAll, CursorsKeepOrder, CursorsGiveFronts, CursorsGiveAll};
 ghost use Rattle.segment_promises.specs.Examples.{LinksLengthen, DeltaOwes, SnapshotOwes};
 
 /// Where each event and each note keeps what holds, every state that is reached from a kept one is kept.
@@ -72,6 +73,26 @@ pub fn snapshots_stay_below()
 /// A call that counts and is refused has counted and noted its first entries, and otherwise nothing.
 pub fn refused_adds_few()
     ensures { RefusedAddsFew }
+{}
+
+/// A walk along the list gives the front of the chain; where it ends, it gave all that its caller had met.
+pub fn walks_give_all()
+    ensures { WalksGiveAll }
+{}
+
+/// What a shared cursor gave one recorder stands in the order of the chain.
+pub fn cursors_keep_order()
+    ensures { CursorsKeepOrder }
+{}
+
+/// What a shared cursor gave all recorders is the front of the chain, each record once.
+pub fn cursors_give_fronts()
+    ensures { CursorsGiveFronts }
+{}
+
+/// A shared cursor answers None only where all that its caller had met was given.
+pub fn cursors_give_all()
+    ensures { CursorsGiveAll }
 {}
 
 /// A link that finds the end of the list makes the chain longer by its record.

@@ -1,0 +1,205 @@
+-- What walks and shared cursors give, of any kept state.
+use Rattle.std.proofs.Common.{◌≡◌, ◌≢◌, ℕ, zero, suc, ◌+◌, ◌<◌, ◌≤◌, ◌==◌, Bool, true, false, cond, List, [], ◌∷◌, ◌++◌, take, length, inl, inr, refl, sym, ap, subst, ◌∙◌, append-nil, length-append, eqb-true, arith}
+use Rattle.std.specs.Prelude.{slice_index, IsPermutation}
+use Rattle.std.specs.List.{filter, Contains}
+use mathlib.Core.Option.{some, some-injective, some-ne-none}
+use lib.ListN.{get_elem?}
+use Rattle.std.proofs.lemmas.Bool.{cases_order}
+use Rattle.std.proofs.lemmas.List.{ext_get_or, get_or_append_left, take_all}
+use Rattle.std.proofs.lemmas.List.Elements.{All-contains, Contains-get_or, Contains-append_left, Contains-append_right}
+use Rattle.std.proofs.lemmas.List.Sorted.{IsPermutation-sym, Contains-permutation}
+use Rattle.segment_image.specs.Shape.{Dimensions}
+use Rattle.segment_image.specs.Words.{word_at}
+use Rattle.segment_image.specs.Head.{head_of}
+use Rattle.list_core.specs.Chain.{stops, IsLinked, IsChain}
+use Rattle.list_core.specs.Walk.{IsPrefix}
+use Rattle.list_core.proofs.Chains.{linked_of, one_place, no_queue, next_inside, next_last, last_stop}
+use Rattle.segment_machine.specs.declared.actor.Actor.{Actor}
+use Rattle.segment_machine.specs.declared.actor.Given.{Given}
+use Rattle.segment_machine.specs.declared.actor.Published.{Published}
+use Rattle.segment_machine.specs.declared.seen.Sighting.{Sighting}
+use Rattle.segment_machine.specs.declared.place.Place.TheVariants.{Spent, CursorLoaded}
+use Rattle.segment_machine.specs.Actor.{all_published, all_given}
+use Rattle.segment_machine.specs.State.{State}
+use Rattle.segment_invariant.specs.Body.{Listed, listed, Anatomy, order_of}
+use Rattle.segment_invariant.specs.Seen.{IsNoLater}
+use Rattle.segment_invariant.specs.Invariant.{Invariant, StandsRight}
+use Rattle.segment_invariant.proofs.Lists.Elements.{row_in, from_map}
+use Rattle.segment_invariant.proofs.Lists.Maps.{contains_map, contains_mapped}
+use Rattle.segment_promises.specs.Lists.{HasMet, WalksGiveAll, CursorsKeepOrder, CursorsGiveFronts, CursorsGiveAll}
+
+-- ---- words have one chain
+
+same_stops : (words a b : List ℕ) → IsLinked words a → IsLinked words b → (i : ℕ) → i ≤ length a → i ≤ length b
+    → slice_index (stops a) i ≡ slice_index (stops b) i
+same_stops words a b first second zero low high = refl
+same_stops words a b first second (suc i) low high =
+    sym (next_inside words a i first (omega (arith, low)))
+    ∙ ap (λ (at : ℕ). word_at words (at + 3)) (same_stops words a b first second i (omega (arith, low)) (omega (arith, high)))
+    ∙ next_inside words b i second (omega (arith, high))
+
+-- none ends before another
+no_shorter : (words a b : List ℕ) → IsLinked words a → IsLinked words b → length a < length b → ⊥
+no_shorter words a b first second less =
+    no_queue words b (length a) second less
+    (sym (next_inside words b (length a) second less)
+    ∙ ap (λ (at : ℕ). word_at words (at + 3)) (sym (same_stops words a b first second (length a) (omega arith) (omega (arith, less))))
+    ∙ next_last words a first)
+
+one_chain : (words a b : List ℕ) → IsLinked words a → IsLinked words b → a ≡ b
+one_chain words a b first second = ext_get_or 0 a b as_long
+    (λ i below. same_stops words a b first second (suc i) (omega (arith, below)) (omega (arith, below, as_long)))
+  where
+    as_long : length a ≡ length b
+    as_long = elim (cases_order (length a) (length b)) [
+      | inl here ↦ here
+      | inr apart ↦ elim apart [
+        | inl less ↦ absurd (no_shorter words a b first second less)
+        | inr more ↦ absurd (no_shorter words b a second first more)
+      ]
+    ]
+
+module _ (shape : Dimensions) (opened : Anatomy) (state : State) (kept : Invariant shape opened state) where
+  abbrev order : List ℕ
+  order = order_of kept.anatomy
+
+  chain_is : (chain : List ℕ) → IsChain state.words (head_of state.words) chain → order ≡ chain
+  chain_is chain is = one_chain state.words order chain kept.list.linked (linked_of state.words chain (head_of state.words) is)
+
+  -- ---- what an actor met is on the list
+
+  -- a place that is no later than another is on the list, where it is not the queue block
+  on_list : (seen present : ℕ) → IsNoLater order seen present → seen ≢ 12 → Contains order seen
+  on_list seen present (zero, j, le, within, first, second) ne = absurd (ne (sym first))
+  on_list seen present (suc i, j, le, within, first, second) ne = subst (Contains order) first (Contains-get_or order i 0 (omega (arith, le, within)))
+
+  published_on_list : (id : ℕ) (a : Actor) (p : Published) → get_elem? state.actors id ≡ some a → Contains a.published p → Contains order p.reference
+  published_on_list id a p mine among =
+      let (front, all, permuted) = kept.list.once in
+      let linked = contains_map listed (all_published state.actors) p (row_in (λ (a : Actor). a.published) state.actors id a p mine among) in
+      let there = Contains-permutation _ _ (listed p) (IsPermutation-sym _ _ permuted) linked in
+      contains_map (λ (l : Listed). l.reference) kept.anatomy.records (listed p)
+      (subst (λ (records : List Listed). Contains records (listed p)) (sym all) (Contains-append_right opened.records front (listed p) there))
+
+  module _ (id : ℕ) (a : Actor) (mine : get_elem? state.actors id ≡ some a) (lives : a.place ≢ Spent) where
+    met_on_list : (reference : ℕ) → HasMet a reference → Contains order reference
+    met_on_list reference (ne, inl seen) =
+        let (rest, is) = (kept.each id a mine lives).sees.walked in
+        subst (λ (list : List ℕ). Contains list reference) (sym is) (Contains-append_left a.seen.chain rest reference seen)
+    met_on_list reference (ne, inr (inl made)) =
+        let (p, among, is) = contains_mapped (λ (p : Published). p.reference) a.published reference made in
+        subst (Contains order) is (published_on_list id a p mine among)
+    met_on_list reference (ne, inr (inr (inl tail))) =
+        let before = All-contains (λ place. IsNoLater order place kept.anatomy.tail) a.seen.tails reference (kept.each id a mine lives).sees.tails tail in
+        on_list reference kept.anatomy.tail before ne
+    met_on_list reference (ne, inr (inr (inr cursor))) =
+        let (s, among, is) = contains_mapped (λ (s : Sighting). s.word) a.seen.cursors reference cursor in
+        let shared = All-contains (λ s. (s.at < length state.cursors) × IsNoLater order s.word (slice_index state.cursors s.at)) a.seen.cursors s
+        (kept.each id a mine lives).sees.shared among in
+        subst (Contains order) is (on_list s.word (slice_index state.cursors s.at) shared.1 (λ e. ne (sym is ∙ e)))
+
+    -- ---- walks
+
+    -- where a prefix of the list ends whose next is the end, it is the list
+    ended : word_at state.words (slice_index (stops a.seen.chain) (length a.seen.chain) + 3) ≡ 12 → order ≡ a.seen.chain
+    ended last = by_rest walked.0 walked.1
+      where
+        walked : IsPrefix a.seen.chain order
+        walked = (kept.each id a mine lives).sees.walked
+
+        along : (chain rest : List ℕ) → slice_index (stops (chain ++ rest)) (length chain) ≡ slice_index (stops chain) (length chain)
+        along [] rest = refl
+        along (c ∷ chain) rest = get_or_append_left (c ∷ chain) rest 0 (length chain) (omega arith)
+
+        by_rest : (rest : List ℕ) → order ≡ a.seen.chain ++ rest → order ≡ a.seen.chain
+        by_rest [] is = is ∙ append-nil a.seen.chain
+        by_rest (r ∷ rest) is =
+            let long = ap length is in
+            let parts = length-append a.seen.chain (r ∷ rest) in
+            let stands : slice_index (stops order) (length a.seen.chain) ≡ slice_index (stops a.seen.chain) (length a.seen.chain) =
+            ap (λ (list : List ℕ). slice_index (stops list) (length a.seen.chain)) is ∙ along a.seen.chain (r ∷ rest) in
+            let at_end = last_stop state.words order (length a.seen.chain) kept.list.linked (omega (arith, long, parts))
+            (ap (λ (at : ℕ). word_at state.words (at + 3)) stands ∙ last) in
+            absurd (omega (arith, at_end, long, parts))
+
+    -- ---- cursors
+
+    all_was_given : (cursor at : ℕ) → a.place ≡ CursorLoaded cursor at → word_at state.words (at + 3) ≡ 12 → (reference : ℕ) → HasMet a reference
+        → Contains (all_given state.actors cursor) reference
+    all_was_given cursor at loaded last reference met =
+        let (stop, sighted) = subst (StandsRight shape kept.anatomy id a) loaded (kept.standing id a mine) in
+        let shared = All-contains (λ s. (s.at < length state.cursors) × IsNoLater order s.word (slice_index state.cursors s.at)) a.seen.cursors
+        (record { at = cursor; word = at }) (kept.each id a mine lives).sees.shared sighted in
+        let (i, j, le, within, first, second) = shared.1 in
+        let at_end = last_stop state.words order i kept.list.linked (omega (arith, le, within)) (ap (λ (at : ℕ). word_at state.words (at + 3)) first ∙ last) in
+        let (place, low, stands, permuted) = kept.cursors.stand cursor shared.0 in
+        let same = one_place state.words order place j kept.list.linked low within (stands ∙ sym second) in
+        let whole : take place order ≡ order = take_all place order (omega (arith, same, le, at_end)) in
+        Contains-permutation _ _ reference (IsPermutation-sym _ _ permuted)
+        (subst (λ (list : List ℕ). Contains list reference) (sym whole) (met_on_list reference met))
+
+pub walks_give_all : WalksGiveAll
+walks_give_all shape opened state chain kept is id a mine lives = (
+  subst (IsPrefix a.seen.chain) (chain_is shape opened state kept chain is) (kept.each id a mine lives).sees.walked,
+  λ last reference met. subst (λ (list : List ℕ). Contains list reference) (ended shape opened state kept id a mine lives last)
+      (met_on_list shape opened state kept id a mine lives reference met),
+)
+
+pub cursors_give_all : CursorsGiveAll
+cursors_give_all shape opened state kept id a mine lives cursor at loaded last reference met =
+    all_was_given shape opened state kept id a mine lives cursor at loaded last reference met
+
+pub cursors_give_fronts : CursorsGiveFronts
+cursors_give_fronts shape opened state chain cursor kept is below =
+    subst (λ (chain : List ℕ). (place : ℕ) × (place ≤ length chain) × (slice_index (stops chain) place ≡ slice_index state.cursors cursor)
+    × IsPermutation (all_given state.actors cursor) (take place chain))
+    (chain_is shape opened state kept chain is) (kept.cursors.stand cursor below)
+
+-- ---- in order
+
+-- what passes a test stands where it stood, in the same order
+module _ {X : Type 0} (test : X → Bool) where
+  from_filter : (list : List X) (i : ℕ) (x : X) → get_elem? (filter test list) i ≡ some x → (k : ℕ) × (get_elem? list k ≡ some x) × (test x ≡ true)
+  from_filter [] i x there = absurd (some-ne-none x (sym there))
+  from_filter (y ∷ rest) i x there = by (test y) refl i there (from_filter rest)
+    where
+      by : (b : Bool) → test y ≡ b → (i : ℕ) → get_elem? (cond b (y ∷ filter test rest) (filter test rest)) i ≡ some x
+          → ((i : ℕ) (x : X) → get_elem? (filter test rest) i ≡ some x → (k : ℕ) × (get_elem? rest k ≡ some x) × (test x ≡ true))
+          → (k : ℕ) × (get_elem? (y ∷ rest) k ≡ some x) × (test x ≡ true)
+      by true passes zero there more = (0, there, ap test (sym (some-injective y x there)) ∙ passes)
+      by true passes (suc i) there more = let (k, at, is) = more i x there in (suc k, at, is)
+      by false fails i there more = let (k, at, is) = more i x there in (suc k, at, is)
+
+  abbrev InOrder : List X → X → X → Type 0
+  InOrder list x y = (i j : ℕ) × (i < j) × (get_elem? list i ≡ some x) × (get_elem? list j ≡ some y) × (test x ≡ true) × (test y ≡ true)
+
+  filter_order : (list : List X) (i j : ℕ) (x y : X) → i < j → get_elem? (filter test list) i ≡ some x → get_elem? (filter test list) j ≡ some y
+      → InOrder list x y
+  filter_order [] i j x y less here there = absurd (some-ne-none x (sym here))
+  filter_order (z ∷ rest) i j x y less here there = by (test z) refl i j less here there (filter_order rest)
+    where
+      later : InOrder rest x y → InOrder (z ∷ rest) x y
+      later (i, j, less, here, there, first, second) = (suc i, suc j, omega (arith, less), here, there, first, second)
+
+      by : (b : Bool) → test z ≡ b → (i j : ℕ) → i < j → get_elem? (cond b (z ∷ filter test rest) (filter test rest)) i ≡ some x
+          → get_elem? (cond b (z ∷ filter test rest) (filter test rest)) j ≡ some y
+          → ((i j : ℕ) (x y : X) → i < j → get_elem? (filter test rest) i ≡ some x → get_elem? (filter test rest) j ≡ some y → InOrder rest x y)
+          → InOrder (z ∷ rest) x y
+      by true passes i zero less here there more = absurd (omega (arith, less))
+      by true passes zero (suc j) less here there more =
+          let (k, at, is) = from_filter rest j y there in
+          (0, suc k, omega arith, here, at, ap test (sym (some-injective z x here)) ∙ passes, is)
+      by true passes (suc i) (suc j) less here there more = later (more i j x y (omega (arith, less)) here there)
+      by false fails i j less here there more = later (more i j x y less here there)
+
+pub cursors_keep_order : CursorsKeepOrder
+cursors_keep_order shape opened state chain kept is id a mine lives cursor i j k l x y records less here there first second =
+    let ours = λ (g : Given). g.cursor == cursor in
+    let (g, at_i, g_is) = from_map (λ (g : Given). g.reference) (filter ours a.given) i x here in
+    let (h, at_j, h_is) = from_map (λ (g : Given). g.reference) (filter ours a.given) j y there in
+    let (m, n, before, stood, stands, mine_is, also) = filter_order ours a.given i j g h less at_i at_j in
+    let same = chain_is shape opened state kept chain is in
+    kept.cursors.ordered id a mine records m n k l g h before stood stands
+    (eqb-true g.cursor cursor mine_is ∙ sym (eqb-true h.cursor cursor also))
+    (ap (λ (list : List ℕ). get_elem? list k) same ∙ (first ∙ ap (λ (n : ℕ). some n) (sym g_is)))
+    (ap (λ (list : List ℕ). get_elem? list l) same ∙ (second ∙ ap (λ (n : ℕ). some n) (sym h_is)))

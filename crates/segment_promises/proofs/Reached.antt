@@ -1,5 +1,4 @@
 -- Every state that is reached from a kept one is kept, where each event and each note keeps what holds.
-use Rattle.std.proofs.Common.{sym, subst}
 use Rattle.segment_machine.specs.State.{State}
 use Rattle.segment_machine.specs.Reached.{IsReached, started, stepped, announced, offered, split, lent, returned, joined_in}
 use Rattle.segment_invariant.specs.Invariant.{Invariant}

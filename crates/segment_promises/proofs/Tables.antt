@@ -8,13 +8,16 @@ use Rattle.atomic_table.proofs.Lists.{set_else}
 use Rattle.alloc_core.proofs.Layouts.{length_shown}
 use Rattle.segment_machine.specs.declared.actor.Actor.{Actor}
 use Rattle.segment_machine.specs.Event.{spot, change, after, next}
-use Rattle.segment_machine.specs.Seats.{parent, newcomer, joined, spent}
+use Rattle.segment_machine.specs.Seats.{offering, parent, newcomer, joined, spent}
 use Rattle.segment_machine.specs.State.{State, memory}
-use Rattle.segment_invariant.specs.Body.{layout_of}
+use Rattle.segment_image.specs.Shape.{Dimensions}
+use Rattle.segment_invariant.specs.Body.{Anatomy, layout_of}
+use Rattle.segment_invariant.specs.Invariant.{Invariant}
 use Rattle.segment_invariant.specs.Keeps.{found_at}
+use Rattle.segment_invariant.proofs.Recorders.Lends.{offers_keep}
 use Rattle.segment_invariant.proofs.Recorders.Splits.{splits_keep}
 use Rattle.segment_invariant.proofs.Recorders.Joins.{joins_keep}
-use Rattle.segment_promises.specs.Follows.{Told, TablesOpen, TablesClose, TablesFollow, TablesAnnounce, TablesSplit, TablesJoin, noted_by}
+use Rattle.segment_promises.specs.Follows.{Told, TablesOpen, TablesClose, TablesFollow, TablesAnnounce, TablesOffer, TablesSplit, TablesJoin, Running, noted_by}
 use Rattle.segment_invariant.proofs.Notes.Announcements.{with_actor, notes_follow}
 use Rattle.segment_promises.proofs.Steps.{happens}
 
@@ -57,23 +60,38 @@ tables_follow S shape opened before event behind slots id me word event_keeps wo
       subst (λ (x : ℕ). Told before event behind me x (last, me.1)) (sym found) (refl, refl, did.1),
     )
 
+-- A step on the word that never changes changes the view of its seat alone, where what holds is kept.
+module _ (S : Type 0) (shape : Dimensions) (opened : Anatomy) (slots id : ℕ) (me : table.Me S Actor) (becomes : ℕ → ℕ) (same : (n : ℕ) → becomes n ≡ n)
+    (last : Actor) where
+  announced : ((state : State) → Invariant shape opened state → get_elem? state.actors id ≡ some me.0 → Invariant shape opened (with_actor state id last))
+      → table.Allows (Running S shape opened) slots id me 0 becomes (λ found me'. (me'.0 ≡ last) × (me'.1 ≡ me.1))
+  announced keeps s run wide mine small =
+      let seg : State = run.segment in
+      let there : get_elem? seg.actors id ≡ some me.0 = ap (λ list. get_elem? list id) (sym run.views) ∙ mine in (
+        last,
+        table.keeps,
+        tt,
+        record {
+          anchor = run.anchor;
+          segment = with_actor seg id last;
+          words = (λ i. set (run.words i) 0 (becomes (get_or (run.words i) 0 0))) ∙ ap (λ (n : ℕ). n ∷ memory seg) (same run.anchor);
+          views = ap (λ list. set list id last) run.views;
+          kept = keeps seg run.kept there;
+        },
+        (refl, refl),
+      )
+
 pub tables_announce : (S : Type 0) → TablesAnnounce S
-tables_announce S shape opened notes slots id me becomes same records may s run wide mine small =
-    let seg : State = run.segment in
+tables_announce S shape opened notes slots id me becomes same records may =
     let last : Actor = noted_by me.0 notes in
-    let there : get_elem? seg.actors id ≡ some me.0 = ap (λ list. get_elem? list id) (sym run.views) ∙ mine in (
-      last,
-      table.keeps,
-      tt,
-      record {
-        anchor = run.anchor;
-        segment = with_actor seg id last;
-        words = (λ i. set (run.words i) 0 (becomes (get_or (run.words i) 0 0))) ∙ ap (λ (n : ℕ). n ∷ memory seg) (same run.anchor);
-        views = ap (λ list. set list id last) run.views;
-        kept = (notes_follow shape opened notes seg id me.0 last run.kept there records may.0 may.1).0;
-      },
-      (refl, refl),
-    )
+    announced S shape opened slots id me becomes same last
+    (λ seg kept there. (notes_follow shape opened notes seg id me.0 last kept there records may.0 may.1).0)
+
+pub tables_offer : (S : Type 0) → TablesOffer S
+tables_offer S shape opened units slots id me becomes same may =
+    let last : Actor = offering me.0 units in
+    announced S shape opened slots id me becomes same last
+    (λ seg kept there. offers_keep shape opened seg (with_actor seg id last) id units kept (me.0, there, may, refl))
 
 -- ---- seats
 

@@ -9,7 +9,7 @@ use Rattle.segment_image.specs.Shape.{Dimensions}
 use Rattle.segment_machine.specs.declared.actor.Actor.{Actor}
 use Rattle.segment_machine.specs.Event.{Event, spot, change, next, Ready, Learned}
 use Rattle.segment_machine.specs.Note.{Note, Notes, noted}
-use Rattle.segment_machine.specs.Seats.{MaySplit, parent, newcomer, MayJoin, joined, spent}
+use Rattle.segment_machine.specs.Seats.{MayOffer, offering, MaySplit, parent, newcomer, MayJoin, joined, spent}
 use Rattle.segment_machine.specs.State.{State, memory, IsStep}
 use Rattle.segment_invariant.specs.Body.{Anatomy}
 use Rattle.segment_invariant.specs.Invariant.{Invariant}
@@ -80,6 +80,12 @@ abbrev pub TablesAnnounce : Type 0 → Type 0
 TablesAnnounce S = (shape : Dimensions) (opened : Anatomy) (notes : List Note) (slots id : ℕ) (me : table.Me S Actor) (becomes : ℕ → ℕ)
     → ((n : ℕ) → becomes n ≡ n) → me.0.opener ≡ 0 → MayKeep me.0 notes
     → table.Allows (Running S shape opened) slots id me 0 becomes (λ found me'. (me'.0 ≡ noted_by me.0 notes) × (me'.1 ≡ me.1))
+
+-- an opener says so how many units its next recorder is to have
+abbrev pub TablesOffer : Type 0 → Type 0
+TablesOffer S = (shape : Dimensions) (opened : Anatomy) (units slots id : ℕ) (me : table.Me S Actor) (becomes : ℕ → ℕ)
+    → ((n : ℕ) → becomes n ≡ n) → MayOffer me.0 units
+    → table.Allows (Running S shape opened) slots id me 0 becomes (λ found me'. (me'.0 ≡ offering me.0 units) × (me'.1 ≡ me.1))
 
 -- ---- a table's seats
 

@@ -3,7 +3,7 @@
 //! The functions do nothing. What each promises is a law of the definitions in `specs/`.
 
 ghost use Rattle.segment_promises.specs.States.{ReachedStatesFollow};
-ghost use Rattle.segment_promises.specs.Follows.{StepsFollow, TablesOpen, TablesClose, TablesFollow, TablesAnnounce, TablesSplit, TablesJoin};
+ghost use Rattle.segment_promises.specs.Follows.{StepsFollow, TablesOpen, TablesClose, TablesFollow, TablesAnnounce, TablesOffer, TablesSplit, TablesJoin};
 ghost use Rattle.segment_promises.specs.Tallies.{PartsAddUp};
 ghost use Rattle.segment_promises.specs.Deltas.{FinalDeltasTakeAll, FinalSnapshotsAreExact, SnapshotsStayBelow};
 ghost use Rattle.segment_promises.specs.Refusals.{RefusedAddsFew};
@@ -38,6 +38,11 @@ pub fn tables_follow<S>()
 /// A table may do a step on the word that never changes that makes notes, where these keep what holds.
 pub fn tables_announce<S>()
     ensures { TablesAnnounce S }
+{}
+
+/// On that word an opener may also say how many units its next recorder is to have.
+pub fn tables_offer<S>()
+    ensures { TablesOffer S }
 {}
 
 /// An opener's seat may be cut in two where it may make a recorder.

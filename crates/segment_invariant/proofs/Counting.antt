@@ -1,3 +1,4 @@
 pub mod Held
+pub mod Running
 pub mod Seen
 pub mod Loaded

@@ -199,12 +199,13 @@ pub record HoldsOwn (shape : Dimensions) (pieces : List Piece) (id : ℕ) (own :
 -- ---- running calls
 
 -- the entries of a running call: those before the one that goes on have ended, nothing has happened of those behind it, and of
--- that one the units are counted before the amount is added, and this before the units are noted
+-- that one the units are counted before the amount is added, and this before the units are noted; what was added is not 0
 pub record AreInOrder (running : List Counting) : Type 0 where
   pub one_by_one : (i j : ℕ) (x y : Counting) → i < j → get_elem? running i ≡ some x → get_elem? running j ≡ some y
       → (has_ended x ≡ true) ⊎ (is_untouched y ≡ true)
   pub counted_first : All (λ c. c.summed ≡ true → is_counted c ≡ true) running
   pub summed_next : All (λ c. c.noted ≡ true → is_summed c ≡ true) running
+  pub amounted : All (λ c. c.summed ≡ true → c.entry.amount ≢ pos 0) running
 
 -- A running call holds what its entries cost, of a histogram that its actor knows; in a log all entries have ended, and for each name
 -- the units of these are spent, with what the opening has used, which is the units of the first entries, or the redundant count that was

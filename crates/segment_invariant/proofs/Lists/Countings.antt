@@ -36,6 +36,15 @@ module _ {M : Type 0} (add : M → M → M) (total : List Entry → M) (sums : I
       (ap total (ap (map (λ c. c.entry)) (filter-append test xs ys) ∙ map-append (λ c. c.entry) (filter test xs) (filter test ys))
       ∙ sums (among xs) (among ys))
 
+  -- one among others, behind some
+  pub one_of : (front : List Entry) (xs behind : List Counting) (c : Counting)
+      → total (front ++ among (xs ++ c ∷ behind)) ≡ add (total front) (add (total (among xs)) (add (total (among (c ∷ []))) (total (among behind))))
+  one_of front xs behind c =
+      parts front xs (c ∷ behind)
+      ∙ ap (λ m. add (total front) (add (total (among xs)) m))
+      (ap total (ap (map (λ c. c.entry)) (filter-append test (c ∷ []) behind) ∙ map-append (λ c. c.entry) (filter test (c ∷ [])) (filter test behind))
+      ∙ sums (among (c ∷ [])) (among behind))
+
   -- behind others, those that come to the same may stand in one another's place
   pub beside_same : (front : List Entry) (xs ys zs : List Counting) → total (among ys) ≡ total (among zs)
       → total (front ++ among (xs ++ ys)) ≡ total (front ++ among (xs ++ zs))

@@ -161,6 +161,7 @@ module _ (a : Actor) (amount : ℤ) (before : List Counting) (last : Counting) (
         (ran i x first);
     counted_first = each_still (λ c. c.summed ≡ true → is_counted c ≡ true) ordered.counted_first (λ summed. absurd (true≢false (sym summed ∙ unsummed)));
     summed_next = each_still (λ c. c.noted ≡ true → is_summed c ≡ true) ordered.summed_next (λ noted. absurd (true≢false (sym noted ∙ unnoted)));
+    amounted = each_still (λ c. c.summed ≡ true → c.entry.amount ≢ pos 0) ordered.amounted (λ summed. absurd (true≢false (sym summed ∙ unsummed)));
   }
 
   -- ---- they stay within the cost

@@ -1,5 +1,5 @@
 -- The notes of an actor that keep what holds: a delta or a snapshot begins to look, a call that counts begins and ends.
-use Rattle.std.proofs.Common.{◌≡◌, ◌⊎◌, ℕ, ◌+◌, ◌-◌, ◌≤◌, true, false, true≢false, List, [], ◌∷◌, ◌++◌, map, length, All, Contains, inl, inr, refl, sym, ap, ◌∙◌, subst, arith}
+use Rattle.std.proofs.Common.{◌≡◌, ◌⊎◌, ℕ, ◌+◌, ◌-◌, ◌≤◌, true, false, true≢false, List, [], ◌∷◌, ◌++◌, map, length, All, Contains, inl, inr, refl, sym, ap, ◌∙◌, subst, arith, pos, ◌≢◌}
 use Rattle.std.specs.Prelude.{if◌then◌else◌, ◌==◌}
 use Rattle.std.specs.List.{filter}
 use Rattle.std.proofs.lemmas.List.Elements.{All-nil}
@@ -56,6 +56,8 @@ fresh_ordered entries = record {
       (λ c has summed. let (e, there, is) = contains_mapped fresh entries c has in absurd (true≢false (sym summed ∙ ap (λ (c : Counting). c.summed) (sym is))));
   summed_next = all_of (λ c. c.noted ≡ true → is_summed c ≡ true) (map fresh entries)
       (λ c has noted. let (e, there, is) = contains_mapped fresh entries c has in absurd (true≢false (sym noted ∙ ap (λ (c : Counting). c.noted) (sym is))));
+  amounted = all_of (λ c. c.summed ≡ true → c.entry.amount ≢ pos 0) (map fresh entries)
+      (λ c has summed. let (e, there, is) = contains_mapped fresh entries c has in absurd (true≢false (sym summed ∙ ap (λ (c : Counting). c.summed) (sym is))));
 }
 
 fresh_entries : (entries : List Entry) → map (λ (c : Counting). c.entry) (map fresh entries) ≡ entries

@@ -1,5 +1,5 @@
 -- A call that counts may note that it has ended, accepted or refused: what holds is kept.
-use Rattle.std.proofs.Common.{◌≡◌, ◌≢◌, ◌⊎◌, ℕ, ◌+◌, ◌-◌, ◌≤◌, Bool, true, false, cond, List, [], ◌∷◌, ◌++◌, map, length, drop, take, All, Contains, inl, inr, ⊎_elim, refl, sym, ap, ◌∙◌, subst, arith, append-nil, append_assoc, length-append, take-append-drop, set}
+use Rattle.std.proofs.Common.{◌≡◌, ◌≢◌, ◌⊎◌, ℕ, ◌+◌, ◌-◌, ◌≤◌, Bool, true, false, cond, List, [], ◌∷◌, ◌++◌, map, length, drop, take, All, Contains, inl, inr, ⊎_elim, refl, sym, ap, ◌∙◌, subst, arith, append-nil, append_assoc, length-append, take-append-drop, set, pos}
 use Rattle.std.specs.Prelude.{if◌then◌else◌, ◌==◌}
 use Rattle.std.specs.List.{filter}
 use Rattle.std.proofs.Math.Seq.{take-nil}
@@ -62,6 +62,7 @@ none_ordered = record {
   one_by_one = λ i j x y below first. absurd (none_at i x first);
   counted_first = All-nil (λ (c : Counting). c.summed ≡ true → is_counted c ≡ true);
   summed_next = All-nil (λ (c : Counting). c.noted ≡ true → is_summed c ≡ true);
+  amounted = All-nil (λ (c : Counting). c.summed ≡ true → c.entry.amount ≢ pos 0);
 }
 
 unbound_lives : (a : Actor) → is_bound a.place ≡ false → a.place ≢ Spent

@@ -1,5 +1,5 @@
 -- A running call may go on with one more entry: what holds is kept.
-use Rattle.std.proofs.Common.{◌≡◌, ◌≢◌, ◌⊎◌, ℕ, ◌+◌, ◌-◌, ◌≤◌, true, false, true≢false, List, [], ◌∷◌, ◌++◌, map, length, All, Contains, inl, inr, refl, sym, ap, ◌∙◌, subst, arith, append-nil, append_assoc, length-append}
+use Rattle.std.proofs.Common.{◌≡◌, ◌≢◌, ◌⊎◌, ℕ, ◌+◌, ◌-◌, ◌≤◌, true, false, true≢false, List, [], ◌∷◌, ◌++◌, map, length, All, Contains, inl, inr, refl, sym, ap, ◌∙◌, subst, arith, append-nil, append_assoc, length-append, pos}
 use Rattle.std.specs.Prelude.{if◌then◌else◌, ◌==◌}
 use Rattle.std.specs.List.{filter}
 use Rattle.std.specs.Str.{bytes_eq}
@@ -87,6 +87,7 @@ module _ (a : Actor) (entry : Entry) (cost : ℕ) where
     ];
     counted_first = All-push (λ (c : Counting). c.summed ≡ true → is_counted c ≡ true) a.running (fresh entry) ordered.counted_first (λ summed. absurd (true≢false (sym summed)));
     summed_next = All-push (λ (c : Counting). c.noted ≡ true → is_summed c ≡ true) a.running (fresh entry) ordered.summed_next (λ noted. absurd (true≢false (sym noted)));
+    amounted = All-push (λ (c : Counting). c.summed ≡ true → c.entry.amount ≢ pos 0) a.running (fresh entry) ordered.amounted (λ summed. absurd (true≢false (sym summed)));
   }
 
   goes_on_quiet : (name : List ℕ) (k : ℕ) → IsQuiet (noting a further) name k → IsQuiet a name k

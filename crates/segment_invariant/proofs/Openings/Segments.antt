@@ -134,6 +134,7 @@ module _ (shape : Dimensions) (version id cursors : ℕ) (lawful : IsShape shape
       one_by_one = λ i j x y below there. absurd (none_at i x there);
       counted_first = All-nil _;
       summed_next = All-nil _;
+      amounted = All-nil _;
     };
     within = λ runs. absurd (runs refl);
     held = omega arith;

@@ -1,5 +1,5 @@
 -- A recorder that is made keeps what holds.
-use Rattle.std.proofs.Common.{◌≡◌, ◌≢◌, ◌⊎◌, ℕ, ◌+◌, ◌-◌, ◌<◌, ◌≤◌, Bool, true, ◌&&◌, true≢false, List, [], ◌∷◌, ◌++◌, map, set, length, inl, inr, ⊎_elim, refl, sym, ap, ◌∙◌, subst, subst₂, append-nil, arith, drop}
+use Rattle.std.proofs.Common.{◌≡◌, ◌≢◌, ◌⊎◌, ℕ, ◌+◌, ◌-◌, ◌<◌, ◌≤◌, Bool, true, ◌&&◌, true≢false, List, [], ◌∷◌, ◌++◌, map, set, length, inl, inr, ⊎_elim, refl, sym, ap, ◌∙◌, subst, subst₂, append-nil, arith, drop, pos}
 use Rattle.std.specs.Prelude.{if◌then◌else◌, slice_index}
 use mathlib.Core.Option.{some}
 use lib.ListN.{get_elem?}
@@ -88,6 +88,7 @@ module _ (anatomy : Anatomy) (cursors : List ℕ) (actors : List Actor) (later a
       one_by_one = λ i j x y below first. absurd (none_at i x first);
       counted_first = All-nil (λ (c : Counting). c.summed ≡ true → is_counted c ≡ true);
       summed_next = All-nil (λ (c : Counting). c.noted ≡ true → is_summed c ≡ true);
+      amounted = All-nil (λ (c : Counting). c.summed ≡ true → c.entry.amount ≢ pos 0);
     };
     within = λ some_run. absurd (some_run refl);
     held = omega arith;

@@ -1,0 +1,150 @@
+-- One entry of a running call goes on: what the entries come to, and that they are still in order.
+use Rattle.std.proofs.Common.{◌≡◌, ◌≢◌, ◌⊎◌, ℕ, zero, suc, ◌+◌, ◌<◌, ℤ, pos, ◌+ℤ◌, Bool, true, false, cond, not, List, [], ◌∷◌, ◌++◌, map, filter, All, Contains, inl, inr, ⊎_elim, refl, sym, ap, ◌∙◌, subst, arith, append_assoc}
+use Rattle.std.proofs.Math.IntN.{+ℤ_assoc, +ℤ_comm}
+use Rattle.std.proofs.lemmas.List.Elements.{All-nil, All-cons, All-head, All-tail}
+use mathlib.Core.Option.{some, some-injective}
+use lib.ListN.{get_elem?}
+use Rattle.segment_machine.specs.declared.entry.Entry.{Entry}
+use Rattle.segment_machine.specs.declared.entry.Counting.{Counting}
+use Rattle.segment_machine.specs.Entry.{is_counted, is_summed, has_ended}
+use Rattle.segment_machine.specs.Calls.{change_next}
+use Rattle.segment_machine.specs.Note.{is_untouched}
+use Rattle.segment_invariant.specs.Invariant.{AreInOrder}
+use Rattle.segment_invariant.proofs.Lists.Elements.{at_from}
+use Rattle.segment_invariant.proofs.Lists.Sums.{IsTotal}
+use Rattle.segment_invariant.proofs.Lists.Countings.{among, one_of}
+
+-- ---- the entry that is next
+
+-- those before it have ended; where it is changed, the others stay
+pub record Next (list : List Counting) (c : Counting) : Type 0 where
+  pub front : List Counting
+  pub behind : List Counting
+  pub is : list ≡ front ++ c ∷ behind
+  pub ended : All (λ x. has_ended x ≡ true) front
+  pub goes : has_ended c ≡ false
+  pub changed : (f : Counting → Counting) → change_next f list ≡ front ++ f c ∷ behind
+
+pub next_of : (list : List Counting) (c : Counting) (rest : List Counting) → filter (λ x. not (has_ended x)) list ≡ c ∷ rest → Next list c
+next_of [] c rest e = absurd (cc e)
+next_of (x ∷ xs) c rest e = by_test (has_ended x) refl (λ e. next_of xs c rest e) e
+  where
+    by_test : (b : Bool) → has_ended x ≡ b → (filter (λ x. not (has_ended x)) xs ≡ c ∷ rest → Next xs c)
+        → cond (not b) (x ∷ filter (λ x. not (has_ended x)) xs) (filter (λ x. not (has_ended x)) xs) ≡ c ∷ rest → Next (x ∷ xs) c
+    by_test true is rest_of e =
+        let further = rest_of e in record {
+          front = x ∷ further.front;
+          behind = further.behind;
+          is = ap (λ (l : List Counting). x ∷ l) further.is;
+          ended = All-cons (λ x. has_ended x ≡ true) x further.front is further.ended;
+          goes = further.goes;
+          changed = λ f. ap (λ (b : Bool). cond (not b) (f x ∷ xs) (x ∷ change_next f xs)) is ∙ ap (λ (l : List Counting). x ∷ l) (further.changed f);
+        }
+    by_test false is rest_of e =
+        let same : x ≡ c = cc e in record {
+          front = [];
+          behind = xs;
+          is = ap (λ (z : Counting). z ∷ xs) same;
+          ended = All-nil (λ x. has_ended x ≡ true);
+          goes = sym (ap has_ended same) ∙ is;
+          changed = λ f. ap (λ (b : Bool). cond (not b) (f x ∷ xs) (x ∷ change_next f xs)) is ∙ ap (λ (z : Counting). f z ∷ xs) same;
+        }
+
+-- ---- the order of the entries
+
+abbrev OneByOne : List Counting → Type 0
+OneByOne list = (i j : ℕ) (x y : Counting) → i < j → get_elem? list i ≡ some x → get_elem? list j ≡ some y → (has_ended x ≡ true) ⊎ (is_untouched y ≡ true)
+
+-- nothing has happened of those behind one that goes on
+untouched_of : (front behind : List Counting) (c : Counting) → OneByOne (front ++ c ∷ behind) → has_ended c ≡ false
+    → (k : ℕ) (y : Counting) → get_elem? behind k ≡ some y → is_untouched y ≡ true
+untouched_of [] behind c one goes k y there = ⊎_elim (λ ended. absurd (cc (ended, goes))) (λ untouched. untouched) (one 0 (suc k) c y (omega arith) refl there)
+untouched_of (x ∷ xs) behind c one goes k y there =
+    untouched_of xs behind c (λ i j x y lt first last. one (suc i) (suc j) x y (omega (arith, lt)) first last) goes k y there
+
+-- so another may stand in its place
+in_order_of : (front behind : List Counting) (d : Counting) → All (λ x. has_ended x ≡ true) front
+    → ((k : ℕ) (y : Counting) → get_elem? behind k ≡ some y → is_untouched y ≡ true) → OneByOne (front ++ d ∷ behind)
+in_order_of [] behind d ended untouched i zero x y lt first last = absurd (omega (arith, lt))
+in_order_of [] behind d ended untouched i (suc j) x y lt first last = inr (untouched j y last)
+in_order_of (z ∷ zs) behind d ended untouched zero j x y lt first last =
+    inl (sym (ap has_ended (some-injective z x first)) ∙ All-head (λ x. has_ended x ≡ true) z zs ended)
+in_order_of (z ∷ zs) behind d ended untouched (suc i) zero x y lt first last = absurd (omega (arith, lt))
+in_order_of (z ∷ zs) behind d ended untouched (suc i) (suc j) x y lt first last =
+    in_order_of zs behind d (All-tail (λ x. has_ended x ≡ true) z zs ended) untouched i j x y (omega (arith, lt)) first last
+
+-- what holds of all holds of all with another in the place of one
+pub all_replaced : (P : Counting → Type 0) (front behind : List Counting) (c d : Counting) → All P (front ++ c ∷ behind) → P d → All P (front ++ d ∷ behind)
+all_replaced P [] behind c d all mine = All-cons P d behind mine (All-tail P c behind all)
+all_replaced P (x ∷ xs) behind c d all mine =
+    All-cons P x (xs ++ d ∷ behind) (All-head P x (xs ++ c ∷ behind) all) (all_replaced P xs behind c d (All-tail P x (xs ++ c ∷ behind) all) mine)
+
+pub ordered_next : (list : List Counting) (c d : Counting) (next : Next list c) → AreInOrder list → (d.summed ≡ true → is_counted d ≡ true)
+    → (d.noted ≡ true → is_summed d ≡ true) → (d.summed ≡ true → d.entry.amount ≢ pos 0) → AreInOrder (next.front ++ d ∷ next.behind)
+ordered_next list c d next ordered counted summed amounted =
+    let was = subst AreInOrder next.is ordered in record {
+      one_by_one = in_order_of next.front next.behind d next.ended (untouched_of next.front next.behind c was.one_by_one next.goes);
+      counted_first = all_replaced (λ c. c.summed ≡ true → is_counted c ≡ true) next.front next.behind c d was.counted_first counted;
+      summed_next = all_replaced (λ c. c.noted ≡ true → is_summed c ≡ true) next.front next.behind c d was.summed_next summed;
+      amounted = all_replaced (λ c. c.summed ≡ true → c.entry.amount ≢ pos 0) next.front next.behind c d was.amounted amounted;
+    }
+
+-- ---- what they come to
+
+module _ (test : Counting → Bool) (behind : List Counting) (c d : Counting) (entry : d.entry ≡ c.entry) (same : test d ≡ test c) where
+  same_among : (xs : List Counting) → map (λ c. c.entry) (filter test (xs ++ d ∷ behind)) ≡ map (λ c. c.entry) (filter test (xs ++ c ∷ behind))
+  same_among [] =
+      ap (λ (b : Bool). map (λ c. c.entry) (cond b (d ∷ filter test behind) (filter test behind))) same ∙ by_test (test c)
+    where
+      by_test : (b : Bool) → map (λ c. c.entry) (cond b (d ∷ filter test behind) (filter test behind)) ≡ map (λ c. c.entry) (cond b (c ∷ filter test behind) (filter test behind))
+      by_test true = ap (λ (e : Entry). e ∷ map (λ c. c.entry) (filter test behind)) entry
+      by_test false = refl
+  same_among (x ∷ xs) = by_test (test x) (same_among xs)
+    where
+      by_test : (b : Bool) → map (λ c. c.entry) (filter test (xs ++ d ∷ behind)) ≡ map (λ c. c.entry) (filter test (xs ++ c ∷ behind))
+          → map (λ c. c.entry) (cond b (x ∷ filter test (xs ++ d ∷ behind)) (filter test (xs ++ d ∷ behind)))
+          ≡ map (λ c. c.entry) (cond b (x ∷ filter test (xs ++ c ∷ behind)) (filter test (xs ++ c ∷ behind)))
+      by_test true rest = ap (λ (l : List Entry). x.entry ∷ l) rest
+      by_test false rest = rest
+
+  -- where the test tells the same of another, those that pass are the same entries
+  pub passes_same : (first : List Entry) (log front : List Counting)
+      → first ++ map (λ c. c.entry) (filter test (log ++ (front ++ d ∷ behind))) ≡ first ++ map (λ c. c.entry) (filter test (log ++ (front ++ c ∷ behind)))
+  passes_same first log front =
+      ap (λ (l : List Entry). first ++ l)
+      (ap (λ (l : List Counting). map (λ c. c.entry) (filter test l)) (sym (append_assoc log front (d ∷ behind)))
+      ∙ (same_among (log ++ front) ∙ ap (λ (l : List Counting). map (λ c. c.entry) (filter test l)) (append_assoc log front (c ∷ behind))))
+
+module _ (test : Counting → Bool) (first : List Entry) (log front behind : List Counting) (c d : Counting) where
+  -- the entries that pass, with one that goes on
+  abbrev pub passing : Counting → List Entry
+  passing x = first ++ map (λ c. c.entry) (filter test (log ++ (front ++ x ∷ behind)))
+
+  abbrev alone : Counting → List Entry
+  alone x = map (λ c. c.entry) (filter test (x ∷ []))
+
+  sorted : (x : Counting) → passing x ≡ first ++ map (λ c. c.entry) (filter test ((log ++ front) ++ x ∷ behind))
+  sorted x = ap (λ (l : List Counting). first ++ map (λ c. c.entry) (filter test l)) (sym (append_assoc log front (x ∷ behind)))
+
+  -- come to as much more as this one does
+  pub passes_beside : (total : List Entry → ℕ) → IsTotal ◌+◌ total → total (passing d) + total (alone c) ≡ total (passing c) + total (alone d)
+  passes_beside total sums =
+      let now = ap total (sorted d) ∙ one_of ◌+◌ total sums test first (log ++ front) behind d in
+      let was = ap total (sorted c) ∙ one_of ◌+◌ total sums test first (log ++ front) behind c in
+      omega (arith, now, was)
+
+  pub passes_moved : (total : List Entry → ℤ) → IsTotal ◌+ℤ◌ total → (more : ℤ) → total (alone d) ≡ total (alone c) +ℤ more
+      → total (passing d) ≡ total (passing c) +ℤ more
+  passes_moved total sums more is =
+      let x = total first in
+      let y = total (map (λ c. c.entry) (filter test (log ++ front))) in
+      let m = total (alone c) in
+      let n = total (map (λ c. c.entry) (filter test behind)) in
+      let last : (m +ℤ more) +ℤ n ≡ (m +ℤ n) +ℤ more = +ℤ_assoc m more n ∙ (ap (λ z. m +ℤ z) (+ℤ_comm more n) ∙ sym (+ℤ_assoc m n more)) in
+      ap total (sorted d)
+      ∙ (one_of ◌+ℤ◌ total sums test first (log ++ front) behind d
+      ∙ (ap (λ z. x +ℤ (y +ℤ (z +ℤ n))) is
+      ∙ (ap (λ z. x +ℤ (y +ℤ z)) last
+      ∙ (ap (λ z. x +ℤ z) (sym (+ℤ_assoc y (m +ℤ n) more))
+      ∙ (sym (+ℤ_assoc x (y +ℤ (m +ℤ n)) more)
+      ∙ ap (λ z. z +ℤ more) (sym (ap total (sorted c) ∙ one_of ◌+ℤ◌ total sums test first (log ++ front) behind c)))))))

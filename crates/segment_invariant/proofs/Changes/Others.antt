@@ -68,7 +68,7 @@ module _ (old new : List Actor) (roles : RolesAreKept old) (stood : AllStood old
   alone_was b c outstanding made (one, at, eldest, youngest) =
       (one, sym first ∙ at, sym outstanding ∙ eldest, ap (λ (n : ℕ). n + 1) (sym made) ∙ youngest)
 
-  is_later : IsLater old new opener opener
+  pub is_later : IsLater old new opener opener
   is_later = record {
     first = (refl, refl);
     more = omega arith;

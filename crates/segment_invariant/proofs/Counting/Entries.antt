@@ -1,0 +1,95 @@
+-- A recorder that goes on with an entry of its running call: its call stays right, and of other names nothing changes.
+use Rattle.std.proofs.Common.{◌≡◌, ◌≢◌, ◌⊎◌, ℕ, ◌+◌, ◌<◌, ◌≤◌, ℤ, pos, ◌+ℤ◌, Bool, true, false, List, [], ◌∷◌, ◌++◌, map, length, set, All, Contains, inl, inr, ⊎_elim, refl, sym, ap, ◌∙◌, subst, arith}
+use Rattle.std.proofs.lemmas.List.{map-append}
+use Rattle.std.proofs.lemmas.List.Elements.{All-contains, Contains-append_right}
+use mathlib.Core.Option.{some}
+use lib.ListN.{get_elem?}
+use Rattle.bucket_ranges.specs.declared.spec.Spec.TheVariants as spec
+use Rattle.segment_machine.specs.declared.entry.Entry.{Entry}
+use Rattle.segment_machine.specs.declared.entry.Counting.{Counting}
+use Rattle.segment_machine.specs.declared.actor.Actor.{Actor}
+use Rattle.segment_machine.specs.declared.actor.Taken.{Taken}
+use Rattle.segment_machine.specs.Entry.{is_counted, is_summed, AreWithin, is_of, tally_units, tally_sum, tally_noted}
+use Rattle.segment_machine.specs.Actor.{counted_of, all_counted, all_summed, all_noted, all_taken, taken_units, taken_sum}
+use Rattle.segment_machine.specs.Made.{SawSample}
+use Rattle.segment_machine.specs.Note.{is_untouched}
+use Rattle.segment_invariant.specs.Body.{Anatomy}
+use Rattle.segment_invariant.specs.Seen.{IsFirst, IsFirstOf}
+use Rattle.segment_invariant.specs.Invariant.{CallsRight, IsQuiet, RolesAreKept, FinalsAreExact}
+use Rattle.segment_invariant.proofs.Lists.Elements.{not_empty, rows}
+use Rattle.segment_invariant.proofs.Frames.Roles.{AllStood}
+use Rattle.segment_invariant.proofs.Frames.Together.{IsLater, moment, ended_began}
+use Rattle.segment_invariant.proofs.Changes.Others.{Deed, changed, is_later, alone_was}
+use Rattle.segment_invariant.proofs.Counting.Running.{Next, ordered_next, all_replaced}
+
+module _ (a : Actor) (c d : Counting) (next : Next a.running c) (entry : d.entry ≡ c.entry) where
+  abbrev pub after : List Counting
+  after = next.front ++ d ∷ next.behind
+
+  -- it goes on so
+  abbrev pub going : Deed → Deed
+  going deed = record deed { running = after; own = a.own; taken = a.taken }
+
+  same_entries : map (λ (c : Counting). c.entry) after ≡ map (λ (c : Counting). c.entry) a.running
+  same_entries =
+      map-append (λ (c : Counting). c.entry) next.front (d ∷ next.behind)
+      ∙ (ap (λ (e : Entry). map (λ (c : Counting). c.entry) next.front ++ e ∷ map (λ (c : Counting). c.entry) next.behind) entry
+      ∙ (sym (map-append (λ (c : Counting). c.entry) next.front (c ∷ next.behind)) ∙ ap (map (λ (c : Counting). c.entry)) (sym next.is)))
+
+  runs : a.running ≢ []
+  runs none_runs = not_empty next.front next.behind c (sym next.is ∙ none_runs)
+
+  -- its call stays right, where it met the samples of what it counted
+  pub calls_next : (old new : Anatomy) (deed : Deed)
+      → (d.summed ≡ true → is_counted d ≡ true) → (d.noted ≡ true → is_summed d ≡ true) → (d.summed ≡ true → d.entry.amount ≢ pos 0)
+      → ((entry : Entry) (of : ℕ) → Contains (a.inherited ++ counted_of (changed a (going deed))) entry → 0 < entry.units → IsFirst new.records entry.name spec.Sparse of
+      → (at : ℕ) × IsFirstOf new.records of entry.key at × Contains deed.seen.chain at × SawSample deed.seen of entry.key at)
+      → CallsRight old a → CallsRight new (changed a (going deed))
+  calls_next old new deed counted summed amounted met calls = record {
+    ordered = ordered_next a.running c d next calls.ordered counted summed amounted;
+    within = λ some_run.
+        let (name, cost, holds, within, known) = calls.within runs in
+        (name, cost, holds, subst (AreWithin name cost) (sym same_entries) within, known);
+    held = calls.held;
+    ended = calls.ended;
+    spent = calls.spent;
+    met = met;
+    taking = λ taking. absurd (runs (calls.taking taking).0);
+  }
+
+  -- it is quiet of a name where it was, and then the entry is of another
+  quiet_next : (deed : Deed) (name : List ℕ) (k : ℕ) → is_untouched d ≡ false → IsQuiet (changed a (going deed)) name k → IsQuiet a name k × (is_of name c.entry ≡ false)
+  quiet_next deed name k touched quiet =
+      let holds : Counting → Type 0 = λ c. (is_of name c.entry ≡ false) ⊎ (is_untouched c ≡ true) in
+      let one : holds d = All-contains holds after d quiet.1 (Contains-append_right next.front (d ∷ next.behind) d (0, omega arith, refl)) in
+      let apart : is_of name c.entry ≡ false =
+      ap (is_of name) (sym entry) ∙ ⊎_elim (λ other. other) (λ untouched. absurd (cc (untouched, touched))) one in
+      ((quiet.0, subst (All holds) (sym next.is) (all_replaced holds next.front next.behind d c quiet.1 (inl apart))), apart)
+
+  -- so what was taken and answered is as exact as it was
+  module _ (old new : List Actor) (roles : RolesAreKept old) (stood : AllStood old new) (first : get_elem? new 0 ≡ get_elem? old 0) (id : ℕ) (deed : Deed)
+      (touched : is_untouched d ≡ false) (taken : all_taken new ≡ all_taken old)
+      (counted : (name : List ℕ) (key : ℤ) → is_of name c.entry ≡ false → tally_units (all_counted new) name key ≡ tally_units (all_counted old) name key)
+      (summed : (name : List ℕ) → is_of name c.entry ≡ false → tally_sum (all_summed new) name ≡ tally_sum (all_summed old) name)
+      (noted : (name : List ℕ) → is_of name c.entry ≡ false → tally_noted (all_noted new) name ≡ tally_noted (all_noted old) name)
+      (calls : a.taking ≡ true → a.running ≡ []) where
+    pub finals_next : FinalsAreExact old roles.opener id a → FinalsAreExact new roles.opener id (changed a (going deed))
+    finals_next exact = record {
+      deltas = λ t has eldest youngest rests.
+          let (quiet, apart) = quiet_next deed t.name t.moment.log touched rests in
+          let was = exact.deltas t has eldest youngest quiet in (
+            λ key. ap (λ list. taken_units list t.name key) taken ∙ (was.0 key ∙ sym (counted t.name key apart)),
+            ap (λ list. taken_sum list t.name) taken ∙ (was.1 ∙ sym (summed t.name apart)),
+          );
+      snapshots = λ s has eldest youngest rests.
+          let (quiet, apart) = quiet_next deed s.name s.moment.log touched rests in
+          let was = exact.snapshots s has eldest youngest quiet in (
+            λ key. was.0 key ∙ sym (counted s.name key apart),
+            was.1 ∙ sym (summed s.name apart),
+            (let redundant = was.2 in let same = noted s.name apart in omega (arith, redundant, same)),
+          );
+      moments = λ m of.
+          let is = moment old new roles.opener roles.opener id a m (is_later old new roles stood first) (exact.moments m of) in
+          record { logged = is.logged; before = is.before; mine = is.mine; eldest = is.eldest };
+      swapped = λ before last taking. absurd (runs (calls taking));
+    }

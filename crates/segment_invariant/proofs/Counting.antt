@@ -2,4 +2,5 @@ pub mod Held
 pub mod Entries
 pub mod Running
 pub mod Seen
+pub mod Learned
 pub mod Loaded

@@ -1,5 +1,5 @@
 -- What an actor has seen of a bucket is at most what was counted there, also where it comes to know the counts only now.
-use Rattle.std.proofs.Common.{◌≡◌, ◌≢◌, ℕ, ◌+◌, ◌-◌, ◌<◌, ◌≤◌, true, List, [], ◌∷◌, ◌++◌, length, Contains, inl, inr, refl, sym, ap, ◌∙◌, subst, arith, length-append}
+use Rattle.std.proofs.Common.{◌≡◌, ◌≢◌, ℕ, ◌+◌, ◌-◌, ◌<◌, ◌≤◌, true, List, [], ◌∷◌, ◌++◌, length, Contains, refl, sym, ap, ◌∙◌, subst, arith, length-append}
 use Rattle.std.specs.Prelude.{slice_index, pos, Some}
 use Rattle.std.proofs.lemmas.List.{get_or-append_right, get_or_append_left}
 use Rattle.std.proofs.lemmas.List.Elements.{All-contains, All-drop, Contains-append_right}
@@ -13,7 +13,7 @@ use Rattle.segment_machine.specs.declared.actor.Actor.{Actor}
 use Rattle.segment_machine.specs.declared.actor.Known.{Known}
 use Rattle.segment_machine.specs.declared.actor.Made.TheVariants as made
 use Rattle.segment_machine.specs.declared.place.Place.TheVariants.{Spent}
-use Rattle.segment_machine.specs.Form.{is_off, Leads}
+use Rattle.segment_machine.specs.Form.{is_off}
 use Rattle.segment_machine.specs.Actor.{all_counted, bucket_key, SawSingle, SawCount}
 use Rattle.segment_machine.specs.Entry.{tally_units}
 use Rattle.segment_machine.specs.State.{State}
@@ -25,6 +25,7 @@ use Rattle.segment_invariant.proofs.Blocks.Places.{counter_within}
 use Rattle.segment_invariant.proofs.Blocks.Pieces.{one_index}
 use Rattle.segment_invariant.proofs.Consistency.Keys.{same_boundaries, same_buckets}
 use Rattle.segment_invariant.proofs.Counting.Held.{held_most}
+use Rattle.segment_invariant.proofs.Frames.Leads.{off_leads}
 
 -- a count stands behind the header of its block
 pub count_in : (c : Counts) (i : ℕ) → i < length c.units → slice_index (words_of (counts c)) (4 + i) ≡ slice_index c.units i
@@ -34,12 +35,6 @@ count_in c i below =
     get_or-append_right (c.size ∷ 0xC8799269 ∷ 2 ∷ c.next ∷ []) (c.units ++ c.marks ++ c.rest) 4 (4 + i) 0 refl (omega arith)
     ∙ (ap (slice_index (c.units ++ c.marks ++ c.rest)) back
     ∙ (get_or_append_left (c.units ++ c.marks) c.rest 0 i (omega (arith, below, long)) ∙ get_or_append_left c.units c.marks 0 i below))
-
--- a word that is off leads to itself alone
-off_leads : (version n old new : ℕ) → is_off old ≡ true → Leads version n old new → old ≡ new
-off_leads version n old new off (inl same) = same
-off_leads version n old new off (inr (inl empty)) = cc (sym (ap is_off empty) ∙ off)
-off_leads version n old new off (inr (inr (on, same, fewer))) = cc (sym on ∙ off)
 
 module _ (shape : Dimensions) (opened : Anatomy) (state : State) (kept : Invariant shape opened state) (id : ℕ) (a : Actor)
     (mine : get_elem? state.actors id ≡ some a) (lives : a.place ≢ Spent) where
@@ -60,17 +55,19 @@ module _ (shape : Dimensions) (opened : Anatomy) (state : State) (kept : Invaria
         ap buckets_of same ∙ same_buckets knows.first_spec known.spec knows.same,
       )
 
-  -- a single word that it saw off is that of the record
-  pub off_is : (at word : ℕ) (r : Record) → HasRecord kept.anatomy.pieces at r → SawSingle a (at + 9) word → is_off word ≡ true → word ≡ r.single
-  off_is at word r (k, there) saw off =
-      let singles = (kept.each id a mine lives).sees.singles in
-      let (place, q, (j, here), is, formed, leads) =
-      All-contains (WasSingle kept.anatomy.version kept.anatomy.pieces) _ (record { at = at + 9; word = word })
-      (All-drop (WasSingle kept.anatomy.version kept.anatomy.pieces) a.since_singles a.seen.singles singles) saw in
+  -- a single word that was off is that of the record
+  pub off_was : (at word : ℕ) (r : Record) → HasRecord kept.anatomy.pieces at r
+      → WasSingle kept.anatomy.version kept.anatomy.pieces (record { at = at + 9; word = word }) → is_off word ≡ true → word ≡ r.single
+  off_was at word r (k, there) (place, q, (j, here), is, formed, leads) off =
       let index = one_index shape state.words kept.anatomy kept.shown k j _ _ 9 9 there here (omega arith) (omega arith) is in
       let same = some-injective _ _ (sym there ∙ (ap (get_elem? kept.anatomy.pieces) index ∙ here)) in
       let body = ap (λ (p : Piece). slice_index (words_of p.body) 9) same in
       off_leads kept.anatomy.version (buckets_of q.spec) word q.single off leads ∙ sym body
+
+  pub off_is : (at word : ℕ) (r : Record) → HasRecord kept.anatomy.pieces at r → SawSingle a (at + 9) word → is_off word ≡ true → word ≡ r.single
+  off_is at word r stands saw = off_was at word r stands
+      (All-contains (WasSingle kept.anatomy.version kept.anatomy.pieces) _ (record { at = at + 9; word = word })
+      (All-drop (WasSingle kept.anatomy.version kept.anatomy.pieces) a.since_singles a.seen.singles (kept.each id a mine lives).sees.singles) saw)
 
   -- a count that it saw is no more than the count is
   pub count_most : (at bucket count : ℕ) (c : Counts) → HasCounts kept.anatomy.pieces at c → bucket < length c.units → SawCount a (at + 4 + bucket) count

@@ -1,12 +1,12 @@
 -- What walks and shared cursors give, of any kept state.
-use Rattle.std.proofs.Common.{◌≡◌, ◌≢◌, ℕ, zero, suc, ◌+◌, ◌<◌, ◌≤◌, ◌==◌, Bool, true, false, cond, List, [], ◌∷◌, ◌++◌, take, length, inl, inr, refl, sym, ap, subst, ◌∙◌, append-nil, length-append, eqb-true, arith}
+use Rattle.std.proofs.Common.{◌≡◌, ◌≢◌, ℕ, zero, suc, ◌+◌, ◌<◌, ◌≤◌, ◌==◌, Bool, true, false, cond, List, [], ◌∷◌, take, length, inl, inr, ⊎_elim, refl, sym, ap, subst, ◌∙◌, length-append, eqb-true, arith}
 use Rattle.std.specs.Prelude.{slice_index, IsPermutation}
 use Rattle.std.specs.List.{filter, Contains}
 use mathlib.Core.Option.{some, some-injective, some-ne-none}
 use lib.ListN.{get_elem?}
 use Rattle.std.proofs.lemmas.Bool.{cases_order}
-use Rattle.std.proofs.lemmas.List.{ext_get_or, get_or_append_left, take_all}
-use Rattle.std.proofs.lemmas.List.Elements.{All-contains, Contains-get_or, Contains-append_left, Contains-append_right}
+use Rattle.std.proofs.lemmas.List.{ext_get_or, take_all}
+use Rattle.std.proofs.lemmas.List.Elements.{All-contains, Contains-append_left, Contains-append_cases}
 use Rattle.std.proofs.lemmas.List.Sorted.{IsPermutation-sym, Contains-permutation}
 use Rattle.segment_image.specs.Shape.{Dimensions}
 use Rattle.segment_image.specs.Words.{word_at}
@@ -16,16 +16,16 @@ use Rattle.list_core.specs.Walk.{IsPrefix}
 use Rattle.list_core.proofs.Chains.{linked_of, one_place, no_queue, next_inside, next_last, last_stop}
 use Rattle.segment_machine.specs.declared.actor.Actor.{Actor}
 use Rattle.segment_machine.specs.declared.actor.Given.{Given}
-use Rattle.segment_machine.specs.declared.actor.Published.{Published}
-use Rattle.segment_machine.specs.declared.seen.Sighting.{Sighting}
 use Rattle.segment_machine.specs.declared.place.Place.TheVariants.{Spent, CursorLoaded}
-use Rattle.segment_machine.specs.Actor.{all_published, all_given}
+use Rattle.segment_machine.specs.Actor.{all_given}
 use Rattle.segment_machine.specs.State.{State}
-use Rattle.segment_invariant.specs.Body.{Listed, listed, Anatomy, order_of}
+use Rattle.segment_machine.specs.Walking.{records_met}
+use Rattle.segment_invariant.specs.Body.{Anatomy, order_of}
 use Rattle.segment_invariant.specs.Seen.{IsNoLater}
 use Rattle.segment_invariant.specs.Invariant.{Invariant, StandsRight}
-use Rattle.segment_invariant.proofs.Lists.Elements.{row_in, from_map}
-use Rattle.segment_invariant.proofs.Lists.Maps.{contains_map, contains_mapped}
+use Rattle.segment_invariant.proofs.Lists.Elements.{from_map}
+use Rattle.segment_invariant.proofs.Frames.Growth.{stop_at}
+use Rattle.segment_invariant.proofs.Walking.Learned.{whole_front, met_listed}
 use Rattle.segment_promises.specs.Lists.{HasMet, WalksGiveAll, CursorsKeepOrder, CursorsGiveFronts, CursorsGiveAll}
 
 -- ---- words have one chain
@@ -66,61 +66,28 @@ module _ (shape : Dimensions) (opened : Anatomy) (state : State) (kept : Invaria
   chain_is : (chain : List ℕ) → IsChain state.words (head_of state.words) chain → order ≡ chain
   chain_is chain is = one_chain state.words order chain kept.list.linked (linked_of state.words chain (head_of state.words) is)
 
-  -- ---- what an actor met is on the list
-
-  -- a place that is no later than another is on the list, where it is not the queue block
-  on_list : (seen present : ℕ) → IsNoLater order seen present → seen ≢ 12 → Contains order seen
-  on_list seen present (zero, j, le, within, first, second) ne = absurd (ne (sym first))
-  on_list seen present (suc i, j, le, within, first, second) ne = subst (Contains order) first (Contains-get_or order i 0 (omega (arith, le, within)))
-
-  published_on_list : (id : ℕ) (a : Actor) (p : Published) → get_elem? state.actors id ≡ some a → Contains a.published p → Contains order p.reference
-  published_on_list id a p mine among =
-      let (front, all, permuted) = kept.list.once in
-      let linked = contains_map listed (all_published state.actors) p (row_in (λ (a : Actor). a.published) state.actors id a p mine among) in
-      let there = Contains-permutation _ _ (listed p) (IsPermutation-sym _ _ permuted) linked in
-      contains_map (λ (l : Listed). l.reference) kept.anatomy.records (listed p)
-      (subst (λ (records : List Listed). Contains records (listed p)) (sym all) (Contains-append_right opened.records front (listed p) there))
-
   module _ (id : ℕ) (a : Actor) (mine : get_elem? state.actors id ≡ some a) (lives : a.place ≢ Spent) where
+    walked : IsPrefix a.seen.chain order
+    walked = (kept.each id a mine lives).sees.walked
+
+    -- what an actor met is on the list
     met_on_list : (reference : ℕ) → HasMet a reference → Contains order reference
-    met_on_list reference (ne, inl seen) =
-        let (rest, is) = (kept.each id a mine lives).sees.walked in
-        subst (λ (list : List ℕ). Contains list reference) (sym is) (Contains-append_left a.seen.chain rest reference seen)
-    met_on_list reference (ne, inr (inl made)) =
-        let (p, among, is) = contains_mapped (λ (p : Published). p.reference) a.published reference made in
-        subst (Contains order) is (published_on_list id a p mine among)
-    met_on_list reference (ne, inr (inr (inl tail))) =
-        let before = All-contains (λ place. IsNoLater order place kept.anatomy.tail) a.seen.tails reference (kept.each id a mine lives).sees.tails tail in
-        on_list reference kept.anatomy.tail before ne
-    met_on_list reference (ne, inr (inr (inr cursor))) =
-        let (s, among, is) = contains_mapped (λ (s : Sighting). s.word) a.seen.cursors reference cursor in
-        let shared = All-contains (λ s. (s.at < length state.cursors) × IsNoLater order s.word (slice_index state.cursors s.at)) a.seen.cursors s
-        (kept.each id a mine lives).sees.shared among in
-        subst (Contains order) is (on_list s.word (slice_index state.cursors s.at) shared.1 (λ e. ne (sym is ∙ e)))
+    met_on_list reference met = ⊎_elim
+        (λ seen. subst (λ (list : List ℕ). Contains list reference) (sym walked.1) (Contains-append_left a.seen.chain walked.0 reference seen))
+        (λ other. All-contains (Contains order) (records_met a) reference (met_listed shape opened state kept id a mine lives) other)
+        (Contains-append_cases a.seen.chain (records_met a) reference met)
 
     -- ---- walks
 
-    -- where a prefix of the list ends whose next is the end, it is the list
+    -- where a walk ends whose next is the end, it went along the whole list
     ended : word_at state.words (slice_index (stops a.seen.chain) (length a.seen.chain) + 3) ≡ 12 → order ≡ a.seen.chain
-    ended last = by_rest walked.0 walked.1
-      where
-        walked : IsPrefix a.seen.chain order
-        walked = (kept.each id a mine lives).sees.walked
-
-        along : (chain rest : List ℕ) → slice_index (stops (chain ++ rest)) (length chain) ≡ slice_index (stops chain) (length chain)
-        along [] rest = refl
-        along (c ∷ chain) rest = get_or_append_left (c ∷ chain) rest 0 (length chain) (omega arith)
-
-        by_rest : (rest : List ℕ) → order ≡ a.seen.chain ++ rest → order ≡ a.seen.chain
-        by_rest [] is = is ∙ append-nil a.seen.chain
-        by_rest (r ∷ rest) is =
-            let long = ap length is in
-            let parts = length-append a.seen.chain (r ∷ rest) in
-            let stands : slice_index (stops order) (length a.seen.chain) ≡ slice_index (stops a.seen.chain) (length a.seen.chain) =
-            ap (λ (list : List ℕ). slice_index (stops list) (length a.seen.chain)) is ∙ along a.seen.chain (r ∷ rest) in
-            let at_end = last_stop state.words order (length a.seen.chain) kept.list.linked (omega (arith, long, parts))
-            (ap (λ (at : ℕ). word_at state.words (at + 3)) stands ∙ last) in
-            absurd (omega (arith, at_end, long, parts))
+    ended last =
+        let front : List ℕ = a.seen.chain in
+        let long = ap length walked.1 in
+        let parts = length-append front walked.0 in
+        let stands = ap (λ (list : List ℕ). slice_index (stops list) (length front)) walked.1 ∙ stop_at front walked.0 (length front) (omega arith) in
+        whole_front front walked.0 order walked.1
+        (last_stop state.words order (length front) kept.list.linked (omega (arith, long, parts)) (ap (λ (at : ℕ). word_at state.words (at + 3)) stands ∙ last))
 
     -- ---- cursors
 

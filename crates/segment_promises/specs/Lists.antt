@@ -1,5 +1,5 @@
 -- The list: how it grows, what `hist` answers, and what walks and shared cursors give.
-use Rattle.std.specs.Prelude.{◌≡◌, ◌≢◌, ◌⊎◌, ℕ, ◌+◌, ◌<◌, ◌≤◌, List, [], ◌∷◌, ◌++◌, map, take, length, slice_index, ◌==◌, if◌then◌else◌, None, IsPermutation}
+use Rattle.std.specs.Prelude.{◌≡◌, ℕ, ◌+◌, ◌<◌, ◌≤◌, List, [], ◌∷◌, ◌++◌, take, length, slice_index, ◌==◌, if◌then◌else◌, None, IsPermutation}
 use Rattle.std.specs.List.{Contains}
 use mathlib.Core.Option.{some}
 use lib.ListN.{get_elem?}
@@ -19,6 +19,7 @@ use Rattle.segment_machine.specs.Actor.{Each, all_given, given_by}
 use Rattle.segment_machine.specs.Made.{AreNameWords, IsFirstNamed, SawOtherSpec}
 use Rattle.segment_machine.specs.Event.{Event, publishing_event}
 use Rattle.segment_machine.specs.Publishing.{link}
+use Rattle.segment_machine.specs.Walking.{records_met}
 use Rattle.segment_machine.specs.State.{State, IsStep}
 use Rattle.segment_invariant.specs.Body.{Anatomy}
 use Rattle.segment_invariant.specs.Consistent.{IsHistogram}
@@ -57,12 +58,9 @@ OthersDiffer = (shape : Dimensions) (opened : Anatomy) (state : State) → (kept
 
 -- ---- what is met and given
 
--- a record that an actor has made, or has seen as the next of another, as the tail, or where a shared cursor stands
+-- a record that an actor has seen on the list, has made, was given, or saw as the tail or where a shared cursor stands
 abbrev pub HasMet : Actor → ℕ → Type 0
-HasMet a reference =
-    (reference ≢ QUEUE)
-    × (Contains a.seen.chain reference ⊎ Contains (map (λ p. p.reference) a.published) reference
-    ⊎ Contains a.seen.tails reference ⊎ Contains (map (λ s. s.word) a.seen.cursors) reference)
+HasMet a reference = Contains (a.seen.chain ++ records_met a) reference
 
 -- A walk along the list gives the records of the chain in their order; where it ends, it gave all that its caller had met. So does
 -- `records`, which gives them all, and so do the answers of `fresh_records`, one after the other, each from where the last one ended.

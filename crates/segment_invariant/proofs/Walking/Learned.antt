@@ -48,7 +48,7 @@ no_later_stop : (chain : List ℕ) (seen present : ℕ) → IsNoLater chain seen
 no_later_stop chain seen present (i, j, le, within, is, then) = (i, omega (arith, le, within), is)
 
 -- a list of which a front is as long is that front
-whole_front : (front rest chain : List ℕ) → chain ≡ front ++ rest → length front ≡ length chain → chain ≡ front
+pub whole_front : (front rest chain : List ℕ) → chain ≡ front ++ rest → length front ≡ length chain → chain ≡ front
 whole_front front [] chain is long = is ∙ append-nil front
 whole_front front (x ∷ xs) chain is long = let n = ap length is in let e = length-append front (x ∷ xs) in absurd (omega (arith, n, e, long))
 
@@ -67,7 +67,7 @@ module _ (shape : Dimensions) (opened : Anatomy) (state : State) (kept : Invaria
       (Contains-append_right opened.records front (listed p) (Contains-permutation _ _ (listed p) (IsPermutation-sym _ _ permuted) among)))
 
   -- so are all that it met
-  met_listed : All (Contains order) (records_met a)
+  pub met_listed : All (Contains order) (records_met a)
   met_listed =
       let sees = (kept.each id a mine lives).sees in
       let tails : All (IsStop order) a.seen.tails =

@@ -10,7 +10,8 @@ use Rattle.segment_machine.specs.declared.actor.Known.{Known}
 use Rattle.segment_machine.specs.declared.actor.Made.TheVariants as made
 use Rattle.segment_machine.specs.declared.entry.Entry.{Entry}
 use Rattle.segment_machine.specs.Entry.{sample_entry, item_entry, sum_entry, tally_units, tally_sum, tally_noted}
-use Rattle.segment_machine.specs.Actor.{log_of, units_of, taken_units, taken_sum}
+use Rattle.segment_machine.specs.declared.actor.Taken.{Taken}
+use Rattle.segment_machine.specs.Actor.{log_of, units_of, taken_units, taken_sum, IsFinal}
 use Rattle.segment_machine.specs.Event.{Event, allocating_event, publishing_event, walking_event, counting_event, packing_event, taking_event, spot, after, next}
 use Rattle.segment_machine.specs.Allocating.{load_flags, load_free, exchange_free, store_size, store_cookie, store_type, store_payload}
 use Rattle.segment_machine.specs.Publishing.{store_own_next, load_tail, link, move_tail}
@@ -169,9 +170,16 @@ batching =
     ∷ by 2 (map counting_event (load_counts 16 ∷ add_count 37 3 ∷ add_redundant 16 3 ∷ []))
     ++ acts 2 (goes_on (sum_entry letter_a (pos 3)) 0 ∷ []) (counting_event (add_sum 16 (pos 3))) (ends ∷ []) ∷ joins 1 ∷ joins 2 ∷ []
 
+-- a delta of `S`, whose sample stands at 64
+abbrev pub sparse_delta : ℕ → List Deed
+sparse_delta id =
+    acts id (takes letter_s ∷ []) (taking_event (load_count 70)) []
+    ∷ by id (map taking_event (raise_mark 71 2 ∷ load_sum 42 ∷ []))
+    ++ acts id [] (taking_event (swap_sum_mark 42 (negsuc 9))) (has_taken ∷ []) ∷ []
+
 -- a third recorder is made when none is outstanding, takes the rest, and is joined
 abbrev pub last_delta : List Deed
-last_delta = makes ∷ hist_found 3 12 known_a ++ delta 3 3 5 (pos 5) ++ joins 3 ∷ []
+last_delta = makes ∷ hist_found 3 16 known_s ++ sparse_delta 3 ++ hist_found 3 12 known_a ++ delta 3 3 5 (pos 5) ++ joins 3 ∷ []
 
 abbrev pub worked : ℕ → State
 worked version = played version (new_state shape version 7 0) (packing ++ mounting version ++ sampling ++ batching ++ last_delta)
@@ -185,11 +193,12 @@ worked_words version single ones =
     slice_set (head_words 72 64 16) 1 version
     ++ slice_set (boolean_words 32 single 5 5 5 8) 3 42
     ++ counts_words (3 ∷ ones ∷ 0 ∷ 3 ∷ 0 ∷ 0 ∷ [])
-    ++ 16 ∷ 0xC8799269 ∷ 1 ∷ 64 ∷ 4 ∷ 0 ∷ 0 ∷ 0 ∷ 0 ∷ 0 ∷ 0 ∷ 18446744073709551606 ∷ 0 ∷ 2 ∷ 1 ∷ 83
+    ++ 16 ∷ 0xC8799269 ∷ 1 ∷ 64 ∷ 4 ∷ 0 ∷ 0 ∷ 0 ∷ 0 ∷ 0 ∷ 0 ∷ 18446744073709551606 ∷ 18446744073709551606 ∷ 2 ∷ 1 ∷ 83
     ∷ 6 ∷ 0xFFFFFFFFFFFFFFFF ∷ 0 ∷ 0 ∷ 0 ∷ 0
-    ∷ 8 ∷ 0xC8799269 ∷ 3 ∷ 12 ∷ 42 ∷ 18446744073709551611 ∷ 2 ∷ 0 ∷ replicate 56 0
+    ∷ 8 ∷ 0xC8799269 ∷ 3 ∷ 12 ∷ 42 ∷ 18446744073709551611 ∷ 2 ∷ 2 ∷ replicate 56 0
 
--- The opener has joined all. Its log has three units of 0, five of 1, and two of -5; its deltas took all of `A`; and no unit is lost.
+-- The opener has joined all. Its log has three units of 0, five of 1, and two of -5; its deltas took all, the last one two of 0 and three of
+-- 1, a final one; and no unit is lost.
 pub record IsWorked (version : ℕ) (a : Actor) : Type 0 where
   pub reached : IsState shape version 7 0 (worked version)
   pub joined : IsJoined (worked version) a
@@ -197,8 +206,10 @@ pub record IsWorked (version : ℕ) (a : Actor) : Type 0 where
   pub sparse : tally_units (log_of a) letter_s (negsuc 4) ≡ 2
   pub summed : (tally_sum (log_of a) letter_a ≡ pos 5) × (tally_sum (log_of a) letter_s ≡ negsuc 9)
   pub noted : (tally_noted (log_of a) letter_a ≡ 8) × (tally_noted (log_of a) letter_s ≡ 2)
-  pub taken : map (λ key. taken_units a.taken letter_a (pos key)) (0 ∷ 1 ∷ 2 ∷ []) ≡ 3 ∷ 5 ∷ 0 ∷ []
-  pub taken_sums : taken_sum a.taken letter_a ≡ pos 5
+  pub taken : (map (λ key. taken_units a.taken letter_a (pos key)) (0 ∷ 1 ∷ 2 ∷ []) ≡ 3 ∷ 5 ∷ 0 ∷ []) × (taken_units a.taken letter_s (negsuc 4) ≡ 2)
+  pub taken_sums : (taken_sum a.taken letter_a ≡ pos 5) × (taken_sum a.taken letter_s ≡ negsuc 9)
+  pub last : (before : List Taken) × (delta : Taken) × (a.taken ≡ before ++ delta ∷ []) × (delta.counts ≡ (pos 0, 2) ∷ (pos 1, 3) ∷ []) × (delta.sum ≡ pos 3)
+      × IsFinal a.made (log_of a) letter_a delta.moment
   pub units : (units_of a ≡ 4294967295) × (a.share ≡ 4294967285)
 
 -- in version 1 the units of the disabled word stand in the counts

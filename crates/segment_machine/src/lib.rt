@@ -7,8 +7,9 @@
 //! callers hold them as what a thread knows. The definitions are in `specs/`: entries and their tally (`Entry`), the
 //! single word (`Form`), the events, a file for each family (`Allocating`, `Publishing`, `Walking`, `Counting`,
 //! `Packing`, `Taking`, `Cursors`) and one that puts them together (`Event`), what an actor notes (`Note`), how recorders
-//! are made and joined (`Seats`), one step (`State`) and the states that are reached (`Reached`). Worked examples are in
-//! `Examples`, `Lives` and `Refused`.
+//! are made and joined (`Seats`), one step (`State`) and the states that are reached (`Reached`). `Stages` says how an actor
+//! goes along with an allocation, a publish and a walk that are stepped by themselves. Worked examples are in `Examples`,
+//! `Lives`, `Worked` (a run from a new segment to the joins) and `Refused`.
 //!
 //! What holds between any two events is in `segment_invariant`, what follows from it in `segment_promises`.
 #![tactic(auto)]

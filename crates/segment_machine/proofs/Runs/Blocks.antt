@@ -86,7 +86,7 @@ may_allocate a (set_flag flag) = None
 
 -- ---- publishing
 
-abbrev is_sparse_spec : (s : Spec) → Option (s ≡ spec.Sparse)
+abbrev pub is_sparse_spec : (s : Spec) → Option (s ≡ spec.Sparse)
 is_sparse_spec spec.Sparse = Some refl
 is_sparse_spec _ = None
 

@@ -5,7 +5,7 @@ use Rattle.std.specs.List.{filter}
 use Rattle.bucket_ranges.specs.Reading.{is_i32}
 use Rattle.bucket_ranges.specs.Single.{packed_bucket}
 use Rattle.bucket_ranges.specs.Spec.{buckets_of}
-use Rattle.std.specs.Int.{w64, cast_unsigned}
+use Rattle.std.specs.Int.{w64, cast_signed, cast_unsigned}
 use Rattle.segment_machine.specs.declared.actor.Actor.{Actor}
 use Rattle.segment_machine.specs.declared.actor.Known.{Known}
 use Rattle.segment_machine.specs.declared.actor.Own.{Own}
@@ -13,7 +13,7 @@ use Rattle.segment_machine.specs.declared.actor.Taken.{Taken}
 use Rattle.segment_machine.specs.declared.entry.Counting.{Counting}
 use Rattle.segment_machine.specs.declared.place.Look.{Look}
 use Rattle.segment_machine.specs.declared.place.Place.{Place}
-use Rattle.segment_machine.specs.declared.place.Place.TheVariants.{Looking, Moving, CountLoaded, SumLoaded}
+use Rattle.segment_machine.specs.declared.place.Place.TheVariants.{Looking, Moving, CountLoaded, SampleLoaded, SumLoaded}
 use Rattle.segment_machine.specs.declared.seen.Seen.{Seen}
 use Rattle.segment_machine.specs.declared.seen.Sighting.{Sighting}
 use Rattle.segment_machine.specs.Entry.{is_counted, is_summed, has_ended}
@@ -25,9 +25,9 @@ use Rattle.segment_machine.specs.Counting.{CountingEvent, load_counts, add_count
 use Rattle.segment_machine.specs.Counting as counting
 use Rattle.segment_machine.specs.Packing.{PackingEvent, load_single, pack, mount_counts, purge_block, disable, add_moved, CountsIn, IsBlankCounts}
 use Rattle.segment_machine.specs.Packing as packing
-use Rattle.segment_machine.specs.Taking.{TakingEvent, load_count, raise_mark, raise_single_mark, load_sum, swap_sum_mark, load_redundant, Takes}
+use Rattle.segment_machine.specs.Taking.{TakingEvent, load_count, raise_mark, raise_single_mark, load_sum, swap_sum_mark, load_redundant, Takes, is_looking}
 use Rattle.segment_machine.specs.Taking as taking
-use Rattle.segment_machine.proofs.Runs.Tests.{then, or_else, is_true, is_false, same, at_most, below, apart, same_bytes, same_integer, empty, first_of_list, value_in, is_number, some_of, all_of}
+use Rattle.segment_machine.proofs.Runs.Tests.{then, or_else, is_true, is_false, same, at_most, below, apart, same_bytes, same_integer, empty, first_of_list, value_in, is_number, some_of, all_of, member}
 use Rattle.segment_machine.proofs.Runs.Blocks.{own_at, sparse_at}
 
 -- ---- places
@@ -204,8 +204,8 @@ saw list at word =
     then (some_of (λ s. then (same s.at at) (λ e. then (same s.word word) (λ f. Some (same_sighting s at word e f)))) list)
     (λ t. Some (subst (λ (s : Sighting). Contains list s) t.2 t.1))
 
-abbrev may_load_count : (a : Actor) (at : ℕ) → Option (taking.MayLoadCount a at)
-may_load_count a at = or_else
+abbrev loads_bucket : (a : Actor) (at : ℕ) → Option (taking.MayLoadCount a at)
+loads_bucket a at = or_else
     (then (looks_off a) (λ t.
     let bucket = at - (t.0.counts + 4) in
     then (below bucket (buckets_of t.1.spec)) (λ within. then (same at (t.0.counts + 4 + bucket)) (λ here. Some (inl (t.0, t.1, bucket, inl t.2, within, here))))))
@@ -214,15 +214,37 @@ may_load_count a at = or_else
     then (below bucket (buckets_of k.0.spec)) (λ within. then (same at (t.0.counts + 4 + bucket)) (λ here.
     Some (inl (t.0, k.0, bucket, inr (t.1, t.2, t.3, k.1), within, here)))))))
 
+-- of the sparse histogram that the sample names, with the value that it has
+abbrev loads_sample : (a : Actor) (at : ℕ) → Option (taking.MayLoadCount a at)
+loads_sample a at =
+    let sample = at - 6 in
+    then (value_in (word_seen a.seen.words (sample + 4))) (λ of. then (value_in (word_seen a.seen.words (sample + 5))) (λ word. then (sparse_at a of.0) (λ k.
+    let value = cast_signed w64 word.0 in
+    then (member a.seen.chain sample) (λ met. then (saw_sample a.seen k.0.reference value sample) (λ seen. then (same at (sample + 6)) (λ here.
+    then (is_false (is_bound a.place)) (λ turns. then (is_false (is_looking a.place)) (λ away.
+    Some (inr (k.0, sample, value, (k.1.0, refl, k.1.2), met, seen, here, turns, away))))))))))
+
 abbrev loaded_now : (a : Actor) (count : ℕ) → Option ((look : Look) × (bucket : ℕ) × (a.place ≡ CountLoaded look bucket count))
 loaded_now a count = then (counts_loaded a.place) (λ t. then (same t.2 count) (λ e. Some (t.0, t.1, t.3 ∙ ap (λ n. CountLoaded t.0 t.1 n) e)))
 
-abbrev pub may_take : (a : Actor) (event : TakingEvent) → Option (taking.Ready a event)
-may_take a (load_count at) = may_load_count a at
-may_take a (raise_mark at least) =
+abbrev raises_bucket : (a : Actor) (at least : ℕ) → Option (taking.MayRaise a at least)
+raises_bucket a at least =
     then (at_most 1 least) (λ some. then (loaded_now a least) (λ t. then (takes_at a t.0.histogram) (λ k. then (value_in t.0.single) (λ word.
     then (unlike (packed_bucket (form_seen a t.0.histogram word.0)) t.1) (λ other. then (same at (t.0.counts + 4 + buckets_of k.0.spec + t.1)) (λ here.
     Some (some, inl (t.0, k.0, t.1, word.0, t.2, k.1, word.1, other, here))))))))
+
+abbrev sample_loaded : (place : Place) (count : ℕ) → Option ((sample : ℕ) × (place ≡ SampleLoaded sample count))
+sample_loaded (SampleLoaded sample found) count = then (same found count) (λ e. Some (sample, ap (λ n. SampleLoaded sample n) e))
+sample_loaded _ count = None
+
+abbrev raises_sample : (a : Actor) (at least : ℕ) → Option (taking.MayRaise a at least)
+raises_sample a at least =
+    then (at_most 1 least) (λ some. then (sample_loaded a.place least) (λ t. then (value_in (word_seen a.seen.words (t.0 + 4))) (λ of.
+    then (takes_at a of.0) (λ k. then (same at (t.0 + 7)) (λ here. Some (some, inr (t.0, of.0, k.0, t.1, of.1, k.1, here)))))))
+
+abbrev pub may_take : (a : Actor) (event : TakingEvent) → Option (taking.Ready a event)
+may_take a (load_count at) = or_else (loads_bucket a at) (loads_sample a at)
+may_take a (raise_mark at least) = or_else (raises_bucket a at least) (raises_sample a at least)
 may_take a (raise_single_mark histogram least) =
     then (at_most 1 least) (λ some. then (takes_at a histogram) (λ k. or_else
     (then (looks a.place) (λ l. then (value_in l.0.single) (λ word. then (looks_open a histogram word.0) (λ t.

@@ -1,11 +1,12 @@
 -- Whether an actor may note something: Some where it may.
-use Rattle.std.proofs.Common.{◌≡◌, ◌≢◌, ◌∙◌, ℕ, zero, suc, ◌+◌, ◌*◌, ◌<◌, ◌≤◌, true, false, not, List, [], ◌∷◌, ◌++◌, map, length, inl, inr, refl, sym, ap, subst, true≢false, ⊎_elim, arith, Contains, Option, Some, None}
+use Rattle.std.proofs.Common.{◌≡◌, ◌≢◌, ◌∙◌, ℕ, zero, suc, ◌+◌, ◌*◌, ◌<◌, ◌≤◌, true, false, not, List, [], ◌∷◌, ◌++◌, map, length, inl, inr, refl, sym, ap, subst, true≢false, ⊎_elim, arith, ℤ, All, Contains, Option, Some, None}
 use Rattle.std.specs.Prelude.{pos, slice_index, unwrap_or, unsigned_abs, drop}
 use Rattle.std.specs.List.{filter}
 use Rattle.std.specs.Str.{bytes_eq}
 use Rattle.std.specs.Ordering.{int_eq}
 use Rattle.std.proofs.lemmas.Slice.Eq.{bytes_eq-Decides}
 use Rattle.std.proofs.lemmas.Bool.{cases_lt}
+use Rattle.std.proofs.lemmas.List.Elements.{All-contains}
 use Rattle.segment_image.specs.Words.{bytes_of_words}
 use Rattle.bucket_ranges.specs.Reading.{name_words}
 use Rattle.bucket_ranges.specs.Single.{single_of, units_packed, packed_bucket}
@@ -23,11 +24,11 @@ use Rattle.segment_machine.specs.declared.seen.Sighting.{Sighting}
 use Rattle.segment_machine.specs.Entry.{AreWithin, has_ended, tally_noted, tally_sum}
 use Rattle.segment_machine.specs.Form.{is_off}
 use Rattle.segment_machine.specs.Actor.{is_bound, has_buckets, word_seen}
-use Rattle.segment_machine.specs.Made.{AreNameWords, SawName, SawOtherName, SawSpec}
-use Rattle.segment_machine.specs.Note.{Note, begins, goes_on, asks, knows, takes, has_taken, ends, MayNote, SawBucket, IsMarkOf, TookBucket, TookAll, Notes, noted}
+use Rattle.segment_machine.specs.Made.{AreNameWords, SawSample, SawName, SawOtherName, SawSpec}
+use Rattle.segment_machine.specs.Note.{Note, begins, goes_on, asks, knows, takes, has_taken, ends, MayNote, SawBucket, IsMarkOf, TookBucket, TookSample, TookAll, Notes, noted}
 use Rattle.segment_machine.specs.Worked.{noted_by}
 use Rattle.segment_machine.proofs.Runs.Tests.{then, or_else, is_true, is_false, same, at_most, below, apart, same_bytes, empty, value_in, nothing_in, is_number, some_of, all_of, first_of_list}
-use Rattle.segment_machine.proofs.Runs.Blocks.{own_at, name_words_of}
+use Rattle.segment_machine.proofs.Runs.Blocks.{own_at, is_sparse_spec, name_words_of}
 use Rattle.segment_machine.proofs.Runs.Counts.{cut_before, last_of, same_sighting}
 
 -- ---- a call that counts
@@ -156,8 +157,43 @@ each_below F test (suc n) = then (test n) (λ last. then (each_below F test n) (
 pub not_sparse : (s : Spec) {A : Type 0} → has_buckets s ≡ true → s ≡ spec.Sparse → A
 not_sparse s has is = absurd (true≢false (sym has ∙ ap has_buckets is))
 
-abbrev took_all : (a : Actor) (known : Known) → Option (TookAll a known)
-took_all a known =
+-- what it saw of a sample was taken
+abbrev took_sample : (a : Actor) (sample : ℕ) → Option (TookSample a sample)
+took_sample a sample =
+    then (saw_at (drop a.since_counts a.seen.counts) (sample + 6) 0) (λ count. or_else
+    (then (same count.0 0) (λ none. Some (count.0, count.1, inl none)))
+    (then (saw_at (drop a.since_counts a.seen.counts) (sample + 7) count.0) (λ mark. Some (count.0, count.1, inr (mark.0, mark.1, mark.2)))))
+
+-- or it is none
+pub none_there : (a : Actor) (histogram sample tag : ℕ) → word_seen a.seen.words (sample + 2) ≡ Some tag → tag ≢ 3
+    → (value : ℤ) → SawSample a.seen histogram value sample → TookSample a sample
+none_there a histogram sample tag seen other value saw =
+    absurd (other (ap (λ (o : Option ℕ). unwrap_or o 0) (sym seen ∙ saw.0)))
+
+abbrev TookThere : Actor → ℕ → ℕ → Type 0
+TookThere a histogram sample = (value : ℤ) → SawSample a.seen histogram value sample → TookSample a sample
+
+abbrev took_there : (a : Actor) (histogram sample : ℕ) → Option (TookThere a histogram sample)
+took_there a histogram sample = or_else
+    (then (value_in (word_seen a.seen.words (sample + 2))) (λ tag. then (apart tag.0 3) (λ other. Some (none_there a histogram sample tag.0 tag.1 other))))
+    (then (took_sample a sample) (λ took. Some (λ value saw. took)))
+
+pub took_each : (a : Actor) (histogram : ℕ) → All (TookThere a histogram) a.seen.chain → (value : ℤ) (sample : ℕ) → Contains a.seen.chain sample
+    → SawSample a.seen histogram value sample → TookSample a sample
+took_each a histogram all value sample met saw = All-contains (TookThere a histogram) a.seen.chain sample all met value saw
+
+abbrev took_samples : (a : Actor) (known : Known) → Option (TookAll a known)
+took_samples a known =
+    then (is_sparse_spec known.spec) (λ sparse. then (all_of (TookThere a known.reference) (took_there a known.reference) a.seen.chain) (λ all.
+    then (last_of a.taken) (λ t. then (same_bytes t.1.name known.name) (λ named. then (is_true t.1.swapped) (λ swapped.
+    Some (record {
+      buckets = λ has. not_sparse known.spec has sparse;
+      samples = λ _. took_each a known.reference all;
+      summed = (t.0, t.1, t.2, named, swapped);
+    }))))))
+
+abbrev took_buckets : (a : Actor) (known : Known) → Option (TookAll a known)
+took_buckets a known =
     then (is_true (has_buckets known.spec)) (λ has. then (each_below (TookBucket a known) (took_bucket a known) (buckets_of known.spec)) (λ buckets.
     then (last_of a.taken) (λ t. then (same_bytes t.1.name known.name) (λ named. then (is_true t.1.swapped) (λ swapped.
     Some (record {
@@ -165,6 +201,9 @@ took_all a known =
       samples = λ sparse. not_sparse known.spec has sparse;
       summed = (t.0, t.1, t.2, named, swapped);
     }))))))
+
+abbrev took_all : (a : Actor) (known : Known) → Option (TookAll a known)
+took_all a known = or_else (took_buckets a known) (took_samples a known)
 
 -- ---- notes
 

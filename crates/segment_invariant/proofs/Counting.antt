@@ -4,3 +4,5 @@ pub mod Running
 pub mod Seen
 pub mod Learned
 pub mod Loaded
+pub mod Accepted
+pub mod Whole

@@ -29,16 +29,20 @@ use Rattle.segment_invariant.proofs.Frames.GrowthOfActors.{SawMore, fits_grow}
 
 -- ---- entries that were accepted are counted
 
-ended_counted : (c : Counting) → has_ended c ≡ true → is_counted c ≡ true
+pub ended_counted : (c : Counting) → has_ended c ≡ true → is_counted c ≡ true
 ended_counted c ended = (and_parts (is_counted c) _ (and_parts _ _ ended).0).0
+
+pub among_all : (test : Counting → Bool) → ((c : Counting) → has_ended c ≡ true → test c ≡ true) → (list : List Counting) → All (λ c. has_ended c ≡ true) list
+    → (more : List Counting) → map (λ c. c.entry) (filter test (list ++ more)) ≡ map (λ c. c.entry) list ++ map (λ c. c.entry) (filter test more)
+among_all test passes [] ended more = refl
+among_all test passes (c ∷ rest) ended more =
+    ap (λ (b : Bool). map (λ (d : Counting). d.entry) (std.cond b (c ∷ filter test (rest ++ more)) (filter test (rest ++ more))))
+    (passes c (ended 0 c (omega arith)))
+    ∙ ap (λ (entries : List Entry). c.entry ∷ entries) (among_all test passes rest (λ k d lt. ended (suc k) d (omega (arith, lt))) more)
 
 counted_all : (list : List Counting) → All (λ c. has_ended c ≡ true) list → (more : List Counting)
     → counted_among (list ++ more) ≡ map (λ c. c.entry) list ++ counted_among more
-counted_all [] ended more = refl
-counted_all (c ∷ rest) ended more =
-    ap (λ (b : Bool). map (λ (d : Counting). d.entry) (std.cond b (c ∷ filter is_counted (rest ++ more)) (filter is_counted (rest ++ more))))
-    (ended_counted c (ended 0 c (omega arith)))
-    ∙ ap (λ (entries : List Entry). c.entry ∷ entries) (counted_all rest (λ k d lt. ended (suc k) d (omega (arith, lt))) more)
+counted_all = among_all is_counted ended_counted
 
 -- ---- what a kept state says of its actors
 

@@ -6,3 +6,5 @@ pub mod Learned
 pub mod Loaded
 pub mod Accepted
 pub mod Whole
+pub mod Looks
+pub mod Bounds

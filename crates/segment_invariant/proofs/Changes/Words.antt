@@ -82,8 +82,7 @@ module _ (shape : Dimensions) (opened : Anatomy) (state : State) (kept : Invaria
     version = refl;
     goes = λ place other claimed (i, here). ⊎_elim
         (λ same.
-        let e = some-injective _ _ (sym here ∙ (ap (get_elem? kept.anatomy.pieces) same ∙ stands.1)) in
-        (
+        let e = some-injective _ _ (sym here ∙ (ap (get_elem? kept.anatomy.pieces) same ∙ stands.1)) in (
           then_is,
           subst (λ (n : ℕ). Stands turned n none then_is) (sym (ap (λ (z : Piece). z.at) e)) stands_then,
           subst (λ (b : Body). GoesAs kept.anatomy.version b then_is) (sym (ap (λ (z : Piece). z.body) e)) turns.goes,

@@ -143,12 +143,12 @@ module _ (shape : Dimensions) (opened : Anatomy) (state : State) (kept : Invaria
               (looks_past kept.anatomy state.actors kept.roles.opener a Idle (a.seen.cursors ++ sight cursor found) a.given lost
               (λ reference sum loaded. cc loaded) (fits.looks records))),
           (
-              reference_is shape opened state kept id a mine records found lived stop,
-              λ other.
-                  let (j, low, inside, is) = goes_past miss in
-                  let room = list_fits shape state.words kept.anatomy kept.shown kept.blocks kept.list.standing kept.list.linked in
-                  let sized = ap (λ (s : Dimensions). s.size) fits.shaped in
-                  omega (arith, low, inside, room, sized),
+            reference_is shape opened state kept id a mine records found lived stop,
+            λ other.
+                let (j, low, inside, is) = goes_past miss in
+                let room = list_fits shape state.words kept.anatomy kept.shown kept.blocks kept.list.standing kept.list.linked in
+                let sized = ap (λ (s : Dimensions). s.size) fits.shaped in
+                omega (arith, low, inside, room, sized),
           ),
         )
 
@@ -308,8 +308,8 @@ module _ (shape : Dimensions) (opened : Anatomy) (state : State) (kept : Invaria
                 (looks_past kept.anatomy state.actors kept.roles.opener a Idle (a.seen.cursors ++ sight cursor new) (a.given ++ gift ∷ []) a.lost
                 (λ reference sum loaded. cc loaded) (fits.looks records))),
             (
-                reference_is shape opened state kept id a mine records found lived (cursor_stop shape opened state kept id a mine records cursor within),
-                λ other. absurd (other hit),
+              reference_is shape opened state kept id a mine records found lived (cursor_stop shape opened state kept id a mine records cursor within),
+              λ other. absurd (other hit),
             ),
           )
 

@@ -101,6 +101,16 @@ module _ (anatomy : Anatomy) (a : Actor) (calls : CallsRight anatomy a) where
       let parts = noted_total name a.first (noted_of a) in
       omega (arith, whole, parts)
 
+  -- with what its redundant counts were at the opening
+  pub noted_within : (name : List ℕ) → cost_of a.first_noted name + tally_noted (noted_of a) name ≤ cost_of a.costs name + cost_of a.held name
+  noted_within name =
+      let logged = calls.spent name in
+      let held = held_covers name in
+      let some_there = some_of is_noted name (a.log ++ a.running) in
+      let both = ap (λ (entries : List Entry). tally_noted entries name) (map-append entry_of a.log a.running)
+      ∙ noted_total name (map entry_of a.log) (map entry_of a.running) in
+      omega (arith, logged, held, some_there, both)
+
 -- ---- all actors
 
 pub spent_or_not : (p : Place) → (p ≡ Spent) ⊎ (p ≢ Spent)

@@ -58,8 +58,8 @@ module _ (shape : Dimensions) (opened : Anatomy) (state : State) (kept : Invaria
           actors = set state.actors id (after_link p.0 a tail p.1 found);
         })) (λ j. (sym (eq-eqb found 12 ends) j, here j)) (links_as tail own placed i there waits.1 ends given asked payload may),
         (
-            reference_is shape opened state kept id a mine records found lives (0, omega arith, sym ends),
-            λ other. absurd (other ends),
+          reference_is shape opened state kept id a mine records found lives (0, omega arith, sym ends),
+          λ other. absurd (other ends),
         ),
       ))
       (λ other. link_beaten shape opened state kept id a mine records tail at (own, given, placed, waits, here, asked, payload, may) other)

@@ -70,10 +70,9 @@ module _ (shape : Dimensions) (opened : Anatomy) (state : State) (kept : Invaria
             (looks_on shape opened state kept id a mine records (TailLoaded found) a.beaten (a.seen.tails ++ found ∷ []) a.seen.chain a.seen.words turns
             (saw_no_more (TailLoaded found) a.beaten a.own (a.seen.tails ++ found ∷ []) turns) kept.anatomy.tail state.words kept.shown kept.list.linked kept.list.tail
             (λ seen before. before)
-            (ahead_at order kept.anatomy.tail state.cursors a.place a.beaten a.lost fits.ahead (TailLoaded found) (λ no. unbound_unbeaten a.place unbound))
-            (
-                Contains-push a.seen.tails found,
-                subst (IsReachedAt order a.beaten) (sym (tail_word shape opened state kept)) (fits.ahead.links (unbound_unbeaten a.place unbound)),
+            (ahead_at order kept.anatomy.tail state.cursors a.place a.beaten a.lost fits.ahead (TailLoaded found) (λ no. unbound_unbeaten a.place unbound)) (
+              Contains-push a.seen.tails found,
+              subst (IsReachedAt order a.beaten) (sym (tail_word shape opened state kept)) (fits.ahead.links (unbound_unbeaten a.place unbound)),
             )
             fits.sees.walked
             (All-push (λ place. IsNoLater order place kept.anatomy.tail) a.seen.tails found fits.sees.tails
@@ -184,11 +183,11 @@ module _ (shape : Dimensions) (opened : Anatomy) (state : State) (kept : Invaria
             (record { links = λ no. cc no; many = fits.ahead.many; exchanges = fits.ahead.exchanges })
             (near, saw, next_reached tail found reached near) fits.sees.walked fits.sees.tails fits.sees.fixed)),
         (
-            reference_is shape opened state kept id a mine records found turns.lived (behind_stop order tail found near),
-            λ other.
-                let (k, low, most, is) = next_reached tail found reached near in
-                let room = list_fits shape state.words kept.anatomy kept.shown kept.blocks kept.list.standing kept.list.linked in
-                let sized = ap (λ (s : Dimensions). s.size) fits.shaped in
-                omega (arith, low, most, room, sized),
+          reference_is shape opened state kept id a mine records found turns.lived (behind_stop order tail found near),
+          λ other.
+              let (k, low, most, is) = next_reached tail found reached near in
+              let room = list_fits shape state.words kept.anatomy kept.shown kept.blocks kept.list.standing kept.list.linked in
+              let sized = ap (λ (s : Dimensions). s.size) fits.shaped in
+              omega (arith, low, most, room, sized),
         ),
       )

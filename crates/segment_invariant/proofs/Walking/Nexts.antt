@@ -104,7 +104,7 @@ module _ (shape : Dimensions) (opened : Anatomy) (state : State) (kept : Invaria
   follows_stop : (at : ℕ) → a.place ≢ Spent → MayFollow a at → IsStop order at
   follows_stop at lives (inl queue) = (0, omega arith, sym queue)
   follows_stop at lives (inr (inl seen)) = front_stop a.seen.chain order at (kept.each id a mine lives).sees.walked seen
-  follows_stop at lives (inr (inr (cursor, placed))) = 
+  follows_stop at lives (inr (inr (cursor, placed))) =
       reached_stop order (slice_index a.lost cursor) at (subst (StandsRight shape kept.anatomy id a) placed (kept.standing id a mine)).0
 
   -- what a load finds behind a stop

@@ -187,8 +187,8 @@ module _ (shape : Dimensions) (opened : Anatomy) (state : State) (kept : Invaria
               fits.sees.walked fits.sees.tails
               (All-push (WasFixed anatomy.pieces) a.seen.words s fits.sees.fixed (at, index, body, stands, refl, fixed, sym found_is))),
           (
-              subst (EndsWithin a at index) (sym found_is) ends,
-              λ word seen. found_is ∙ seen_is at index word body stands lt seen,
+            subst (EndsWithin a at index) (sym found_is) ends,
+            λ word seen. found_is ∙ seen_is at index word body stands lt seen,
           ),
         )
 

@@ -26,3 +26,4 @@ pub mod Examples
 pub mod Lives
 pub mod Refused
 pub mod Worked
+pub mod Races

@@ -110,11 +110,20 @@ packs_one old new =
     ∷ by 1 (packing_event (pack 16 old new) ∷ counting_event (add_sum 16 (pos 1)) ∷ [])
     ++ acts 1 [] (counting_event (add_redundant 16 1)) (ends ∷ []) ∷ []
 
--- Two samples of 1 are packed, and a delta takes both.
+-- two recorders are made, with ten units each
+abbrev pub two_recorders : List Deed
+two_recorders = offers 10 ∷ makes ∷ offers 10 ∷ makes ∷ []
+
+-- two samples of 1 are packed
+abbrev pub two_packed : List Deed
+two_packed =
+    two_recorders ++ hist 1 12 known_a ((0, 2) ∷ (1, 1) ∷ (2, 2) ∷ (3, 3) ∷ (10, 1) ∷ (11, 65) ∷ [])
+    ++ packs_one 0 4294967297 ++ packs_one 4294967297 4294967298
+
+-- a delta takes both
 abbrev pub packing : List Deed
 packing =
-    offers 10 ∷ makes ∷ offers 10 ∷ makes ∷ hist 1 12 known_a ((0, 2) ∷ (1, 1) ∷ (2, 2) ∷ (3, 3) ∷ (10, 1) ∷ (11, 65) ∷ [])
-    ++ packs_one 0 4294967297 ++ packs_one 4294967297 4294967298
+    two_packed
     ++ acts 1 (takes letter_a ∷ []) (packing_event (load_single 16)) []
     ∷ by 1 (taking_event (raise_single_mark 16 2) ∷ taking_event (load_sum 16) ∷ [])
     ++ acts 1 [] (taking_event (swap_sum_mark 16 (pos 2))) (has_taken ∷ []) ∷ []

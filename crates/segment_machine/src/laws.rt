@@ -7,6 +7,7 @@ ghost use Rattle.segment_machine.specs.Stages.{AllocationsAgree, PublishesAgree,
 ghost use Rattle.segment_machine.specs.Examples.{Keys, PackedRun, MountingRun, TakerRuns, TakingRun, Batches};
 ghost use Rattle.segment_machine.specs.Lives.{RecorderIsJoined};
 ghost use Rattle.segment_machine.specs.Worked.{WorkedRun, FrozenRun};
+ghost use Rattle.segment_machine.specs.Races.{StoppedRun, StalledRun, LostRun, RaceRun};
 ghost use Rattle.segment_machine.specs.Refused.{ValuesApart, MovesFirst, CursorsThere, SamplesMet, WordsSince, SwapsAdd, RecordsAlone, DebtsStay, TailsStay, FirstEntriesApart, WordsOffFirst, UnitsRemembered, SumsStay, FirstSamplesCount, CountsBound, SingleMarksApart, MarksRise, HonestAnswers};
 
 /// A step changes one word and one actor at most.
@@ -169,4 +170,24 @@ pub fn worked_run()
 /// The same in version 2, where the frozen word keeps its units.
 pub fn frozen_run()
     ensures { FrozenRun }
+{}
+
+/// Where all stop between a disabling exchange and the addition, two units are in transit, and the words have none of them.
+pub fn stopped_run()
+    ensures { StoppedRun }
+{}
+
+/// A taker that stalls with a packed word, while another takes all, takes nothing.
+pub fn stalled_run()
+    ensures { StalledRun }
+{}
+
+/// Of two counts blocks that are mounted at once one is lost, and its type becomes 0.
+pub fn lost_run()
+    ensures { LostRun }
+{}
+
+/// Of two samples of one value that are made at once the first on the list has all units.
+pub fn race_run()
+    ensures { RaceRun }
 {}

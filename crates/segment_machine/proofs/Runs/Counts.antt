@@ -13,7 +13,7 @@ use Rattle.segment_machine.specs.declared.actor.Taken.{Taken}
 use Rattle.segment_machine.specs.declared.entry.Counting.{Counting}
 use Rattle.segment_machine.specs.declared.place.Look.{Look}
 use Rattle.segment_machine.specs.declared.place.Place.{Place}
-use Rattle.segment_machine.specs.declared.place.Place.TheVariants.{Looking, Moving, CountLoaded, SampleLoaded, SumLoaded}
+use Rattle.segment_machine.specs.declared.place.Place.TheVariants.{Looking, Losing, Moving, CountLoaded, SampleLoaded, SumLoaded}
 use Rattle.segment_machine.specs.declared.seen.Seen.{Seen}
 use Rattle.segment_machine.specs.declared.seen.Sighting.{Sighting}
 use Rattle.segment_machine.specs.Entry.{is_counted, is_summed, has_ended}
@@ -39,6 +39,10 @@ looks _ = None
 abbrev moves : (place : Place) (bucket units : ℕ) → Option ((look : Look) × (place ≡ Moving look bucket units))
 moves (Moving look b n) bucket units = then (same b bucket) (λ e. then (same n units) (λ f. Some (look, λ k. Moving look (e k) (f k))))
 moves _ bucket units = None
+
+abbrev loses : (place : Place) (at : ℕ) → Option ((look : Look) × (place ≡ Losing look at))
+loses (Losing look lost) at = then (same lost at) (λ e. Some (look, ap (λ n. Losing look n) e))
+loses _ at = None
 
 abbrev counts_loaded : (place : Place) → Option ((look : Look) × (bucket count : ℕ) × (place ≡ CountLoaded look bucket count))
 counts_loaded (CountLoaded look bucket count) = Some (look, bucket, count, refl)
@@ -169,7 +173,7 @@ may_pack a (pack histogram old new) =
 may_pack a (mount_counts histogram at) =
     then (own_at a at) (λ o. then (is_false (is_bound a.place)) (λ turns. then (buckets_at a histogram) (λ k. then (makes_room a k.0) (λ room.
     then (is_blank o.0 (buckets_of k.0.spec)) (λ blank. Some (o.0, k.0, turns, o.1, o.2, k.1, room, blank))))))
-may_pack a (purge_block at) = None
+may_pack a (purge_block at) = loses a.place at
 may_pack a (disable histogram old) =
     then (looks_open a histogram old) (λ t. then (apart t.0.counts 0) (λ there. then (makes_room a t.1) (λ room. Some (t.0, t.1, t.2, there, room))))
 may_pack a (add_moved counts bucket units) = then (moves a.place bucket units) (λ t. then (same t.0.counts counts) (λ there. Some (t.0, t.1, there)))

@@ -1,5 +1,5 @@
 -- A run whose deeds may be done, each in its turn, leads from a state that is reached to one that is.
-use Rattle.std.proofs.Common.{◌≡◌, ◌≢◌, ◌∙◌, ℕ, ◌+◌, true, Bool, ◌&&◌, List, [], ◌∷◌, length, refl, arith, length-append, length-set, take-append-drop, Option, Some, None}
+use Rattle.std.proofs.Common.{◌⊎◌, ◌≤◌, ◌≡◌, ◌≢◌, ◌∙◌, ℕ, ◌+◌, true, Bool, ◌&&◌, List, [], ◌∷◌, length, refl, arith, length-append, length-set, take-append-drop, Option, Some, None}
 use Rattle.std.specs.Option.{is_some}
 use Rattle.std.proofs.lemmas.Bool.{and_parts}
 use Rattle.std.proofs.lemmas.List.{length-take-le}
@@ -14,7 +14,8 @@ use Rattle.segment_machine.specs.Event.{Event, allocating_event, publishing_even
 use Rattle.segment_machine.specs.Note.{Note, Notes}
 use Rattle.segment_machine.specs.Seats.{MayOffer, MaySplit, MayJoin, spent}
 use Rattle.segment_machine.specs.State.{State, memory}
-use Rattle.segment_machine.specs.Reached.{IsReached, stepped, offered, split, joined_in}
+use Rattle.segment_machine.specs.Reached.{IsReached, IsState, new_state, started, stepped, offered, split, joined_in}
+use Rattle.segment_machine.specs.Examples.{shape}
 use Rattle.segment_machine.specs.Worked.{Deed, acts, offers, makes, joins, noted_by, actor_of, done, played}
 use Rattle.segment_machine.proofs.Runs.Tests.{then, is_false, same, apart, at_most, below, empty, found_in}
 use Rattle.segment_machine.proofs.Runs.Blocks.{may_allocate, may_publish, may_walk}
@@ -118,3 +119,13 @@ played_reached version start state [] may reached = reached
 played_reached version start state (deed ∷ rest) may reached =
     let both = and_parts (is_some (may_do version state deed)) _ may in
     played_reached version start (done version state deed) rest both.1 (found_in (may_do version state deed) both.0 start reached)
+
+-- a run of a new segment of a small shape, in version 1 or 2
+pub is_state : (version id cursors : ℕ) (deeds : List Deed) → (version ≡ 1) ⊎ (version ≡ 2) → cursors ≤ 8
+    → may_play version (new_state shape version id cursors) deeds ≡ true → IsState shape version id cursors (played version (new_state shape version id cursors) deeds)
+is_state version id cursors deeds versions few may = (
+  record { wide = omega arith; one = omega arith; many = omega arith; whole = refl },
+  versions,
+  few,
+  played_reached version (new_state shape version id cursors) (new_state shape version id cursors) deeds may started,
+)

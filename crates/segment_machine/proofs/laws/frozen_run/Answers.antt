@@ -2,10 +2,9 @@ use Rattle.std.proofs.Common.{true, List, [], ◌∷◌, ◌++◌, inr, refl, ar
 use Rattle.std.specs.Prelude.{pos, take}
 use Rattle.std.proofs.lemmas.List.Elements.{All-nil}
 use Rattle.segment_machine.specs.declared.actor.Taken.{Taken}
-use Rattle.segment_machine.specs.Reached.{new_state, started}
-use Rattle.segment_machine.specs.Examples.{shape, letter_a}
+use Rattle.segment_machine.specs.Examples.{letter_a}
 use Rattle.segment_machine.specs.Worked.{worked, actor_of, packing, mounting, sampling, batching, last_delta}
-use Rattle.segment_machine.proofs.Runs.Reached.{played_reached}
+use Rattle.segment_machine.proofs.Runs.Reached.{is_state}
 use Rattle.segment_machine.proofs.laws.frozen_run.Goals as goal
 
 -- the last of its deltas, and those before
@@ -24,18 +23,7 @@ final = record {
 pub returns : goal.returns
 returns c = (
   record {
-    reached = (
-      record { wide = omega arith; one = omega arith; many = omega arith; whole = refl },
-      inr refl,
-      omega arith,
-      played_reached
-          2
-          (new_state shape 2 7 0)
-          (new_state shape 2 7 0)
-          (packing ++ mounting 2 ++ sampling ++ batching ++ last_delta)
-          refl
-          started,
-    );
+    reached = is_state 2 7 0 (packing ++ mounting 2 ++ sampling ++ batching ++ last_delta) (inr refl) (omega arith) refl;
     joined = (refl, refl);
     counted = refl;
     sparse = refl;

@@ -1,4 +1,5 @@
 pub mod Held
+pub mod Amounts
 pub mod Entries
 pub mod Running
 pub mod Seen

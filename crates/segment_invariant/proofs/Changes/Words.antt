@@ -15,17 +15,19 @@ use Rattle.segment_machine.specs.declared.actor.Actor.{Actor}
 use Rattle.segment_machine.specs.declared.actor.Own.{Own}
 use Rattle.segment_machine.specs.declared.actor.Taken.{Taken}
 use Rattle.segment_machine.specs.declared.place.Place.TheVariants.{Spent}
+use Rattle.segment_machine.specs.declared.seen.Seen.{Seen}
+use Rattle.alloc_core.specs.Laws.{Behind}
 use Rattle.segment_machine.specs.Entry.{tally_units}
 use Rattle.segment_machine.specs.Actor.{counted_of, all_counted, all_taken, taken_units}
 use Rattle.segment_machine.specs.State.{State}
-use Rattle.segment_invariant.specs.Body.{Body, held, words_of, is_claimed, Piece, extent_of, Anatomy, order_of}
+use Rattle.segment_invariant.specs.Body.{Body, held, words_of, is_claimed, Piece, extent_of, Anatomy, order_of, free_of}
 use Rattle.segment_invariant.specs.Seen.{Stands, Sees}
 use Rattle.segment_invariant.specs.Invariant.{RecordsAreKept, StandsRight, HoldsOwn, CallsRight, HasKey, SumsAreNear, LooksBack, FinalsAreExact, Invariant}
 use Rattle.segment_invariant.proofs.Frames.Ahead.{KeepsUp}
 use Rattle.segment_invariant.proofs.Allocating.Claimers.{still_put, right_put}
 use Rattle.segment_invariant.proofs.Blocks.Pieces.{one_index, one_piece, first_piece, piece_stored, free_with, claims_same, stands_beside, stands_here}
 use Rattle.segment_invariant.proofs.Blocks.Stops.{stop_open}
-use Rattle.segment_invariant.proofs.Frames.Onward.{GoesAs, goes_itself, Onward}
+use Rattle.segment_invariant.proofs.Frames.Onward.{GoesAs, goes_itself, Onward, sees_on}
 use Rattle.segment_invariant.proofs.Frames.Standing.{own_stays}
 use Rattle.segment_invariant.proofs.Changes.Changes.{changes_on}
 use Rattle.segment_invariant.proofs.Changes.Ledgers.{Balances, balanced_beside}
@@ -77,7 +79,7 @@ module _ (shape : Dimensions) (opened : Anatomy) (state : State) (kept : Invaria
   long : extent_of q ≡ extent_of p
   long = ap length turns.is ∙ length-set (words_of body) j v
 
-  turned_onward : Onward kept.anatomy behind (λ at body. ⊥)
+  pub turned_onward : Onward kept.anatomy behind (λ at body. ⊥)
   turned_onward = record {
     version = refl;
     goes = λ place other claimed (i, here). ⊎_elim
@@ -102,6 +104,15 @@ module _ (shape : Dimensions) (opened : Anatomy) (state : State) (kept : Invaria
     where
       either : (i : ℕ) → (i ≡ k) ⊎ (i ≢ k)
       either i = dite (ℕ_discrete i k) inl inr
+
+  -- the free pointer stays
+  pub turned_free : free_of behind ≡ free_of kept.anatomy
+  turned_free = free_with kept.anatomy k p q stands.1 long
+
+  -- what a recorder saw lies behind the present
+  pub sees_turned : (seen : Seen) → Sees kept.anatomy state.cursors seen → Sees behind state.cursors seen
+  sees_turned seen sees = sees_on kept.anatomy behind (λ at body. ⊥) turned_onward state.cursors seen (subst (Behind seen.free) (sym turned_free) sees.free)
+      sees.walked sees.tails sees.shared sees
 
   -- it is not the queue block
   not_queue : k ≢ 0
@@ -156,7 +167,7 @@ module _ (shape : Dimensions) (opened : Anatomy) (state : State) (kept : Invaria
             let place = ap (λ (z : Piece). z.at) (some-injective _ _ (sym stop.there ∙ (ap (get_elem? kept.anatomy.pieces) index ∙ stands.1))) in
             turns.inside.1 (omega (arith, same, begins, place)));
         claims = claims_same kept.anatomy.pieces k p q stands.1 (turns.still ∙ sym turns.claimed) refl long;
-        free = free_with kept.anatomy k p q stands.1 long;
+        free = turned_free;
         records = shows.records;
         balanced = balanced_beside kept.anatomy.pieces k p q stands.1 state.actors id a (changed a d) mine kept.anatomy.version opened.pieces shows.balances shows.taken
             kept.balanced;

@@ -34,7 +34,7 @@ row_left {A} {B} f l i x y b there has =
     row_from f (set l i y) i x b (subst (λ (list : List A). Contains (flat_map f list) b) (sym (set-set l i y x ∙ set_again l i x there)) has)
 
 -- a name has one first record
-first_one : (records : List Listed) (name : List ℕ) (kind other : Spec) (at place : ℕ) → IsFirst records name kind at → IsFirst records name other place
+pub first_one : (records : List Listed) (name : List ℕ) (kind other : Spec) (at place : ℕ) → IsFirst records name kind at → IsFirst records name other place
     → at ≡ place
 first_one records name kind other at place (xs, rest, is, before) (ys, more, also, others) =
     ap (λ (l : Listed). l.reference)

@@ -1,0 +1,205 @@
+-- An amount is added to the sum of a record, or units to its redundant count, for the entry that is next: the state that is left is kept.
+use Rattle.std.proofs.Common.{◌≡◌, ◌≢◌, ℕ, ◌+◌, ◌<◌, ◌≤◌, ◌^◌, ℤ, pos, ◌+ℤ◌, true, false, List, ◌∷◌, ◌++◌, set, Contains, inl, inr, refl, sym, ap, ◌∙◌, subst, arith}
+use Rattle.std.specs.Int.{w64, cast_signed}
+use Rattle.std.proofs.Math.IntN.{+ℤ_idr}
+use Rattle.std.proofs.lemmas.List.Elements.{All-contains}
+use mathlib.Core.Option.{some, none}
+use lib.ListN.{get_elem?}
+use Rattle.atomic_table.proofs.Lists.{set_else}
+use Rattle.segment_image.specs.Shape.{Dimensions}
+use Rattle.bucket_ranges.specs.declared.spec.Spec.{Spec}
+use Rattle.segment_machine.specs.declared.entry.Counting.{Counting}
+use Rattle.segment_machine.specs.declared.entry.Entry.{Entry}
+use Rattle.segment_machine.specs.declared.place.Place.TheVariants.{Spent, Idle}
+use Rattle.segment_machine.specs.declared.actor.Actor.{Actor}
+use Rattle.segment_machine.specs.declared.actor.Known.{Known}
+use Rattle.segment_machine.specs.declared.actor.Taken.{Taken}
+use Rattle.segment_machine.specs.declared.seen.Sighting.{Sighting}
+use Rattle.segment_machine.specs.Entry.{counted_among, is_counted, is_summed, is_of, tally_units, tally_sum, tally_noted}
+use Rattle.segment_machine.specs.Note.{is_untouched}
+use Rattle.segment_machine.specs.Actor.{is_bound, counted_of, summed_of, noted_of, all_counted, all_summed, all_noted, all_taken, taken_units}
+use Rattle.segment_machine.specs.State.{State}
+use Rattle.segment_invariant.specs.Body.{Record, Counts, Body, histogram, Piece, Anatomy}
+use Rattle.segment_invariant.specs.Ledger.{of_name, amount_of_name, moving_at}
+use Rattle.segment_invariant.specs.Seen.{HasRecord, HasCounts, IsFirst, Knows, Sees}
+use Rattle.segment_invariant.specs.Invariant.{IsLawfulRecord, IsCountsOf, SumsAreNear, LooksBack, Invariant}
+use Rattle.segment_invariant.proofs.Lists.Countings.{sum_total, noted_total}
+use Rattle.segment_invariant.proofs.Lists.Elements.{rows, rows_total, row_in}
+use Rattle.segment_invariant.proofs.Frames.Ahead.{unbound_unbeaten}
+use Rattle.segment_invariant.proofs.Frames.Answers.{first_one}
+use Rattle.segment_invariant.proofs.Frames.GoesOn.{not_opener}
+use Rattle.segment_invariant.proofs.Frames.OneActor.{rests_at, lives_on}
+use Rattle.segment_invariant.proofs.Frames.Roles.{SameRole, AllStood, stood_set}
+use Rattle.segment_invariant.proofs.Counting.Seen.{known_stands}
+use Rattle.segment_invariant.proofs.Counting.Running.{Next, passes_same}
+use Rattle.segment_invariant.proofs.Counting.Entries.{after, going, calls_next, finals_next}
+use Rattle.segment_invariant.proofs.Changes.Ledgers.{taken_on}
+use Rattle.segment_invariant.proofs.Changes.Others.{Deed, deed_of, changed, sees_no_more, looks_on, alone_was}
+use Rattle.segment_invariant.proofs.Changes.Records.{record_kept}
+use Rattle.segment_invariant.proofs.Changes.Words.{Turns, turned, behind, turned_onward, sees_turned, turned_on}
+
+-- ---- the record with that
+
+abbrev pub with_amount : Record → ℕ → ℕ → Record
+with_amount r sum noted = record r { sum = sum; noted = noted }
+
+lawful_amount : (version page : ℕ) (r : Record) (sum noted : ℕ) → sum < 2 ^ 64 → IsLawfulRecord version page r → IsLawfulRecord version page (with_amount r sum noted)
+lawful_amount version page r sum noted narrow is = record {
+  sized = is.sized;
+  least = is.least;
+  named = is.named;
+  lettered = is.lettered;
+  lawful = is.lawful;
+  fields = is.fields;
+  fits = is.fits;
+  formed = is.formed;
+  unpacked = is.unpacked;
+  off = is.off;
+  sparse = is.sparse;
+  narrow = (narrow, is.narrow.1);
+}
+
+counts_amount : (version at : ℕ) (r : Record) (sum noted : ℕ) (c : Counts) → IsCountsOf version at r c → IsCountsOf version at (with_amount r sum noted) c
+counts_amount version at r sum noted c is = record {
+  mine = is.mine;
+  named = is.named;
+  same = is.same;
+  units = is.units;
+  marks = is.marks;
+  sized = is.sized;
+  packed = is.packed;
+  unused = is.unused;
+  mark = is.mark;
+}
+
+-- ---- the state
+
+module _ (shape : Dimensions) (opened : Anatomy) (state : State) (kept : Invariant shape opened state) (id : ℕ) (a : Actor)
+    (mine : get_elem? state.actors id ≡ some a) (recorder : a.opener ≡ 0) (unbound : is_bound a.place ≡ false)
+    (c d : Counting) (next : Next a.running c) (entry : d.entry ≡ c.entry) (known : Known) (has : Contains a.names known) where
+  -- who may turn lives, and has nothing on its way
+  pub turner_lives : a.place ≢ Spent
+  turner_lives spent = cc (unbound, ap is_bound spent)
+
+  turner_rests : (name : List ℕ) (key : ℤ) → moving_at a name key a.place ≡ 0
+  turner_rests name key = rests_at a name key a.place (λ look bucket units moving. cc (unbound, ap is_bound moving))
+
+  -- the record of the histogram that it knows
+  pub the_record : (r : Record) × HasRecord kept.anatomy.pieces known.reference r × (r.name ≡ known.name)
+  the_record =
+      let (r, stands, named, bounds, many) = known_stands shape opened state kept id a mine turner_lives known has in
+      (r, stands, named)
+
+  abbrev pub r : Record
+  r = the_record.0
+
+  abbrev pub stands : HasRecord kept.anatomy.pieces known.reference r
+  stands = the_record.1
+
+  -- is the first of its name
+  pub knows : Knows kept.anatomy known
+  knows = All-contains (Knows kept.anatomy) a.names known (kept.each id a mine turner_lives).names has
+
+  module _ (sum noted j v : ℕ) (turns : Turns kept.anatomy.version (histogram r) (histogram (with_amount r sum noted)) j v) (narrow : sum < 2 ^ 64) (counts : List Sighting)
+      (counted : is_counted d ≡ is_counted c) where
+    abbrev pub deed : Deed
+    deed = going a c d next entry (record (deed_of a) { place = Idle; seen = record a.seen { counts = counts } })
+
+    abbrev pub b : Actor
+    b = changed a deed
+
+    abbrev pub actors : List Actor
+    actors = set state.actors id b
+
+    abbrev pub new : Anatomy
+    new = behind shape opened state kept known.reference (histogram r) (histogram (with_amount r sum noted)) j v stands turns
+
+    pub counted_same : counted_of b ≡ counted_of a
+    counted_same =
+        passes_same is_counted next.behind c d entry counted a.first a.log next.front
+        ∙ ap (λ (l : List Counting). a.first ++ counted_among (a.log ++ l)) (sym next.is)
+
+    role : SameRole b a
+    role = record {
+      living = lives_on b recorder (λ e. cc e) ∙ sym (lives_on a recorder turner_lives);
+      opener = refl;
+      first = refl;
+      first_noted = refl;
+      made = refl;
+      outstanding = refl;
+      inherited = refl;
+      offered = refl;
+    }
+
+    stood : AllStood state.actors actors
+    stood = stood_set state.actors id a b mine role
+
+    first : get_elem? actors 0 ≡ get_elem? state.actors 0
+    first = set_else state.actors id 0 b (λ same. not_opener shape opened state kept id a mine recorder (sym same))
+
+    all_counted_same : all_counted actors ≡ all_counted state.actors
+    all_counted_same = rows counted_of state.actors id a b mine counted_same
+
+    module _ (untouched : is_untouched d ≡ false) (counted_first : d.summed ≡ true → is_counted d ≡ true) (summed_next : d.noted ≡ true → is_summed d ≡ true)
+        (amounted : d.summed ≡ true → d.entry.amount ≢ pos 0)
+        (more_sum : (name : List ℕ) → (z : ℤ) × (amount_of_name r.name name (cast_signed w64 sum) ≡ amount_of_name r.name name (cast_signed w64 r.sum) +ℤ z)
+        × (tally_sum (summed_of b) name ≡ tally_sum (summed_of a) name +ℤ z))
+        (more_noted : (name : List ℕ) → of_name r.name name noted + tally_noted (noted_of a) name ≡ of_name r.name name r.noted + tally_noted (noted_of b) name)
+        (sum_apart : (name : List ℕ) → is_of name c.entry ≡ false → tally_sum (summed_of b) name ≡ tally_sum (summed_of a) name)
+        (noted_apart : (name : List ℕ) → is_of name c.entry ≡ false → tally_noted (noted_of b) name ≡ tally_noted (noted_of a) name)
+        (near : SumsAreNear new.pieces actors)
+        (sees : Sees new state.cursors a.seen → Sees new state.cursors deed.seen)
+        (looks : LooksBack new actors kept.roles.opener (changed a (sees_no_more a deed)) → LooksBack new actors kept.roles.opener b) where
+      pub amount_added : Invariant shape opened (record { words = set state.words (known.reference + j) v; cursors = state.cursors; actors = actors })
+      amount_added =
+          let fits = kept.each id a mine turner_lives in
+          let records = record_kept shape opened state kept known.reference r (with_amount r sum noted) j v stands turns refl
+          (lawful_amount kept.anatomy.version shape.page r sum noted narrow (kept.records.lawful known.reference r stands))
+          (λ c there is. counts_amount kept.anatomy.version known.reference r sum noted c is)
+          (kept.records.packed known.reference r stands)
+          (λ kind place is. first_one kept.anatomy.records known.name kind knows.first_spec place known.reference
+          (subst (λ (name : List ℕ). IsFirst kept.anatomy.records name kind place) the_record.2 is) knows.first) in
+          turned_on shape opened state kept known.reference (histogram r) (histogram (with_amount r sum noted)) j v stands turns id a mine recorder turner_lives deed (record {
+            records = records;
+            balances = record {
+              units = λ name key.
+                  let rests = turner_rests name key in
+                  let same = ap (λ entries. tally_units entries name key) counted_same in
+                  omega (arith, rests, same);
+              marks = λ name key. refl;
+              sums = more_sum;
+              sum_marks = λ name. (pos 0, sym (+ℤ_idr _), sym (+ℤ_idr _));
+              noted = more_noted;
+            };
+            taken = λ name key.
+                let was = kept.balanced.taken name key in
+                let took = ap (λ list. taken_units list name key) (rows (λ (a : Actor). a.taken) state.actors id a b mine refl) in
+                let same = ap (λ entries. tally_units entries name key) all_counted_same in
+                omega (arith, was, took, same);
+            counted = λ name key. let same = ap (λ entries. tally_units entries name key) counted_same in omega (arith, same);
+            keys = λ entry there units. kept.keys entry
+                (row_in counted_of state.actors id a entry mine (subst (λ (entries : List Entry). Contains entries entry) counted_same there)) units;
+            taken_keys = λ t count there. kept.taken_keys t count (row_in (λ (c : Actor). c.taken) state.actors id a t mine there);
+            sums = near;
+            lives = λ e. cc e;
+            stood = tt;
+            up = λ free. unbound_unbeaten a.place unbound;
+            sees = sees (sees_turned shape opened state kept known.reference (histogram r) (histogram (with_amount r sum noted)) j v stands turns a.seen fits.sees);
+            own = refl;
+            calls = calls_next a c d next entry kept.anatomy new deed counted_first summed_next amounted
+                (λ entry of there. fits.calls.met entry of (subst (λ (entries : List Entry). Contains (a.inherited ++ entries) entry) counted_same there)) fits.calls;
+            looks = looks (looks_on shape state.words kept.anatomy new kept.shown (λ at body. ⊥)
+                (turned_onward shape opened state kept known.reference (histogram r) (histogram (with_amount r sum noted)) j v stands turns) refl shape.page kept.records records
+                a fits.sees.counters fits.sees.in_use state.actors actors kept.roles.opener deed
+                (λ name key. let same = ap (λ entries. tally_units entries name key) all_counted_same in omega (arith, same))
+                (alone_was state.actors actors kept.roles stood first a a refl refl)
+                (λ known has.
+                let (r, stands, named, bounds, many) = known_stands shape opened state kept id a mine turner_lives known has in (r, stands, many))
+                (fits.looks recorder) (λ reference sum s loaded. absurd (cc loaded)) (λ at s new_one. new_one));
+            finals = finals_next a c d next entry state.actors actors kept.roles stood first id deed untouched
+                (rows (λ (c : Actor). c.taken) state.actors id a b mine refl)
+                (λ name key apart. ap (λ entries. tally_units entries name key) all_counted_same)
+                (λ name apart. rows_total ◌+ℤ◌ (λ entries. tally_sum entries name) (sum_total name) summed_of state.actors id a b mine (sum_apart name apart))
+                (λ name apart. rows_total ◌+◌ (λ entries. tally_noted entries name) (noted_total name) noted_of state.actors id a b mine (noted_apart name apart))
+                (λ taking. (fits.calls.taking taking).0) fits.finals;
+          })

@@ -42,10 +42,10 @@ module _ {M : Type 0} (nothing : M) (add : M → M → M) (is : IsAddition ◌�
   abbrev pub alone : ℕ → M → ℕ → M
   alone m x k = if eqb m k then x else nothing
 
-  is_alone : (m k : ℕ) (x : M) → m ≡ k → alone m x k ≡ x
+  pub is_alone : (m k : ℕ) (x : M) → m ≡ k → alone m x k ≡ x
   is_alone m k x e = λ i. if eq-eqb m k e i then x else nothing
 
-  not_alone : (m k : ℕ) (x : M) → m ≢ k → alone m x k ≡ nothing
+  pub not_alone : (m k : ℕ) (x : M) → m ≢ k → alone m x k ≡ nothing
   not_alone m k x ne = λ i. if ne_eqb m k ne i then x else nothing
 
   before_row : (m a n : ℕ) (x : M) → m < a → total (alone m x) (range_with_len a n) ≡ nothing

@@ -4,7 +4,7 @@
 
 ghost use Rattle.segment_promises.specs.States.{ReachedStatesFollow};
 ghost use Rattle.segment_promises.specs.Follows.{StepsFollow, TablesOpen, TablesClose, TablesFollow, TablesAnnounce, TablesOffer, TablesSplit, TablesJoin};
-ghost use Rattle.segment_promises.specs.Tallies.{PartsAddUp};
+ghost use Rattle.segment_promises.specs.Tallies.{PartsAddUp, TalliesAreCounts};
 ghost use Rattle.segment_promises.specs.Deltas.{FinalDeltasTakeAll, FinalSnapshotsAreExact, SnapshotsStayBelow};
 ghost use Rattle.segment_promises.specs.Refusals.{RefusedAddsFew};
 ghost use Rattle.segment_promises.specs.Lists.{WalksGiveAll, CursorsKeepOrder, CursorsGiveFronts, CursorsGiveAll};
@@ -98,6 +98,11 @@ pub fn cursors_give_fronts()
 /// A shared cursor answers None only where all that its caller had met was given.
 pub fn cursors_give_all()
     ensures { CursorsGiveAll }
+{}
+
+/// The tally of the entries of samples is what the samples add up to.
+pub fn tallies_are_counts()
+    ensures { TalliesAreCounts }
 {}
 
 /// A link that finds the end of the list makes the chain longer by its record.

@@ -9,3 +9,4 @@ pub mod Accepted
 pub mod Whole
 pub mod Looks
 pub mod Bounds
+pub mod Samples

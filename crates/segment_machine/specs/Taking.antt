@@ -148,11 +148,11 @@ next a (load_redundant histogram) found = record a { seen = record a.seen { coun
 abbrev pub IsSum : ℕ → Type 0
 IsSum found = unsigned_abs (cast_signed w64 found) ≤ 2147483648 * 4294967295
 
--- a later sample of a value counts nothing
+-- a later sample of a value that it met; it counts nothing
 abbrev pub IsLaterSample : Actor → ℕ → Type 0
 IsLaterSample a sample =
-    (known : Known) × (value : ℤ) × (first : ℕ) × Sparse a known.reference known × SawSample a.seen known.reference value sample
-    × IsFirstSample a.seen known.reference value first × (first ≢ sample)
+    (known : Known) × (value : ℤ) × (first : ℕ) × Sparse a known.reference known × Contains a.seen.chain sample
+    × SawSample a.seen known.reference value sample × IsFirstSample a.seen known.reference value first × (first ≢ sample)
 
 abbrev pub Learned : Actor → TakingEvent → ℕ → Type 0
 Learned a (load_count at) found = IsUnits found × ((sample : ℕ) → at ≡ sample + SAMPLE_COUNT → IsLaterSample a sample → found ≡ 0)

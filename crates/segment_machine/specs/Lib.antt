@@ -27,3 +27,4 @@ pub mod Lives
 pub mod Refused
 pub mod Worked
 pub mod Races
+pub mod Looks

@@ -7,6 +7,7 @@ ghost use Rattle.segment_machine.specs.Stages.{AllocationsAgree, PublishesAgree,
 ghost use Rattle.segment_machine.specs.Examples.{Keys, PackedRun, MountingRun, TakerRuns, TakingRun, Batches};
 ghost use Rattle.segment_machine.specs.Lives.{RecorderIsJoined};
 ghost use Rattle.segment_machine.specs.Worked.{WorkedRun, FrozenRun};
+ghost use Rattle.segment_machine.specs.Looks.{SnapshotRun, CursorRun};
 ghost use Rattle.segment_machine.specs.Races.{StoppedRun, StalledRun, LostRun, RaceRun};
 ghost use Rattle.segment_machine.specs.Refused.{ValuesApart, MovesFirst, CursorsThere, SamplesMet, WordsSince, SwapsAdd, RecordsAlone, DebtsStay, TailsStay, FirstEntriesApart, WordsOffFirst, UnitsRemembered, SumsStay, FirstSamplesCount, CountsBound, SingleMarksApart, MarksRise, HonestAnswers};
 
@@ -190,4 +191,14 @@ pub fn lost_run()
 /// Of two samples of one value that are made at once the first on the list has all units.
 pub fn race_run()
     ensures { RaceRun }
+{}
+
+/// A snapshot of packed units that were moved answers what was counted.
+pub fn snapshot_run()
+    ensures { SnapshotRun }
+{}
+
+/// A shared cursor gives two recorders each record once.
+pub fn cursor_run()
+    ensures { CursorRun }
 {}

@@ -9,7 +9,7 @@
 //! `Packing`, `Taking`, `Cursors`) and one that puts them together (`Event`), what an actor notes (`Note`), how recorders
 //! are made and joined (`Seats`), one step (`State`) and the states that are reached (`Reached`). `Stages` says how an actor
 //! goes along with an allocation, a publish and a walk that are stepped by themselves. Worked examples are in `Examples`,
-//! `Lives`, `Worked` (a run from a new segment to the joins), `Races` and `Refused`.
+//! `Lives`, `Worked` (a run from a new segment to the joins), `Races`, `Looks` and `Refused`.
 //!
 //! What holds between any two events is in `segment_invariant`, what follows from it in `segment_promises`.
 #![tactic(auto)]

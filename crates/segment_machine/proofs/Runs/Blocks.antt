@@ -1,4 +1,4 @@
--- Whether an actor may do an event of allocating, publishing or walking: Some where it may.
+-- Whether an actor may do an event of allocating, publishing or walking, or one of a shared cursor: Some where it may.
 use Rattle.std.proofs.Common.{◌≡◌, ℕ, ◌+◌, ◌*◌, ◌-◌, List, [], ◌∷◌, ◌++◌, length, replicate, inl, inr, refl, ap, Contains, Option, Some, None}
 use Rattle.std.specs.Prelude.{take, drop, ◌%◌, ◌⊎◌}
 use Rattle.std.specs.Int.{w64, cast_unsigned}
@@ -15,7 +15,7 @@ use Rattle.segment_machine.specs.declared.actor.Made.{Made}
 use Rattle.segment_machine.specs.declared.actor.Made.TheVariants.{Histogram, Sample}
 use Rattle.segment_machine.specs.declared.actor.Own.{Own}
 use Rattle.segment_machine.specs.declared.place.Place.{Place}
-use Rattle.segment_machine.specs.declared.place.Place.TheVariants.{FlagsLoaded, FreeLoaded, Raised, Sized, Marked, TailLoaded, Beaten, Linked}
+use Rattle.segment_machine.specs.declared.place.Place.TheVariants.{FlagsLoaded, FreeLoaded, Raised, Sized, Marked, TailLoaded, Beaten, Linked, CursorLoaded, BehindCursor}
 use Rattle.segment_machine.specs.Actor.{is_bound, Sparse, word_seen}
 use Rattle.segment_machine.specs.Made.{AreNameWords, IsPayload}
 use Rattle.segment_machine.specs.Allocating.{AllocatingEvent, load_flags, load_free, exchange_free, store_size, store_cookie, store_type, store_payload, set_flag}
@@ -24,6 +24,8 @@ use Rattle.segment_machine.specs.Publishing.{PublishingEvent, store_own_next, lo
 use Rattle.segment_machine.specs.Publishing as publishing
 use Rattle.segment_machine.specs.Walking.{WalkingEvent, load_next, load_published, IsFixed, MayFollow}
 use Rattle.segment_machine.specs.Walking as walking
+use Rattle.segment_machine.specs.Cursors.{CursorEvent, load_cursor, move_cursor}
+use Rattle.segment_machine.specs.Cursors as cursors
 use Rattle.segment_machine.proofs.Runs.Tests.{then, or_else, is_true, is_false, same, at_most, below, same_bytes, value_in, nothing_in, is_number, some_of, member}
 
 -- ---- places
@@ -56,6 +58,15 @@ abbrev moves_on : (place : Place) (old new : ℕ) → Option ((place ≡ Linked 
 moves_on (Linked at tail) old new = then (same at new) (λ e. then (same tail old) (λ f. Some (inl (λ k. Linked (e k) (f k)))))
 moves_on (Beaten tail at) old new = then (same tail old) (λ e. then (same at new) (λ f. Some (inr (λ k. Beaten (e k) (f k)))))
 moves_on _ old new = None
+
+abbrev cursor_loaded : (place : Place) (at : ℕ) → Option ((cursor : ℕ) × (place ≡ CursorLoaded cursor at))
+cursor_loaded (CursorLoaded cursor found) at = then (same found at) (λ e. Some (cursor, ap (λ n. CursorLoaded cursor n) e))
+cursor_loaded _ at = None
+
+abbrev behind_cursor : (place : Place) (cursor old new : ℕ) → Option (place ≡ BehindCursor cursor old new)
+behind_cursor (BehindCursor c at next) cursor old new =
+    then (same c cursor) (λ e. then (same at old) (λ f. then (same next new) (λ g. Some (λ k. BehindCursor (e k) (f k) (g k)))))
+behind_cursor _ cursor old new = None
 
 -- ---- allocating
 
@@ -129,7 +140,9 @@ may_publish a (move_tail old new) = moves_on a.place old new
 -- ---- walking
 
 abbrev follows : (a : Actor) (at : ℕ) → Option (MayFollow a at)
-follows a at = or_else (then (same at 12) (λ e. Some (inl e))) (then (member a.seen.chain at) (λ met. Some (inr (inl met))))
+follows a at =
+    or_else (then (same at 12) (λ e. Some (inl e)))
+    (or_else (then (member a.seen.chain at) (λ met. Some (inr (inl met)))) (then (cursor_loaded a.place at) (λ t. Some (inr (inr (t.0, t.1))))))
 
 abbrev is_fixed : (a : Actor) (at index : ℕ) → Option (IsFixed a at index)
 is_fixed a at index =
@@ -146,3 +159,9 @@ abbrev pub may_walk : (a : Actor) (event : WalkingEvent) → Option (walking.Rea
 may_walk a (load_next at) = then (is_false (is_bound a.place)) (λ turns. then (follows a at) (λ may. Some (turns, may)))
 may_walk a (load_published at index) =
     then (is_false (is_bound a.place)) (λ turns. then (member a.seen.chain at) (λ met. then (is_fixed a at index) (λ fixed. Some (turns, met, fixed))))
+
+-- ---- shared cursors
+
+abbrev pub may_share : (a : Actor) (event : CursorEvent) → Option (cursors.Ready a event)
+may_share a (load_cursor cursor) = then (is_false (is_bound a.place)) (λ turns. then (below cursor a.cursors) (λ there. Some (turns, there)))
+may_share a (move_cursor cursor old new) = behind_cursor a.place cursor old new

@@ -9,7 +9,6 @@ use Rattle.std.specs.Int.{w64, cast_signed, cast_unsigned}
 use Rattle.segment_machine.specs.declared.actor.Actor.{Actor}
 use Rattle.segment_machine.specs.declared.actor.Known.{Known}
 use Rattle.segment_machine.specs.declared.actor.Own.{Own}
-use Rattle.segment_machine.specs.declared.actor.Taken.{Taken}
 use Rattle.segment_machine.specs.declared.entry.Counting.{Counting}
 use Rattle.segment_machine.specs.declared.place.Look.{Look}
 use Rattle.segment_machine.specs.declared.place.Place.{Place}
@@ -48,7 +47,7 @@ abbrev counts_loaded : (place : Place) → Option ((look : Look) × (bucket coun
 counts_loaded (CountLoaded look bucket count) = Some (look, bucket, count, refl)
 counts_loaded _ = None
 
-abbrev sum_loaded : (place : Place) (histogram : ℕ) (sum : ℤ) → Option (place ≡ SumLoaded histogram sum)
+abbrev pub sum_loaded : (place : Place) (histogram : ℕ) (sum : ℤ) → Option (place ≡ SumLoaded histogram sum)
 sum_loaded (SumLoaded h s) histogram sum = then (same h histogram) (λ e. then (same_integer s sum) (λ f. Some (λ k. SumLoaded (e k) (f k))))
 sum_loaded _ histogram sum = None
 
@@ -180,7 +179,7 @@ may_pack a (add_moved counts bucket units) = then (moves a.place bucket units) (
 
 -- ---- taking
 
-abbrev pub last_of : (list : List Taken) → Option ((before : List Taken) × (last : Taken) × (list ≡ before ++ last ∷ []))
+abbrev pub last_of : {X : Type 0} (list : List X) → Option ((before : List X) × (last : X) × (list ≡ before ++ last ∷ []))
 last_of [] = None
 last_of (t ∷ rest) = or_else (then (empty rest) (λ e. Some ([], t, ap (λ list. t ∷ list) e))) (then (last_of rest) (λ u. Some (t ∷ u.0, u.1, ap (λ list. t ∷ list) u.2)))
 

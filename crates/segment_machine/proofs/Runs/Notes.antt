@@ -2,6 +2,9 @@
 use Rattle.std.proofs.Common.{◌≡◌, ◌≢◌, ◌∙◌, ℕ, zero, suc, ◌+◌, ◌*◌, ◌<◌, ◌≤◌, true, false, not, List, [], ◌∷◌, ◌++◌, map, length, inl, inr, refl, sym, ap, subst, true≢false, ⊎_elim, arith, ℤ, All, Contains, Option, Some, None}
 use Rattle.std.specs.Prelude.{pos, slice_index, unwrap_or, unsigned_abs, drop}
 use Rattle.std.specs.List.{filter}
+use Rattle.std.specs.List.{range_with_len}
+use mathlib.Core.Option.{some}
+use lib.ListN.{get_elem?}
 use Rattle.std.specs.Str.{bytes_eq}
 use Rattle.std.specs.Ordering.{int_eq}
 use Rattle.std.proofs.lemmas.Slice.Eq.{bytes_eq-Decides}
@@ -14,7 +17,9 @@ use Rattle.bucket_ranges.specs.Spec.{spec_fields, spec_ranges, buckets_of}
 use Rattle.bucket_ranges.specs.declared.spec.Spec.{Spec}
 use Rattle.bucket_ranges.specs.declared.spec.Spec.TheVariants as spec
 use Rattle.segment_machine.specs.declared.actor.Actor.{Actor}
+use Rattle.segment_machine.specs.declared.actor.Answered.{Answered}
 use Rattle.segment_machine.specs.declared.actor.Known.{Known}
+use Rattle.segment_machine.specs.declared.actor.Moment.{Moment}
 use Rattle.segment_machine.specs.declared.entry.Counting.{Counting}
 use Rattle.segment_machine.specs.declared.entry.Entry.{Entry}
 use Rattle.segment_machine.specs.declared.place.Place.{Place}
@@ -23,13 +28,13 @@ use Rattle.segment_machine.specs.declared.seen.Seen.{Seen}
 use Rattle.segment_machine.specs.declared.seen.Sighting.{Sighting}
 use Rattle.segment_machine.specs.Entry.{AreWithin, has_ended, tally_noted, tally_sum}
 use Rattle.segment_machine.specs.Form.{is_off}
-use Rattle.segment_machine.specs.Actor.{is_bound, has_buckets, word_seen}
+use Rattle.segment_machine.specs.Actor.{is_bound, bucket_key, has_buckets, word_seen}
 use Rattle.segment_machine.specs.Made.{AreNameWords, SawSample, SawName, SawOtherName, SawSpec}
-use Rattle.segment_machine.specs.Note.{Note, begins, goes_on, asks, knows, takes, has_taken, ends, MayNote, SawBucket, IsMarkOf, TookBucket, TookSample, TookAll, Notes, noted}
+use Rattle.segment_machine.specs.Note.{Note, begins, goes_on, asks, knows, takes, has_taken, looks, answers, moment_of, ends, MayNote, SawBucket, IsMarkOf, TookBucket, TookSample, TookAll, SawAll, Notes, noted}
 use Rattle.segment_machine.specs.Worked.{noted_by}
-use Rattle.segment_machine.proofs.Runs.Tests.{then, or_else, is_true, is_false, same, at_most, below, apart, same_bytes, empty, value_in, nothing_in, is_number, some_of, all_of, first_of_list}
+use Rattle.segment_machine.proofs.Runs.Tests.{then, or_else, is_true, is_false, same, at_most, below, apart, same_bytes, same_integer, empty, value_in, nothing_in, is_number, some_of, all_of, first_of_list}
 use Rattle.segment_machine.proofs.Runs.Blocks.{own_at, is_sparse_spec, name_words_of}
-use Rattle.segment_machine.proofs.Runs.Counts.{cut_before, last_of, same_sighting}
+use Rattle.segment_machine.proofs.Runs.Counts.{cut_before, last_of, same_sighting, sum_loaded}
 
 -- ---- a call that counts
 
@@ -205,6 +210,59 @@ took_buckets a known =
 abbrev took_all : (a : Actor) (known : Known) → Option (TookAll a known)
 took_all a known = or_else (took_buckets a known) (took_samples a known)
 
+-- ---- a snapshot
+
+abbrev same_keys : (x y : List ℤ) → Option (x ≡ y)
+same_keys [] [] = Some refl
+same_keys (x ∷ xs) (y ∷ ys) = then (same_integer x y) (λ e. then (same_keys xs ys) (λ f. Some (λ k. e k ∷ f k)))
+same_keys _ _ = None
+
+pub at_none : {X : Type 0} (F : ℕ → X → Type 0) (base i : ℕ) (x : X) → get_elem? [] i ≡ some x → F (base + i) x
+at_none F base i x there = cc there
+
+pub at_more : {X : Type 0} (F : ℕ → X → Type 0) (base : ℕ) (y : X) (rest : List X) → F base y
+    → ((i : ℕ) (x : X) → get_elem? rest i ≡ some x → F (base + 1 + i) x) → (i : ℕ) (x : X) → get_elem? (y ∷ rest) i ≡ some x → F (base + i) x
+at_more F base y rest here others zero x there =
+    let same : y ≡ x = cc there in subst (λ (n : ℕ). F n x) (omega arith) (subst (F base) same here)
+at_more F base y rest here others (suc i) x there = subst (λ (n : ℕ). F n x) (omega arith) (others i x there)
+
+-- a test finds something of each element and its place
+abbrev each_at : {X : Type 0} (F : ℕ → X → Type 0) → ((i : ℕ) (x : X) → Option (F i x)) → (base : ℕ) (list : List X)
+    → Option ((i : ℕ) (x : X) → get_elem? list i ≡ some x → F (base + i) x)
+each_at F test base [] = Some (at_none F base)
+each_at F test base (x ∷ rest) = then (test base x) (λ here. then (each_at F test (base + 1) rest) (λ others. Some (at_more F base x rest here others)))
+
+pub from_zero : {X : Type 0} (F : ℕ → X → Type 0) (list : List X) → ((i : ℕ) (x : X) → get_elem? list i ≡ some x → F (0 + i) x)
+    → (i : ℕ) (x : X) → get_elem? list i ≡ some x → F i x
+from_zero F list all i x there = subst (λ (n : ℕ). F n x) (omega arith) (all i x there)
+
+abbrev SawTotal : Actor → Known → ℕ → ℤ × ℕ → Type 0
+SawTotal a known bucket count = SawBucket a known bucket count.1
+
+abbrev saw_total : (a : Actor) (known : Known) (bucket : ℕ) (count : ℤ × ℕ) → Option (SawTotal a known bucket count)
+saw_total a known bucket count =
+    then (saw_bucket a known bucket) (λ t. then (same t.0 count.1) (λ e. Some (subst (λ (n : ℕ). SawBucket a known bucket n) e t.1)))
+
+abbrev saw_all : (a : Actor) (known : Known) (answered : Answered) → Option (SawAll a known answered)
+saw_all a known answered =
+    then (is_true (has_buckets known.spec)) (λ has.
+    then (same_keys (map (λ (count : ℤ × ℕ). count.0) answered.counts) (map (bucket_key (Some known)) (range_with_len 0 (buckets_of known.spec)))) (λ keyed.
+    then (each_at (SawTotal a known) (saw_total a known) 0 answered.counts) (λ totals. then (sum_loaded a.place known.reference answered.sum) (λ summed.
+    then (last_of (drop a.since_counts a.seen.counts)) (λ t. then (same t.1.at (known.reference + 13)) (λ at. then (same t.1.word answered.redundant) (λ word.
+    Some (record {
+      buckets = λ _. (keyed, from_zero (SawTotal a known) answered.counts totals);
+      samples = λ sparse. not_sparse known.spec has sparse;
+      once = λ sparse. not_sparse known.spec has sparse;
+      values = λ sparse. not_sparse known.spec has sparse;
+      sum = summed;
+      redundant = (t.0, t.2 ∙ ap (λ (s : Sighting). t.0 ++ s ∷ []) (same_sighting t.1 (known.reference + 13) answered.redundant at word));
+    }))))))))
+
+abbrev same_moment : (m n : Moment) → Option (m ≡ n)
+same_moment m n =
+    then (same m.log n.log) (λ e. then (same m.before n.before) (λ f. then (same m.outstanding n.outstanding) (λ g.
+    Some (λ k. record { log = e k; before = f k; outstanding = g k }))))
+
 -- ---- notes
 
 abbrev may_note : (a : Actor) (note : Note) → Option (MayNote a note)
@@ -225,6 +283,12 @@ may_note a (takes name) =
 may_note a has_taken =
     then (is_true a.taking) (λ going. then (last_of a.taken) (λ t. then (some_of (λ known. same_bytes known.name t.1.name) a.names) (λ k. then (took_all a k.0) (λ all.
     Some (going, (k.0, k.1, all))))))
+may_note a looks =
+    then (is_false (is_bound a.place)) (λ turns. then (same a.opener 0) (λ recorder. then (empty a.running) (λ none. then (is_false a.taking) (λ no_delta.
+    Some (not_spent a.place turns, recorder, none, no_delta)))))
+may_note a (answers answered) =
+    then (some_of (λ known. same_bytes known.name answered.name) a.names) (λ k. then (saw_all a k.0 answered) (λ all. then (same_moment answered.moment (moment_of a)) (λ when.
+    Some (k.0, k.1, k.2, all, when))))
 may_note a ends =
     then (is_false (is_bound a.place)) (λ turns. then (all_of (λ c. has_ended c ≡ true) (λ c. is_true (has_ended c)) a.running) (λ ended. Some (turns, ended)))
 may_note a _ = None

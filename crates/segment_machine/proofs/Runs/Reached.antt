@@ -18,7 +18,7 @@ use Rattle.segment_machine.specs.Reached.{IsReached, IsState, new_state, started
 use Rattle.segment_machine.specs.Examples.{shape}
 use Rattle.segment_machine.specs.Worked.{Deed, acts, offers, makes, joins, noted_by, actor_of, done, played}
 use Rattle.segment_machine.proofs.Runs.Tests.{then, is_false, same, apart, at_most, below, empty, found_in}
-use Rattle.segment_machine.proofs.Runs.Blocks.{may_allocate, may_publish, may_walk}
+use Rattle.segment_machine.proofs.Runs.Blocks.{may_allocate, may_publish, may_walk, may_share}
 use Rattle.segment_machine.proofs.Runs.Counts.{may_count, may_pack, may_take}
 use Rattle.segment_machine.proofs.Runs.Notes.{may_note_all}
 
@@ -29,7 +29,7 @@ may a (walking_event event) = may_walk a event
 may a (counting_event event) = may_count a event
 may a (packing_event event) = may_pack a event
 may a (taking_event event) = may_take a event
-may a (cursor_event event) = None
+may a (cursor_event event) = may_share a event
 
 -- whoever has a number is there
 abbrev there_in : (o : core.Option Actor) → Option (o ≡ core.some (elim o [ core.some a ↦ a | core.none ↦ spent ]))

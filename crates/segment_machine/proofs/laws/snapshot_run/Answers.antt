@@ -1,0 +1,10 @@
+use Rattle.std.proofs.Common.{inl, inr, refl, arith}
+use Rattle.segment_machine.specs.Looks.{snapping}
+use Rattle.segment_machine.proofs.Runs.Reached.{is_state}
+use Rattle.segment_machine.proofs.laws.snapshot_run.Goals as goal
+
+pub returns : goal.returns
+returns c = (
+  (is_state 1 7 0 (snapping 1) (inl refl) (omega arith) refl, refl, refl),
+  (is_state 2 7 0 (snapping 2) (inr refl) (omega arith) refl, refl, refl),
+)

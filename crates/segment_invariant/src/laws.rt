@@ -146,24 +146,26 @@ pub fn openings_are_kept()
 {}
 
 /// Each event that allocates a block, stores into it or sets a flag keeps what holds, and its actor learns that the free pointer
-/// which it found is lawful and is no earlier than the one that it knew.
+/// which it found is lawful and is no earlier than the one that it knew, and that the corrupt flag is set where it has set it.
 pub fn allocating_keeps()
     ensures { AllocatingKeeps }
 {}
 
 /// Each event that puts a record on the list keeps what holds, and its actor learns that what it found is the end of the list or a
-/// record that lies within the segment.
+/// record that lies within the segment. A link that comes too late is one of few: the list has a record more for each.
 pub fn publishing_keeps()
     ensures { PublishingKeeps }
 {}
 
 /// Each event that walks along the list keeps what holds, and its actor learns that what it found is the end of the list or a
-/// record, which with its name and its ranges lies within the segment.
+/// record, which with its name and its ranges lies within the segment; it is what the actor found there before. At the end it has
+/// met all that it published, was given, or saw as tail or cursor.
 pub fn walking_keeps()
     ensures { WalkingKeeps }
 {}
 
 /// Each event of a shared cursor keeps what holds, and its actor learns that the cursor stood at a record, or before the first one.
+/// An exchange that comes too late is one of few.
 pub fn cursors_keep()
     ensures { CursorsKeep }
 {}

@@ -10,3 +10,4 @@ pub mod Whole
 pub mod Looks
 pub mod Bounds
 pub mod Samples
+pub mod Sights

@@ -9,6 +9,8 @@ pub mod Frames
 pub mod Lists
 pub mod Notes
 pub mod Openings
+pub mod Packing
 pub mod Publishing
 pub mod Recorders
+pub mod Taking
 pub mod Walking

@@ -63,7 +63,7 @@ module _ (shape : Dimensions) (opened : Anatomy) (state : State) (kept : Invaria
   abbrev order : List ℕ
   order = order_of kept.anatomy
 
-  chain_is : (chain : List ℕ) → IsChain state.words (head_of state.words) chain → order ≡ chain
+  pub chain_is : (chain : List ℕ) → IsChain state.words (head_of state.words) chain → order ≡ chain
   chain_is chain is = one_chain state.words order chain kept.list.linked (linked_of state.words chain (head_of state.words) is)
 
   module _ (id : ℕ) (a : Actor) (mine : get_elem? state.actors id ≡ some a) (lives : a.place ≢ Spent) where

@@ -1,5 +1,5 @@
 -- The list: how it grows, what `hist` answers, and what walks and shared cursors give.
-use Rattle.std.specs.Prelude.{◌≡◌, ℕ, ◌+◌, ◌<◌, ◌≤◌, List, [], ◌∷◌, ◌++◌, take, length, slice_index, ◌==◌, if◌then◌else◌, None, IsPermutation}
+use Rattle.std.specs.Prelude.{◌≡◌, ℕ, ◌+◌, ◌<◌, ◌≤◌, List, [], ◌∷◌, ◌++◌, take, length, slice_index, ◌==◌, if◌then◌else◌, IsPermutation}
 use Rattle.std.specs.List.{Contains}
 use mathlib.Core.Option.{some}
 use lib.ListN.{get_elem?}
@@ -8,7 +8,7 @@ use Rattle.segment_image.specs.Shape.{Dimensions}
 use Rattle.segment_image.specs.Words.{word_at}
 use Rattle.segment_image.specs.Head.{head_of}
 use Rattle.bucket_ranges.specs.declared.spec.Spec.{Spec}
-use Rattle.bucket_ranges.specs.Spec.{SameSpec, spec_fault}
+use Rattle.bucket_ranges.specs.Spec.{SameSpec}
 use Rattle.bucket_ranges.specs.Reading.{spec_of}
 use Rattle.list_core.specs.Chain.{stops, IsChain}
 use Rattle.list_core.specs.Walk.{IsPrefix, stands_behind}
@@ -52,7 +52,7 @@ NamesAreFirst = (shape : Dimensions) (opened : Anatomy) (state : State) (chain :
 -- a `hist` is refused OtherSpec only where the first record of its name has another spec: what its caller saw of that record says so
 abbrev pub OthersDiffer : Type 0
 OthersDiffer = (shape : Dimensions) (opened : Anatomy) (state : State) → (kept : Invariant shape opened state)
-    → Each state.actors (λ a. (name letters : List ℕ) (spec : Spec) (at : ℕ) → spec_fault spec ≡ None → AreNameWords name letters
+    → Each state.actors (λ a. (name letters : List ℕ) (spec : Spec) (at : ℕ) → AreNameWords name letters
     → IsFirstNamed a.seen name at → SawOtherSpec a.seen spec (length letters) at
     → (kind : Spec) × IsFirst kept.anatomy.records name kind at × (¬ (SameSpec kind spec)))
 

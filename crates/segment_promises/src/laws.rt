@@ -7,7 +7,7 @@ ghost use Rattle.segment_promises.specs.Follows.{StepsFollow, TablesOpen, Tables
 ghost use Rattle.segment_promises.specs.Tallies.{PartsAddUp, TalliesAreCounts};
 ghost use Rattle.segment_promises.specs.Deltas.{FinalDeltasTakeAll, FinalSnapshotsAreExact, SnapshotsStayBelow};
 ghost use Rattle.segment_promises.specs.Refusals.{RefusedAddsFew};
-ghost use Rattle.segment_promises.specs.Lists.{WalksGiveAll, CursorsKeepOrder, CursorsGiveFronts, CursorsGiveAll};
+ghost use Rattle.segment_promises.specs.Lists.{WalksGiveAll, CursorsKeepOrder, CursorsGiveFronts, CursorsGiveAll, NamesAreFirst, OthersDiffer};
 ghost use Rattle.segment_promises.specs.Examples.{LinksLengthen, DeltaOwes, SnapshotOwes};
 
 /// Where each event and each note keeps what holds, every state that is reached from a kept one is kept.
@@ -103,6 +103,16 @@ pub fn cursors_give_all()
 /// The tally of the entries of samples is what the samples add up to.
 pub fn tallies_are_counts()
     ensures { TalliesAreCounts }
+{}
+
+/// A histogram that a `hist` was answered Ok with is the first of its name on the chain, with the same spec.
+pub fn names_are_first()
+    ensures { NamesAreFirst }
+{}
+
+/// What a caller saw of the first record of a name, where it refuses `OtherSpec`, says that this has another spec.
+pub fn others_differ()
+    ensures { OthersDiffer }
 {}
 
 /// A link that finds the end of the list makes the chain longer by its record.

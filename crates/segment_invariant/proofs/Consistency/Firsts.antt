@@ -50,7 +50,7 @@ module _ (records : List Listed) (P : Listed → Type 0) (Q : ℕ → Type 0)
         here,
       )
 
-  first_reference : (xs ys : List Listed) (l : Listed) → records ≡ xs ++ l ∷ ys → All (λ l. ¬ (P l)) xs → P l
+  pub first_reference : (xs ys : List Listed) (l : Listed) → records ≡ xs ++ l ∷ ys → All (λ l. ¬ (P l)) xs → P l
       → (references records ≡ references xs ++ l.reference ∷ references ys) × All (λ other. ¬ (Q other)) (references xs) × Q l.reference
   first_reference xs ys l split none this =
       let among = λ (m : Listed) (there : Contains (xs ++ l ∷ ys) m). subst (λ (records : List Listed). Contains records m) (sym split) there in (

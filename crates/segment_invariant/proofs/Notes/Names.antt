@@ -139,19 +139,19 @@ module _ (shape : Dimensions) (opened : Anatomy) (state : State) (kept : Invaria
       )
 
   -- it saw that the spec of the record is another one
-  other_spec : (s : Spec) (at : ℕ) (r : Record) → HasRecord kept.anatomy.pieces at r → r.spec ≡ s → SawOtherSpec a.seen s (length r.letters) at → ⊥
+  other_spec : (s : Spec) (at : ℕ) (r : Record) → HasRecord kept.anatomy.pieces at r → SameSpec r.spec s → SawOtherSpec a.seen s (length r.letters) at → ⊥
   other_spec s at r has is (inl (i, word, below, seen, ne)) =
       let all = record_long r in
       let place : at + 4 + i ≡ at + (4 + i) = omega arith in
       let found = record_seen at (4 + i) word r has (omega (arith, all, below)) (subst (λ n. word_seen a.seen.words n ≡ Some word) place seen) in
-      ne (sym found ∙ (field_word r i below ∙ ap (λ (s : Spec). spec_field s i) is))
+      ne (sym found ∙ (field_word r i below ∙ ap (λ (fields : List ℕ). slice_index fields i) is.0))
   other_spec s at r has is (inr (i, word, below, seen, ne)) =
       let all = record_long r in
-      let long = ap (λ (s : Spec). length (spec_ranges s)) is in
+      let long = ap (λ (ranges : List ℕ). length ranges) is.1 in
       let place : at + 15 + length r.letters + i ≡ at + (15 + (length r.letters + i)) = omega arith in
       let found = record_seen at (15 + (length r.letters + i)) word r has (omega (arith, below, long, all))
       (subst (λ n. word_seen a.seen.words n ≡ Some word) place seen) in
-      ne (sym found ∙ (range_word r i (omega (arith, below, long)) ∙ ap (λ (s : Spec). slice_index (spec_ranges s) i) is))
+      ne (sym found ∙ (range_word r i (omega (arith, below, long)) ∙ ap (λ (ranges : List ℕ). slice_index ranges i) is.1))
 
   -- it saw that a record is of another name
   other_seen : (name : List ℕ) (at : ℕ) (r : Record) → HasRecord kept.anatomy.pieces at r → r.name ≡ name → SawOtherName a.seen name at → ⊥
@@ -221,6 +221,19 @@ module _ (shape : Dimensions) (opened : Anatomy) (state : State) (kept : Invaria
             (spec_seen known.spec known.reference r has (subst (λ n. SawSpec a.seen known.spec n known.reference) many spec_saw));
       }
 
+  -- where it saw that the first record of a name has another spec, that has another one
+  pub others_differ : (name letters : List ℕ) (s : Spec) (at : ℕ) → AreNameWords name letters → IsFirstNamed a.seen name at
+      → SawOtherSpec a.seen s (length letters) at → (kind : Spec) × IsFirst kept.anatomy.records name kind at × (¬ (SameSpec kind s))
+  others_differ name letters s at are named unlike =
+      let (kind, r, has, name_is, same, first) = first_right name at named in
+      let lawful = kept.records.lawful at r has in
+      let many : length letters ≡ length r.letters =
+      sym (letters_long name letters are) ∙ (ap (λ (n : List ℕ). name_words (length n)) (sym name_is) ∙ letters_long r.name r.letters lawful.lettered) in (
+        kind,
+        first,
+        λ alike. other_spec s at r has (subst (λ (kind : Spec). SameSpec kind s) (sym same) alike) (subst (λ n. SawOtherSpec a.seen s n at) many unlike),
+      )
+
   -- a record whose answer it owes has the spec that it was given, so the first of the name, which has another, is another record
   pub declined_apart : (owes : Known) (at : ℕ) (letters : List ℕ) → Contains a.owed owes → IsFirstNamed a.seen owes.name at → AreNameWords owes.name letters
       → SawOtherSpec a.seen owes.spec (length letters) at → at ≢ owes.reference
@@ -237,7 +250,7 @@ module _ (shape : Dimensions) (opened : Anatomy) (state : State) (kept : Invaria
       let lawful = kept.records.lawful owes.reference r has in
       let many : length letters ≡ length r.letters =
       sym (letters_long owes.name letters are) ∙ (ap (λ (n : List ℕ). name_words (length n)) (sym name_is) ∙ letters_long r.name r.letters lawful.lettered) in
-      other_spec owes.spec owes.reference r has same
+      other_spec owes.spec owes.reference r has (ap spec_fields same, ap spec_ranges same)
       (subst (SawOtherSpec a.seen owes.spec (length r.letters)) here (subst (λ n. SawOtherSpec a.seen owes.spec n at) many unlike))
 
 -- who saw the chain is not spent

@@ -1,23 +1,11 @@
 -- The delta of a packed word, of the worked examples.
-use Rattle.std.proofs.Common.{ℕ, ◌<◌, [], inl, inr, refl, arith, Some}
+use Rattle.std.proofs.Common.{ℕ, ◌<◌, [], inl, inr, refl, arith}
 use Rattle.segment_machine.specs.declared.actor.Actor.{Actor}
-use Rattle.segment_machine.specs.declared.place.Look.{Look}
-use Rattle.segment_machine.specs.Actor.{Buckets, SawSingle}
-use Rattle.segment_machine.specs.Taking.{Takes}
+use Rattle.segment_machine.specs.Actor.{SawSingle}
 use Rattle.segment_machine.specs.Note.{TookAll, TookBucket}
 use Rattle.segment_machine.specs.Examples.{takes_all, taking, run}
 use Rattle.segment_machine.specs.Examples.{known_a}
 use Rattle.segment_machine.proofs.SmallNumbers.{below_three}
-
--- what it has loaded of the histogram
-abbrev pub look : Look
-look = record { histogram = 16; single = Some 4294967298; counts = 0 }
-
-pub knows : Buckets takes_all 16 known_a
-knows = ((0, omega arith, refl), refl, refl)
-
-pub takes : Takes takes_all 16 known_a
-takes = (refl, (0, omega arith, refl), refl, ([], _, refl, refl))
 
 -- behind its events
 abbrev pub done : Actor

@@ -265,7 +265,7 @@ same_moment m n =
 
 -- ---- notes
 
-abbrev may_note : (a : Actor) (note : Note) → Option (MayNote a note)
+abbrev pub may_note : (a : Actor) (note : Note) → Option (MayNote a note)
 may_note a (begins name cost entries) =
     then (is_false (is_bound a.place)) (λ turns. then (same a.opener 0) (λ recorder. then (empty a.running) (λ none. then (empty a.held) (λ free.
     then (is_false a.taking) (λ no_delta. then (at_most cost a.share) (λ fits. then (among_names a name) (λ known. then (are_within name cost entries) (λ within.

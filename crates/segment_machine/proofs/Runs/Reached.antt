@@ -15,14 +15,14 @@ use Rattle.segment_machine.specs.Note.{Note, Notes}
 use Rattle.segment_machine.specs.Seats.{MayOffer, MaySplit, MayJoin, spent}
 use Rattle.segment_machine.specs.State.{State, memory}
 use Rattle.segment_machine.specs.Reached.{IsReached, IsState, new_state, started, stepped, offered, split, joined_in}
-use Rattle.segment_machine.specs.Examples.{shape}
+use Rattle.segment_machine.specs.Examples.{shape, AreReady}
 use Rattle.segment_machine.specs.Worked.{Deed, acts, offers, makes, joins, noted_by, actor_of, done, played}
 use Rattle.segment_machine.proofs.Runs.Tests.{then, is_false, same, apart, at_most, below, empty, found_in}
 use Rattle.segment_machine.proofs.Runs.Blocks.{may_allocate, may_publish, may_walk, may_share}
 use Rattle.segment_machine.proofs.Runs.Counts.{may_count, may_pack, may_take}
 use Rattle.segment_machine.proofs.Runs.Notes.{may_note_all}
 
-abbrev may : (a : Actor) (event : Event) → Option (Ready a event)
+abbrev pub may : (a : Actor) (event : Event) → Option (Ready a event)
 may a (allocating_event event) = may_allocate a event
 may a (publishing_event event) = may_publish a event
 may a (walking_event event) = may_walk a event
@@ -30,6 +30,11 @@ may a (counting_event event) = may_count a event
 may a (packing_event event) = may_pack a event
 may a (taking_event event) = may_take a event
 may a (cursor_event event) = may_share a event
+
+-- events of one actor, one after the other
+abbrev pub may_all : (a : Actor) (events : List (Event × ℕ)) → Option (AreReady a events)
+may_all a [] = Some tt
+may_all a (e ∷ rest) = then (may a e.0) (λ ready. then (may_all (next a e.0 e.1) rest) (λ others. Some (ready, others)))
 
 -- whoever has a number is there
 abbrev there_in : (o : core.Option Actor) → Option (o ≡ core.some (elim o [ core.some a ↦ a | core.none ↦ spent ]))

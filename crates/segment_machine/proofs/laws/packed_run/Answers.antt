@@ -1,26 +1,10 @@
-use Rattle.std.proofs.Common.{[], inl, refl, arith}
-use Rattle.segment_machine.specs.Entry.{fresh}
-use Rattle.bucket_ranges.specs.declared.spec.Spec.TheVariants as spec
-use Rattle.std.specs.Prelude.{Some}
-use Rattle.segment_machine.specs.Examples.{letter_a, one}
+use Rattle.std.proofs.Common.{refl}
+use Rattle.segment_machine.specs.Event.{packing_event}
+use Rattle.segment_machine.specs.Packing.{pack}
+use Rattle.segment_machine.specs.Examples.{sampler}
+use Rattle.segment_machine.proofs.Runs.Tests.{found_in}
+use Rattle.segment_machine.proofs.Runs.Reached.{may}
 use Rattle.segment_machine.proofs.laws.packed_run.Goals as goal
 
 pub returns : goal.returns
-returns c = (
-  (
-    fresh (one 1),
-    record { histogram = 16; single = Some 0; counts = 0 },
-    record { name = letter_a; spec = spec.Boolean; reference = 16 },
-    1,
-    (([], refl), refl),
-    (refl, refl, refl, refl, ((0, omega arith, refl), refl, refl)),
-    refl,
-    (omega arith, refl),
-    (omega arith, inl (refl, refl)),
-  ),
-  refl,
-  refl,
-  refl,
-  refl,
-  refl,
-)
+returns c = (found_in (may sampler (packing_event (pack 16 0 4294967297))) refl, refl, refl, refl, refl, refl)

@@ -1,22 +1,10 @@
-use Rattle.std.proofs.Common.{[], inl, refl, arith}
-use Rattle.segment_machine.specs.Examples.{known_a}
-use Rattle.segment_machine.proofs.Delta.{look, knows, takes, took_all}
+use Rattle.std.proofs.Common.{refl}
+use Rattle.segment_machine.specs.Note.{has_taken}
+use Rattle.segment_machine.specs.Examples.{run, takes_all, taking}
+use Rattle.segment_machine.proofs.Runs.Tests.{found_in}
+use Rattle.segment_machine.proofs.Runs.Notes.{may_note}
+use Rattle.segment_machine.proofs.Runs.Reached.{may_all}
 use Rattle.segment_machine.proofs.laws.taking_run.Goals as goal
 
 pub returns : goal.returns
-returns c = (
-  (
-    (refl, (known_a, knows)),
-    (
-      (omega arith, (known_a, takes), inl (look, known_a, 4294967298, (refl, refl, refl, refl, knows), (0, omega arith, refl), refl)),
-      (
-        (refl, (known_a, (0, omega arith, refl), refl)),
-        (
-          (known_a, (refl, (0, omega arith, refl), refl, ([], _, refl, refl)), refl),
-          tt,
-        ),
-      ),
-    ),
-  ),
-  (refl, (known_a, (0, omega arith, refl), took_all)),
-)
+returns c = (found_in (may_all takes_all taking) refl, found_in (may_note (run takes_all taking) has_taken) refl)

@@ -40,7 +40,7 @@ cost_least costs name = sum_by-le-sum_by (λ (cost : Cost). if bytes_eq cost.nam
     by_name false n = omega arith
 
 -- what a sum has grown by is within the units of its actor
-summed_least : (name : List ℕ) (a : Actor) → summed_cost name a ≤ units_of a
+pub summed_least : (name : List ℕ) (a : Actor) → summed_cost name a ≤ units_of a
 summed_least name a =
     let most = summed_most name a in
     let spent = cost_least a.costs name in

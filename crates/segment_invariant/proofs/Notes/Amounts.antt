@@ -35,7 +35,7 @@ last_changed f (y ∷ []) x = refl
 last_changed f (y ∷ z ∷ xs) x = ap (λ list. y ∷ list) (last_changed f (z ∷ xs) x)
 
 -- amounts that are all 0 come to 0, and none is another
-zeros : (name : List ℕ) (entries : List Entry) → ((e : Entry) → Contains entries e → e.amount ≡ pos 0) → tally_sum entries name ≡ pos 0
+pub zeros : (name : List ℕ) (entries : List Entry) → ((e : Entry) → Contains entries e → e.amount ≡ pos 0) → tally_sum entries name ≡ pos 0
 zeros name [] each = refl
 zeros name (e ∷ es) each =
     sum_total name (e ∷ []) es

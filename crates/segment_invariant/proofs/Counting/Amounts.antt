@@ -105,8 +105,11 @@ module _ (shape : Dimensions) (opened : Anatomy) (state : State) (kept : Invaria
     abbrev pub deed : Deed
     deed = going a c d next entry (record (deed_of a) { place = Idle; seen = record a.seen { counts = counts } })
 
-    abbrev pub b : Actor
-    b = changed a deed
+    abbrev pub later : Actor
+    later = changed a deed
+
+    abbrev b : Actor
+    b = later
 
     abbrev pub actors : List Actor
     actors = set state.actors id b

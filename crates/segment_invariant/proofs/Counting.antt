@@ -1,4 +1,5 @@
 pub mod Held
+pub mod Owed
 pub mod AddSum
 pub mod Amounts
 pub mod Entries

@@ -3,6 +3,7 @@ pub mod Amounts
 pub mod Announcements
 pub mod Asks
 pub mod Begins
+pub mod Counted
 pub mod Deltas
 pub mod Ends
 pub mod GoesOn
@@ -11,3 +12,5 @@ pub mod Knows
 pub mod Letters
 pub mod Names
 pub mod Notes
+pub mod Snapshots
+pub mod Taken

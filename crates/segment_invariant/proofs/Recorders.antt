@@ -1,3 +1,4 @@
+pub mod Alone
 pub mod Finals
 pub mod Joined
 pub mod Joins

@@ -1,7 +1,6 @@
 -- What is to be shown of what holds between any two events: it holds of a new segment, each event keeps it, recorders that are made
 -- and joined keep it, and it has the parts of consistency in it.
-use Rattle.std.specs.Prelude.{◌≡◌, ◌⊎◌, ℕ, zero, suc, [], take, drop, length, slice_set, ⊤}
-use Rattle.std.specs.List.{Contains}
+use Rattle.std.specs.Prelude.{◌≡◌, ◌⊎◌, ℕ, zero, suc, [], take, drop, length, slice_set}
 use mathlib.Core.Option.{some}
 use lib.ListN.{get_elem?}
 use Rattle.segment_image.specs.declared.layout.TheConstants.{VERSION_WORD}
@@ -19,7 +18,7 @@ use Rattle.segment_invariant.specs.Consistent.{ListIsChain, FlagsAreSet, UnitsAr
 use Rattle.segment_machine.specs.Reached.{new_state, IsState, IsAnnounced, IsOffered, IsSplit, IsJoin, IsLent, IsReturned}
 use Rattle.segment_invariant.specs.Body.{Anatomy, blank, order_of}
 use Rattle.segment_invariant.specs.Invariant.{Invariant}
-use Rattle.segment_machine.specs.Note.{Note, begins, goes_on, amounts, asks, knows, takes, looks, ends, refused, MayNote, noted, declines}
+use Rattle.segment_machine.specs.Note.{Note, MayNote, noted}
 
 -- ---- at the opening
 
@@ -81,28 +80,13 @@ NoteKeeps note = (shape : Dimensions) (opened : Anatomy) (state : State) (id : �
     → get_elem? state.actors id ≡ some a → a.opener ≡ 0 → MayNote a note
     → Invariant shape opened (record state { actors = slice_set state.actors id (noted a note) })
 
--- the notes by which no delta and no snapshot is answered: calls that count begin and end, deltas and snapshots begin, blocks get what
--- they are to hold, and a `hist` is answered, or refused once its record is linked
-abbrev pub IsPlainNote : Note → Type 0
-IsPlainNote (begins name cost entries) = ⊤
-IsPlainNote (goes_on entry cost) = ⊤
-IsPlainNote (amounts amount) = ⊤
-IsPlainNote (asks at made) = ⊤
-IsPlainNote (knows known) = ⊤
-IsPlainNote (declines mine) = ⊤
-IsPlainNote (takes name) = ⊤
-IsPlainNote looks = ⊤
-IsPlainNote ends = ⊤
-IsPlainNote (refused added) = ⊤
-IsPlainNote _ = ⊥
-
+-- each note does, and so does an announcement of notes
 abbrev pub NotesKeep : Type 0
-NotesKeep = (note : Note) → IsPlainNote note → NoteKeeps note
+NotesKeep = (note : Note) → NoteKeeps note
 
--- an announcement whose notes keep what holds keeps it
 abbrev pub AnnouncementsKeep : Type 0
-AnnouncementsKeep = (shape : Dimensions) (opened : Anatomy) (old new : State) (id : ℕ) → Invariant shape opened old → (is : IsAnnounced old id new)
-    → ((note : Note) → Contains is.2 note → NoteKeeps note) → Invariant shape opened new
+AnnouncementsKeep = (shape : Dimensions) (opened : Anatomy) (old new : State) (id : ℕ) → Invariant shape opened old → IsAnnounced old id new
+    → Invariant shape opened new
 
 -- ---- at seats
 

@@ -195,7 +195,7 @@ pub fn returns_keep()
     ensures { ReturnsKeep }
 {}
 
-/// What holds between any two events holds on where a recorder tells notes that keep it, without an event.
+/// What holds between any two events holds on where a recorder tells notes without an event.
 pub fn announcements_keep()
     ensures { AnnouncementsKeep }
 {}
@@ -235,8 +235,9 @@ pub fn kept_marks_are_taken()
     ensures { KeptMarksAreTaken }
 {}
 
-/// What holds between any two events holds on where a recorder notes that a call which counts begins or ends, that an amount became
-/// known, that a delta or a snapshot begins, what a block of its own is to hold, or which histogram it was answered.
+/// What holds between any two events holds on where a recorder notes something: that a call which counts begins, goes on or ends,
+/// that an amount became known, that a delta or a snapshot begins or ends, what a block of its own is to hold, or which histogram it
+/// was answered.
 pub fn notes_keep()
     ensures { NotesKeep }
 {}

@@ -16,7 +16,7 @@ reached_states_follow shape opened start state events notes kept reached = go st
     go state started = kept
     go state (stepped old new id event before step) =
         (steps_follow shape opened old new id event step (events event) (λ note among. notes note) (go old before)).0
-    go state (announced old new id before told) = announcements_keep shape opened old new id (go old before) told (λ note among. notes note)
+    go state (announced old new id before told) = announcements_keep shape opened old new id (go old before) told
     go state (offered old new id units before made) = offers_keep shape opened old new id units (go old before) made
     go state (split old new id before made) = splits_keep shape opened old new id (go old before) made
     go state (lent old new id other units before made) = lends_keep shape opened old new id other units (go old before) made

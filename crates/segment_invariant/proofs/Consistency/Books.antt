@@ -31,12 +31,12 @@ use Rattle.segment_invariant.proofs.Consistency.Sums.{of_mine, nothing_of, publi
 -- ---- lists
 
 -- the numbers of a range
-range_at : (a n j y : ℕ) → get_elem? (range_with_len a n) j ≡ some y → (y ≡ a + j) × (j < n)
+pub range_at : (a n j y : ℕ) → get_elem? (range_with_len a n) j ≡ some y → (y ≡ a + j) × (j < n)
 range_at a zero j y there = absurd (some-ne-none y (sym there))
 range_at a (suc n) zero y there = let e = some-injective a y there in (omega (arith, e), omega arith)
 range_at a (suc n) (suc j) y there = let (e, lt) = range_at (a + 1) n j y there in (omega (arith, e), omega (arith, lt))
 
-range_there : (a n j : ℕ) → j < n → get_elem? (range_with_len a n) j ≡ some (a + j)
+pub range_there : (a n j : ℕ) → j < n → get_elem? (range_with_len a n) j ≡ some (a + j)
 range_there a zero j lt = absurd (omega (arith, lt))
 range_there a (suc n) zero lt = let e : a ≡ a + 0 = omega arith in ap some e
 range_there a (suc n) (suc j) lt = let e : a + 1 + j ≡ a + suc j = omega arith in range_there (a + 1) n j (omega (arith, lt)) ∙ ap some e

@@ -1,5 +1,5 @@
 -- The totals of a kept state are what was counted.
-use Rattle.std.proofs.Common.{◌≡◌, ◌≢◌, Bool, true, false, ◌&&◌, if◌then◌else◌, ℕ, zero, suc, ◌+◌, ◌-◌, ◌<◌, ℤ, pos, List, [], ◌∷◌, ◌++◌, length, sum_by, length-append, inl, inr, ⊎_elim, refl, sym, ap, subst, ◌∙◌, arith, Option, Some}
+use Rattle.std.proofs.Common.{◌≡◌, ◌≢◌, Bool, true, false, ◌&&◌, if◌then◌else◌, ℕ, zero, suc, ◌+◌, ◌<◌, ℤ, pos, List, [], ◌∷◌, ◌++◌, length, sum_by, length-append, inl, inr, ⊎_elim, refl, sym, ap, subst, ◌∙◌, arith, Option, Some}
 use Rattle.std.specs.Prelude.{slice_index, ◌==◌}
 use Rattle.std.specs.Ordering.{int_eq}
 use Rattle.std.specs.List.{Contains}
@@ -7,7 +7,6 @@ use Rattle.std.proofs.lemmas.Bool.{eqb-true, eqb-false, eq-eqb, ne_eqb}
 use Rattle.std.proofs.lemmas.List.Elements.{All-contains}
 use Rattle.std.proofs.lemmas.List.Sums.{sum_by-cons}
 use mathlib.Core.Option.{some, none, some-injective, some-ne-none}
-use Rattle.std.proofs.lemmas.List.{get_or_append_left, get_or-append_right}
 use lib.ListN.{get_elem?}
 use Rattle.segment_image.specs.Shape.{Dimensions}
 use Rattle.segment_image.specs.Blocks.{field_at}
@@ -30,13 +29,13 @@ use Rattle.segment_invariant.proofs.Frames.OneActor.{moves_or_not}
 use Rattle.segment_invariant.proofs.Lists.Elements.{at_from}
 use Rattle.segment_invariant.proofs.Lists.FewTerms.{sum_none}
 use Rattle.segment_invariant.specs.Consistent.{HasPlace}
-use Rattle.segment_invariant.specs.Body.{Record, Counts, histogram, Anatomy, order_of, blank}
+use Rattle.segment_invariant.specs.Body.{Record, Counts, histogram, counts, words_of, Anatomy, order_of, blank}
 use Rattle.segment_invariant.specs.Ledger.{form_at, key_of_bucket, at_bucket, keyed, units_held, all_held, moving_of, moving_at, all_moving}
 use Rattle.segment_invariant.specs.Seen.{HasRecord, HasCounts, IsFirst, Knows}
 use Rattle.segment_invariant.specs.Invariant.{StandsRight, Invariant, HasKey}
 use Rattle.segment_invariant.specs.Keeps.{KeptTotalsAreCounted}
 use Rattle.segment_invariant.proofs.Blocks.Pieces.{piece_word, one_stands}
-use Rattle.segment_invariant.proofs.Counting.Seen.{count_in}
+use Rattle.segment_invariant.proofs.Counting.Seen.{count_in, mark_in}
 use Rattle.segment_invariant.proofs.Consistency.Records.{record_word}
 use Rattle.segment_invariant.proofs.Consistency.Specs.{buckets_are, key_is, form_is}
 use Rattle.segment_invariant.proofs.Consistency.Keys.{same_boundaries, key_test, packed_within, packed_units, no_packed}
@@ -109,13 +108,8 @@ module _ (shape : Dimensions) (opened : Anatomy) (state : State) (kept : Invaria
   mark_word at c n i (k, there) units below =
       let long = length-append c.units c.marks in
       let all = length-append (c.units ++ c.marks) c.rest in
-      let back : 4 + n + i - 4 ≡ n + i = omega arith in
-      let again : n + i - n ≡ i = omega arith in
       piece_word shape state.words kept.anatomy kept.shown k _ (4 + n + i) there (omega (arith, below, long, all, units))
-      ∙ (get_or-append_right (c.size ∷ 0xC8799269 ∷ 2 ∷ c.next ∷ []) (c.units ++ c.marks ++ c.rest) 4 (4 + n + i) 0 refl (omega arith)
-      ∙ (ap (slice_index (c.units ++ c.marks ++ c.rest)) back
-      ∙ (get_or_append_left (c.units ++ c.marks) c.rest 0 (n + i) (omega (arith, below, long, units))
-      ∙ (get_or-append_right c.units c.marks n (n + i) 0 units (omega arith) ∙ ap (slice_index c.marks) again))))
+      ∙ (ap (λ (n : ℕ). slice_index (words_of (counts c)) (4 + n + i)) (sym units) ∙ mark_in c i below)
 
   -- a total by the words
   pub total_words : (at : ℕ) (r : Record) → HasRecord kept.anatomy.pieces at r → (v i : ℕ)

@@ -38,7 +38,7 @@ rest_most total sums zero xs ys = let both = sums xs ys in omega (arith, both)
 rest_most total sums (suc n) [] ys = let nothing = sums [] [] in omega (arith, nothing)
 rest_most total sums (suc n) (x ∷ xs) ys = rest_most total sums n xs ys
 
-ended_noted : (c : Counting) → has_ended c ≡ true → is_noted c ≡ true
+pub ended_noted : (c : Counting) → has_ended c ≡ true → is_noted c ≡ true
 ended_noted c ended = (and_parts _ (is_noted c) ended).1
 
 module _ (shape : Dimensions) (opened : Anatomy) (state : State) (kept : Invariant shape opened state) (id : ℕ) (a : Actor)

@@ -3,7 +3,7 @@ use Rattle.std.proofs.Common.{◌≡◌, ◌≢◌, ℕ, ◌+◌, ◌-◌, ◌<�
 use Rattle.std.specs.Prelude.{slice_index, pos, Some}
 use Rattle.std.proofs.lemmas.List.{get_or-append_right, get_or_append_left}
 use Rattle.std.proofs.lemmas.List.Elements.{All-contains, All-drop, Contains-append_right}
-use mathlib.Core.Option.{some, some-injective}
+use mathlib.Core.Option.{some, none, some-injective}
 use lib.ListN.{get_elem?}
 use Rattle.segment_image.specs.Shape.{Dimensions}
 use Rattle.bucket_ranges.specs.Spec.{buckets_of}
@@ -13,13 +13,13 @@ use Rattle.segment_machine.specs.declared.actor.Actor.{Actor}
 use Rattle.segment_machine.specs.declared.actor.Known.{Known}
 use Rattle.segment_machine.specs.declared.actor.Made.TheVariants as made
 use Rattle.segment_machine.specs.declared.place.Place.TheVariants.{Spent}
-use Rattle.segment_machine.specs.Form.{is_off}
+use Rattle.segment_machine.specs.Form.{is_off, Leads}
 use Rattle.segment_machine.specs.Actor.{all_counted, bucket_key, SawSingle, SawCount}
 use Rattle.segment_machine.specs.Entry.{tally_units}
 use Rattle.segment_machine.specs.State.{State}
-use Rattle.segment_invariant.specs.Body.{Record, Counts, counts, words_of, Piece, Listed, Anatomy}
+use Rattle.segment_invariant.specs.Body.{Record, Counts, Body, histogram, counts, words_of, Piece, Listed, Anatomy}
 use Rattle.segment_invariant.specs.Ledger.{form_at}
-use Rattle.segment_invariant.specs.Seen.{HasRecord, HasCounts, WasCounter, WasSingle, Knows}
+use Rattle.segment_invariant.specs.Seen.{Stands, HasRecord, HasCounts, WasCounter, WasSingle, Knows}
 use Rattle.segment_invariant.specs.Invariant.{StandsAs, Invariant}
 use Rattle.segment_invariant.proofs.Blocks.Places.{counter_within}
 use Rattle.segment_invariant.proofs.Blocks.Pieces.{one_index}
@@ -35,6 +35,17 @@ count_in c i below =
     get_or-append_right (c.size ∷ 0xC8799269 ∷ 2 ∷ c.next ∷ []) (c.units ++ c.marks ++ c.rest) 4 (4 + i) 0 refl (omega arith)
     ∙ (ap (slice_index (c.units ++ c.marks ++ c.rest)) back
     ∙ (get_or_append_left (c.units ++ c.marks) c.rest 0 i (omega (arith, below, long)) ∙ get_or_append_left c.units c.marks 0 i below))
+
+-- and a mark behind the counts
+pub mark_in : (c : Counts) (i : ℕ) → i < length c.marks → slice_index (words_of (counts c)) (4 + length c.units + i) ≡ slice_index c.marks i
+mark_in c i below =
+    let long = length-append c.units c.marks in
+    let back : 4 + length c.units + i - 4 ≡ length c.units + i = omega arith in
+    let again : length c.units + i - length c.units ≡ i = omega arith in
+    get_or-append_right (c.size ∷ 0xC8799269 ∷ 2 ∷ c.next ∷ []) (c.units ++ c.marks ++ c.rest) 4 (4 + length c.units + i) 0 refl (omega arith)
+    ∙ (ap (slice_index (c.units ++ c.marks ++ c.rest)) back
+    ∙ (get_or_append_left (c.units ++ c.marks) c.rest 0 (length c.units + i) (omega (arith, below, long))
+    ∙ (get_or-append_right c.units c.marks (length c.units) (length c.units + i) 0 refl (omega arith) ∙ ap (slice_index c.marks) again)))
 
 module _ (shape : Dimensions) (opened : Anatomy) (state : State) (kept : Invariant shape opened state) (id : ℕ) (a : Actor)
     (mine : get_elem? state.actors id ≡ some a) (lives : a.place ≢ Spent) where
@@ -55,38 +66,68 @@ module _ (shape : Dimensions) (opened : Anatomy) (state : State) (kept : Invaria
         ap buckets_of same ∙ same_buckets knows.first_spec known.spec knows.same,
       )
 
-  -- a single word that was off is that of the record
-  pub off_was : (at word : ℕ) (r : Record) → HasRecord kept.anatomy.pieces at r
-      → WasSingle kept.anatomy.version kept.anatomy.pieces (record { at = at + 9; word = word }) → is_off word ≡ true → word ≡ r.single
-  off_was at word r (k, there) (place, q, (j, here), is, formed, leads) off =
+  -- a single word that was seen leads to that of the record
+  led_on : (at word : ℕ) (r : Record) → HasRecord kept.anatomy.pieces at r
+      → WasSingle kept.anatomy.version kept.anatomy.pieces (record { at = at + 9; word = word }) → Leads kept.anatomy.version (buckets_of r.spec) word r.single
+  led_on at word r (k, there) (place, q, (j, here), is, formed, leads) =
       let index = one_index shape state.words kept.anatomy kept.shown k j _ _ 9 9 there here (omega arith) (omega arith) is in
       let same = some-injective _ _ (sym there ∙ (ap (get_elem? kept.anatomy.pieces) index ∙ here)) in
-      let body = ap (λ (p : Piece). slice_index (words_of p.body) 9) same in
-      off_leads kept.anatomy.version (buckets_of q.spec) word q.single off leads ∙ sym body
+      let bodies : histogram q ≡ histogram r = sym (ap (λ (p : Piece). p.body) same) in
+      let one : q ≡ r = cc bodies in
+      subst (λ (r : Record). Leads kept.anatomy.version (buckets_of r.spec) word r.single) one leads
+
+  -- so one that was off is that of the record
+  pub off_was : (at word : ℕ) (r : Record) → HasRecord kept.anatomy.pieces at r
+      → WasSingle kept.anatomy.version kept.anatomy.pieces (record { at = at + 9; word = word }) → is_off word ≡ true → word ≡ r.single
+  off_was at word r stands was off = off_leads kept.anatomy.version (buckets_of r.spec) word r.single off (led_on at word r stands was)
+
+  -- and so it is of one that it saw
+  single_was : (at word : ℕ) → SawSingle a (at + 9) word → WasSingle kept.anatomy.version kept.anatomy.pieces (record { at = at + 9; word = word })
+  single_was at word saw = All-contains (WasSingle kept.anatomy.version kept.anatomy.pieces) _ (record { at = at + 9; word = word })
+      (All-drop (WasSingle kept.anatomy.version kept.anatomy.pieces) a.since_singles a.seen.singles (kept.each id a mine lives).sees.singles) saw
+
+  pub seen_leads : (at word : ℕ) (r : Record) → HasRecord kept.anatomy.pieces at r → SawSingle a (at + 9) word
+      → Leads kept.anatomy.version (buckets_of r.spec) word r.single
+  seen_leads at word r stands saw = led_on at word r stands (single_was at word saw)
 
   pub off_is : (at word : ℕ) (r : Record) → HasRecord kept.anatomy.pieces at r → SawSingle a (at + 9) word → is_off word ≡ true → word ≡ r.single
-  off_is at word r stands saw = off_was at word r stands
-      (All-contains (WasSingle kept.anatomy.version kept.anatomy.pieces) _ (record { at = at + 9; word = word })
-      (All-drop (WasSingle kept.anatomy.version kept.anatomy.pieces) a.since_singles a.seen.singles (kept.each id a mine lives).sees.singles) saw)
+  off_is at word r stands saw = off_was at word r stands (single_was at word saw)
 
-  -- a count that it saw is no more than the count is
-  pub count_most : (at bucket count : ℕ) (c : Counts) → HasCounts kept.anatomy.pieces at c → bucket < length c.units → SawCount a (at + 4 + bucket) count
-      → count ≤ slice_index c.units bucket
-  count_most at bucket count c (k, there) below saw =
+  -- a counter that it saw is no more than it is
+  pub counter_most : (at i word : ℕ) (body : Body) → Stands kept.anatomy.pieces at none body → i < length (words_of body) → SawCount a (at + i) word
+      → word ≤ slice_index (words_of body) i
+  counter_most at i word body (k, there) within saw =
       let counters = (kept.each id a mine lives).sees.counters in
-      let (place, i, body, (j, here), is, counter, least) =
-      All-contains (WasCounter kept.anatomy.pieces) _ (record { at = at + 4 + bucket; word = count })
+      let (place, j, there_body, (m, here), is, counter, least) =
+      All-contains (WasCounter kept.anatomy.pieces) _ (record { at = at + i; word = word })
       (All-drop (WasCounter kept.anatomy.pieces) a.since_counts a.seen.counts counters) saw in
-      let long = length-append c.units c.marks in
-      let all = length-append (c.units ++ c.marks) c.rest in
-      let where_is : at + (4 + bucket) ≡ place + i = omega (arith, is) in
-      let index = one_index shape state.words kept.anatomy kept.shown k j _ _ (4 + bucket) i there here (omega (arith, below, long, all)) (counter_within body i counter) where_is in
+      let index = one_index shape state.words kept.anatomy kept.shown k m _ _ i j there here within (counter_within there_body j counter) is in
       let same = some-injective _ _ (sym there ∙ (ap (get_elem? kept.anatomy.pieces) index ∙ here)) in
       let spot : at ≡ place = ap (λ (p : Piece). p.at) same in
-      let word_is : i ≡ 4 + bucket = omega (arith, spot, where_is) in
-      let value : slice_index (words_of body) i ≡ slice_index c.units bucket =
-      (λ n. slice_index (words_of (sym same n).body) (word_is n)) ∙ count_in c bucket below in
+      let word_is : j ≡ i = omega (arith, spot, is) in
+      let value : slice_index (words_of there_body) j ≡ slice_index (words_of body) i = (λ n. slice_index (words_of (sym same n).body) (word_is n)) in
       omega (arith, least, value)
+
+  -- so are a count and a mark of a counts block
+  pub count_most : (at bucket count : ℕ) (c : Counts) → HasCounts kept.anatomy.pieces at c → bucket < length c.units → SawCount a (at + 4 + bucket) count
+      → count ≤ slice_index c.units bucket
+  count_most at bucket count c has below saw =
+      let long = length-append c.units c.marks in
+      let all = length-append (c.units ++ c.marks) c.rest in
+      let place : at + 4 + bucket ≡ at + (4 + bucket) = omega arith in
+      let most = counter_most at (4 + bucket) count (counts c) has (omega (arith, below, long, all)) (subst (λ n. SawCount a n count) place saw) in
+      let value = count_in c bucket below in
+      omega (arith, most, value)
+
+  pub mark_most : (at bucket mark : ℕ) (c : Counts) → HasCounts kept.anatomy.pieces at c → bucket < length c.marks
+      → SawCount a (at + 4 + length c.units + bucket) mark → mark ≤ slice_index c.marks bucket
+  mark_most at bucket mark c has below saw =
+      let long = length-append c.units c.marks in
+      let all = length-append (c.units ++ c.marks) c.rest in
+      let place : at + 4 + length c.units + bucket ≡ at + (4 + length c.units + bucket) = omega arith in
+      let most = counter_most at (4 + length c.units + bucket) mark (counts c) has (omega (arith, below, long, all)) (subst (λ n. SawCount a n mark) place saw) in
+      let value = mark_in c bucket below in
+      omega (arith, most, value)
 
   -- so what it saw of a bucket, where it saw the single word off and a count of the counts that the record names
   pub seen_most : (known : Known) (bucket word place count : ℕ) → Contains a.names known → bucket < buckets_of known.spec

@@ -63,10 +63,10 @@ pub noted_total : (name : List ℕ) → IsTotal ◌+◌ (λ entries. tally_noted
 noted_total name = sum_by-append (λ (entry : Entry). if is_of name entry then entry.units else 0)
 
 -- an entry without units, or without an amount, comes to nothing
-no_units : (name : List ℕ) (key : ℤ) (e : Entry) → e.units ≡ 0 → tally_units (e ∷ []) name key ≡ 0
+pub no_units : (name : List ℕ) (key : ℤ) (e : Entry) → e.units ≡ 0 → tally_units (e ∷ []) name key ≡ 0
 no_units name key e none = let h = if_nothing (is_of name e && int_eq e.key key) e.units 0 none in omega (arith, h)
 
-no_noted : (name : List ℕ) (e : Entry) → e.units ≡ 0 → tally_noted (e ∷ []) name ≡ 0
+pub no_noted : (name : List ℕ) (e : Entry) → e.units ≡ 0 → tally_noted (e ∷ []) name ≡ 0
 no_noted name e none = let h = if_nothing (is_of name e) e.units 0 none in omega (arith, h)
 
 pub no_amount : (name : List ℕ) (e : Entry) → e.amount ≡ pos 0 → tally_sum (e ∷ []) name ≡ pos 0
@@ -90,13 +90,13 @@ module _ (c : Counting) (is : is_untouched c ≡ true) where
   pub untouched_summed : c.summed ≡ false
   untouched_summed = flags.1
 
-  counted_none : is_counted c ≡ true → c.entry.units ≡ 0
+  pub counted_none : is_counted c ≡ true → c.entry.units ≡ 0
   counted_none e = eqb-true c.entry.units 0 (or_false c.counted (c.entry.units == 0) flags.0 e)
 
   summed_none : is_summed c ≡ true → c.entry.amount ≡ pos 0
   summed_none e = (Decides-int_eq c.entry.amount (pos 0)).0 (or_false c.summed (int_eq c.entry.amount (pos 0)) flags.1 e)
 
-  noted_none : is_noted c ≡ true → c.entry.units ≡ 0
+  pub noted_none : is_noted c ≡ true → c.entry.units ≡ 0
   noted_none e = eqb-true c.entry.units 0 (or_false c.noted (c.entry.units == 0) flags.2 e)
 
 -- behind others they come to nothing

@@ -13,6 +13,7 @@ use Rattle.segment_machine.specs.State.{State}
 use Rattle.segment_invariant.specs.Body.{Anatomy}
 use Rattle.segment_invariant.specs.Invariant.{Invariant}
 use Rattle.segment_invariant.specs.Keeps.{NoteKeeps, AnnouncementsKeep}
+use Rattle.segment_invariant.proofs.Notes.Keeps.{notes_keep}
 
 -- a note makes no opener of a recorder
 still_records : (a : Actor) (note : Note) → (noted a note).opener ≡ a.opener
@@ -56,5 +57,5 @@ notes_follow shape opened (note ∷ notes) state id a b kept there records (may,
     )
 
 pub announcements_keep : AnnouncementsKeep
-announcements_keep shape opened old new id kept (a, b, notes, there, records, noting, is) keep =
-    subst (Invariant shape opened) (sym is) (notes_follow shape opened notes old id a b kept there records noting keep).0
+announcements_keep shape opened old new id kept (a, b, notes, there, records, noting, is) =
+    subst (Invariant shape opened) (sym is) (notes_follow shape opened notes old id a b kept there records noting (λ note among. notes_keep note)).0

@@ -62,7 +62,7 @@ split_deeds a enough = record {
 -- ---- the newcomer
 
 -- what stands in an opener's log has been counted
-logged_counted : (a : Actor) (entry : Entry) → All (λ c. has_ended c ≡ true) a.log → Contains (log_of a) entry
+pub logged_counted : (a : Actor) (entry : Entry) → All (λ c. has_ended c ≡ true) a.log → Contains (log_of a) entry
     → Contains (a.inherited ++ counted_of a) entry
 logged_counted a entry ended there = Contains-append_right a.inherited (counted_of a) entry (⊎_elim
     (λ first. Contains-append_left a.first _ entry first)

@@ -10,12 +10,12 @@ use Rattle.segment_promises.specs.States.{ReachedStatesFollow}
 use Rattle.segment_promises.proofs.Steps.{steps_follow}
 
 pub reached_states_follow : ReachedStatesFollow
-reached_states_follow shape opened start state events notes kept reached = go state reached
+reached_states_follow shape opened start state events kept reached = go state reached
   where
     go : (state : State) → IsReached opened.version start state → Invariant shape opened state
     go state started = kept
     go state (stepped old new id event before step) =
-        (steps_follow shape opened old new id event step (events event) (λ note among. notes note) (go old before)).0
+        (steps_follow shape opened old new id event step (events event) (go old before)).0
     go state (announced old new id before told) = announcements_keep shape opened old new id (go old before) told
     go state (offered old new id units before made) = offers_keep shape opened old new id units (go old before) made
     go state (split old new id before made) = splits_keep shape opened old new id (go old before) made

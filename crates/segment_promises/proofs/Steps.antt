@@ -1,9 +1,7 @@
 -- What follows at once for those who step a segment.
 use Rattle.std.proofs.Common.{◌≡◌, ℕ, Bool, true, false, eqb, List, take, drop, length, set, refl, sym, ap, subst, ◌∙◌}
 use Rattle.std.specs.Prelude.{if◌then◌else◌}
-use Rattle.std.specs.List.{Contains}
 use Rattle.std.proofs.lemmas.List.{set-set}
-use Rattle.std.proofs.lemmas.List.Elements.{Contains-append_left, Contains-append_right}
 use Rattle.std.proofs.Math.Seq.{take-append_seam, drop-append_seam}
 use mathlib.Core.Option.{some}
 use lib.ListN.{get_elem?}
@@ -24,7 +22,7 @@ use Rattle.segment_machine.specs.State.{State, memory}
 use Rattle.segment_invariant.specs.Body.{Anatomy}
 use Rattle.segment_invariant.specs.Invariant.{Invariant}
 use Rattle.segment_invariant.specs.Keeps.{found_at}
-use Rattle.segment_invariant.specs.Keeps.{EventKeeps, NoteKeeps}
+use Rattle.segment_invariant.specs.Keeps.{EventKeeps}
 use Rattle.segment_invariant.proofs.Notes.Announcements.{with_actor, notes_follow}
 use Rattle.segment_promises.specs.Follows.{StepsFollow}
 
@@ -102,7 +100,7 @@ words_of_memory s n m size is = sym (ap (λ (p : ℕ). take p m) size) ∙ (ap (
 cursors_of_memory : (s : State) (n : ℕ) (m : List ℕ) → length s.words ≡ n → memory s ≡ m → drop n m ≡ s.cursors
 cursors_of_memory s n m size is = sym (ap (λ (p : ℕ). drop p m) size) ∙ (ap (drop (length s.words)) (sym is) ∙ drop-append_seam s.words s.cursors)
 
--- An event with notes before and behind it keeps what holds, where these do, and its actor learns of the number that was found.
+-- An event that keeps what holds keeps it with notes before and behind it, and its actor learns of the number that was found.
 module _ (shape : Dimensions) (opened : Anatomy) (old : State) (id : ℕ) (a at : Actor) (before : List Note) (event : Event) where
   -- the number that the event finds, the words behind it, and its actor
   abbrev found : ℕ
@@ -116,28 +114,25 @@ module _ (shape : Dimensions) (opened : Anatomy) (old : State) (id : ℕ) (a at 
   then_with b = record { words = take (length old.words) all; cursors = drop (length old.words) all; actors = set old.actors id b }
 
   pub happens : Invariant shape opened old → get_elem? old.actors id ≡ some a → a.opener ≡ 0 → Notes a before at
-      → ((note : Note) → Contains before note → NoteKeeps note) → EventKeeps event → Ready at event
-      → (behind : List Note) (then_is : Actor)
-      → (Learned at event found → Notes (next at event found) behind then_is × ((note : Note) → Contains behind note → NoteKeeps note))
+      → EventKeeps event → Ready at event → (behind : List Note) (then_is : Actor)
+      → (Learned at event found → Notes (next at event found) behind then_is)
       → Invariant shape opened (then_with then_is) × Learned at event found
-  happens kept there records notes_before before_keeps event_keeps ready behind then_is goes =
-      let first = notes_follow shape opened before old id a at kept there records notes_before before_keeps in
+  happens kept there records notes_before event_keeps ready behind then_is goes =
+      let first = notes_follow shape opened before old id a at kept there records notes_before in
       let did = event_keeps shape opened (with_actor old id at) id at first.0 (set_at old.actors id a at there) first.1 ready in
       let acted : Actor = next at event found in
       let mid : State = record { words = take (length old.words) all; cursors = drop (length old.words) all; actors = set (set old.actors id at) id acted } in
       let stands = set_at (set old.actors id at) id at acted (set_at old.actors id a at there) in
-      let (may, behind_keeps) = goes did.1 in
-      let last = notes_follow shape opened behind mid id acted then_is did.0 stands (acts_on at event found ∙ first.1) may behind_keeps in
+      let last = notes_follow shape opened behind mid id acted then_is did.0 stands (acts_on at event found ∙ first.1) (goes did.1) in
       let actors = set-set (set old.actors id at) id acted then_is ∙ set-set old.actors id at then_is in (
         subst (λ list. Invariant shape opened (record (then_with then_is) { actors = list })) actors last.0,
         did.1,
       )
 
 pub steps_follow : StepsFollow
-steps_follow shape opened old new id event step event_keeps notes_kept kept =
+steps_follow shape opened old new id event step event_keeps kept =
     let did = happens shape opened old id step.actor step.at step.before event kept step.there step.is_recorder step.notes_before
-    (λ n c. notes_kept n (Contains-append_left step.before step.behind n c)) event_keeps step.ready step.behind step.then_is
-    (λ learned. (step.notes_behind, λ n c. notes_kept n (Contains-append_right step.before step.behind n c))) in
+    event_keeps step.ready step.behind step.then_is (λ learned. step.notes_behind) in
     let size = length old.words in
     let all = after size opened.version event (memory old) in
     let actors : set old.actors id step.then_is ≡ new.actors = sym step.actors_are in (

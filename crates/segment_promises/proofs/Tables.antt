@@ -44,7 +44,7 @@ tables_follow S shape opened before event behind slots id me word event_keeps wo
     let first : Actor = noted_by me.0 before in
     let n : ℕ = found_at seg event in
     let last : Actor = noted_by (next first event n) (behind n) in
-    let did = happens shape opened seg id me.0 first before event run.kept there records may.0 may.1 event_keeps ready (behind n) last (goes n) in
+    let did = happens shape opened seg id me.0 first before event run.kept there records may event_keeps ready (behind n) last (goes n) in
     let all = after (length seg.words) opened.version event (memory seg) in (
       last,
       table.keeps,
@@ -85,7 +85,7 @@ pub tables_announce : (S : Type 0) → TablesAnnounce S
 tables_announce S shape opened notes slots id me becomes same records may =
     let last : Actor = noted_by me.0 notes in
     announced S shape opened slots id me becomes same last
-    (λ seg kept there. (notes_follow shape opened notes seg id me.0 last kept there records may.0 may.1).0)
+    (λ seg kept there. (notes_follow shape opened notes seg id me.0 last kept there records may).0)
 
 pub tables_offer : (S : Type 0) → TablesOffer S
 tables_offer S shape opened units slots id me becomes same may =

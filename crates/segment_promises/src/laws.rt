@@ -10,12 +10,12 @@ ghost use Rattle.segment_promises.specs.Refusals.{RefusedAddsFew};
 ghost use Rattle.segment_promises.specs.Lists.{WalksGiveAll, CursorsKeepOrder, CursorsGiveFronts, CursorsGiveAll, NamesAreFirst, OthersDiffer};
 ghost use Rattle.segment_promises.specs.Examples.{LinksLengthen, DeltaOwes, SnapshotOwes};
 
-/// Where each event and each note keeps what holds, every state that is reached from a kept one is kept.
+/// Where each event keeps what holds, every state that is reached from a kept one is kept.
 pub fn reached_states_follow()
     ensures { ReachedStatesFollow }
 {}
 
-/// A step whose event and whose notes keep what holds keeps it, and its actor learns of the number that was found.
+/// A step whose event keeps what holds keeps it, and its actor learns of the number that was found.
 pub fn steps_follow()
     ensures { StepsFollow }
 {}

@@ -1,6 +1,5 @@
--- Notes that keep what holds keep it one after the other, and so does an announcement of them.
-use Rattle.std.proofs.Common.{◌≡◌, ℕ, suc, List, [], ◌∷◌, set, refl, sym, ap, subst, ◌∙◌, arith}
-use Rattle.std.specs.List.{Contains}
+-- Notes keep what holds one after the other, and so does an announcement of them.
+use Rattle.std.proofs.Common.{◌≡◌, ℕ, List, [], ◌∷◌, set, refl, sym, ap, subst, ◌∙◌}
 use Rattle.std.proofs.lemmas.List.{set-set}
 use mathlib.Core.Option.{some}
 use lib.ListN.{get_elem?}
@@ -12,7 +11,7 @@ use Rattle.segment_machine.specs.Note.{Note, Notes, noted, begins, goes_on, amou
 use Rattle.segment_machine.specs.State.{State}
 use Rattle.segment_invariant.specs.Body.{Anatomy}
 use Rattle.segment_invariant.specs.Invariant.{Invariant}
-use Rattle.segment_invariant.specs.Keeps.{NoteKeeps, AnnouncementsKeep}
+use Rattle.segment_invariant.specs.Keeps.{AnnouncementsKeep}
 use Rattle.segment_invariant.proofs.Notes.Keeps.{notes_keep}
 
 -- a note makes no opener of a recorder
@@ -30,32 +29,27 @@ still_records a (answers answered) = refl
 still_records a ends = refl
 still_records a (refused added) = refl
 
--- what holds of all but the first of a list
-behind_first : (note : Note) (notes : List Note) (holds : Note → Type 0) → ((n : Note) → Contains (note ∷ notes) n → holds n)
-    → (n : Note) → Contains notes n → holds n
-behind_first note notes holds all n (k, below, is) = all n (suc k, omega (arith, below), is)
-
 -- the state with another record of an actor
 abbrev pub with_actor : State → ℕ → Actor → State
 with_actor state id a = record state { actors = set state.actors id a }
 
--- notes that keep what holds keep it one after the other
+-- notes keep what holds one after the other
 pub notes_follow : (shape : Dimensions) (opened : Anatomy) (notes : List Note) (state : State) (id : ℕ) (a b : Actor) → Invariant shape opened state
-    → get_elem? state.actors id ≡ some a → a.opener ≡ 0 → Notes a notes b → ((note : Note) → Contains notes note → NoteKeeps note)
+    → get_elem? state.actors id ≡ some a → a.opener ≡ 0 → Notes a notes b
     → Invariant shape opened (with_actor state id b) × (b.opener ≡ 0)
-notes_follow shape opened [] state id a b kept there records same keep = (
+notes_follow shape opened [] state id a b kept there records same = (
   subst (λ actors. Invariant shape opened (record state { actors = actors }))
       (sym (set_again state.actors id a there) ∙ ap (λ x. set state.actors id x) same) kept,
   sym (ap (λ (x : Actor). x.opener) same) ∙ records,
 )
-notes_follow shape opened (note ∷ notes) state id a b kept there records (may, more) keep =
-    let first = keep note (0, omega arith, refl) shape opened state id a kept there records may in
+notes_follow shape opened (note ∷ notes) state id a b kept there records (may, more) =
+    let first = notes_keep note shape opened state id a kept there records may in
     let after_it = notes_follow shape opened notes (with_actor state id (noted a note)) id (noted a note) b first
-    (set_at state.actors id a (noted a note) there) (still_records a note ∙ records) more (behind_first note notes NoteKeeps keep) in (
+    (set_at state.actors id a (noted a note) there) (still_records a note ∙ records) more in (
       subst (λ actors. Invariant shape opened (record state { actors = actors })) (set-set state.actors id (noted a note) b) after_it.0,
       after_it.1,
     )
 
 pub announcements_keep : AnnouncementsKeep
 announcements_keep shape opened old new id kept (a, b, notes, there, records, noting, is) =
-    subst (Invariant shape opened) (sym is) (notes_follow shape opened notes old id a b kept there records noting (λ note among. notes_keep note)).0
+    subst (Invariant shape opened) (sym is) (notes_follow shape opened notes old id a b kept there records noting).0

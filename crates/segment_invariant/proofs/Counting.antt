@@ -1,5 +1,6 @@
 pub mod Held
 pub mod Owed
+pub mod AddRedundant
 pub mod AddSum
 pub mod Amounts
 pub mod Entries

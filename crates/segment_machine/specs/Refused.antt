@@ -11,12 +11,12 @@ use Rattle.segment_machine.specs.Operation as does
 use Rattle.segment_machine.specs.Entry.{fresh, tally_noted}
 use Rattle.segment_machine.specs.Event.{Event, packing_event, taking_event, counting_event, cursor_event, Ready, next}
 use Rattle.segment_machine.specs.Packing.{load_single, pack, disable, add_moved}
-use Rattle.segment_machine.specs.Note.{MayNote, noted, looks, takes, answers, ends, refused}
+use Rattle.segment_machine.specs.Note.{MayNote, noted, goes_on, looks, takes, answers, ends, refused}
 use Rattle.segment_machine.specs.Taking.{TakingEvent, operation, load_sum, load_redundant, swap_sum_mark, load_count, raise_mark, raise_single_mark}
 use Rattle.segment_machine.specs.Counting.{add_count, add_sum, add_redundant}
 use Rattle.segment_machine.specs.Cursors.{load_cursor}
 use Rattle.segment_machine.specs.Made.{IsPayload}
-use Rattle.segment_machine.specs.Seats.{nothing_seen, opener_of, newcomer, joined, MayJoin}
+use Rattle.segment_machine.specs.Seats.{nothing_seen, opener_of, newcomer, joined, MayJoin, MayLend, MayReturn}
 use Rattle.segment_machine.specs.Actor.{accepted_by, accepted_since}
 use Rattle.segment_machine.specs.Examples.{shape, letter_a, one, whole, maker, AreReady, run, sampler, takes_all, letter_s, known_a}
 
@@ -82,6 +82,16 @@ abbrev pub RecordsAlone : Type 0
 RecordsAlone =
     ¬ (IsPayload (made.Histogram letter_a spec.Boolean)
     (2 ∷ 1 ∷ 2 ∷ 3 ∷ 32 ∷ 9223372036854841343 ∷ 0 ∷ 0 ∷ 0 ∷ 0 ∷ 1 ∷ 65 ∷ []))
+
+-- a call goes on with one more entry where all of its entries have ended, and not where none runs
+abbrev pub EntriesEndFirst : Type 0
+EntriesEndFirst = (¬ (MayNote (counting (negsuc 4)) (goes_on (one 1) 1))) × (¬ (MayNote recorder (goes_on (one 1) 1)))
+
+-- units that are offered to the next recorder are not lent, and a recorder gives none back that it does not have
+abbrev pub OffersStay : Type 0
+OffersStay =
+    let opener = record (opener_of shape 1 1) { share = 5; offered = 3 } in
+    MayLend opener recorder 2 × (¬ (MayLend opener recorder 3)) × (¬ (MayReturn opener (record recorder { share = 1 }) 2))
 
 -- who owes an answer is not joined
 abbrev pub DebtsStay : Type 0

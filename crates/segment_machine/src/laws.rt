@@ -9,7 +9,7 @@ ghost use Rattle.segment_machine.specs.Lives.{RecorderIsJoined};
 ghost use Rattle.segment_machine.specs.Worked.{WorkedRun, FrozenRun};
 ghost use Rattle.segment_machine.specs.Looks.{SnapshotRun, CursorRun};
 ghost use Rattle.segment_machine.specs.Races.{StoppedRun, StalledRun, LostRun, RaceRun};
-ghost use Rattle.segment_machine.specs.Refused.{ValuesApart, MovesFirst, CursorsThere, SamplesMet, WordsSince, SwapsAdd, RecordsAlone, DebtsStay, TailsStay, FirstEntriesApart, WordsOffFirst, UnitsRemembered, SumsStay, FirstSamplesCount, CountsBound, SingleMarksApart, MarksRise, HonestAnswers};
+ghost use Rattle.segment_machine.specs.Refused.{ValuesApart, MovesFirst, CursorsThere, SamplesMet, WordsSince, SwapsAdd, RecordsAlone, EntriesEndFirst, OffersStay, DebtsStay, TailsStay, FirstEntriesApart, WordsOffFirst, UnitsRemembered, SumsStay, FirstSamplesCount, CountsBound, SingleMarksApart, MarksRise, HonestAnswers};
 
 /// A step changes one word and one actor at most.
 pub fn steps_change_one()
@@ -106,6 +106,16 @@ pub fn swaps_add()
 /// A record is published without counts.
 pub fn records_alone()
     ensures { RecordsAlone }
+{}
+
+/// A call goes on with one more entry where all of its entries have ended.
+pub fn entries_end_first()
+    ensures { EntriesEndFirst }
+{}
+
+/// Units that are offered to the next recorder are not lent, and a recorder gives none back that it does not have.
+pub fn offers_stay()
+    ensures { OffersStay }
 {}
 
 /// Who owes an answer is not joined.

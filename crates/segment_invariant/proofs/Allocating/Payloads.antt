@@ -12,6 +12,7 @@ use Rattle.segment_image.specs.Shape.{Dimensions}
 use Rattle.alloc_core.specs.Alloc.{IsPlace}
 use Rattle.segment_machine.specs.declared.actor.Actor.{Actor}
 use Rattle.segment_machine.specs.declared.actor.Own.{Own}
+use Rattle.segment_machine.specs.declared.place.Place.{Place}
 use Rattle.segment_machine.specs.declared.place.Place.TheVariants.{Spent}
 use Rattle.segment_machine.specs.State.{State}
 use Rattle.segment_machine.specs.Seats.{spent}
@@ -23,7 +24,8 @@ use Rattle.segment_invariant.specs.Invariant.{StandsRight, HoldsOwn, Invariant}
 use Rattle.segment_invariant.proofs.Lists.Elements.{at_from, contains_at, all_at, all_from}
 use Rattle.segment_invariant.proofs.Blocks.Pieces.{stands_here, stands_beside, not_first, piece_stored, claims_same, with_piece}
 use Rattle.segment_invariant.proofs.Blocks.Stops.{linked_beside_own}
-use Rattle.segment_invariant.proofs.Frames.OneActor.{Doing, doing_of, turns_not, doing}
+use Rattle.segment_invariant.proofs.Frames.OneActor.{Doing, doing_of, TurnsTo, turns_not, doing}
+use Rattle.segment_invariant.proofs.Frames.Ahead.{KeepsUp}
 use Rattle.segment_invariant.proofs.Frames.Anatomies.{grounds_along}
 use Rattle.segment_invariant.proofs.Frames.Standing.{stands_on}
 use Rattle.segment_invariant.proofs.Allocating.Claimers.{stays_put}
@@ -86,13 +88,13 @@ module _ (shape : Dimensions) (opened : Anatomy) (state : State) (kept : Invaria
       let nobody : a ≡ spent = subst (StandsRight shape anatomy id a) is_spent (kept.standing id a mine) in
       some-ne-none x (sym there ∙ ap (λ (b : Actor). get_elem? b.own i) nobody)
 
-  module _ (i : ℕ) (x y : Own) (j v : ℕ) (there : get_elem? a.own i ≡ some x) (same_at : y.at ≡ x.at) (same_size : y.size ≡ x.size) (same_tag : y.tag ≡ x.tag)
+  module _ (i : ℕ) (x y : Own) (j v : ℕ) (there : get_elem? a.own i ≡ some x) (same_at : y.at ≡ x.at) (same_size : y.size ≡ x.size) (tagged : y.tag ≤ 3)
       (words_are : own_words y ≡ set (own_words x) j v) (within : j < length (own_words x)) (room : length y.payload + 4 ≤ y.size)
       (ends : (y.next ≡ 0) ⊎ (y.next ≡ 12)) where
     lived : a.place ≢ Spent
     lived = has_lived i x there
 
-    holds : HoldsOwn shape anatomy.pieces id x
+    pub holds : HoldsOwn shape anatomy.pieces id x
     holds = all_at (HoldsOwn shape anatomy.pieces id) a.own i x (kept.each id a mine lived).own there
 
     abbrev k : ℕ
@@ -143,7 +145,7 @@ module _ (shape : Dimensions) (opened : Anatomy) (state : State) (kept : Invaria
         stands = stands_here anatomy.pieces k p q at_k;
         placed = subst (λ (n : ℕ × ℕ). IsPlace shape n.0 n.1) (λ e. (sym same_at e, sym same_size e)) holds.placed;
         room = room;
-        tagged = subst (λ n. n ≤ 3) (sym same_tag) holds.tagged;
+        tagged = tagged;
         ends = ends;
       })
       | inr t ↦
@@ -169,8 +171,8 @@ module _ (shape : Dimensions) (opened : Anatomy) (state : State) (kept : Invaria
       ]
     ]
 
-    own_others : (z : Own) → Contains a.own z → (w : Own) × Contains (set a.own i y) w × (w.at ≡ z.at) × (w.tag ≡ z.tag)
-    own_others z has =
+    own_others : y.tag ≡ x.tag → (z : Own) → Contains a.own z → (w : Own) × Contains (set a.own i y) w × (w.at ≡ z.at) × (w.tag ≡ z.tag)
+    own_others same_tag z has =
         let (m, is) = at_from a.own z has in
         dite (ℕ_discrete m i)
         (λ same.
@@ -178,16 +180,26 @@ module _ (shape : Dimensions) (opened : Anatomy) (state : State) (kept : Invaria
         (y, contains_at (set a.own i y) i y (set_at a.own i x y there), same_at ∙ ap (λ (o : Own). o.at) one, same_tag ∙ ap (λ (o : Own). o.tag) one))
         (λ ne. (z, contains_at (set a.own i y) m z (set_else a.own i m y ne ∙ is), refl, refl))
 
-    -- the state is kept with that block
-    pub fills : Invariant shape opened (record { words = words; cursors = state.cursors; actors = set state.actors id (record a { own = set a.own i y }) })
-    fills =
-        let d : Doing = record (doing_of a) { own = set a.own i y } in
-        let after : Anatomy = with_piece anatomy k q in
+    abbrev after : Anatomy
+    after = with_piece anatomy k q
+
+    abbrev pub filling : Place → Doing
+    filling place = record (doing_of a) { place = place; own = set a.own i y }
+
+    -- the state is kept with that block, wherever the actor stands then
+    pub fills_at : (place : Place) → TurnsTo a place → KeepsUp a.place place → StandsRight shape after id (doing a (filling place)) place
+        → Invariant shape opened (record { words = words; cursors = state.cursors; actors = set state.actors id (record a { place = place; own = set a.own i y }) })
+    fills_at place turns up stands =
+        stores shape opened state kept id a mine records k p q words store (filling place) turns up
+        (claims_kept shape opened state kept id a mine records pieces (filling place) (claims_same anatomy.pieces k p q at_k refl same_at long) refl)
+        refl refl refl stands own_holds own_apart
+
+    -- where it stood, while the block is of the type that it was
+    pub fills : y.tag ≡ x.tag → Invariant shape opened (record { words = words; cursors = state.cursors; actors = set state.actors id (record a { own = set a.own i y }) })
+    fills same_tag =
         let stays : Stays anatomy.pieces pieces = stays_put anatomy.pieces k id p q at_k refl refl tt tt in
-        stores shape opened state kept id a mine records k p q words store d (turns_not a lived) (λ no. no)
-        (claims_kept shape opened state kept id a mine records pieces d (claims_same anatomy.pieces k p q at_k refl same_at long) refl)
-        refl refl refl
-        (stands_on shape anatomy after id a (doing a d)
+        fills_at a.place (turns_not a lived) (λ no. no)
+        (stands_on shape anatomy after id a (doing a (filling a.place))
         (grounds_along anatomy pieces anatomy.spare anatomy.corrupt anatomy.full anatomy.tail stays id (λ at ws.
         stands_beside anatomy.pieces k p q at_k at (some id) (plain ws) (λ same. true≢false (sym (ap (λ (piece : Piece). is_claimed piece.body) same)))))
         (record {
@@ -197,11 +209,10 @@ module _ (shape : Dimensions) (opened : Anatomy) (state : State) (kept : Invaria
           words = λ s has. has;
           seen = λ at word has. has;
           chain = λ at has. has;
-          own = own_others;
+          own = own_others same_tag;
           spent = λ is. absurd (lived (ap (λ (b : Actor). b.place) is));
         })
         a.place (kept.standing id a mine))
-        own_holds own_apart
 
   -- ---- a word of a payload
 
@@ -232,7 +243,7 @@ module _ (shape : Dimensions) (opened : Anatomy) (state : State) (kept : Invaria
           cursors = state.cursors;
           actors = set state.actors id (record a { own = s.1 });
         })) (λ e. (place e, sym changed e))
-            (fills i x y (4 + index) value there refl refl refl (filled_words x index value from to)
-            (let room = is.room in omega (arith, zeros, all, from, to, room)) (omega (arith, made, inner, outer, from, to)) is.ends),
+            (fills i x y (4 + index) value there refl refl is.tagged (filled_words x index value from to)
+            (let room = is.room in omega (arith, zeros, all, from, to, room)) (omega (arith, made, inner, outer, from, to)) is.ends refl),
         tt,
       )

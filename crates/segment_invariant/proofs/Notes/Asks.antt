@@ -30,4 +30,4 @@ asks_kept at made shape opened state id a kept mine records (x, has, place, unas
     ap (set state.words (x.at + 0)) (sym word) ∙ set-get_or state.words (x.at + 0) 0 in
     subst (λ (s : List ℕ × List Own). Invariant shape opened (record { words = s.0; cursors = state.cursors; actors = set state.actors id (record a { own = s.1 }) }))
     (λ e. (same e, sym changed e))
-    (fills shape opened state kept id a mine records i x y 0 x.size there refl refl refl refl (omega arith) is.room is.ends)
+    (fills shape opened state kept id a mine records i x y 0 x.size there refl refl is.tagged refl (omega arith) is.room is.ends refl)

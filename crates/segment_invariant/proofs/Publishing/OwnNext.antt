@@ -37,6 +37,6 @@ module _ (shape : Dimensions) (opened : Anatomy) (state : State) (kept : Invaria
           cursors = state.cursors;
           actors = set state.actors id (record a { own = s.1 });
         })) (λ e. (place e, sym changed e))
-            (fills shape opened state kept id a mine records i x y 3 12 there refl refl refl refl (omega arith) room (inr refl)),
+            (fills shape opened state kept id a mine records i x y 3 12 there refl refl is.tagged refl (omega arith) room (inr refl) refl),
         tt,
       )

@@ -1,0 +1,48 @@
+-- A counts block that is not needed is purged: its type becomes 0, and its call looks on.
+use Rattle.std.proofs.Common.{◌≡◌, ℕ, ◌+◌, ◌==◌, List, set, refl, sym, ap, ◌∙◌, subst, arith, eq-eqb, eqb-true}
+use mathlib.Core.Option.{some}
+use lib.ListN.{get_elem?}
+use Rattle.alloc_core.proofs.Layouts.{length_shown}
+use Rattle.segment_image.specs.Shape.{Dimensions}
+use Rattle.segment_machine.specs.declared.actor.Actor.{Actor}
+use Rattle.segment_machine.specs.declared.actor.Own.{Own}
+use Rattle.segment_machine.specs.declared.place.Place.{Place}
+use Rattle.segment_machine.specs.declared.place.Place.TheVariants.{Looking}
+use Rattle.segment_machine.specs.State.{State}
+use Rattle.segment_machine.specs.Packing.{purge_block}
+use Rattle.segment_machine.specs.Event.{packing_event, Ready}
+use Rattle.segment_machine.specs.Calls.{back, change_own}
+use Rattle.segment_invariant.specs.Body.{Anatomy, layout_of}
+use Rattle.segment_invariant.specs.Invariant.{StandsRight, HoldsOwn, is_beaten, Invariant}
+use Rattle.segment_invariant.proofs.Lists.Elements.{at_from, all_at}
+use Rattle.segment_invariant.proofs.Frames.GoesOn.{happens}
+use Rattle.segment_invariant.proofs.Frames.OneActor.{is_plain, turns_plain}
+use Rattle.segment_invariant.proofs.Frames.Shown.{Goes}
+use Rattle.segment_invariant.proofs.Allocating.Payloads.{change_one, has_lived, fills_at}
+
+module _ (shape : Dimensions) (opened : Anatomy) (state : State) (kept : Invariant shape opened state) (id : ℕ) (a : Actor)
+    (mine : get_elem? state.actors id ≡ some a) (records : a.opener ≡ 0) where
+  pub block_purged : (at : ℕ) → Ready a (packing_event (purge_block at)) → Goes shape opened state kept id a mine records (packing_event (purge_block at))
+  block_purged at (look, placed) =
+      let (right, refers, apart, (x, has, place, tag)) = subst (StandsRight shape kept.anatomy id a) placed (kept.standing id a mine) in
+      let (i, there) = at_from a.own x has in
+      let fits = kept.each id a mine (has_lived shape opened state kept id a mine records i x there) in
+      let is = all_at (HoldsOwn shape kept.anatomy.pieces id) a.own i x fits.own there in
+      let y : Own = record x { tag = 0 } in
+      let changed : change_own at (λ own. record own { tag = 0 }) a.own ≡ set a.own i y =
+      change_one (λ (own : Own). own.at == at) (λ (own : Own). record own { tag = 0 }) a.own i x there
+      (eq-eqb x.at at place) (λ j z here passes. fits.apart j i z x here there (eqb-true z.at at passes ∙ sym place)) in
+      let size = length_shown shape state.words (layout_of kept.anatomy) kept.shown in
+      let within = is.placed.within in
+      let room = is.room in
+      happens opened.version state id a (packing_event (purge_block at)) (omega (arith, place, size, within, room)) shape opened (
+        subst (λ (s : ℕ × List Own × Place). Invariant shape opened (record {
+          words = set state.words (s.0 + 2) 0;
+          cursors = state.cursors;
+          actors = set state.actors id (record a { place = s.2; own = s.1 });
+        })) (λ e. (place e, sym changed e, ap back (sym placed) e))
+            (fills_at shape opened state kept id a mine records i x y 2 0 there refl refl (omega arith) refl (omega arith) room is.ends (Looking look)
+            (turns_plain a (Looking look) (ap is_plain placed) refl) (λ no. ap is_beaten placed)
+            (record { known = right.known; knows = right.knows; single = right.single; counts = right.counts })),
+        tt,
+      )

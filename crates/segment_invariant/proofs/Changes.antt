@@ -1,7 +1,9 @@
 pub mod Changes
+pub mod Counts
 pub mod Ledgers
 pub mod Looks
 pub mod Others
+pub mod Places
 pub mod Records
 pub mod Sums
 pub mod Words

@@ -1,0 +1,136 @@
+-- A recorder turns to another place while one word of a published block becomes another, and has counted, taken and seen what it had.
+use Rattle.std.proofs.Common.{◌≡◌, ◌≢◌, ℕ, ◌+◌, ◌<◌, ◌≤◌, ℤ, pos, List, ◌∷◌, set, Contains, inl, inr, refl, sym, ap, ◌∙◌, subst, arith}
+use mathlib.Core.Option.{some, none}
+use lib.ListN.{get_elem?}
+use Rattle.atomic_table.proofs.Lists.{set_else}
+use Rattle.segment_image.specs.Shape.{Dimensions}
+use Rattle.segment_machine.specs.declared.actor.Actor.{Actor}
+use Rattle.segment_machine.specs.declared.actor.Moment.{Moment}
+use Rattle.segment_machine.specs.declared.place.Place.{Place}
+use Rattle.segment_machine.specs.declared.place.Place.TheVariants.{Spent, SumLoaded}
+use Rattle.segment_machine.specs.Entry.{tally_units, tally_sum, tally_noted}
+use Rattle.segment_machine.specs.Actor.{counted_of, summed_of, noted_of, all_counted, all_summed, all_noted, all_taken, taken_units, taken_sum}
+use Rattle.segment_machine.specs.State.{State}
+use Rattle.segment_invariant.specs.Body.{Body, Piece, Anatomy}
+use Rattle.segment_invariant.specs.Seen.{Stands}
+use Rattle.segment_invariant.specs.Invariant.{RecordsAreKept, StandsRight, IsMoment, FinalsAreExact, summed_cost, Invariant}
+use Rattle.segment_invariant.proofs.Lists.Elements.{rows, row_in, sum_same}
+use Rattle.segment_invariant.proofs.Frames.Ahead.{KeepsUp}
+use Rattle.segment_invariant.proofs.Frames.Anatomies.{calls_same}
+use Rattle.segment_invariant.proofs.Frames.GoesOn.{not_opener}
+use Rattle.segment_invariant.proofs.Frames.OneActor.{lives_on}
+use Rattle.segment_invariant.proofs.Frames.Roles.{SameRole, AllStood, stood_set}
+use Rattle.segment_invariant.proofs.Frames.SeesMore.{calls_more}
+use Rattle.segment_invariant.proofs.Frames.Together.{loaded_set, moment, ended_began}
+use Rattle.segment_invariant.proofs.Counting.Seen.{known_stands}
+use Rattle.segment_invariant.proofs.Changes.Ledgers.{Balances, taken_on}
+use Rattle.segment_invariant.proofs.Changes.Others.{Deed, deed_of, changed, alone_was, is_later, looks_on}
+use Rattle.segment_invariant.proofs.Changes.Sums.{SameSum, sums_on}
+use Rattle.segment_invariant.proofs.Changes.Words.{Turns, turned, behind, turned_onward, sees_turned, turned_on}
+
+module _ (shape : Dimensions) (opened : Anatomy) (state : State) (kept : Invariant shape opened state) (at : ℕ) (body then_is : Body) (j v : ℕ)
+    (stands : Stands kept.anatomy.pieces at none body) (turns : Turns kept.anatomy.version body then_is j v) (id : ℕ) (a : Actor)
+    (mine : get_elem? state.actors id ≡ some a) (recorder : a.opener ≡ 0) (lived : a.place ≢ Spent) (place : Place) where
+  abbrev pub deed : Deed
+  deed = record (deed_of a) { place = place }
+
+  abbrev pub b : Actor
+  b = changed a deed
+
+  abbrev actors : List Actor
+  actors = set state.actors id b
+
+  abbrev new : Anatomy
+  new = behind shape opened state kept at body then_is j v stands turns
+
+  -- What has to be shown: of the records, of the ledger, of the sums, and of the place.
+  pub record Placed : Type 0 where
+    pub records : RecordsAreKept shape.page new
+    pub balances : Balances kept.anatomy.version body then_is a b
+    pub sums : SameSum kept.anatomy.pieces new.pieces
+    pub lives : place ≢ Spent
+    pub no_sum : (reference : ℕ) (sum : ℤ) → place ≢ SumLoaded reference sum
+    pub stood : StandsRight shape new id b place
+    pub up : KeepsUp a.place place
+
+  module _ (shows : Placed) where
+    role : SameRole b a
+    role = record {
+      living = lives_on b recorder shows.lives ∙ sym (lives_on a recorder lived);
+      opener = refl;
+      first = refl;
+      first_noted = refl;
+      made = refl;
+      outstanding = refl;
+      inherited = refl;
+      offered = refl;
+    }
+
+    stood : AllStood state.actors actors
+    stood = stood_set state.actors id a b mine role
+
+    first : get_elem? actors 0 ≡ get_elem? state.actors 0
+    first = set_else state.actors id 0 b (λ same. not_opener shape opened state kept id a mine recorder (sym same))
+
+    counted : (name : List ℕ) (key : ℤ) → tally_units (all_counted actors) name key ≡ tally_units (all_counted state.actors) name key
+    counted name key = ap (λ entries. tally_units entries name key) (rows counted_of state.actors id a b mine refl)
+
+    summed : (name : List ℕ) → tally_sum (all_summed actors) name ≡ tally_sum (all_summed state.actors) name
+    summed name = ap (λ entries. tally_sum entries name) (rows summed_of state.actors id a b mine refl)
+
+    noted : (name : List ℕ) → tally_noted (all_noted actors) name ≡ tally_noted (all_noted state.actors) name
+    noted name = ap (λ entries. tally_noted entries name) (rows noted_of state.actors id a b mine refl)
+
+    took : all_taken actors ≡ all_taken state.actors
+    took = rows (λ (c : Actor). c.taken) state.actors id a b mine refl
+
+    -- what it took and answered is as exact as it was
+    finals_on : FinalsAreExact state.actors kept.roles.opener id a → FinalsAreExact actors kept.roles.opener id b
+    finals_on exact = record {
+      deltas = λ t has eldest youngest quiet.
+          let was = exact.deltas t has eldest youngest quiet in (
+            λ key. ap (λ list. taken_units list t.name key) took ∙ (was.0 key ∙ sym (counted t.name key)),
+            ap (λ list. taken_sum list t.name) took ∙ (was.1 ∙ sym (summed t.name)),
+          );
+      snapshots = λ s has eldest youngest quiet.
+          let was = exact.snapshots s has eldest youngest quiet in (
+            λ key. was.0 key ∙ sym (counted s.name key),
+            was.1 ∙ sym (summed s.name),
+            (let redundant = was.2 in let same = noted s.name in omega (arith, redundant, same)),
+          );
+      moments = λ m of.
+          let is = moment state.actors actors kept.roles.opener kept.roles.opener id a m (is_later state.actors actors kept.roles stood first) (exact.moments m of) in
+          record { logged = is.logged; before = is.before; mine = is.mine; eldest = is.eldest };
+      swapped = λ before last taking is swapped alone.
+          ap (λ list. taken_sum list last.name) took
+          ∙ (exact.swapped before last taking is swapped (alone_was state.actors actors kept.roles stood first b a refl refl alone) ∙ sym (summed last.name));
+    }
+
+    -- the state that is left is kept
+    pub places_on : Invariant shape opened (record { words = set state.words (at + j) v; cursors = state.cursors; actors = actors })
+    places_on =
+        let fits = kept.each id a mine lived in
+        turned_on shape opened state kept at body then_is j v stands turns id a mine recorder lived deed (record {
+          records = shows.records;
+          balances = shows.balances;
+          taken = taken_on kept.anatomy.pieces stands.0 _ (record { at = at; owner = none; body = then_is }) stands.1 state.actors id a b mine refl (λ name key. omega arith)
+              kept.balanced.taken;
+          counted = λ name key. omega arith;
+          keys = λ entry has. kept.keys entry (row_in counted_of state.actors id a entry mine has);
+          taken_keys = λ t count has. kept.taken_keys t count (row_in (λ (c : Actor). c.taken) state.actors id a t mine has);
+          sums = sums_on kept.anatomy.pieces new.pieces state.actors actors shows.sums
+              (loaded_set state.actors id a b mine (λ reference sum loaded. absurd (shows.no_sum reference sum loaded)))
+              (λ name. let same = sum_same (summed_cost name) state.actors id a b mine refl in omega (arith, same)) kept.sums;
+          lives = shows.lives;
+          stood = shows.stood;
+          sees = sees_turned shape opened state kept at body then_is j v stands turns a.seen fits.sees;
+          up = shows.up;
+          own = refl;
+          calls = calls_same kept.anatomy new b refl (calls_more kept.anatomy a place a.seen a.given a.lost (λ place has. has) (λ place word saw. saw) fits.calls);
+          looks = looks_on shape state.words kept.anatomy new kept.shown (λ at body. ⊥) (turned_onward shape opened state kept at body then_is j v stands turns) refl
+              shape.page kept.records shows.records a fits.sees.counters fits.sees.in_use state.actors actors kept.roles.opener deed
+              (λ name key. let same = counted name key in omega (arith, same)) (alone_was state.actors actors kept.roles stood first a a refl refl)
+              (λ known has. let (r, there, named, bounds, many) = known_stands shape opened state kept id a mine lived known has in (r, there, many))
+              (fits.looks recorder) (λ reference sum s loaded. absurd (shows.no_sum reference sum loaded)) (λ at s new_one. new_one);
+          finals = finals_on fits.finals;
+        })

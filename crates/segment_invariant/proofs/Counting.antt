@@ -14,3 +14,4 @@ pub mod Looks
 pub mod Bounds
 pub mod Samples
 pub mod Sights
+pub mod CountSeen

@@ -76,7 +76,7 @@ same_sums f g (x ∷ xs) same =
 abbrev Finds : List Known → ℕ → Type 0
 Finds names reference = (found : Known) × (known_at names reference ≡ Some found) × Contains names found × (found.reference ≡ reference)
 
-find_known : (names : List Known) (reference k : ℕ) (known : Known) → get_elem? names k ≡ some known → known.reference ≡ reference → Finds names reference
+pub find_known : (names : List Known) (reference k : ℕ) (known : Known) → get_elem? names k ≡ some known → known.reference ≡ reference → Finds names reference
 find_known [] reference k known there same = absurd (some-ne-none known (sym there))
 find_known (x ∷ xs) reference zero known there same =
     let here : x.reference ≡ reference = ap (λ (known : Known). known.reference) (some-injective x known there) ∙ same in

@@ -383,6 +383,6 @@ add_sum_kept at amount shape opened state id a kept mine recorder (unbound, c, k
         cursors = state.cursors;
         actors = set state.actors id (record a { place = Idle; running = p.3 });
       })) (λ i. (refers i, sym found i, amount_is i, sym (next.changed (λ c. record c { summed = true })) i))
-      (sum_added shape opened state kept id a mine recorder unbound c next known has named counted unsummed),
+          (sum_added shape opened state kept id a mine recorder unbound c next known has named counted unsummed),
       tt,
     )

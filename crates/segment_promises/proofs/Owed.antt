@@ -1,10 +1,8 @@
 -- What a recorder has seen of a bucket since its delta or snapshot began is at least what it had accepted and seen.
-use Rattle.std.proofs.Common.{◌≡◌, ◌≢◌, ◌⊎◌, ℕ, ◌+◌, ◌<◌, ◌≤◌, ◌==◌, zero, ne_eqb, Bool, true, false, true≢false, List, take, length, Option, Some, None, inl, inr, ⊎_elim, refl, sym, ap, subst, ◌∙◌, arith}
+use Rattle.std.proofs.Common.{◌≡◌, ◌≢◌, ℕ, ◌+◌, ◌<◌, ◌≤◌, ◌==◌, zero, ne_eqb, Bool, true, false, true≢false, take, Option, Some, None, inl, inr, refl, sym, ap, subst, ◌∙◌, arith}
 use mathlib.Core.Option.{some, none}
-use mathlib.Core.Logic.{dite}
-use native.Mathlib.Decide.{ℕ_discrete}
 use lib.ListN.{get_elem?}
-use Rattle.std.specs.Prelude.{slice_index, if◌then◌else◌}
+use Rattle.std.specs.Prelude.{if◌then◌else◌}
 use Rattle.std.specs.List.{Contains}
 use Rattle.std.proofs.lemmas.List.Elements.{All-contains}
 use Rattle.segment_image.specs.Shape.{Dimensions}
@@ -14,7 +12,6 @@ use Rattle.bucket_ranges.specs.declared.single.SingleWord.TheVariants.{Empty, Pa
 use Rattle.bucket_ranges.specs.Single.{single_of, packed_bucket, units_packed}
 use Rattle.segment_machine.specs.declared.actor.Actor.{Actor}
 use Rattle.segment_machine.specs.declared.actor.Known.{Known}
-use Rattle.segment_machine.specs.declared.seen.Sighting.{Sighting}
 use Rattle.segment_machine.specs.declared.place.Place.TheVariants.{Spent}
 use Rattle.segment_machine.specs.Entry.{tally_units}
 use Rattle.segment_machine.specs.Form.{is_off, units_in, Leads}
@@ -22,13 +19,12 @@ use Rattle.segment_image.specs.Blocks.{field_at}
 use Rattle.segment_machine.specs.Actor.{word_seen, accepted_by, bucket_key, SawSingle, SawCount}
 use Rattle.segment_machine.specs.Note.{SawBucket}
 use Rattle.segment_machine.specs.State.{State}
-use Rattle.segment_invariant.specs.Body.{Record, Counts, Body, Anatomy, histogram}
+use Rattle.segment_invariant.specs.Body.{Record, Body, Anatomy, histogram}
 use Rattle.segment_invariant.specs.Ledger.{form_at}
-use Rattle.segment_invariant.specs.Seen.{HasRecord, HasCounts, Knows}
+use Rattle.segment_invariant.specs.Seen.{HasRecord, Knows}
 use Rattle.segment_invariant.specs.Invariant.{Invariant, Fits, LooksBack, IsSettled}
 use Rattle.segment_invariant.proofs.Counting.Whole.{known_first}
 use Rattle.segment_invariant.proofs.Counting.Seen.{off_is}
-use Rattle.segment_invariant.proofs.Counting.Loaded.{counts_found}
 use Rattle.segment_invariant.proofs.Walking.Words.{sighted}
 use Rattle.segment_invariant.proofs.Blocks.Pieces.{piece_word, one_stands}
 use Rattle.segment_promises.specs.Deltas.{HadCount, HadPacked, IsWhole}

@@ -1,3 +1,4 @@
 pub mod Loads
 pub mod Counts
 pub mod SumMarks
+pub mod Keeps

@@ -21,7 +21,8 @@ use Rattle.segment_machine.specs.Packing.{load_single, IsSingleOf}
 use Rattle.segment_machine.specs.Event.{packing_event, Ready, next}
 use Rattle.segment_invariant.specs.Body.{Record, histogram, Anatomy}
 use Rattle.segment_invariant.specs.Seen.{HasRecord, WasSingle}
-use Rattle.segment_invariant.specs.Invariant.{LooksRight, StandsRight, Invariant}
+use Rattle.segment_invariant.specs.Invariant.{StandsRight, Invariant}
+use Rattle.segment_invariant.specs.Keeps.{EventKeeps}
 use Rattle.segment_invariant.proofs.Frames.GoesOn.{happens}
 use Rattle.segment_invariant.proofs.Frames.OneActor.{turns_unbound}
 use Rattle.segment_invariant.proofs.Frames.SeesMore.{near_on}
@@ -96,3 +97,6 @@ module _ (shape : Dimensions) (opened : Anatomy) (state : State) (kept : Invaria
     where
       some_is : (x y : ℕ) → Some x ≡ Some y → x ≡ y
       some_is x y is = cc is
+
+pub single_kept : (h : ℕ) → EventKeeps (packing_event (load_single h))
+single_kept h shape opened state id a kept mine records ready = single_loaded shape opened state kept id a mine records h ready

@@ -1,5 +1,5 @@
 -- A recorder sees one counter more: what it saw lies behind the present, and it looks back at no more than there is.
-use Rattle.std.proofs.Common.{◌≡◌, ◌≢◌, ◌⊎◌, ℕ, ◌+◌, ◌<◌, ◌≤◌, ℤ, true, List, [], ◌∷◌, ◌++◌, length, Contains, inl, inr, ⊎_elim, refl, sym, ap, ◌∙◌, subst, arith, Some, length-append}
+use Rattle.std.proofs.Common.{◌≡◌, ◌≢◌, ◌⊎◌, ℕ, ◌+◌, ◌<◌, ◌≤◌, ℤ, true, List, [], ◌∷◌, ◌++◌, Contains, inl, inr, ⊎_elim, sym, ap, ◌∙◌, subst, arith, Some, length-append}
 use Rattle.std.specs.Prelude.{take, drop}
 use Rattle.std.proofs.lemmas.List.{drop-append-le, take-append-le}
 use Rattle.std.proofs.lemmas.List.Elements.{All-push, Contains-append_cases}
@@ -12,7 +12,6 @@ use Rattle.segment_machine.specs.declared.seen.Sighting.{Sighting}
 use Rattle.segment_machine.specs.Form.{is_off}
 use Rattle.segment_machine.specs.Entry.{tally_units, tally_noted}
 use Rattle.segment_machine.specs.Actor.{accepted_by, accepted_since, all_counted, bucket_key, cost_of, word_seen, SawSingle}
-use Rattle.segment_machine.specs.Note.{SawBucket}
 use Rattle.segment_invariant.specs.Body.{Record, Anatomy}
 use Rattle.segment_invariant.specs.Ledger.{form_at}
 use Rattle.segment_invariant.specs.Seen.{HasRecord, IsFirstOf, WasCounter, WasInUse, WasMet, Sees}

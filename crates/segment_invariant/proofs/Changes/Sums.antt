@@ -1,5 +1,5 @@
 -- Sums of a record stay near where none of them becomes another.
-use Rattle.std.proofs.Common.{◌≡◌, ℕ, ◌+◌, ◌*◌, ◌≤◌, ℤ, List, inl, inr, refl, sym, ap, ◌∙◌, subst, arith}
+use Rattle.std.proofs.Common.{◌≡◌, ℕ, ◌≤◌, ℤ, List, inl, inr, sym, ap, ◌∙◌, arith}
 use Rattle.std.specs.Int.{w64, cast_signed}
 use Rattle.segment_machine.specs.declared.actor.Actor.{Actor}
 use Rattle.segment_invariant.specs.Body.{Record, Piece}

@@ -1,27 +1,25 @@
 -- An amount is added to the sum of a record, or units to its redundant count, for the entry that is next: the state that is left is kept.
-use Rattle.std.proofs.Common.{◌≡◌, ◌≢◌, ℕ, ◌+◌, ◌<◌, ◌≤◌, ◌^◌, ℤ, pos, ◌+ℤ◌, true, false, List, ◌∷◌, ◌++◌, set, Contains, inl, inr, refl, sym, ap, ◌∙◌, subst, arith}
+use Rattle.std.proofs.Common.{◌≡◌, ◌≢◌, ℕ, ◌+◌, ◌<◌, ◌^◌, ℤ, pos, ◌+ℤ◌, true, false, List, ◌++◌, set, Contains, refl, sym, ap, ◌∙◌, subst, arith}
 use Rattle.std.specs.Int.{w64, cast_signed}
 use Rattle.std.proofs.Math.IntN.{+ℤ_idr}
 use Rattle.std.proofs.lemmas.List.Elements.{All-contains}
-use mathlib.Core.Option.{some, none}
+use mathlib.Core.Option.{some}
 use lib.ListN.{get_elem?}
 use Rattle.atomic_table.proofs.Lists.{set_else}
 use Rattle.segment_image.specs.Shape.{Dimensions}
-use Rattle.bucket_ranges.specs.declared.spec.Spec.{Spec}
 use Rattle.segment_machine.specs.declared.entry.Counting.{Counting}
 use Rattle.segment_machine.specs.declared.entry.Entry.{Entry}
 use Rattle.segment_machine.specs.declared.place.Place.TheVariants.{Spent, Idle}
 use Rattle.segment_machine.specs.declared.actor.Actor.{Actor}
 use Rattle.segment_machine.specs.declared.actor.Known.{Known}
-use Rattle.segment_machine.specs.declared.actor.Taken.{Taken}
 use Rattle.segment_machine.specs.declared.seen.Sighting.{Sighting}
 use Rattle.segment_machine.specs.Entry.{counted_among, is_counted, is_summed, is_of, tally_units, tally_sum, tally_noted}
 use Rattle.segment_machine.specs.Note.{is_untouched}
-use Rattle.segment_machine.specs.Actor.{is_bound, counted_of, summed_of, noted_of, all_counted, all_summed, all_noted, all_taken, taken_units}
+use Rattle.segment_machine.specs.Actor.{is_bound, counted_of, summed_of, noted_of, all_counted, taken_units}
 use Rattle.segment_machine.specs.State.{State}
-use Rattle.segment_invariant.specs.Body.{Record, Counts, Body, histogram, Piece, Anatomy}
+use Rattle.segment_invariant.specs.Body.{Record, Counts, histogram, Anatomy}
 use Rattle.segment_invariant.specs.Ledger.{of_name, amount_of_name, moving_at}
-use Rattle.segment_invariant.specs.Seen.{HasRecord, HasCounts, IsFirst, Knows, Sees}
+use Rattle.segment_invariant.specs.Seen.{HasRecord, IsFirst, Knows, Sees}
 use Rattle.segment_invariant.specs.Invariant.{IsLawfulRecord, IsCountsOf, SumsAreNear, LooksBack, Invariant}
 use Rattle.segment_invariant.proofs.Lists.Countings.{sum_total, noted_total}
 use Rattle.segment_invariant.proofs.Lists.Elements.{rows, rows_total, row_in}
@@ -32,11 +30,10 @@ use Rattle.segment_invariant.proofs.Frames.OneActor.{rests_at, lives_on}
 use Rattle.segment_invariant.proofs.Frames.Roles.{SameRole, AllStood, stood_set}
 use Rattle.segment_invariant.proofs.Counting.Seen.{known_stands}
 use Rattle.segment_invariant.proofs.Counting.Running.{Next, passes_same}
-use Rattle.segment_invariant.proofs.Counting.Entries.{after, going, calls_next, finals_next}
-use Rattle.segment_invariant.proofs.Changes.Ledgers.{taken_on}
+use Rattle.segment_invariant.proofs.Counting.Entries.{going, calls_next, finals_next}
 use Rattle.segment_invariant.proofs.Changes.Others.{Deed, deed_of, changed, sees_no_more, looks_on, alone_was}
 use Rattle.segment_invariant.proofs.Changes.Records.{record_kept}
-use Rattle.segment_invariant.proofs.Changes.Words.{Turns, turned, behind, turned_onward, sees_turned, turned_on}
+use Rattle.segment_invariant.proofs.Changes.Words.{Turns, behind, turned_onward, sees_turned, turned_on}
 
 -- ---- the record with that
 

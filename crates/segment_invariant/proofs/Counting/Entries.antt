@@ -1,14 +1,12 @@
 -- A recorder that goes on with an entry of its running call: its call stays right, and of other names nothing changes.
-use Rattle.std.proofs.Common.{◌≡◌, ◌≢◌, ◌⊎◌, ℕ, ◌+◌, ◌<◌, ◌≤◌, ℤ, pos, ◌+ℤ◌, Bool, true, false, List, [], ◌∷◌, ◌++◌, map, length, set, All, Contains, inl, inr, ⊎_elim, refl, sym, ap, ◌∙◌, subst, arith}
+use Rattle.std.proofs.Common.{◌≡◌, ◌≢◌, ◌⊎◌, ℕ, ◌<◌, ℤ, pos, true, false, List, [], ◌∷◌, ◌++◌, map, All, Contains, inl, ⊎_elim, refl, sym, ap, ◌∙◌, subst, arith}
 use Rattle.std.proofs.lemmas.List.{map-append}
 use Rattle.std.proofs.lemmas.List.Elements.{All-contains, Contains-append_right}
-use mathlib.Core.Option.{some}
 use lib.ListN.{get_elem?}
 use Rattle.bucket_ranges.specs.declared.spec.Spec.TheVariants as spec
 use Rattle.segment_machine.specs.declared.entry.Entry.{Entry}
 use Rattle.segment_machine.specs.declared.entry.Counting.{Counting}
 use Rattle.segment_machine.specs.declared.actor.Actor.{Actor}
-use Rattle.segment_machine.specs.declared.actor.Taken.{Taken}
 use Rattle.segment_machine.specs.Entry.{is_counted, is_summed, AreWithin, is_of, tally_units, tally_sum, tally_noted}
 use Rattle.segment_machine.specs.Actor.{counted_of, all_counted, all_summed, all_noted, all_taken, taken_units, taken_sum}
 use Rattle.segment_machine.specs.Made.{SawSample}
@@ -16,10 +14,10 @@ use Rattle.segment_machine.specs.Note.{is_untouched}
 use Rattle.segment_invariant.specs.Body.{Anatomy}
 use Rattle.segment_invariant.specs.Seen.{IsFirst, IsFirstOf}
 use Rattle.segment_invariant.specs.Invariant.{CallsRight, IsQuiet, RolesAreKept, FinalsAreExact}
-use Rattle.segment_invariant.proofs.Lists.Elements.{not_empty, rows}
+use Rattle.segment_invariant.proofs.Lists.Elements.{not_empty}
 use Rattle.segment_invariant.proofs.Frames.Roles.{AllStood}
-use Rattle.segment_invariant.proofs.Frames.Together.{IsLater, moment, ended_began}
-use Rattle.segment_invariant.proofs.Changes.Others.{Deed, changed, is_later, alone_was}
+use Rattle.segment_invariant.proofs.Frames.Together.{moment}
+use Rattle.segment_invariant.proofs.Changes.Others.{Deed, changed, is_later}
 use Rattle.segment_invariant.proofs.Counting.Running.{Next, ordered_next, all_replaced}
 
 module _ (a : Actor) (c d : Counting) (next : Next a.running c) (entry : d.entry ≡ c.entry) where

@@ -1,5 +1,5 @@
 -- One entry of a running call goes on: what the entries come to, and that they are still in order.
-use Rattle.std.proofs.Common.{◌≡◌, ◌≢◌, ◌⊎◌, ℕ, zero, suc, ◌+◌, ◌<◌, ℤ, pos, ◌+ℤ◌, Bool, true, false, cond, not, List, [], ◌∷◌, ◌++◌, map, filter, All, Contains, inl, inr, ⊎_elim, refl, sym, ap, ◌∙◌, subst, arith, append_assoc}
+use Rattle.std.proofs.Common.{◌≡◌, ◌≢◌, ◌⊎◌, ℕ, zero, suc, ◌+◌, ◌<◌, ℤ, pos, ◌+ℤ◌, Bool, true, false, cond, not, List, [], ◌∷◌, ◌++◌, map, filter, All, inl, inr, ⊎_elim, refl, sym, ap, ◌∙◌, subst, arith, append_assoc}
 use Rattle.std.proofs.Math.IntN.{+ℤ_assoc, +ℤ_comm}
 use Rattle.std.proofs.lemmas.List.Elements.{All-nil, All-cons, All-head, All-tail}
 use mathlib.Core.Option.{some, some-injective}
@@ -10,9 +10,8 @@ use Rattle.segment_machine.specs.Entry.{is_counted, is_summed, has_ended}
 use Rattle.segment_machine.specs.Calls.{change_next}
 use Rattle.segment_machine.specs.Note.{is_untouched}
 use Rattle.segment_invariant.specs.Invariant.{AreInOrder}
-use Rattle.segment_invariant.proofs.Lists.Elements.{at_from}
 use Rattle.segment_invariant.proofs.Lists.Sums.{IsTotal}
-use Rattle.segment_invariant.proofs.Lists.Countings.{among, one_of}
+use Rattle.segment_invariant.proofs.Lists.Countings.{one_of}
 
 -- ---- the entry that is next
 

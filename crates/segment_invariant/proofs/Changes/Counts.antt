@@ -1,5 +1,5 @@
 -- A count of a counts block rises: the block goes on, and holds so many units more of the bucket's key.
-use Rattle.std.proofs.Common.{◌≡◌, ◌≢◌, ℕ, zero, suc, ◌+◌, ◌<◌, ◌≤◌, max, ℤ, Bool, true, false, if◌then◌else◌, List, ◌∷◌, ◌++◌, length, set, sum_by, refl, sym, ap, ◌∙◌, subst, arith, length-append, length-set, inl, inr}
+use Rattle.std.proofs.Common.{◌≡◌, ◌≢◌, ℕ, zero, suc, ◌+◌, ◌<◌, ◌≤◌, max, ℤ, Bool, true, false, if◌then◌else◌, List, ◌∷◌, ◌++◌, length, set, sum_by, refl, sym, ap, ◌∙◌, subst, arith, length-append, length-set}
 use Rattle.std.specs.Prelude.{slice_index}
 use Rattle.std.specs.List.{range_with_len}
 use Rattle.std.specs.Ordering.{int_eq}
@@ -10,7 +10,7 @@ use mathlib.Core.Logic.{dite}
 use native.Mathlib.Decide.{ℕ_discrete}
 use Rattle.bucket_ranges.specs.declared.spec.Spec.{Spec}
 use Rattle.segment_machine.specs.Form.{is_off}
-use Rattle.segment_invariant.specs.Body.{Record, Counts, counts, counts_words, words_of}
+use Rattle.segment_invariant.specs.Body.{Record, Counts, counts, counts_words}
 use Rattle.segment_invariant.specs.Ledger.{key_of_bucket, keyed}
 use Rattle.segment_invariant.specs.Invariant.{IsCountsOf}
 use Rattle.segment_invariant.proofs.Changes.Words.{Turns}

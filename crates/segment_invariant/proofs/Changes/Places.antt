@@ -1,19 +1,18 @@
 -- A recorder turns to another place while one word of a published block becomes another, and has counted, taken and seen what it had.
-use Rattle.std.proofs.Common.{◌≡◌, ◌≢◌, ℕ, ◌+◌, ◌<◌, ◌≤◌, ℤ, pos, List, ◌∷◌, set, Contains, inl, inr, refl, sym, ap, ◌∙◌, subst, arith}
+use Rattle.std.proofs.Common.{◌≡◌, ◌≢◌, ℕ, ◌+◌, ℤ, List, set, refl, sym, ap, ◌∙◌, arith}
 use mathlib.Core.Option.{some, none}
 use lib.ListN.{get_elem?}
 use Rattle.atomic_table.proofs.Lists.{set_else}
 use Rattle.segment_image.specs.Shape.{Dimensions}
 use Rattle.segment_machine.specs.declared.actor.Actor.{Actor}
-use Rattle.segment_machine.specs.declared.actor.Moment.{Moment}
 use Rattle.segment_machine.specs.declared.place.Place.{Place}
 use Rattle.segment_machine.specs.declared.place.Place.TheVariants.{Spent, SumLoaded}
 use Rattle.segment_machine.specs.Entry.{tally_units, tally_sum, tally_noted}
 use Rattle.segment_machine.specs.Actor.{counted_of, summed_of, noted_of, all_counted, all_summed, all_noted, all_taken, taken_units, taken_sum}
 use Rattle.segment_machine.specs.State.{State}
-use Rattle.segment_invariant.specs.Body.{Body, Piece, Anatomy}
+use Rattle.segment_invariant.specs.Body.{Body, Anatomy}
 use Rattle.segment_invariant.specs.Seen.{Stands}
-use Rattle.segment_invariant.specs.Invariant.{RecordsAreKept, StandsRight, IsMoment, FinalsAreExact, summed_cost, Invariant}
+use Rattle.segment_invariant.specs.Invariant.{RecordsAreKept, StandsRight, FinalsAreExact, summed_cost, Invariant}
 use Rattle.segment_invariant.proofs.Lists.Elements.{rows, row_in, sum_same}
 use Rattle.segment_invariant.proofs.Frames.Ahead.{KeepsUp}
 use Rattle.segment_invariant.proofs.Frames.Anatomies.{calls_same}
@@ -21,12 +20,12 @@ use Rattle.segment_invariant.proofs.Frames.GoesOn.{not_opener}
 use Rattle.segment_invariant.proofs.Frames.OneActor.{lives_on}
 use Rattle.segment_invariant.proofs.Frames.Roles.{SameRole, AllStood, stood_set}
 use Rattle.segment_invariant.proofs.Frames.SeesMore.{calls_more}
-use Rattle.segment_invariant.proofs.Frames.Together.{loaded_set, moment, ended_began}
+use Rattle.segment_invariant.proofs.Frames.Together.{loaded_set, moment}
 use Rattle.segment_invariant.proofs.Counting.Seen.{known_stands}
 use Rattle.segment_invariant.proofs.Changes.Ledgers.{Balances, taken_on}
 use Rattle.segment_invariant.proofs.Changes.Others.{Deed, deed_of, changed, alone_was, is_later, looks_on}
 use Rattle.segment_invariant.proofs.Changes.Sums.{SameSum, sums_on}
-use Rattle.segment_invariant.proofs.Changes.Words.{Turns, turned, behind, turned_onward, sees_turned, turned_on}
+use Rattle.segment_invariant.proofs.Changes.Words.{Turns, behind, turned_onward, sees_turned, turned_on}
 
 module _ (shape : Dimensions) (opened : Anatomy) (state : State) (kept : Invariant shape opened state) (at : ℕ) (body then_is : Body) (j v : ℕ)
     (stands : Stands kept.anatomy.pieces at none body) (turns : Turns kept.anatomy.version body then_is j v) (id : ℕ) (a : Actor)

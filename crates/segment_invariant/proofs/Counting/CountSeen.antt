@@ -1,5 +1,5 @@
 -- A recorder sees a count of a histogram, which is in use: it is 1 at least, so the single word is off.
-use Rattle.std.proofs.Common.{◌≡◌, ◌≢◌, Bool, true, false, true≢false, ℕ, ◌+◌, ◌<◌, ◌≤◌, ℤ, List, [], ◌∷◌, ◌++◌, length, set, All, Contains, inl, inr, ⊎_elim, refl, sym, ap, ◌∙◌, subst, arith, length-append}
+use Rattle.std.proofs.Common.{◌≡◌, ◌≢◌, Bool, true, false, ℕ, ◌+◌, ◌<◌, ◌≤◌, ℤ, List, [], ◌∷◌, ◌++◌, length, set, ⊎_elim, refl, sym, ap, ◌∙◌, subst, arith, length-append}
 use Rattle.std.specs.Prelude.{slice_index}
 use Rattle.std.proofs.lemmas.List.Elements.{All-contains, All-push}
 use mathlib.Core.Option.{some}
@@ -11,14 +11,13 @@ use Rattle.segment_machine.specs.declared.actor.Actor.{Actor}
 use Rattle.segment_machine.specs.declared.place.Look.{Look}
 use Rattle.segment_machine.specs.declared.place.Place.{Place}
 use Rattle.segment_machine.specs.declared.place.Place.TheVariants.{Spent, SumLoaded, Moving}
-use Rattle.segment_machine.specs.declared.seen.Seen.{Seen}
 use Rattle.segment_machine.specs.declared.seen.Sighting.{Sighting}
 use Rattle.segment_machine.specs.Form.{is_off}
 use Rattle.segment_machine.specs.Actor.{is_bound}
 use Rattle.segment_machine.specs.State.{State}
 use Rattle.segment_invariant.specs.Body.{Record, Counts, Sample, counts, sample, Anatomy}
 use Rattle.segment_invariant.specs.Ledger.{key_of_bucket}
-use Rattle.segment_invariant.specs.Seen.{HasRecord, HasCounts, HasSample, IsFirst, WasFixed, WasCounter, WasInUse, WasMet}
+use Rattle.segment_invariant.specs.Seen.{HasRecord, HasCounts, HasSample, WasFixed, WasCounter, WasInUse, WasMet}
 use Rattle.segment_invariant.specs.Invariant.{LooksRight, IsCountsOf, StandsRight, Invariant}
 use Rattle.segment_invariant.proofs.Lists.FewTerms.{zero_index}
 use Rattle.segment_invariant.proofs.Blocks.Places.{counter_within}

@@ -1,15 +1,12 @@
 -- What is counted, noted and added of a name fits: all units together are 4,294,967,295.
-use Rattle.std.proofs.Common.{◌≡◌, ◌≢◌, ℕ, ◌+◌, ◌*◌, ◌≤◌, ℤ, pos, Bool, true, false, ◌&&◌, if◌then◌else◌, List, [], ◌∷◌, inl, inr, ⊎_elim, refl, sym, ap, ◌∙◌, subst, arith}
+use Rattle.std.proofs.Common.{ℕ, ◌+◌, ◌*◌, ◌≤◌, ℤ, pos, Bool, true, false, ◌&&◌, if◌then◌else◌, List, [], ◌∷◌, inl, ⊎_elim, refl, sym, subst, arith}
 use Rattle.std.specs.Prelude.{sum_by, unsigned_abs, ◌-ℤ◌}
-use Rattle.std.specs.Int.{w64, cast_signed}
 use Rattle.std.specs.List.{flat_map, Contains}
 use Rattle.std.specs.Ordering.{int_eq}
 use Rattle.std.specs.Str.{bytes_eq}
 use Rattle.std.proofs.Math.IntN.{+ℤ_idr}
 use Rattle.std.proofs.lemmas.List.Elements.{Contains-append_right}
 use Rattle.std.proofs.lemmas.List.Sums.{sum_by-le-sum_by, sum_by-cons}
-use mathlib.Core.Option.{some}
-use lib.ListN.{get_elem?}
 use Rattle.segment_image.specs.Shape.{Dimensions}
 use Rattle.segment_machine.specs.declared.entry.Entry.{Entry}
 use Rattle.segment_machine.specs.declared.actor.Actor.{Actor}
@@ -20,11 +17,11 @@ use Rattle.segment_machine.specs.Seats.{spent}
 use Rattle.segment_machine.specs.State.{State}
 use Rattle.segment_invariant.specs.Body.{Record, Anatomy}
 use Rattle.segment_invariant.specs.Seen.{HasRecord}
-use Rattle.segment_invariant.specs.Invariant.{summed_cost, summed_costs, IsSumOf, StandsRight, CallsRight, Invariant}
+use Rattle.segment_invariant.specs.Invariant.{summed_cost, IsSumOf, StandsRight, CallsRight, Invariant}
 use Rattle.segment_invariant.proofs.Lists.Countings.{noted_total}
 use Rattle.segment_invariant.proofs.Lists.Elements.{at_from, sum_at_least}
 use Rattle.segment_invariant.proofs.Frames.OneActor.{summed_most}
-use Rattle.segment_invariant.proofs.Frames.Spending.{counted_spent, among_spent, spent_or_not, all_spent, noted_within}
+use Rattle.segment_invariant.proofs.Frames.Spending.{counted_spent, spent_or_not, all_spent, noted_within}
 
 -- the units of one key are not more than all of a name
 units_noted : (entries : List Entry) (name : List ℕ) (key : ℤ) → tally_units entries name key ≤ tally_noted entries name

@@ -1,9 +1,8 @@
 -- What an actor looks back at, where it sees one word more: a single word, or a counter, as it is now.
-use Rattle.std.proofs.Common.{◌≡◌, ◌≢◌, ◌⊎◌, ℕ, ◌+◌, ◌<◌, ◌≤◌, ℤ, true, false, List, [], ◌∷◌, ◌++◌, length, take, drop, All, Contains, inl, inr, ⊎_elim, refl, sym, ap, ◌∙◌, subst, arith, length-append, None, true≢false}
+use Rattle.std.proofs.Common.{◌≡◌, ◌≢◌, ◌⊎◌, ℕ, ◌+◌, ◌<◌, ◌≤◌, ℤ, true, false, List, [], ◌∷◌, ◌++◌, length, take, drop, Contains, inl, inr, ⊎_elim, refl, sym, ap, ◌∙◌, subst, arith, length-append, None, true≢false}
 use Rattle.std.specs.Prelude.{slice_index, Some}
-use Rattle.std.specs.Int.{w64, cast_signed}
 use Rattle.std.proofs.lemmas.List.{take-append-le, drop-append-le}
-use Rattle.std.proofs.lemmas.List.Elements.{All-contains, All-drop, All-take, Contains-append_cases}
+use Rattle.std.proofs.lemmas.List.Elements.{All-contains, All-take, Contains-append_cases}
 use mathlib.Core.Logic.{dite}
 use mathlib.Core.Option.{some, none, some-injective}
 use native.Mathlib.Decide.{ℕ_discrete}
@@ -22,20 +21,19 @@ use Rattle.segment_machine.specs.declared.seen.Seen.{Seen}
 use Rattle.segment_machine.specs.declared.seen.Sighting.{Sighting}
 use Rattle.segment_machine.specs.Entry.{tally_units}
 use Rattle.segment_machine.specs.Form.{is_off, Leads}
-use Rattle.segment_machine.specs.Actor.{word_seen, all_counted, bucket_key, accepted_by, transit_of, SawCount}
+use Rattle.segment_machine.specs.Actor.{word_seen, all_counted, bucket_key, transit_of, SawCount}
 use Rattle.segment_machine.specs.Note.{SawBucket}
 use Rattle.segment_machine.specs.State.{State}
-use Rattle.segment_invariant.specs.Body.{Record, Counts, Sample, Body, histogram, counts, sample, words_of, Piece, Anatomy}
+use Rattle.segment_invariant.specs.Body.{Record, Counts, Body, histogram, counts, sample, words_of, Piece, Anatomy}
 use Rattle.segment_invariant.specs.Ledger.{form_at, key_of_bucket}
-use Rattle.segment_invariant.specs.Seen.{Stands, HasRecord, HasCounts, HasSample, IsFirst, IsFirstOf, IsFixedIn, WasFixed, WasCounter, WasInUse, WasSingle, Knows}
-use Rattle.segment_invariant.specs.Invariant.{StandsRight, IsAlone, IsSettled, IsCountsOf, LooksBack, Invariant}
+use Rattle.segment_invariant.specs.Seen.{Stands, HasRecord, HasCounts, IsFirst, IsFixedIn, WasFixed, WasCounter, WasInUse, WasSingle, Knows}
+use Rattle.segment_invariant.specs.Invariant.{StandsRight, IsAlone, IsSettled, LooksBack, Invariant}
 use Rattle.segment_invariant.proofs.Lists.Elements.{one_in}
 use Rattle.segment_invariant.proofs.Lists.FewTerms.{zero_index}
 use Rattle.segment_invariant.proofs.Lists.Maps.{one_at}
 use Rattle.segment_invariant.proofs.Blocks.Pieces.{one_index, one_stands, piece_word, piece_from}
 use Rattle.segment_invariant.proofs.Blocks.Places.{fixed_within, counter_within}
 use Rattle.segment_invariant.proofs.Frames.OneActor.{lives_on}
-use Rattle.segment_invariant.proofs.Frames.Roles.{opens_first}
 use Rattle.segment_invariant.proofs.Frames.SeesMore.{seer}
 use Rattle.segment_invariant.proofs.Walking.Words.{word_contains}
 use Rattle.segment_invariant.proofs.Consistency.Books.{one_name, sample_first}

@@ -1,12 +1,10 @@
 -- A word of the segment is loaded: the actor goes on to a place and sees it. What a counter is that is seen as it is now.
-use Rattle.std.proofs.Common.{◌≡◌, ◌≢◌, ℕ, ◌+◌, ◌<◌, ◌≤◌, ℤ, true, false, List, ◌++◌, length, set, All, Contains, inl, inr, ⊎_elim, refl, sym, ap, ◌∙◌, subst, arith, length-append}
-use Rattle.std.specs.Prelude.{slice_index}
+use Rattle.std.proofs.Common.{◌≡◌, ◌≢◌, ℕ, ◌+◌, ◌<◌, ℤ, true, false, List, ◌++◌, length, set, All, refl, sym, ap, ◌∙◌, arith, length-append}
 use mathlib.Core.Option.{some, none}
 use lib.ListN.{get_elem?}
 use Rattle.segment_image.specs.Shape.{Dimensions}
 use Rattle.segment_image.specs.Words.{word_at}
 use Rattle.alloc_core.proofs.Layouts.{length_shown}
-use Rattle.list_core.specs.Chain.{stops}
 use Rattle.segment_machine.specs.declared.actor.Actor.{Actor}
 use Rattle.segment_machine.specs.declared.place.Place.{Place}
 use Rattle.segment_machine.specs.declared.place.Place.TheVariants.{Spent}
@@ -16,7 +14,7 @@ use Rattle.segment_machine.specs.Actor.{is_bound}
 use Rattle.segment_machine.specs.State.{State}
 use Rattle.segment_invariant.specs.Body.{Body, Anatomy, counts, is_claimed, layout_of, order_of, words_of}
 use Rattle.segment_invariant.specs.Ledger.{moving_at}
-use Rattle.segment_invariant.specs.Seen.{Stands, HasCounts, IsCounterIn, WasCounter, WasInUse, WasSingle, WasMet}
+use Rattle.segment_invariant.specs.Seen.{Stands, IsCounterIn, WasCounter, WasInUse, WasSingle, WasMet}
 use Rattle.segment_invariant.specs.Invariant.{SumsAreNear, StandsRight, LooksBack, Invariant}
 use Rattle.segment_invariant.proofs.Blocks.Places.{counter_within}
 use Rattle.segment_invariant.proofs.Frames.Ahead.{ahead_at, unbound_unbeaten}

@@ -1,11 +1,9 @@
 -- What a record, its counts and the calls that move its units have of a bucket is just what was counted there; so is what a sample has of
 -- its value, and a redundant count of all units.
-use Rattle.std.proofs.Common.{◌≡◌, ◌≢◌, ℕ, ◌+◌, ◌<◌, ◌≤◌, ◌*◌, ℤ, pos, Bool, true, false, List, Some, inl, inr, ⊎_elim, refl, sym, ap, ◌∙◌, subst, arith}
+use Rattle.std.proofs.Common.{◌≡◌, ◌≢◌, ℕ, ◌+◌, ◌<◌, ℤ, pos, Bool, true, false, List, Some, ⊎_elim, refl, sym, ap, ◌∙◌, subst, arith}
 use Rattle.std.specs.Prelude.{slice_index, sum_by, max, ◌==◌, ◌&&◌, if◌then◌else◌}
 use Rattle.std.specs.Prelude as std
-use Rattle.std.specs.List.{flat_map, Contains}
 use Rattle.std.proofs.lemmas.Bool.{eqb-true, and_parts}
-use Rattle.std.proofs.lemmas.List.Elements.{Contains-append_right}
 use mathlib.Core.Option.{some, none}
 use lib.ListN.{get_elem?}
 use Rattle.segment_image.specs.Shape.{Dimensions}
@@ -22,8 +20,8 @@ use Rattle.segment_machine.specs.Actor.{transit_at, transit_of, bucket_key, all_
 use Rattle.segment_machine.specs.Entry.{tally_units, tally_noted}
 use Rattle.segment_machine.specs.State.{State}
 use Rattle.segment_machine.specs.Form.{units_in}
-use Rattle.segment_invariant.specs.Body.{Record, Counts, Sample, Anatomy, histogram, sample}
-use Rattle.segment_invariant.specs.Ledger.{form_at, key_of_bucket, keyed, at_bucket, units_held, noted_held, all_held}
+use Rattle.segment_invariant.specs.Body.{Record, Counts, Sample, Anatomy, sample}
+use Rattle.segment_invariant.specs.Ledger.{form_at, key_of_bucket, keyed, at_bucket, units_held, all_held}
 use Rattle.segment_invariant.specs.Seen.{HasRecord, HasCounts, HasSample, IsFirst, IsFirstOf, Knows}
 use Rattle.segment_invariant.specs.Invariant.{IsCountsOf, Invariant}
 use Rattle.segment_invariant.proofs.Blocks.Pieces.{one_stands}

@@ -1,5 +1,5 @@
 -- A count is loaded: of a bucket, or of a sample that was met.
-use Rattle.std.proofs.Common.{◌≡◌, ◌≢◌, ℕ, ◌+◌, ◌-◌, ◌<◌, ◌≤◌, ℤ, Bool, true, false, List, [], ◌∷◌, ◌++◌, length, set, All, Contains, inl, inr, ⊎_elim, refl, sym, ap, ◌∙◌, subst, arith, length-append}
+use Rattle.std.proofs.Common.{◌≡◌, ◌≢◌, ℕ, ◌+◌, ◌-◌, ◌<◌, ◌≤◌, ℤ, Bool, true, false, [], ◌∷◌, ◌++◌, length, set, Contains, inl, inr, ⊎_elim, refl, sym, ap, ◌∙◌, subst, arith, length-append}
 use Rattle.std.specs.Prelude.{if◌then◌else◌}
 use Rattle.std.proofs.lemmas.Bool.Decides.{Decides-int_eq}
 use Rattle.std.proofs.lemmas.List.Elements.{All-push, All-contains, Contains-push}
@@ -21,7 +21,7 @@ use Rattle.segment_machine.specs.Made.{SawSample}
 use Rattle.segment_machine.specs.State.{State}
 use Rattle.segment_machine.specs.Taking.{load_count, at_count, is_looking}
 use Rattle.segment_machine.specs.Event.{taking_event, Ready, next}
-use Rattle.segment_invariant.specs.Body.{Record, Counts, Sample, histogram, counts, sample, Anatomy}
+use Rattle.segment_invariant.specs.Body.{Record, Counts, Sample, counts, sample, Anatomy}
 use Rattle.segment_invariant.specs.Ledger.{units_held, key_of_bucket}
 use Rattle.segment_invariant.specs.Seen.{HasRecord, HasCounts, HasSample, WasFixed, WasCounter, WasInUse, WasSingle, WasMet}
 use Rattle.segment_invariant.specs.Invariant.{LooksOff, StandsRight, Invariant, IsCountsOf}

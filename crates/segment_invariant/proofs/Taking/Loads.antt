@@ -1,7 +1,7 @@
 -- Sums and redundant counts are loaded.
-use Rattle.std.proofs.Common.{◌≡◌, ◌≢◌, ℕ, ◌+◌, ◌<◌, ◌≤◌, ℤ, false, List, [], ◌∷◌, ◌++◌, length, set, All, Contains, inl, inr, refl, sym, ap, ◌∙◌, subst, arith, ⊎_elim}
+use Rattle.std.proofs.Common.{◌≡◌, ◌≢◌, ℕ, ◌+◌, ◌<◌, ℤ, false, List, [], ◌∷◌, ◌++◌, set, inl, inr, refl, sym, ap, ◌∙◌, subst, arith, ⊎_elim}
 use Rattle.std.specs.Int.{w64, cast_signed}
-use Rattle.std.proofs.lemmas.List.Elements.{All-push, All-weaker, Contains-append_left}
+use Rattle.std.proofs.lemmas.List.Elements.{All-push, Contains-append_left}
 use mathlib.Core.Option.{some}
 use lib.ListN.{get_elem?}
 use Rattle.atomic_table.proofs.Lists.{at_set}
@@ -18,14 +18,14 @@ use Rattle.segment_machine.specs.Taking.{load_sum, load_redundant}
 use Rattle.segment_machine.specs.Event.{taking_event, Ready, next}
 use Rattle.segment_invariant.specs.Body.{Record, histogram, Anatomy, Sample, sample}
 use Rattle.segment_invariant.specs.Seen.{HasRecord, WasCounter, WasInUse, WasMet, HasSample}
-use Rattle.segment_invariant.specs.Invariant.{LooksRight, StandsRight, SumsAreNear, IsSumOf, summed_cost, Invariant}
+use Rattle.segment_invariant.specs.Invariant.{StandsRight, SumsAreNear, IsSumOf, summed_cost, Invariant}
 use Rattle.segment_invariant.proofs.Lists.Elements.{sum_same}
 use Rattle.segment_invariant.proofs.Frames.GoesOn.{happens}
 use Rattle.segment_invariant.proofs.Frames.OneActor.{rests_at}
 use Rattle.segment_invariant.proofs.Frames.SeesMore.{seer, near_on}
 use Rattle.segment_invariant.proofs.Frames.Shown.{Goes, loaded}
 use Rattle.segment_invariant.proofs.Counting.Bounds.{noted_fits, sum_fits}
-use Rattle.segment_invariant.proofs.Counting.Looks.{knows_of, one_record, body_word, same_block, looks_count}
+use Rattle.segment_invariant.proofs.Counting.Looks.{knows_of, body_word, same_block, looks_count}
 use Rattle.segment_invariant.proofs.Counting.Sights.{word_within, counter_is, no_count, sees_on}
 use Rattle.segment_invariant.proofs.Counting.Whole.{whole_noted}
 

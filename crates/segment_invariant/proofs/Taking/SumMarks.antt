@@ -1,5 +1,5 @@
 -- The sum mark is swapped for the sum that was loaded.
-use Rattle.std.proofs.Common.{◌≡◌, ◌≢◌, ℕ, ◌+◌, ◌-◌, ◌*◌, ◌^◌, ◌<◌, ◌≤◌, ℤ, pos, ◌+ℤ◌, ◌-ℤ◌, neg_ℤ, Bool, true, false, if◌then◌else◌, List, [], ◌∷◌, ◌++◌, length, take, set, All, Contains, inl, inr, ⊎_elim, refl, sym, ap, ◌∙◌, subst, arith, length-append, append-nil}
+use Rattle.std.proofs.Common.{◌≡◌, ◌≢◌, ℕ, ◌+◌, ◌-◌, ◌*◌, ◌^◌, ◌<◌, ◌≤◌, ℤ, pos, ◌+ℤ◌, ◌-ℤ◌, neg_ℤ, Bool, true, false, if◌then◌else◌, List, [], ◌∷◌, ◌++◌, length, take, set, Contains, inl, inr, ⊎_elim, refl, sym, ap, ◌∙◌, subst, arith, length-append, append-nil}
 use Rattle.std.specs.Prelude.{unsigned_abs}
 use Rattle.std.specs.Int.{w64, cast_signed, cast_unsigned}
 use Rattle.std.specs.Str.{bytes_eq}
@@ -13,25 +13,24 @@ use Rattle.std.proofs.lemmas.Simd.{below_from_Fits}
 use Rattle.std.proofs.lemmas.Slice.Eq.{bytes_eq-Decides}
 use mathlib.Core.Option.{some, none}
 use lib.ListN.{get_elem?}
-use Rattle.atomic_table.proofs.Lists.{at_set, set_else}
+use Rattle.atomic_table.proofs.Lists.{set_else}
 use Rattle.segment_image.specs.Shape.{Dimensions}
 use Rattle.segment_image.specs.Words.{word_at}
 use Rattle.segment_machine.specs.declared.actor.Actor.{Actor}
 use Rattle.segment_machine.specs.declared.actor.Known.{Known}
 use Rattle.segment_machine.specs.declared.actor.Moment.{Moment}
 use Rattle.segment_machine.specs.declared.actor.Taken.{Taken}
-use Rattle.segment_machine.specs.declared.entry.Entry.{Entry}
 use Rattle.segment_machine.specs.declared.place.Place.TheVariants.{Spent, Idle, SumLoaded}
 use Rattle.segment_machine.specs.Calls.{change_last}
 use Rattle.segment_machine.specs.Entry.{tally_units, tally_sum, tally_noted}
 use Rattle.segment_machine.specs.Actor.{counted_of, summed_of, noted_of, units_listed, taken_units, taken_sum, all_counted, all_summed, all_noted, all_taken, cost_of}
 use Rattle.segment_machine.specs.State.{State}
 use Rattle.segment_machine.specs.Taking.{swap_sum_mark, swap_sum}
-use Rattle.segment_machine.specs.Event.{taking_event, Ready, next}
+use Rattle.segment_machine.specs.Event.{taking_event}
 use Rattle.segment_invariant.specs.Body.{Record, histogram, Anatomy}
-use Rattle.segment_invariant.specs.Ledger.{amount_of_name, sum_held, sum_mark_held}
+use Rattle.segment_invariant.specs.Ledger.{amount_of_name}
 use Rattle.segment_invariant.specs.Seen.{HasRecord, IsFirst, Knows}
-use Rattle.segment_invariant.specs.Invariant.{IsLawfulRecord, IsCountsOf, IsAlone, IsSumOf, SumsAreNear, summed_cost, ended_deltas, IsMoment, IsMomentOf, FinalsAreExact, Invariant, summed_costs, HasKey, is_beaten}
+use Rattle.segment_invariant.specs.Invariant.{IsLawfulRecord, IsCountsOf, IsAlone, IsSumOf, SumsAreNear, summed_cost, ended_deltas, IsMomentOf, FinalsAreExact, Invariant, summed_costs, HasKey, is_beaten}
 use Rattle.segment_invariant.specs.Keeps.{EventKeeps}
 use Rattle.segment_invariant.proofs.Lists.Elements.{rows, row_in, one_in, sum_same}
 use Rattle.segment_invariant.proofs.Lists.Ends.{snoc_split}
@@ -41,11 +40,11 @@ use Rattle.segment_invariant.proofs.Frames.Answers.{first_one}
 use Rattle.segment_invariant.proofs.Frames.GoesOn.{not_opener, happens}
 use Rattle.segment_invariant.proofs.Frames.OneActor.{lives_on, rests_at}
 use Rattle.segment_invariant.proofs.Frames.Roles.{SameRole, AllStood, stood_set}
-use Rattle.segment_invariant.proofs.Frames.Together.{LoadedBefore, loaded_set, moment, ended_began, IsLater}
+use Rattle.segment_invariant.proofs.Frames.Together.{loaded_set, moment, ended_began, IsLater}
 use Rattle.segment_invariant.proofs.Changes.Ledgers.{rows_beside, amounts_moved}
 use Rattle.segment_invariant.proofs.Changes.Others.{Deed, deed_of, changed, looks_on, alone_was}
 use Rattle.segment_invariant.proofs.Changes.Records.{record_kept}
-use Rattle.segment_invariant.proofs.Changes.Words.{Turns, turned, behind, came_from, turned_onward, sees_turned, turned_on}
+use Rattle.segment_invariant.proofs.Changes.Words.{Turns, behind, came_from, turned_onward, sees_turned, turned_on}
 use Rattle.segment_invariant.proofs.Consistency.Sums.{sum_is, sum_mark_is}
 use Rattle.segment_invariant.proofs.Counting.Bounds.{sum_fits, sums_fit}
 use Rattle.segment_invariant.proofs.Counting.Looks.{knows_of, body_word}

@@ -1,13 +1,12 @@
 -- How a segment grows while records are put on its list: published blocks stay but for their nexts, the list becomes longer at its
 -- end, and what was seen stays true.
-use Rattle.std.proofs.Common.{◌≡◌, ◌≢◌, ◌⊎◌, ℕ, zero, suc, ◌+◌, ◌<◌, ◌≤◌, ℤ, pos, Bool, true, List, [], ◌++◌, map, length, All, inl, inr, ⊎_elim, refl, sym, ap, ◌∙◌, subst, arith, append_assoc, append-nil, length-append, Contains}
+use Rattle.std.proofs.Common.{◌≡◌, ◌≢◌, ◌⊎◌, ℕ, zero, suc, ◌+◌, ◌<◌, ◌≤◌, ℤ, pos, Bool, true, false, List, [], ◌++◌, map, length, All, inl, inr, ⊎_elim, refl, sym, ap, ◌∙◌, subst, arith, append_assoc, append-nil, length-append}
 use Rattle.std.specs.Prelude.{slice_index, Some, None}
 use Rattle.std.specs.Prelude as std
 use Rattle.std.proofs.lemmas.List.{get_or_append_left, map-append}
-use Rattle.std.proofs.lemmas.List.Elements.{All-weaker, All-contains}
+use Rattle.std.proofs.lemmas.List.Elements.{All-weaker}
 use mathlib.Core.Option.{none}
 use Rattle.bucket_ranges.specs.declared.spec.Spec.{Spec}
-use Rattle.bucket_ranges.specs.Spec.{buckets_of}
 use Rattle.alloc_core.specs.Laws.{Behind}
 use Rattle.list_core.specs.Chain.{stops}
 use Rattle.list_core.specs.Laws.{IsStop, AreNeighbours}
@@ -15,20 +14,15 @@ use Rattle.list_core.specs.Walk.{IsPrefix}
 use Rattle.list_core.proofs.Prefixes.{prefix_of_prefix}
 use Rattle.segment_machine.specs.declared.seen.Seen.{Seen}
 use Rattle.segment_machine.specs.declared.actor.Known.{Known}
-use Rattle.segment_machine.specs.declared.seen.Sighting.{Sighting}
 use Rattle.segment_machine.specs.declared.actor.Made.{Made}
 use Rattle.segment_machine.specs.declared.actor.Made.TheVariants as made
 use Rattle.segment_machine.specs.declared.actor.Own.{Own}
-use Rattle.bucket_ranges.specs.Single.{single_of}
-use Rattle.segment_machine.specs.Form.{Leads}
 use Rattle.segment_invariant.specs.Body.{Record, Counts, Sample, Body, queue, plain, held, histogram, counts, sample, other, words_of, is_claimed, Piece, Listed, Anatomy, order_of, free_of}
 use Rattle.segment_invariant.specs.Ledger.{all_held, all_amounts}
-use Rattle.segment_invariant.specs.Seen.{Stands, HasPlain, HasRecord, HasCounts, HasSample, IsNamed, IsFirst, IsFirstOf, IsFixedIn, IsCounterIn, WasFixed, WasCounter, WasInUse, WasSingle, IsReachedAt, IsNoLater, AreNoLater, Knows, Sees, WasMet}
+use Rattle.segment_invariant.specs.Seen.{Stands, HasPlain, HasRecord, HasCounts, HasSample, IsNamed, IsFirst, IsFirstOf, IsReachedAt, IsNoLater, AreNoLater, Knows, Sees}
 use Rattle.segment_invariant.specs.Invariant.{StandsAs}
 use Rattle.segment_invariant.proofs.Frames.Standing.{Grounds}
-use Rattle.segment_invariant.proofs.Lists.Elements.{all_of}
-use Rattle.segment_machine.specs.Made.{SawSample}
-use Rattle.segment_invariant.proofs.Blocks.Places.{counter_within}
+use Rattle.segment_invariant.proofs.Frames.Onward.{GoesAs, goes_itself, Onward, stands_as_on, sees_on}
 
 -- ---- the next of a block
 
@@ -84,35 +78,32 @@ same_next (counts c) = (0, refl)
 same_next (sample s) = (s.next, refl)
 same_next (other size tag next payload) = (next, refl)
 
--- what is fixed, or a counter, is no next
-fixed_apart : (body : Body) (n i : ℕ) → IsFixedIn body i → (i ≢ 3) × IsFixedIn (with_next body n) i × (is_claimed body ≡ true)
-fixed_apart (histogram r) n i fixed = (λ e. not_next fixed e, fixed, refl)
-  where
-    not_next : IsFixedIn (histogram r) i → i ≢ 3
-    not_next (inl two) e = omega (arith, two, e)
-    not_next (inr (inl spec)) e = omega (arith, spec.0, e)
-    not_next (inr (inr (inl named))) e = omega (arith, named.0, e)
-    not_next (inr (inr (inr behind))) e = omega (arith, behind.0, e)
-fixed_apart (sample s) n i fixed = (λ e. not_next fixed e, fixed, refl)
-  where
-    not_next : IsFixedIn (sample s) i → i ≢ 3
-    not_next (inl two) e = omega (arith, two, e)
-    not_next (inr (inl four)) e = omega (arith, four, e)
-    not_next (inr (inr five)) e = omega (arith, five, e)
-fixed_apart (other size tag next payload) n i fixed = (λ e. omega (arith, fixed, e), fixed, refl)
-fixed_apart (queue next) n i fixed = absurd fixed
-fixed_apart (plain words) n i fixed = absurd fixed
-fixed_apart (held block) n i fixed = absurd fixed
-fixed_apart (counts c) n i fixed = absurd fixed
+-- it is claimed as it was
+pub next_claimed : (body : Body) (n : ℕ) → is_claimed (with_next body n) ≡ is_claimed body
+next_claimed (queue next) n = refl
+next_claimed (plain words) n = refl
+next_claimed (held block) n = refl
+next_claimed (histogram r) n = refl
+next_claimed (counts c) n = refl
+next_claimed (sample s) n = refl
+next_claimed (other size tag next payload) n = refl
 
-counter_apart : (body : Body) (n i : ℕ) → IsCounterIn body i → (i ≢ 3) × IsCounterIn (with_next body n) i × (is_claimed body ≡ true)
-counter_apart (histogram r) n i counter = (λ e. ⊎_elim (λ a. omega (arith, a, e)) (λ b. omega (arith, b, e)) counter, counter, refl)
-counter_apart (counts c) n i counter = (λ e. let four = counter.0 in omega (arith, four, e), counter, refl)
-counter_apart (sample s) n i counter = (λ e. ⊎_elim (λ a. omega (arith, a, e)) (λ b. omega (arith, b, e)) counter, counter, refl)
-counter_apart (queue next) n i counter = absurd counter
-counter_apart (plain words) n i counter = absurd counter
-counter_apart (held block) n i counter = absurd counter
-counter_apart (other size tag next payload) n i counter = absurd counter
+-- so it goes on
+next_goes : (version : ℕ) (body : Body) (n : ℕ) → GoesAs version body (with_next body n) ⊎ (is_claimed body ≡ false)
+next_goes version (queue next) n = inr refl
+next_goes version (plain words) n = inr refl
+next_goes version (held block) n = inl refl
+next_goes version (histogram r) n = inl (
+  record r { next = n },
+  refl,
+  record { is = refl; counts = λ there. refl; single = inl refl; mark = omega arith; noted = omega arith },
+)
+next_goes version (counts c) n = inl (goes_itself version (counts c))
+next_goes version (sample s) n = inl (record s { next = n }, refl, record { is = refl; units = omega arith; mark = omega arith })
+next_goes version (other size tag next payload) n = inl (n, refl)
+
+pub claimed_goes : (version : ℕ) (body : Body) (n : ℕ) → is_claimed body ≡ true → GoesAs version body (with_next body n)
+claimed_goes version body n claimed = ⊎_elim (λ goes. goes) (λ free. absurd (cc (claimed, free))) (next_goes version body n)
 
 -- ---- the list is longer at its end
 
@@ -283,52 +274,18 @@ module _ (old new : Anatomy) (added : ℕ → Body → Type 0) (grows : Grows ol
 
   -- ---- so what was seen stays true
 
-  pub fixed_stays : (s : Sighting) → WasFixed old.pieces s → WasFixed new.pieces s
-  fixed_stays s (at, i, body, there, is, fixed, word) =
-      let (ne, still, claimed) = fixed_apart body 0 i fixed in
-      let (n, stands) = grows.stays at body claimed there in
-      (at, i, with_next body n, stands, is, (fixed_apart body n i fixed).1, beside_next body n i ne ∙ word)
-
-  pub counter_stays : (s : Sighting) → WasCounter old.pieces s → WasCounter new.pieces s
-  counter_stays s (at, i, body, there, is, counter, least) =
-      let (ne, still, claimed) = counter_apart body 0 i counter in
-      let (n, stands) = grows.stays at body claimed there in (
-        at,
-        i,
-        with_next body n,
-        stands,
-        is,
-        (counter_apart body n i counter).1,
-        subst (λ (m : ℕ). s.word ≤ m) (sym (beside_next body n i ne)) least,
-      )
-
-  pub single_stays : (s : Sighting) → WasSingle old.version old.pieces s → WasSingle new.version new.pieces s
-  single_stays s (at, r, there, is, formed, leads) =
-      let (n, stands) = record_stays at r there in (
-        at,
-        record r { next = n },
-        stands,
-        is,
-        subst (λ (version : ℕ). single_of version (buckets_of r.spec) s.word ≢ None) (sym grows.version) formed,
-        subst (λ (version : ℕ). Leads version (buckets_of r.spec) s.word r.single) (sym grows.version) leads,
-      )
-
-  pub in_use_stays : (s : Sighting) → WasInUse old.pieces s → WasInUse new.pieces s
-  in_use_stays s was at i c there is from below = ⊎_elim
-      (λ before. let (r, stands, off) = was at i c before is from below in
-      let (n, still) = record_stays c.of r stands in (record r { next = n }, still, off))
-      (λ fresh. absurd (grows.bare at c fresh))
-      (counts_came at c there)
-
-  pub met_stays : (seen : Seen) (s : Sighting) → WasCounter old.pieces s → WasMet old.pieces seen s → WasMet new.pieces seen s
-  met_stays seen s (place, j, body, stands, spot, counter, least) met at x there is = ⊎_elim
-      (λ t. let (x0, n, before, same) = t in
-      subst (λ (z : Sample). Contains seen.chain at × SawSample seen z.of z.value at) (sym same) (met at x0 before is))
-      (λ new_one. absurd (⊎_elim
-      (λ six. grows.apart at place 6 j (sample x) body new_one stands (omega arith) (counter_within body j counter) (sym six ∙ spot))
-      (λ seven. grows.apart at place 7 j (sample x) body new_one stands (omega arith) (counter_within body j counter) (sym seven ∙ spot))
-      is))
-      (sample_came at x there)
+  -- published blocks go on
+  pub grows_on : Onward old new added
+  grows_on = record {
+    version = grows.version;
+    goes = λ at body claimed there. let (n, stands) = grows.stays at body claimed there in (with_next body n, stands, claimed_goes old.version body n claimed);
+    came = λ at body claimed there. ⊎_elim
+        (λ t. let (before, n, stood, is) = t in
+        inl (before, stood, subst (GoesAs old.version before) (sym is) (claimed_goes old.version before n (sym (next_claimed before n) ∙ (ap is_claimed (sym is) ∙ claimed)))))
+        (λ new_one. inr new_one)
+        (grows.came at body claimed there);
+    apart = grows.apart;
+  }
 
   pub known_stays : (known : Known) → Knows old known → Knows new known
   known_stays known knows = record {
@@ -343,30 +300,17 @@ module _ (old new : Anatomy) (added : ℕ → Body → Type 0) (grows : Grows ol
   -- all that an actor has seen
   pub sees_grow : (cursors : List ℕ) (seen : Seen) → Behind seen.free (free_of new) → AreNoLater (order_of new) seen.tails new.tail
       → Sees old cursors seen → Sees new cursors seen
-  sees_grow cursors seen free tails sees = record {
-    free = free;
-    walked = subst (IsPrefix seen.chain) (sym order_grows) (prefix_of_prefix seen.chain (order_of old) _ sees.walked (_, refl));
-    tails = tails;
-    singles = All-weaker (WasSingle old.version old.pieces) (WasSingle new.version new.pieces) single_stays seen.singles sees.singles;
-    counters = All-weaker (WasCounter old.pieces) (WasCounter new.pieces) counter_stays seen.counts sees.counters;
-    in_use = All-weaker (WasInUse old.pieces) (WasInUse new.pieces) in_use_stays seen.counts sees.in_use;
-    met = all_of (WasMet new.pieces seen) seen.counts (λ s has. met_stays seen s
-        (All-contains (WasCounter old.pieces) seen.counts s sees.counters has) (All-contains (WasMet old.pieces seen) seen.counts s sees.met has));
-    fixed = All-weaker (WasFixed old.pieces) (WasFixed new.pieces) fixed_stays seen.words sees.fixed;
-    shared = All-weaker
-        (λ s. (s.at < length cursors) × IsNoLater (order_of old) s.word (slice_index cursors s.at))
-        (λ s. (s.at < length cursors) × IsNoLater (order_of new) s.word (slice_index cursors s.at))
-        (λ s t. (t.0, no_later_grows s.word (slice_index cursors s.at) t.1)) seen.cursors sees.shared;
-  }
+  sees_grow cursors seen free tails sees = sees_on old new added grows_on cursors seen free
+      (subst (IsPrefix seen.chain) (sym order_grows) (prefix_of_prefix seen.chain (order_of old) _ sees.walked (_, refl))) tails
+      (All-weaker
+      (λ s. (s.at < length cursors) × IsNoLater (order_of old) s.word (slice_index cursors s.at))
+      (λ s. (s.at < length cursors) × IsNoLater (order_of new) s.word (slice_index cursors s.at))
+      (λ s t. (t.0, no_later_grows s.word (slice_index cursors s.at) t.1)) seen.cursors sees.shared)
+      sees
 
   -- a listed record stands as what it was given
   pub stands_as_grows : (l : Listed) (given : std.Option Made) → StandsAs old.pieces l given → StandsAs new.pieces l given
-  stands_as_grows l (Some (made.Histogram name spec)) (r, stands, named, same) =
-      let (n, still) = grows.stays l.reference (histogram r) refl stands in (record r { next = n }, still, named, same)
-  stands_as_grows l (Some (made.Sample of value)) (s, stands, named, same) =
-      let (n, still) = grows.stays l.reference (sample s) refl stands in (record s { next = n }, still, named, same)
-  stands_as_grows l None (size, tag, next, payload, stands, first, third, long) =
-      let (n, still) = grows.stays l.reference (other size tag next payload) refl stands in (size, tag, n, payload, still, first, third, long)
+  stands_as_grows = stands_as_on old new added grows_on
 
   -- what an actor stands on stays, where its words in the making do
   pub grounds_grow : (id : ℕ) → ((at : ℕ) (words : List ℕ) → HasPlain old.pieces id at words → HasPlain new.pieces id at words) → Grounds old new id

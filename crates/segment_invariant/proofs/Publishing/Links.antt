@@ -49,7 +49,7 @@ use Rattle.segment_invariant.proofs.Frames.Books.{cursors_set}
 use Rattle.segment_invariant.proofs.Frames.Roles.{roles_set}
 use Rattle.segment_invariant.proofs.Frames.GoesOn.{not_opener}
 use Rattle.segment_invariant.proofs.Allocating.Claimers.{still_put, right_put}
-use Rattle.segment_invariant.proofs.Frames.Growth.{grounds_grow, stands_as_grows, with_next, beside_next, Grows, stop_at, longer_by, stop_grows, no_later_grows, sees_grow}
+use Rattle.segment_invariant.proofs.Frames.Growth.{grounds_grow, stands_as_grows, with_next, next_claimed, beside_next, Grows, stop_at, longer_by, stop_grows, no_later_grows, sees_grow}
 use Rattle.segment_invariant.proofs.Frames.GrowthOfActors.{saw_itself}
 use Rattle.segment_invariant.proofs.Frames.Standing.{own_stays, follows_itself, stands_on}
 use Rattle.segment_invariant.proofs.Frames.GrowthOfRecords.{AddedRight, records_grow, key_grows, sums_grow}
@@ -68,15 +68,6 @@ next_long (histogram r) n = refl
 next_long (counts c) n = refl
 next_long (sample s) n = refl
 next_long (other size tag next payload) n = refl
-
-next_claimed : (body : Body) (n : ℕ) → is_claimed (with_next body n) ≡ is_claimed body
-next_claimed (queue next) n = refl
-next_claimed (plain words) n = refl
-next_claimed (held block) n = refl
-next_claimed (histogram r) n = refl
-next_claimed (counts c) n = refl
-next_claimed (sample s) n = refl
-next_claimed (other size tag next payload) n = refl
 
 pub record NextStored (shape : Dimensions) (anatomy : Anatomy) (words : List ℕ) (n : ℕ) : Type 0 where
   pub index : ℕ

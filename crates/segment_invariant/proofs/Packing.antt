@@ -1,3 +1,4 @@
+pub mod Beaten
 pub mod Loads
 pub mod Moved
 pub mod Purges

@@ -253,8 +253,8 @@ module _ (shape : Dimensions) (opened : Anatomy) (state : State) (kept : Invaria
 module _ (shape : Dimensions) (opened : Anatomy) (state : State) (kept : Invariant shape opened state) (id : ℕ) (a : Actor)
     (mine : get_elem? state.actors id ≡ some a) (recorder : a.opener ≡ 0) where
   -- adding units that are in transit keeps what holds
-  pub moved_added : (place bucket units : ℕ) → Ready a (packing_event (add_moved place bucket units))
-      → Goes shape opened state kept id a mine recorder (packing_event (add_moved place bucket units))
-  moved_added place bucket units (look, placed, refers) =
+  pub moved_added : (block bucket units : ℕ) → Ready a (packing_event (add_moved block bucket units))
+      → Goes shape opened state kept id a mine recorder (packing_event (add_moved block bucket units))
+  moved_added block bucket units (look, placed, refers) =
       subst (λ (n : ℕ). Goes shape opened state kept id a mine recorder (packing_event (add_moved n bucket units))) refers
       (moved_at shape opened state kept id a mine recorder look bucket units placed)

@@ -1,0 +1,118 @@
+-- An exchange of a single word came too late: no word changes, and its actor sees the word that was there.
+use Rattle.std.proofs.Common.{◌≡◌, ◌≢◌, Bool, false, ◌==◌, if◌then◌else◌, ℕ, ◌+◌, ℤ, List, [], ◌∷◌, ◌++◌, set, None, inl, refl, sym, ap, ◌∙◌, subst, arith}
+use Rattle.std.proofs.lemmas.List.Elements.{All-push}
+use mathlib.Core.Option.{some}
+use lib.ListN.{get_elem?}
+use Rattle.segment_image.specs.Shape.{Dimensions}
+use Rattle.segment_image.specs.Words.{word_at}
+use Rattle.segment_machine.specs.declared.actor.Actor.{Actor}
+use Rattle.segment_machine.specs.declared.actor.Known.{Known}
+use Rattle.segment_machine.specs.declared.place.Look.{Look}
+use Rattle.segment_machine.specs.declared.place.Place.{Place}
+use Rattle.segment_machine.specs.declared.place.Place.TheVariants.{Spent, Idle, Looking, SumLoaded, Moving}
+use Rattle.segment_machine.specs.declared.seen.Seen.{Seen}
+use Rattle.segment_machine.specs.declared.seen.Sighting.{Sighting}
+use Rattle.segment_machine.specs.Actor.{is_bound, Buckets}
+use Rattle.segment_machine.specs.Event.{packing_event, Ready}
+use Rattle.segment_machine.specs.Calls.{look_of}
+use Rattle.segment_machine.specs.Form.{off_word}
+use Rattle.segment_machine.specs.Packing.{pack, disable, after_pack, after_disable}
+use Rattle.segment_machine.specs.State.{State}
+use Rattle.segment_invariant.specs.Body.{Record, histogram, Anatomy}
+use Rattle.segment_invariant.specs.Seen.{HasRecord, WasSingle}
+use Rattle.segment_invariant.specs.Invariant.{StandsRight, Invariant}
+use Rattle.segment_invariant.proofs.Frames.GoesOn.{happens}
+use Rattle.segment_invariant.proofs.Frames.OneActor.{rests_at}
+use Rattle.segment_invariant.proofs.Frames.SeesMore.{seer, near_on}
+use Rattle.segment_invariant.proofs.Frames.Shown.{Goes, loaded}
+use Rattle.segment_invariant.proofs.Counting.Looks.{knows_of, body_word, looks_single}
+use Rattle.segment_invariant.proofs.Counting.Sights.{word_within, sees_on}
+use Rattle.segment_invariant.proofs.Packing.Loads.{look_right, learns_single}
+
+module _ (shape : Dimensions) (opened : Anatomy) (state : State) (kept : Invariant shape opened state) (id : ℕ) (a : Actor)
+    (mine : get_elem? state.actors id ≡ some a) (recorder : a.opener ≡ 0) (unbound : is_bound a.place ≡ false) (h : ℕ) (known : Known) (buckets : Buckets a h known) where
+  lives : a.place ≢ Spent
+  lives spent = cc (unbound, ap is_bound spent)
+
+  the_record : (r : Record) × HasRecord kept.anatomy.pieces h r × (word_at state.words (h + 9) ≡ r.single)
+  the_record =
+      let (r, first, there, named, many, keys) = knows_of shape opened state kept id a mine recorder lives known buckets.0 in
+      let stands : HasRecord kept.anatomy.pieces h r = subst (λ (n : ℕ). HasRecord kept.anatomy.pieces n r) buckets.1 there in
+      (r, stands, body_word shape opened state kept h 9 (histogram r) stands (omega arith))
+
+  abbrev pub sees_single : ℕ → Seen
+  sees_single word = record a.seen { singles = a.seen.singles ++ record { at = h + 9; word = word } ∷ [] }
+
+  -- the state is kept where it sees the single word as it is, and goes on to a place
+  pub single_seen : (place : Place) → is_bound place ≡ false → ((reference : ℕ) (sum : ℤ) → place ≢ SumLoaded reference sum)
+      → ((word : ℕ) → StandsRight shape kept.anatomy id (seer a place (sees_single word) a.given a.lost) place)
+      → Invariant shape opened (record {
+        words = state.words;
+        cursors = state.cursors;
+        actors = set state.actors id (seer a place (sees_single (word_at state.words (h + 9))) a.given a.lost);
+      })
+  single_seen place free no_sum stood =
+      let fits = kept.each id a mine lives in
+      let (r, stands, word) = the_record in
+      let still : (look : Look) (bucket units : ℕ) → a.place ≢ Moving look bucket units = λ look bucket units moving. cc (unbound, ap is_bound moving) in
+      let moves : (name : List ℕ) (key : ℤ) → _ = λ name key. rests_at a name key place (λ look bucket units moving. cc (free, ap is_bound moving))
+      ∙ sym (rests_at a name key a.place still) in
+      let y : Sighting = record { at = h + 9; word = r.single } in
+      subst (λ (n : ℕ). Invariant shape opened (record {
+        words = state.words;
+        cursors = state.cursors;
+        actors = set state.actors id (seer a place (sees_single n) a.given a.lost);
+      })) (sym word)
+      (sees_on shape opened state kept id a mine recorder place (a.seen.singles ++ y ∷ []) a.seen.counts unbound free moves
+      (near_on shape opened state kept id a mine recorder place (sees_single r.single) a.given a.lost lives (λ spent. cc (free, ap is_bound spent)) moves
+      (λ reference sum is. absurd (no_sum reference sum is)))
+      (All-push (WasSingle kept.anatomy.version kept.anatomy.pieces) a.seen.singles y fits.sees.singles (h, r, stands, refl, (kept.records.lawful h r stands).formed, inl refl))
+      fits.sees.counters fits.sees.in_use fits.sees.met (stood r.single)
+      (looks_single shape opened state kept id a mine recorder lives h r stands place a.given no_sum))
+
+module _ (shape : Dimensions) (opened : Anatomy) (state : State) (kept : Invariant shape opened state) (id : ℕ) (a : Actor)
+    (mine : get_elem? state.actors id ≡ some a) (recorder : a.opener ≡ 0) where
+  -- so packing that came too late keeps what holds
+  pub pack_beaten : (h old new : ℕ) → Ready a (packing_event (pack h old new)) → (word_at state.words (h + 9) == old) ≡ false
+      → Goes shape opened state kept id a mine recorder (packing_event (pack h old new))
+  pack_beaten h old new (c, look, known, bucket, next, (placed, of_it, single, on, buckets), named, keyed, packs) late =
+      let found : ℕ = word_at state.words (h + 9) in
+      let unbound = ap is_bound placed in
+      let lives : a.place ≢ Spent = λ spent. cc (sym placed ∙ spent) in
+      let (r, stands, word) = the_record shape opened state kept id a mine recorder unbound h known buckets in
+      happens opened.version state id a (packing_event (pack h old new)) (word_within shape opened state kept h 9 (histogram r) stands refl (omega arith)) shape opened (
+        subst (λ (b : Bool). Invariant shape opened (record {
+          words = set state.words (h + 9) (if b then new else found);
+          cursors = state.cursors;
+          actors = set state.actors id (after_pack b a h new found);
+        })) (sym late)
+            (loaded shape opened state kept id a mine recorder (h + 9) (after_pack false a h new found)
+            (single_seen shape opened state kept id a mine recorder unbound h known buckets Idle refl (λ reference sum is. cc is) (λ word. tt))),
+        learns_single shape opened state kept id a mine recorder lives h,
+      )
+
+  -- and disabling that came too late
+  pub disable_beaten : (h old : ℕ) → Ready a (packing_event (disable h old)) → (word_at state.words (h + 9) == old) ≡ false
+      → Goes shape opened state kept id a mine recorder (packing_event (disable h old))
+  disable_beaten h old (look, known, (placed, of_it, single, on, buckets), some_counts, counts_in) late =
+      let found : ℕ = word_at state.words (h + 9) in
+      let unbound = ap is_bound placed in
+      let lives : a.place ≢ Spent = λ spent. cc (sym placed ∙ spent) in
+      let (r, stands, word) = the_record shape opened state kept id a mine recorder unbound h known buckets in
+      let (histogram_is, counts_are) = look_right shape kept.anatomy id a a.place h (kept.standing id a mine) in
+      let place : Place = Looking (record (look_of a.place h) { single = None }) in
+      happens opened.version state id a (packing_event (disable h old)) (word_within shape opened state kept h 9 (histogram r) stands refl (omega arith)) shape opened (
+        subst (λ (b : Bool). Invariant shape opened (record {
+          words = set state.words (h + 9) (if b then off_word opened.version old else found);
+          cursors = state.cursors;
+          actors = set state.actors id (after_disable b a h old found);
+        })) (sym late)
+            (loaded shape opened state kept id a mine recorder (h + 9) (after_disable false a h old found)
+            (single_seen shape opened state kept id a mine recorder unbound h known buckets place refl (λ reference sum is. cc is) (λ word. record {
+              known = known;
+              knows = (buckets.0, buckets.1 ∙ sym histogram_is, buckets.2);
+              single = λ w is. absurd (cc is);
+              counts = counts_are;
+            }))),
+        learns_single shape opened state kept id a mine recorder lives h,
+      )

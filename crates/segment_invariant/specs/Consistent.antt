@@ -38,16 +38,16 @@ use Rattle.alloc_core.specs.Layout.{render, fresh}
 -- ---- the records of a chain
 
 -- a record is one of a histogram of a name
-abbrev pub IsNamed : List ℕ → List ℕ → ℕ → Type 0
-IsNamed words name at = (field_at words at BLOCK_TYPE ≡ TYPE_HISTOGRAM) × (name_of words at ≡ name)
+abbrev pub HasName : List ℕ → List ℕ → ℕ → Type 0
+HasName words name at = (field_at words at BLOCK_TYPE ≡ TYPE_HISTOGRAM) × (name_of words at ≡ name)
 
 -- the histogram of a name is the first record of it on the chain
 pub record IsHistogram (words chain name : List ℕ) (at : ℕ) : Type 0 where
   pub front : List ℕ
   pub behind : List ℕ
   pub stands : chain ≡ front ++ at ∷ behind
-  pub first : All (λ other. ¬ (IsNamed words name other)) front
-  pub named : IsNamed words name at
+  pub first : All (λ other. ¬ (HasName words name other)) front
+  pub named : HasName words name at
 
 -- a record is a sample of a value of a histogram
 abbrev pub IsSampleOf : List ℕ → ℕ → ℤ → ℕ → Type 0
@@ -167,8 +167,8 @@ abbrev pub counts_words : List ℕ → ℕ → ℕ
 counts_words words at = if field_at words at HISTOGRAM_COUNTS == 0 then 0 else 2 * record_buckets words at
 
 -- a record that was published and that nobody counts in: it has no counts, and nothing is packed, taken, summed or noted
-abbrev pub CountsNothing : List ℕ → ℕ → Type 0
-CountsNothing words at = (i : ℕ) → HISTOGRAM_COUNTS ≤ i → i < HISTOGRAM_NAME_LENGTH → field_at words at i ≡ 0
+abbrev pub HoldsNothing : List ℕ → ℕ → Type 0
+HoldsNothing words at = (i : ℕ) → HISTOGRAM_COUNTS ≤ i → i < HISTOGRAM_NAME_LENGTH → field_at words at i ≡ 0
 
 -- a record of an adopted image that nobody counts in: all is as it was
 abbrev pub CountsStill : List ℕ → List ℕ → ℕ → Type 0
@@ -193,7 +193,7 @@ pub record RecordsHold (opened : List ℕ) (first : List Claim) (words : List �
   pub later : (at other : ℕ) → Contains chain at → field_at words at BLOCK_TYPE ≡ TYPE_HISTOGRAM
       → IsHistogram words chain (name_of words at) other → other ≢ at
       → (nat_lt at (word_at opened FREE_WORD) ≡ true → CountsStill opened words at)
-      × (nat_lt at (word_at opened FREE_WORD) ≡ false → CountsNothing words at)
+      × (nat_lt at (word_at opened FREE_WORD) ≡ false → HoldsNothing words at)
   pub later_samples : (at other : ℕ) → Contains chain at → field_at words at BLOCK_TYPE ≡ TYPE_SAMPLE
       → IsSample words chain (field_at words at SAMPLE_HISTOGRAM) (sample_value words at) other → other ≢ at
       → (field_at words at SAMPLE_COUNT ≡ 0) × (field_at words at SAMPLE_MARK ≡ 0)

@@ -146,8 +146,8 @@ pub record LooksRight (a : Actor) (look : Look) : Type 0 where
   pub counts : look.counts ≢ 0 → Contains a.seen.words (record { at = look.histogram + HISTOGRAM_COUNTS; word = look.counts })
 
 -- it has loaded a single word that is off, and the counts
-abbrev pub LooksOff : Actor → Look → Type 0
-LooksOff a look = LooksRight a look × (look.counts ≢ 0) × ((word : ℕ) × (look.single ≡ Some word) × (is_off word ≡ true))
+abbrev pub LoadedOff : Actor → Look → Type 0
+LoadedOff a look = LooksRight a look × (look.counts ≢ 0) × ((word : ℕ) × (look.single ≡ Some word) × (is_off word ≡ true))
 
 -- it has met a sample of a histogram that it knows
 abbrev pub MetSample : Actor → ℕ → Type 0
@@ -177,7 +177,7 @@ StandsRight shape anatomy id a (Moving look bucket units) =
     × ((r : Record) × HasRecord anatomy.pieces look.histogram r × (packed_bucket (form_at 1 r) ≡ Some bucket) × (is_off r.single ≡ true))
     × All (λ s. s.at ≢ look.counts + BLOCK_HEADER + bucket) a.seen.counts
 StandsRight shape anatomy id a (CountLoaded look bucket count) =
-    (off : LooksOff a look) × (bucket < buckets_of off.0.known.spec)
+    (off : LoadedOff a look) × (bucket < buckets_of off.0.known.spec)
     × Contains a.seen.counts (record { at = look.counts + BLOCK_HEADER + bucket; word = count })
 StandsRight shape anatomy id a (SampleLoaded reference count) =
     MetSample a reference × Contains a.seen.counts (record { at = reference + SAMPLE_COUNT; word = count })

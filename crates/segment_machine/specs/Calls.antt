@@ -107,8 +107,8 @@ abbrev pub Fills : Actor → Own → Type 0
 Fills a own = Contains a.own own × (own.next ≡ 0)
 
 -- a bucket of a known histogram has this key
-abbrev pub HasKey : Known → ℕ → ℤ → Type 0
-HasKey known bucket key = (bucket < buckets_of known.spec) × (bucket_key (Some known) bucket ≡ key)
+abbrev pub IsKeyOfBucket : Known → ℕ → ℤ → Type 0
+IsKeyOfBucket known bucket key = (bucket < buckets_of known.spec) × (bucket_key (Some known) bucket ≡ key)
 
 -- it looks at a histogram with buckets whose counts are not in use yet, or are
 abbrev pub LooksOpen : Actor → ℕ → ℕ → Look → Known → Type 0

@@ -14,7 +14,7 @@ use Rattle.segment_machine.specs.Made.{IsFirstSample}
 use Rattle.std.specs.Int.{w64, cast_unsigned}
 use Rattle.alloc_core.specs.Event as atomic
 use Rattle.segment_machine.specs.Operation.{Operation, single, add}
-use Rattle.segment_machine.specs.Calls.{MayTurn, IsNext, CountsNext, HasKey, LooksOff, change_next, count_next, sight, sight_counts, look_of, IsUnits, AreCountsOf, CountsStay}
+use Rattle.segment_machine.specs.Calls.{MayTurn, IsNext, CountsNext, IsKeyOfBucket, LooksOff, change_next, count_next, sight, sight_counts, look_of, IsUnits, AreCountsOf, CountsStay}
 
 pub data CountingEvent : Type 0 where
   load_counts : (histogram : ℕ) → CountingEvent
@@ -43,7 +43,7 @@ NotesNext a c = IsNext a c × (is_counted c ≡ true) × (is_summed c ≡ true)
 abbrev pub MayCount : Actor → ℕ → ℕ → Type 0
 MayCount a at units =
     (c : Counting) × (known : Known) × CountsNext a c × (c.entry.name ≡ known.name) × (c.entry.units ≡ units)
-    × (((look : Look) × (bucket : ℕ) × LooksOff a look known × HasKey known bucket c.entry.key
+    × (((look : Look) × (bucket : ℕ) × LooksOff a look known × IsKeyOfBucket known bucket c.entry.key
     × (at ≡ look.counts + BLOCK_HEADER + bucket))
     ⊎ ((sample : ℕ) × MayTurn a × Sparse a known.reference known × IsFirstSample a.seen known.reference c.entry.key sample × (at ≡ sample + SAMPLE_COUNT)))
 

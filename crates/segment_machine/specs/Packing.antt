@@ -18,7 +18,7 @@ use Rattle.segment_machine.specs.Actor.{Buckets}
 use Rattle.bucket_ranges.specs.declared.single.SingleWord.{SingleWord}
 use Rattle.alloc_core.specs.Event as atomic
 use Rattle.segment_machine.specs.Operation.{Operation, single, add}
-use Rattle.segment_machine.specs.Calls.{MayTurn, IsNext, CountsNext, HasKey, LooksOpen, count_next, change_own, without, sight, sight_counts, look_of, back, form_seen, IsUnits, AreCountsOf, CountsStay}
+use Rattle.segment_machine.specs.Calls.{MayTurn, IsNext, CountsNext, IsKeyOfBucket, LooksOpen, count_next, change_own, without, sight, sight_counts, look_of, back, form_seen, IsUnits, AreCountsOf, CountsStay}
 
 pub data PackingEvent : Type 0 where
   load_single : (histogram : ℕ) → PackingEvent
@@ -53,7 +53,7 @@ abbrev pub Ready : Actor → PackingEvent → Type 0
 Ready a (load_single histogram) = MayTurn a × ((known : Known) × Buckets a histogram known)
 Ready a (pack histogram old new) =
     (c : Counting) × (look : Look) × (known : Known) × (bucket : ℕ) × CountsNext a c × LooksOpen a histogram old look known
-    × (c.entry.name ≡ known.name) × HasKey known bucket c.entry.key × IsPacking bucket c.entry.units old new
+    × (c.entry.name ≡ known.name) × IsKeyOfBucket known bucket c.entry.key × IsPacking bucket c.entry.units old new
 Ready a (mount_counts histogram at) =
     (own : Own) × (known : Known) × MayTurn a × Contains a.own own × (own.at ≡ at) × Buckets a histogram known
     × CountsIn a known × IsBlankCounts own (buckets_of known.spec)

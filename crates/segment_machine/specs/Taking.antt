@@ -100,10 +100,10 @@ at_count (CountLoaded look bucket before) at count = CountLoaded look (at - (loo
 at_count _ at count = SampleLoaded (at - SAMPLE_COUNT) count
 
 -- the key whose units are taken at a place
-abbrev pub key_at : Actor → Place → ℤ
-key_at a (CountLoaded look bucket count) = bucket_key (known_at a.names look.histogram) bucket
-key_at a (SampleLoaded sample count) = cast_signed w64 (unwrap_or (word_seen a.seen.words (sample + SAMPLE_VALUE)) 0)
-key_at a _ = pos 0
+abbrev pub taken_key : Actor → Place → ℤ
+taken_key a (CountLoaded look bucket count) = bucket_key (known_at a.names look.histogram) bucket
+taken_key a (SampleLoaded sample count) = cast_signed w64 (unwrap_or (word_seen a.seen.words (sample + SAMPLE_VALUE)) 0)
+taken_key a _ = pos 0
 
 abbrev pub packed_key : Actor → Look → ℤ
 packed_key a look =
@@ -129,7 +129,7 @@ next a (load_count at) found =
     record a { place = at_count a.place at found; seen = record a.seen { counts = a.seen.counts ++ sight at found } }
 next a (raise_mark at least) found = record a {
   place = back a.place;
-  taken = change_last (take_units (key_at a a.place) least found) a.taken;
+  taken = change_last (take_units (taken_key a a.place) least found) a.taken;
   seen = record a.seen { counts = a.seen.counts ++ sight at (max found least) };
 }
 next a (raise_single_mark histogram least) found = record a {
@@ -145,8 +145,8 @@ next a (load_redundant histogram) found = record a { seen = record a.seen { coun
 -- ---- what it learns
 
 -- a sum that fits
-abbrev pub IsSum : ℕ → Type 0
-IsSum found = unsigned_abs (cast_signed w64 found) ≤ 2147483648 * 4294967295
+abbrev pub IsSumWithin : ℕ → Type 0
+IsSumWithin found = unsigned_abs (cast_signed w64 found) ≤ 2147483648 * 4294967295
 
 -- a later sample of a value that it met; it counts nothing
 abbrev pub IsLaterSample : Actor → ℕ → Type 0
@@ -158,7 +158,7 @@ abbrev pub Learned : Actor → TakingEvent → ℕ → Type 0
 Learned a (load_count at) found = IsUnits found × ((sample : ℕ) → at ≡ sample + SAMPLE_COUNT → IsLaterSample a sample → found ≡ 0)
 Learned a (raise_mark at least) found = IsUnits found
 Learned a (raise_single_mark histogram least) found = IsUnits found
-Learned a (load_sum histogram) found = IsSum found
+Learned a (load_sum histogram) found = IsSumWithin found
 Learned a (swap_sum_mark histogram sum) found =
-    IsSum found × (unsigned_abs sum ≤ 2147483648 * 4294967295) × (unsigned_abs (sum -ℤ cast_signed w64 found) ≤ 2147483648 * 4294967295)
+    IsSumWithin found × (unsigned_abs sum ≤ 2147483648 * 4294967295) × (unsigned_abs (sum -ℤ cast_signed w64 found) ≤ 2147483648 * 4294967295)
 Learned a (load_redundant histogram) found = IsUnits found

@@ -26,7 +26,7 @@ use Rattle.segment_promises.proofs.Lists.{chain_is}
 
 module _ (shape : Dimensions) (opened : Anatomy) (state : State) (kept : Invariant shape opened state) where
   -- what the words say of a record's name was given to its maker
-  given_name : (l : Listed) (name : List ℕ) → Contains kept.anatomy.records l → consistent.IsNamed state.words name l.reference → IsNamed name l
+  given_name : (l : Listed) (name : List ℕ) → Contains kept.anatomy.records l → consistent.HasName state.words name l.reference → IsNamed name l
   given_name l name there named = by_made l.made refl (standing_of shape opened state kept l there)
     where
       by_made : (m : std.Option Made) → l.made ≡ m → StandsAs kept.anatomy.pieces l m → IsNamed name l
@@ -44,7 +44,7 @@ module _ (shape : Dimensions) (opened : Anatomy) (state : State) (kept : Invaria
   name_of_first : (name : List ℕ) (spec : Spec) (at : ℕ) → IsFirst kept.anatomy.records name spec at → IsHistogram state.words (order_of kept.anatomy) name at
   name_of_first name spec at (xs, ys, split, none) =
       let l : Listed = record { reference = at; made = Some (made.Histogram name spec) } in
-      let is = first_reference kept.anatomy.records (IsNamed name) (consistent.IsNamed state.words name)
+      let is = first_reference kept.anatomy.records (IsNamed name) (consistent.HasName state.words name)
       (λ l there. name_given shape opened state kept l name there) (λ l there. given_name l name there) xs ys l split none (spec, refl) in
       record { front = map (λ (l : Listed). l.reference) xs; behind = map (λ (l : Listed). l.reference) ys; stands = is.0; first = is.1; named = is.2 }
 

@@ -25,7 +25,7 @@ use Rattle.segment_machine.specs.Made.{AreNameWords}
 use Rattle.segment_machine.specs.Seats.{idle, nothing_seen}
 use Rattle.segment_machine.specs.State.{State}
 use Rattle.segment_invariant.specs.Body.{Anatomy, layout_of, order_of}
-use Rattle.segment_invariant.specs.Consistent.{IsHistogram, IsSample, CountsNothing, counts_word}
+use Rattle.segment_invariant.specs.Consistent.{IsHistogram, IsSample, HoldsNothing, counts_word}
 use Rattle.segment_invariant.specs.Invariant.{Invariant}
 use Rattle.segment_promises.specs.Reads.{HasNoFault}
 
@@ -127,7 +127,7 @@ adopted words references reading cursors =
 pub record IsPlain (words references : List ℕ) (reading : Reading) : Type 0 where
   pub untaken : (h : Histogram) → Contains reading.hists h → All (λ mark. mark ≡ 0) h.marks × (h.sum_mark ≡ pos 0)
   pub later : (at first : ℕ) → Contains references at → field_at words at BLOCK_TYPE ≡ TYPE_HISTOGRAM
-      → IsHistogram words references (name_of words at) first → first ≢ at → CountsNothing words at
+      → IsHistogram words references (name_of words at) first → first ≢ at → HoldsNothing words at
 
 -- An image that may be adopted opens a kept segment, whose blocks are the image's and whose records are those on its list.
 abbrev pub AdoptionOpens : Type 0

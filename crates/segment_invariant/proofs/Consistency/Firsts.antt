@@ -76,7 +76,7 @@ module _ (shape : Dimensions) (opened : Anatomy) (state : State) (kept : Invaria
   pub says_name : (at : ℕ) (r : Record) → HasRecord kept.anatomy.pieces at r → name_of state.words at ≡ r.name
   says_name at r there = record_name shape state.words kept.anatomy kept.shown kept.anatomy.version at r there (kept.records.lawful at r there)
 
-  pub is_named : (at : ℕ) (r : Record) → HasRecord kept.anatomy.pieces at r → consistent.IsNamed state.words r.name at
+  pub is_named : (at : ℕ) (r : Record) → HasRecord kept.anatomy.pieces at r → consistent.HasName state.words r.name at
   is_named at r there = (record_word shape state.words kept.anatomy kept.shown at r 2 there (omega arith), says_name at r there)
 
   -- a sample says of what it is one
@@ -105,10 +105,10 @@ module _ (shape : Dimensions) (opened : Anatomy) (state : State) (kept : Invaria
       (s, (has, of_it, valued))
 
   -- the words say what was given
-  pub name_given : (l : Listed) (name : List ℕ) → Contains kept.anatomy.records l → IsNamed name l → consistent.IsNamed state.words name l.reference
+  pub name_given : (l : Listed) (name : List ℕ) → Contains kept.anatomy.records l → IsNamed name l → consistent.HasName state.words name l.reference
   name_given l name there (spec, is) =
       let (r, has, mine, specified) = subst (StandsAs kept.anatomy.pieces l) is (standing_of l there) in
-      subst (λ (name : List ℕ). consistent.IsNamed state.words name l.reference) mine (is_named l.reference r has)
+      subst (λ (name : List ℕ). consistent.HasName state.words name l.reference) mine (is_named l.reference r has)
 
   pub value_given : (l : Listed) (of : ℕ) (value : ℤ) → Contains kept.anatomy.records l → l.made ≡ Some (made.Sample of value) → IsSampleOf state.words of value l.reference
   value_given l of value there is =
@@ -119,7 +119,7 @@ module _ (shape : Dimensions) (opened : Anatomy) (state : State) (kept : Invaria
 
 module _ (shape : Dimensions) (version id : ℕ) (state : State) (kept : Invariant shape (blank version id shape.size) state) where
   -- what was given to the maker of a record of a name
-  pub given_name : (l : Listed) (name : List ℕ) → Contains kept.anatomy.records l → consistent.IsNamed state.words name l.reference
+  pub given_name : (l : Listed) (name : List ℕ) → Contains kept.anatomy.records l → consistent.HasName state.words name l.reference
       → (spec : Spec) × (r : Record) × (l.made ≡ Some (made.Histogram name spec)) × Named shape (blank version id shape.size) state kept name spec l.reference r
   given_name l name there named =
       by_made l.made refl (standing_of shape (blank version id shape.size) state kept l there) (each_given state.words (blank version id shape.size) kept.anatomy state.actors l kept.list refl there)
@@ -170,7 +170,7 @@ module _ (shape : Dimensions) (version id : ℕ) (state : State) (kept : Invaria
   pub first_of_name : (name : List ℕ) (at : ℕ) → IsHistogram state.words (order_of kept.anatomy) name at
       → (spec : Spec) × (r : Record) × IsFirst kept.anatomy.records name spec at × Named shape (blank version id shape.size) state kept name spec at r
   first_of_name name at is =
-      let (xs, ys, l, split, none, this, here) = first_listed kept.anatomy.records (IsNamed name) (consistent.IsNamed state.words name)
+      let (xs, ys, l, split, none, this, here) = first_listed kept.anatomy.records (IsNamed name) (consistent.HasName state.words name)
       (λ l there. name_given shape (blank version id shape.size) state kept l name there) (λ l there named. let (spec, r, made, has) = given_name l name there named in (spec, made))
       is.front is.behind at is.stands is.first is.named in
       let among = subst (λ (records : List Listed). Contains records l) (sym split) (Contains-append_right xs (l ∷ ys) l (0, omega arith, refl)) in
@@ -180,7 +180,7 @@ module _ (shape : Dimensions) (version id : ℕ) (state : State) (kept : Invaria
   pub name_of_first : (name : List ℕ) (spec : Spec) (at : ℕ) → IsFirst kept.anatomy.records name spec at → IsHistogram state.words (order_of kept.anatomy) name at
   name_of_first name spec at (xs, ys, split, none) =
       let l : Listed = record { reference = at; made = Some (made.Histogram name spec) } in
-      let is = first_reference kept.anatomy.records (IsNamed name) (consistent.IsNamed state.words name)
+      let is = first_reference kept.anatomy.records (IsNamed name) (consistent.HasName state.words name)
       (λ l there. name_given shape (blank version id shape.size) state kept l name there) (λ l there named. let (spec, r, made, has) = given_name l name there named in (spec, made))
       xs ys l split none (spec, refl) in
       record { front = map (λ (l : Listed). l.reference) xs; behind = map (λ (l : Listed). l.reference) ys; stands = is.0; first = is.1; named = is.2 }

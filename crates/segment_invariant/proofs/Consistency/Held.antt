@@ -18,7 +18,7 @@ use Rattle.segment_machine.specs.declared.actor.Made.TheVariants as made
 use Rattle.segment_machine.specs.State.{State}
 use Rattle.segment_invariant.specs.Consistent.{new_opening}
 use Rattle.segment_machine.specs.Form.{Leads}
-use Rattle.segment_invariant.specs.Consistent.{IsHistogram, IsSample, CountsNothing}
+use Rattle.segment_invariant.specs.Consistent.{IsHistogram, IsSample, HoldsNothing}
 use Rattle.segment_invariant.specs.Body.{Record, record_words, Counts, Body, histogram, counts, sample, other, Listed, order_of, blank}
 use Rattle.segment_invariant.specs.Seen.{Stands, HasRecord, HasCounts, IsFirst, IsFirstOf, WasSingle}
 use Rattle.segment_invariant.specs.Invariant.{StandsAs, Invariant}
@@ -118,7 +118,7 @@ module _ (shape : Dimensions) (version id : ℕ) (state : State) (kept : Invaria
 
   -- in a later record of a name nothing is counted
   pub later_record : (at place : ℕ) → Contains (order_of kept.anatomy) at → field_at state.words at 2 ≡ 1
-      → IsHistogram state.words (order_of kept.anatomy) (name_of state.words at) place → place ≢ at → CountsNothing state.words at
+      → IsHistogram state.words (order_of kept.anatomy) (name_of state.words at) place → place ≢ at → HoldsNothing state.words at
   later_record at place there one is apart =
       let (l, name, kind, r, among, spot, made, (has, named, specified)) = listed_record shape version id state kept at there one in
       let (first_kind, q, first, its) = first_of_name shape version id state kept (name_of state.words at) place is in

@@ -24,7 +24,7 @@ use Rattle.segment_machine.specs.Event.{taking_event, Ready, next}
 use Rattle.segment_invariant.specs.Body.{Record, Counts, Sample, counts, sample, Anatomy}
 use Rattle.segment_invariant.specs.Ledger.{units_held, key_of_bucket}
 use Rattle.segment_invariant.specs.Seen.{HasRecord, HasCounts, HasSample, WasFixed, WasCounter, WasInUse, WasSingle, WasMet}
-use Rattle.segment_invariant.specs.Invariant.{LooksOff, StandsRight, Invariant, IsCountsOf}
+use Rattle.segment_invariant.specs.Invariant.{LoadedOff, StandsRight, Invariant, IsCountsOf}
 use Rattle.segment_invariant.proofs.Blocks.Places.{counter_within}
 use Rattle.segment_invariant.proofs.Lists.Elements.{sum_at_least}
 use Rattle.segment_invariant.proofs.Consistency.Sums.{of_mine}
@@ -68,7 +68,7 @@ module _ (shape : Dimensions) (opened : Anatomy) (state : State) (kept : Invaria
 
     -- ---- of a bucket
 
-    bucket_loaded : (look : Look) (known : Known) (bucket : ℕ) → LooksOff a look → Buckets a look.histogram known → bucket < buckets_of known.spec
+    bucket_loaded : (look : Look) (known : Known) (bucket : ℕ) → LoadedOff a look → Buckets a look.histogram known → bucket < buckets_of known.spec
         → ((n : ℕ) → at_count a.place (look.counts + 4 + bucket) n ≡ CountLoaded look bucket n) → LoadsCount (look.counts + 4 + bucket)
     bucket_loaded look known bucket (right, some_counts, (word, single_is, word_off)) (has, refers, bucketed) below placed =
         let fits = kept.each id a mine lives in

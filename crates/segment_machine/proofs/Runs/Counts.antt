@@ -19,7 +19,7 @@ use Rattle.segment_machine.specs.Entry.{is_counted, is_summed, has_ended}
 use Rattle.segment_machine.specs.Form.{is_off, units_in, packed_word, IsPacking}
 use Rattle.segment_machine.specs.Actor.{is_bound, Buckets, has_buckets, bucket_key, word_seen}
 use Rattle.segment_machine.specs.Made.{SawSample, SawOther, IsFirstSample}
-use Rattle.segment_machine.specs.Calls.{IsNext, HasKey, LooksOpen, LooksOff, form_seen}
+use Rattle.segment_machine.specs.Calls.{IsNext, IsKeyOfBucket, LooksOpen, LooksOff, form_seen}
 use Rattle.segment_machine.specs.Counting.{CountingEvent, load_counts, add_count, add_sum, add_redundant}
 use Rattle.segment_machine.specs.Counting as counting
 use Rattle.segment_machine.specs.Packing.{PackingEvent, load_single, pack, mount_counts, purge_block, disable, add_moved, CountsIn, IsBlankCounts}
@@ -63,7 +63,7 @@ known_at a histogram = some_of (λ known. same known.reference histogram) a.name
 abbrev next_of : (a : Actor) → Option ((c : Counting) × IsNext a c)
 next_of a = then (first_of_list (filter (λ c. not (has_ended c)) a.running)) (λ t. Some (t.0, (t.1, t.2)))
 
-abbrev has_key : (known : Known) (bucket : ℕ) (key : ℤ) → Option (HasKey known bucket key)
+abbrev has_key : (known : Known) (bucket : ℕ) (key : ℤ) → Option (IsKeyOfBucket known bucket key)
 has_key known bucket key =
     then (below bucket (buckets_of known.spec)) (λ within. then (same_integer (bucket_key (Some known) bucket) key) (λ keyed. Some (within, keyed)))
 

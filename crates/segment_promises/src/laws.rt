@@ -5,7 +5,7 @@
 ghost use Rattle.segment_promises.specs.States.{ReachedStatesFollow};
 ghost use Rattle.segment_promises.specs.Follows.{StepsFollow, TablesOpen, TablesClose, TablesFollow, TablesAnnounce, TablesOffer, TablesSplit, TablesJoin};
 ghost use Rattle.segment_promises.specs.Tallies.{PartsAddUp, TalliesAreCounts};
-ghost use Rattle.segment_promises.specs.Deltas.{FinalDeltasTakeAll, FinalSnapshotsAreExact, SnapshotsStayBelow, SnapshotsSeeAccepted};
+ghost use Rattle.segment_promises.specs.Deltas.{FinalDeltasTakeAll, FinalSnapshotsAreExact, SnapshotsStayBelow, DeltasTakeAccepted, SnapshotsSeeAccepted};
 ghost use Rattle.segment_promises.specs.Refusals.{RefusedAddsFew};
 ghost use Rattle.segment_promises.specs.Lists.{WalksGiveAll, CursorsKeepOrder, CursorsGiveFronts, CursorsGiveAll, NamesAreFirst, OthersDiffer};
 ghost use Rattle.segment_promises.specs.Examples.{LinksLengthen, DeltaOwes, SnapshotOwes};
@@ -113,6 +113,11 @@ pub fn names_are_first()
 /// What a caller saw of the first record of a name, where it refuses `OtherSpec`, says that this has another spec.
 pub fn others_differ()
     ensures { OthersDiffer }
+{}
+
+/// Once a delta has taken all that it saw, all took of each bucket and value at least what its recorder had accepted and seen.
+pub fn deltas_take_accepted()
+    ensures { DeltasTakeAccepted }
 {}
 
 /// A snapshot that is answered has of each bucket and value at least what its recorder had accepted and seen.

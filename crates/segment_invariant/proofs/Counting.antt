@@ -4,6 +4,7 @@ pub mod AddRedundant
 pub mod AddSum
 pub mod Amounts
 pub mod Entries
+pub mod References
 pub mod Running
 pub mod Seen
 pub mod Learned

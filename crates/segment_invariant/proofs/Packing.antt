@@ -1,4 +1,5 @@
 pub mod Beaten
 pub mod Loads
+pub mod Mounts
 pub mod Moved
 pub mod Purges

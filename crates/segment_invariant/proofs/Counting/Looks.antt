@@ -144,15 +144,15 @@ module _ (shape : Dimensions) (opened : Anatomy) (state : State) (kept : Invaria
     counts_seen at place r there seen = counts_was at place r there (All-contains (WasFixed blocks) a.seen.words _ (kept.each id a mine lives).sees.fixed
         (word_contains a.seen.words (at + 8) place seen))
 
-    -- what was seen of a bucket is at most what was counted: where the word is the record's, and the count no more than it is
-    pub off_most : (known : Known) (bucket word place count : ℕ) → Contains a.names known → bucket < buckets_of known.spec
-        → ((r : Record) → HasRecord blocks known.reference r → word ≡ r.single) → word_seen a.seen.words (known.reference + 8) ≡ Some place
+    -- what was seen of a bucket is at most what was counted: where the word is the record's, the counts reference is fixed, and the count no more than it is
+    pub fixed_most : (known : Known) (bucket word place count : ℕ) → Contains a.names known → bucket < buckets_of known.spec
+        → ((r : Record) → HasRecord blocks known.reference r → word ≡ r.single) → WasFixed blocks (record { at = known.reference + 8; word = place })
         → ((c : Counts) → HasCounts blocks place c → bucket < length c.units → count ≤ slice_index c.units bucket)
         → count + units_packed (single_of a.version (buckets_of known.spec) word) bucket
         ≤ tally_units (all_counted state.actors) known.name (bucket_key (Some known) bucket)
-    off_most known bucket word place count has below is seen most =
+    fixed_most known bucket word place count has below is fixed most =
         let (r, first, stands, named, many, keys) = knows_of known has in
-        let (place_is, mounts) = counts_seen known.reference place r stands seen in
+        let (place_is, mounts) = counts_was known.reference place r stands fixed in
         let (c, mounted, of_it) = kept.records.mounted known.reference r stands mounts in
         let units = of_it.units in
         let within : bucket < buckets_of r.spec = omega (arith, below, many) in
@@ -162,6 +162,15 @@ module _ (shape : Dimensions) (opened : Anatomy) (state : State) (kept : Invaria
         (λ i. units_packed (single_of ((kept.each id a mine lives).versioned i) (sym many i) (is r stands i)) bucket) in
         let key = ap (tally_units (all_counted state.actors) known.name) (keys bucket) in
         omega (arith, up, whole, form, key)
+
+    -- so it is where it saw that reference
+    pub off_most : (known : Known) (bucket word place count : ℕ) → Contains a.names known → bucket < buckets_of known.spec
+        → ((r : Record) → HasRecord blocks known.reference r → word ≡ r.single) → word_seen a.seen.words (known.reference + 8) ≡ Some place
+        → ((c : Counts) → HasCounts blocks place c → bucket < length c.units → count ≤ slice_index c.units bucket)
+        → count + units_packed (single_of a.version (buckets_of known.spec) word) bucket
+        ≤ tally_units (all_counted state.actors) known.name (bucket_key (Some known) bucket)
+    off_most known bucket word place count has below is seen = fixed_most known bucket word place count has below is
+        (All-contains (WasFixed blocks) a.seen.words _ (kept.each id a mine lives).sees.fixed (word_contains a.seen.words (known.reference + 8) place seen))
 
     -- while the word of a record is on it has all units of a bucket
     pub on_whole : (known : Known) (bucket : ℕ) (r : Record) → IsFirst kept.anatomy.records known.name r.spec known.reference

@@ -1,7 +1,17 @@
 -- A counts block is mounted: the record names it, and it has no owner any more. Nothing is counted in it yet.
-use Rattle.std.proofs.Common.{◌≡◌, ◌≢◌, ℕ, ◌+◌, ◌*◌, ◌≤◌, List, [], length, set, inl, inr, ⊎_elim, refl, sym, ap, ◌∙◌, arith}
+use Rattle.std.proofs.Common.{◌≡◌, ◌≢◌, ℕ, ◌+◌, ◌-◌, ◌*◌, ◌≤◌, List, [], length, set, inl, inr, ⊎_elim, refl, sym, ap, ◌∙◌, arith}
 use mathlib.Core.Option.{some, none, some-injective, some-ne-none}
 use lib.ListN.{get_elem?}
+use Rattle.std.specs.Prelude.{Bool, if◌then◌else◌, Option, Some, None}
+use Rattle.std.proofs.Common.{eq-eqb}
+use Rattle.std.proofs.lemmas.List.{length-replicate}
+use Rattle.bucket_ranges.specs.declared.single.SingleWord.{SingleWord}
+use Rattle.bucket_ranges.specs.declared.single.SingleWord.TheVariants.{Empty, Packed, Disabled, FrozenEmpty, Frozen}
+use Rattle.bucket_ranges.specs.Single.{packed_bucket, units_packed}
+use Rattle.segment_machine.specs.Form.{units_in}
+use Rattle.segment_invariant.specs.Ledger.{form_at}
+use Rattle.segment_invariant.specs.Invariant.{IsCountsOf}
+use Rattle.segment_invariant.proofs.Lists.FewTerms.{zero_index}
 use Rattle.segment_image.specs.Shape.{Dimensions}
 use Rattle.bucket_ranges.specs.Spec.{buckets_of}
 use Rattle.segment_machine.specs.declared.actor.Own.{Own}
@@ -15,6 +25,19 @@ use Rattle.segment_invariant.proofs.Blocks.Published.{counts_held, holdings_set,
 use Rattle.segment_invariant.proofs.Frames.Anatomies.{SameHoldings}
 use Rattle.segment_invariant.proofs.Frames.Onward.{Onward}
 use Rattle.segment_invariant.proofs.Changes.Words.{Turns, behind, stands_still, turned_onward, turned_free}
+
+-- the units of a word are those of its packed bucket
+packed_here : (form : Option SingleWord) (i : ℕ) → packed_bucket form ≡ Some i → units_in form ≤ units_packed form i
+packed_here (Some (Packed bucket units)) i is =
+    let same : bucket ≡ i = cc is in
+    let here = ap (λ (b : Bool). if b then units else 0) (eq-eqb bucket i same) in omega (arith, here)
+packed_here (Some Empty) i is = omega arith
+packed_here (Some (Disabled packed)) i is = omega arith
+packed_here (Some FrozenEmpty) i is = omega arith
+packed_here (Some (Frozen bucket units)) i is =
+    let same : bucket ≡ i = cc is in
+    let here = ap (λ (b : Bool). if b then units else 0) (eq-eqb bucket i same) in omega (arith, here)
+packed_here None i is = omega arith
 
 -- the record with these counts
 abbrev pub with_counts : Record → ℕ → Record
@@ -96,3 +119,25 @@ module _ (shape : Dimensions) (opened : Anatomy) (state : State) (kept : Invaria
       owned_half : (who at : ℕ) (body : Body) → Stands kept.anatomy.pieces at (some who) body → Stands half.pieces at (some who) body
       owned_half who at body there = stands_beside kept.anatomy.pieces stands.0 _ _ stands.1 at (some who) body
           (λ same. some-ne-none who (ap (λ (z : Piece). z.owner) same)) there
+
+  -- the counts are those of the record
+  pub counts_right : IsCountsOf kept.anatomy.version h s c
+  counts_right =
+      let n : ℕ = buckets_of r.spec in
+      let zeros = counts_zeros own h r.name r.spec tag bare room in
+      let units = length-replicate {A = ℕ} n 0 in
+      let rest = length-replicate {A = ℕ} (own.size - 4 - (n + n)) 0 in
+      record {
+        mine = refl;
+        named = refl;
+        same = refl;
+        units = units;
+        marks = units;
+        sized = omega (arith, units, rest, room);
+        packed = λ i is. zero_index c.marks i zeros.1;
+        unused = λ on. zeros;
+        mark = λ one i is.
+            let most = kept.records.packed h r stands unmounted in
+            let here = packed_here (form_at kept.anatomy.version r) i is in
+            omega (arith, most, here);
+      }

@@ -9,6 +9,7 @@ pub mod Running
 pub mod Seen
 pub mod Learned
 pub mod Loaded
+pub mod LoadCounts
 pub mod Accepted
 pub mod Whole
 pub mod Looks

@@ -17,3 +17,5 @@ pub mod Bounds
 pub mod Samples
 pub mod Sights
 pub mod CountSeen
+pub mod Counted
+pub mod AddCount

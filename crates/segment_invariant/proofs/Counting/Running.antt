@@ -1,7 +1,7 @@
 -- One entry of a running call goes on: what the entries come to, and that they are still in order.
-use Rattle.std.proofs.Common.{◌≡◌, ◌≢◌, ◌⊎◌, ℕ, zero, suc, ◌+◌, ◌<◌, ℤ, pos, ◌+ℤ◌, Bool, true, false, cond, not, List, [], ◌∷◌, ◌++◌, map, filter, All, inl, inr, ⊎_elim, refl, sym, ap, ◌∙◌, subst, arith, append_assoc}
+use Rattle.std.proofs.Common.{◌≡◌, ◌≢◌, ◌⊎◌, ℕ, zero, suc, ◌+◌, ◌<◌, ℤ, pos, ◌+ℤ◌, Bool, true, false, cond, not, List, [], ◌∷◌, ◌++◌, map, filter, All, Contains, inl, inr, ⊎_elim, refl, sym, ap, ◌∙◌, subst, arith, append_assoc}
 use Rattle.std.proofs.Math.IntN.{+ℤ_assoc, +ℤ_comm}
-use Rattle.std.proofs.lemmas.List.Elements.{All-nil, All-cons, All-head, All-tail}
+use Rattle.std.proofs.lemmas.List.Elements.{All-nil, All-cons, All-head, All-tail, Contains-append_left, Contains-append_right, Contains-append_cases}
 use mathlib.Core.Option.{some, some-injective}
 use lib.ListN.{get_elem?}
 use Rattle.segment_machine.specs.declared.entry.Entry.{Entry}
@@ -12,6 +12,7 @@ use Rattle.segment_machine.specs.Note.{is_untouched}
 use Rattle.segment_invariant.specs.Invariant.{AreInOrder}
 use Rattle.segment_invariant.proofs.Lists.Sums.{IsTotal}
 use Rattle.segment_invariant.proofs.Lists.Countings.{one_of}
+use Rattle.segment_invariant.proofs.Lists.Elements.{one_in}
 
 -- ---- the entry that is next
 
@@ -147,3 +148,40 @@ module _ (test : Counting → Bool) (first : List Entry) (log front behind : Lis
       ∙ (ap (λ z. x +ℤ z) (sym (+ℤ_assoc y (m +ℤ n) more))
       ∙ (sym (+ℤ_assoc x (y +ℤ (m +ℤ n)) more)
       ∙ ap (λ z. z +ℤ more) (sym (ap total (sorted c) ∙ one_of ◌+ℤ◌ total sums test first (log ++ front) behind c)))))))
+
+-- an entry that passes then passed before, or is the one that goes on
+module _ (test : Counting → Bool) (behind : List Counting) (c d : Counting) (entry : Entry) where
+  abbrev listed : List Counting → List Entry
+  listed list = map (λ c. c.entry) (filter test list)
+
+  among_from : (xs : List Counting) → Contains (listed (xs ++ d ∷ behind)) entry → Contains (listed (xs ++ c ∷ behind)) entry ⊎ (d.entry ≡ entry)
+  among_from [] there = ⊎_elim (λ rest. inl (in_tail (test c) rest)) inr (from_head (test d) there)
+    where
+      in_tail : (t : Bool) → Contains (listed behind) entry → Contains (map (λ c. c.entry) (cond t (c ∷ filter test behind) (filter test behind))) entry
+      in_tail true rest = Contains-append_right (c.entry ∷ []) (listed behind) entry rest
+      in_tail false rest = rest
+
+      from_head : (t : Bool) → Contains (map (λ c. c.entry) (cond t (d ∷ filter test behind) (filter test behind))) entry → Contains (listed behind) entry ⊎ (d.entry ≡ entry)
+      from_head true has = ⊎_elim (λ one. inr (one_in d.entry entry one)) inl (Contains-append_cases (d.entry ∷ []) (listed behind) entry has)
+      from_head false has = inl has
+  among_from (x ∷ xs) there = by_test (test x) (among_from xs) there
+    where
+      by_test : (t : Bool) → (Contains (listed (xs ++ d ∷ behind)) entry → Contains (listed (xs ++ c ∷ behind)) entry ⊎ (d.entry ≡ entry))
+          → Contains (map (λ c. c.entry) (cond t (x ∷ filter test (xs ++ d ∷ behind)) (filter test (xs ++ d ∷ behind)))) entry
+          → Contains (map (λ c. c.entry) (cond t (x ∷ filter test (xs ++ c ∷ behind)) (filter test (xs ++ c ∷ behind)))) entry ⊎ (d.entry ≡ entry)
+      by_test true rest has = ⊎_elim
+          (λ one. inl (Contains-append_left (x.entry ∷ []) (listed (xs ++ c ∷ behind)) entry one))
+          (λ more. ⊎_elim (λ was. inl (Contains-append_right (x.entry ∷ []) (listed (xs ++ c ∷ behind)) entry was)) inr (rest more))
+          (Contains-append_cases (x.entry ∷ []) (listed (xs ++ d ∷ behind)) entry has)
+      by_test false rest has = rest has
+
+  pub passes_from : (first : List Entry) (log front : List Counting) → Contains (first ++ listed (log ++ (front ++ d ∷ behind))) entry
+      → Contains (first ++ listed (log ++ (front ++ c ∷ behind))) entry ⊎ (d.entry ≡ entry)
+  passes_from first log front there = ⊎_elim
+      (λ before. inl (Contains-append_left first (listed (log ++ (front ++ c ∷ behind))) entry before))
+      (λ own. ⊎_elim
+      (λ was. inl (Contains-append_right first (listed (log ++ (front ++ c ∷ behind))) entry
+      (subst (λ (l : List Counting). Contains (listed l) entry) (append_assoc log front (c ∷ behind)) was)))
+      inr
+      (among_from (log ++ front) (subst (λ (l : List Counting). Contains (listed l) entry) (sym (append_assoc log front (d ∷ behind))) own)))
+      (Contains-append_cases first (listed (log ++ (front ++ d ∷ behind))) entry there)

@@ -1,0 +1,231 @@
+-- The units of the entry that is next are added to a count, in a counts block or a sample: the state that is left is kept.
+use Rattle.std.proofs.Common.{◌≡◌, ◌≢◌, ◌⊎◌, ℕ, zero, suc, ◌+◌, ◌≤◌, ℤ, pos, Bool, true, false, not, cond, ◌&&◌, ◌||◌, List, [], ◌∷◌, ◌++◌, map, filter, length, set, Contains, inl, inr, ⊎_elim, refl, sym, ap, ◌∙◌, subst, arith}
+use Rattle.std.specs.Prelude.{if◌then◌else◌, ◌==◌}
+use Rattle.std.specs.Ordering.{int_eq}
+use Rattle.std.proofs.Math.IntN.{+ℤ_idr}
+use Rattle.std.proofs.lemmas.List.{length-map}
+use Rattle.std.proofs.lemmas.List.Elements.{All-contains, Contains-append_left, Contains-append_right, Contains-append_cases}
+use mathlib.Core.Option.{some, none}
+use lib.ListN.{get_elem?}
+use Rattle.atomic_table.proofs.Lists.{set_else}
+use Rattle.bucket_ranges.specs.declared.spec.Spec.TheVariants as spec
+use Rattle.segment_image.specs.Shape.{Dimensions}
+use Rattle.segment_machine.specs.declared.entry.Counting.{Counting}
+use Rattle.segment_machine.specs.declared.entry.Entry.{Entry}
+use Rattle.segment_machine.specs.declared.place.Place.TheVariants.{Spent, Idle}
+use Rattle.segment_machine.specs.declared.actor.Actor.{Actor}
+use Rattle.segment_machine.specs.Entry.{is_counted, is_summed, is_noted, is_of, tally_units, tally_sum, tally_noted}
+use Rattle.segment_machine.specs.Actor.{is_bound, cost_of, counted_of, summed_of, noted_of, all_counted}
+use Rattle.segment_machine.specs.Made.{SawSample}
+use Rattle.segment_machine.specs.State.{State}
+use Rattle.segment_invariant.specs.Body.{Body, Anatomy}
+use Rattle.segment_invariant.specs.Ledger.{units_held, marks_held, sum_held, sum_mark_held, noted_held}
+use Rattle.segment_invariant.specs.Seen.{Stands, IsFirst, IsFirstOf}
+use Rattle.segment_invariant.specs.Invariant.{RecordsAreKept, HasKey, summed_cost, Invariant}
+use Rattle.segment_invariant.proofs.Lists.Countings.{units_total}
+use Rattle.segment_invariant.proofs.Lists.Elements.{rows, row_in, sum_same}
+use Rattle.segment_invariant.proofs.Frames.Ahead.{unbound_unbeaten}
+use Rattle.segment_invariant.proofs.Frames.GoesOn.{not_opener}
+use Rattle.segment_invariant.proofs.Frames.OneActor.{rests_at, lives_on}
+use Rattle.segment_invariant.proofs.Frames.Roles.{SameRole, AllStood, stood_set}
+use Rattle.segment_invariant.proofs.Frames.Together.{loaded_set}
+use Rattle.segment_invariant.proofs.Counting.Seen.{known_stands}
+use Rattle.segment_invariant.proofs.Counting.Running.{Next, passes_same, passes_beside, passes_from}
+use Rattle.segment_invariant.proofs.Counting.Entries.{going, calls_next, finals_next}
+use Rattle.segment_invariant.proofs.Changes.Ledgers.{rows_beside, taken_on}
+use Rattle.segment_invariant.proofs.Changes.Others.{Deed, deed_of, changed, looks_on, alone_was}
+use Rattle.segment_invariant.proofs.Changes.Sums.{SameSum, sums_on}
+use Rattle.segment_invariant.proofs.Changes.Words.{Turns, behind, turned_onward, sees_turned, turned_on}
+
+-- ---- the entry
+
+-- what it comes to, of a name and a key
+abbrev pub its_units : Counting → List ℕ → ℤ → ℕ
+its_units c name key = if is_of name c.entry && int_eq c.entry.key key then c.entry.units else 0
+
+-- with its units counted
+abbrev pub as_counted : Counting → Counting
+as_counted c = record c { counted = true }
+
+-- one that is not counted has units
+pub has_units : (c : Counting) → is_counted c ≡ false → 1 ≤ c.entry.units
+has_units c uncounted = by_test c.counted c.entry.units uncounted
+  where
+    by_test : (t : Bool) (n : ℕ) → (t || (n == 0)) ≡ false → 1 ≤ n
+    by_test true n is = absurd (cc is)
+    by_test false zero is = absurd (cc is)
+    by_test false (suc n) is = omega arith
+
+-- ---- the state
+
+module _ (shape : Dimensions) (opened : Anatomy) (state : State) (kept : Invariant shape opened state) (id : ℕ) (a : Actor)
+    (mine : get_elem? state.actors id ≡ some a) (recorder : a.opener ≡ 0) (unbound : is_bound a.place ≡ false)
+    (c : Counting) (next : Next a.running c) (uncounted : is_counted c ≡ false) where
+  lived : a.place ≢ Spent
+  lived spent = cc (unbound, ap is_bound spent)
+
+  abbrev d : Counting
+  d = as_counted c
+
+  abbrev deed : Deed
+  deed = going a c d next refl (record (deed_of a) { place = Idle })
+
+  -- it has counted the units, and not seen yet what they came to
+  abbrev pub counter : Actor
+  counter = changed a deed
+
+  abbrev b : Actor
+  b = counter
+
+  abbrev actors : List Actor
+  actors = set state.actors id b
+
+  role : SameRole b a
+  role = record {
+    living = lives_on b recorder (λ e. cc e) ∙ sym (lives_on a recorder lived);
+    opener = refl;
+    first = refl;
+    first_noted = refl;
+    made = refl;
+    outstanding = refl;
+    inherited = refl;
+    offered = refl;
+  }
+
+  stood : AllStood state.actors actors
+  stood = stood_set state.actors id a b mine role
+
+  first : get_elem? actors 0 ≡ get_elem? state.actors 0
+  first = set_else state.actors id 0 b (λ same. not_opener shape opened state kept id a mine recorder (sym same))
+
+  -- ---- its entries
+
+  summed_same : summed_of b ≡ summed_of a
+  summed_same = passes_same is_summed next.behind c d refl refl a.first a.log next.front
+      ∙ ap (λ (l : List Counting). a.first ++ map (λ (c : Counting). c.entry) (filter is_summed (a.log ++ l))) (sym next.is)
+
+  noted_same : noted_of b ≡ noted_of a
+  noted_same = passes_same is_noted next.behind c d refl refl [] a.log next.front
+      ∙ ap (λ (l : List Counting). map (λ (c : Counting). c.entry) (filter is_noted (a.log ++ l))) (sym next.is)
+
+  counted_more : (name : List ℕ) (key : ℤ) → tally_units (counted_of b) name key ≡ tally_units (counted_of a) name key + its_units c name key
+  counted_more name key =
+      let beside = passes_beside is_counted a.first a.log next.front next.behind c d (λ entries. tally_units entries name key) (units_total name key) in
+      let off : tally_units (map (λ (c : Counting). c.entry) (cond (is_counted c) (c ∷ []) [])) name key ≡ 0 =
+      ap (λ (t : Bool). tally_units (map (λ (c : Counting). c.entry) (cond t (c ∷ []) [])) name key) uncounted in
+      let on : tally_units (c.entry ∷ []) name key ≡ 0 + its_units c name key = refl in
+      let was = ap (λ (l : List Counting). tally_units (a.first ++ map (λ (c : Counting). c.entry) (filter is_counted (a.log ++ l))) name key) next.is in
+      omega (arith, beside, off, on, was)
+
+  -- of another name it comes to nothing
+  apart : (name : List ℕ) (key : ℤ) → is_of name c.entry ≡ false → its_units c name key ≡ 0
+  apart name key other = ap (λ (t : Bool). if t && int_eq c.entry.key key then c.entry.units else 0) other
+
+  -- what is counted was counted before, or is its entry
+  counted_from : (entry : Entry) → Contains (counted_of b) entry → Contains (counted_of a) entry ⊎ (c.entry ≡ entry)
+  counted_from entry there = ⊎_elim
+      (λ was. inl (subst (λ (l : List Counting). Contains (a.first ++ map (λ (c : Counting). c.entry) (filter is_counted (a.log ++ l))) entry) (sym next.is) was))
+      inr
+      (passes_from is_counted next.behind c d entry a.first a.log next.front there)
+
+  all_more : (name : List ℕ) (key : ℤ) → tally_units (all_counted actors) name key ≡ tally_units (all_counted state.actors) name key + its_units c name key
+  all_more name key =
+      let all = rows_beside (λ entries. tally_units entries name key) (units_total name key) counted_of state.actors id a b mine in
+      let more = counted_more name key in
+      omega (arith, all, more)
+
+  cost_same : (name : List ℕ) → summed_cost name b ≡ summed_cost name a
+  cost_same name =
+      let long : length (filter (λ (c : Counting). c.summed) (next.front ++ d ∷ next.behind)) ≡ length (filter (λ (c : Counting). c.summed) a.running) =
+      sym (length-map (filter (λ (c : Counting). c.summed) (next.front ++ d ∷ next.behind)) (λ (c : Counting). c.entry))
+      ∙ (ap length (passes_same (λ (c : Counting). c.summed) next.behind c d refl refl [] [] next.front)
+      ∙ (length-map (filter (λ (c : Counting). c.summed) (next.front ++ c ∷ next.behind)) (λ (c : Counting). c.entry)
+      ∙ ap (λ (l : List Counting). length (filter (λ (c : Counting). c.summed) l)) (sym next.is))) in
+      ap (λ (n : ℕ). cost_of a.costs name + (if n == 0 then 0 else cost_of a.held name)) long
+
+  -- ---- what it is in its call
+
+  next_there : Contains a.running c
+  next_there = subst (λ (l : List Counting). Contains l c) (sym next.is) (Contains-append_right next.front (c ∷ next.behind) c (0, omega arith, refl))
+
+  -- ---- the state that is left
+
+  module _ (at : ℕ) (body then_is : Body) (j v : ℕ) (stands : Stands kept.anatomy.pieces at none body) (turns : Turns kept.anatomy.version body then_is j v) where
+    abbrev new : Anatomy
+    new = behind shape opened state kept at body then_is j v stands turns
+
+    -- What has to be shown: of the records, of what the block holds, and of the entry, whose key is there and whose sample was met.
+    pub record CountedInto : Type 0 where
+      pub records : RecordsAreKept shape.page new
+      pub units : (name : List ℕ) (key : ℤ) → units_held kept.anatomy.version name key then_is ≡ units_held kept.anatomy.version name key body + its_units c name key
+      pub marks : (name : List ℕ) (key : ℤ) → marks_held kept.anatomy.version name key then_is ≡ marks_held kept.anatomy.version name key body
+      pub sum : (name : List ℕ) → sum_held name then_is ≡ sum_held name body
+      pub sum_mark : (name : List ℕ) → sum_mark_held name then_is ≡ sum_mark_held name body
+      pub noted : (name : List ℕ) → noted_held name then_is ≡ noted_held name body
+      pub sums : SameSum kept.anatomy.pieces new.pieces
+      pub key : HasKey kept.anatomy.records c.entry.name c.entry.key
+      pub met : (of : ℕ) → IsFirst kept.anatomy.records c.entry.name spec.Sparse of
+          → (sample : ℕ) × IsFirstOf kept.anatomy.records of c.entry.key sample × Contains a.seen.chain sample × SawSample a.seen of c.entry.key sample
+
+    pub units_counted : CountedInto → Invariant shape opened (record { words = set state.words (at + j) v; cursors = state.cursors; actors = actors })
+    units_counted shows =
+        let fits = kept.each id a mine lived in
+        turned_on shape opened state kept at body then_is j v stands turns id a mine recorder lived deed (record {
+          records = shows.records;
+          balances = record {
+            units = λ name key.
+                let rests = rests_at a name key a.place (λ look bucket units moving. cc (unbound, ap is_bound moving)) in
+                let held = shows.units name key in
+                let more = counted_more name key in
+                omega (arith, rests, held, more);
+            marks = λ name key. let same = shows.marks name key in omega (arith, same);
+            sums = λ name. (pos 0, shows.sum name ∙ sym (+ℤ_idr _), ap (λ entries. tally_sum entries name) summed_same ∙ sym (+ℤ_idr _));
+            sum_marks = λ name. (pos 0, shows.sum_mark name ∙ sym (+ℤ_idr _), sym (+ℤ_idr _));
+            noted = λ name.
+                let same = shows.noted name in
+                let all = ap (λ entries. tally_noted entries name) noted_same in
+                omega (arith, same, all);
+          };
+          taken = taken_on kept.anatomy.pieces stands.0 _ (record { at = at; owner = none; body = then_is }) stands.1 state.actors id a b mine refl
+              (λ name key. let more = counted_more name key in omega (arith, more)) kept.balanced.taken;
+          counted = λ name key. let more = counted_more name key in omega (arith, more);
+          keys = λ entry there units. ⊎_elim
+              (λ was. kept.keys entry (row_in counted_of state.actors id a entry mine was) units)
+              (λ same. subst (λ (e : Entry). HasKey kept.anatomy.records e.name e.key) same shows.key)
+              (counted_from entry there);
+          taken_keys = λ t count there. kept.taken_keys t count (row_in (λ (c : Actor). c.taken) state.actors id a t mine there);
+          sums = sums_on kept.anatomy.pieces new.pieces state.actors actors shows.sums
+              (loaded_set state.actors id a b mine (λ reference sum loaded. absurd (cc loaded)))
+              (λ name. let same = sum_same (summed_cost name) state.actors id a b mine (cost_same name) in omega (arith, same)) kept.sums;
+          lives = λ e. cc e;
+          stood = tt;
+          sees = sees_turned shape opened state kept at body then_is j v stands turns a.seen fits.sees;
+          up = λ free. unbound_unbeaten a.place unbound;
+          own = refl;
+          calls = calls_next a c d next refl kept.anatomy new (record (deed_of a) { place = Idle }) (λ summed. refl)
+              (All-contains (λ (c : Counting). c.noted ≡ true → is_summed c ≡ true) a.running c fits.calls.ordered.summed_next next_there)
+              (All-contains (λ (c : Counting). c.summed ≡ true → c.entry.amount ≢ pos 0) a.running c fits.calls.ordered.amounted next_there)
+              (λ entry of there units. ⊎_elim
+              (λ before. fits.calls.met entry of (Contains-append_left a.inherited (counted_of a) entry before) units)
+              (λ own. ⊎_elim
+              (λ was. fits.calls.met entry of (Contains-append_right a.inherited (counted_of a) entry was) units)
+              (λ same. subst (λ (e : Entry). IsFirst kept.anatomy.records e.name spec.Sparse of
+              → (sample : ℕ) × IsFirstOf kept.anatomy.records of e.key sample × Contains a.seen.chain sample × SawSample a.seen of e.key sample) same (shows.met of))
+              (counted_from entry own))
+              (Contains-append_cases a.inherited (counted_of b) entry there))
+              fits.calls;
+          looks = looks_on shape state.words kept.anatomy new kept.shown (λ at body. ⊥) (turned_onward shape opened state kept at body then_is j v stands turns) refl
+              shape.page kept.records shows.records a fits.sees.counters fits.sees.in_use state.actors actors kept.roles.opener deed
+              (λ name key. let more = all_more name key in omega (arith, more)) (alone_was state.actors actors kept.roles stood first a a refl refl)
+              (λ known has. let (r, there, named, bounds, many) = known_stands shape opened state kept id a mine lived known has in (r, there, many))
+              (fits.looks recorder) (λ reference sum s loaded. absurd (cc loaded)) (λ at s new_one. new_one);
+          finals = finals_next a c d next refl state.actors actors kept.roles stood first id (record (deed_of a) { place = Idle }) (touched c.summed c.noted)
+              (rows (λ (c : Actor). c.taken) state.actors id a b mine refl)
+              (λ name key other. let more = all_more name key in let none_of = apart name key other in omega (arith, more, none_of))
+              (λ name other. ap (λ entries. tally_sum entries name) (rows summed_of state.actors id a b mine summed_same))
+              (λ name other. ap (λ entries. tally_noted entries name) (rows noted_of state.actors id a b mine noted_same))
+              (λ taking. (fits.calls.taking taking).0) fits.finals;
+        })
+      where
+        touched : (x y : Bool) → (not true && not x && not y) ≡ false
+        touched x y = refl

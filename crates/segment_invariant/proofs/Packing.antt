@@ -1,4 +1,5 @@
 pub mod Beaten
+pub mod Forms
 pub mod Loads
 pub mod Mounted
 pub mod Mounts

@@ -8,7 +8,8 @@ use mathlib.Core.Option.{some, none, some-injective, some-ne-none}
 use lib.ListN.{get_elem?}
 use Rattle.atomic_table.proofs.Lists.{at_set, set_else}
 use Rattle.segment_image.specs.Shape.{Dimensions}
-use Rattle.list_core.specs.Chain.{stops}
+use Rattle.alloc_core.specs.Layout.{IsShown}
+use Rattle.list_core.specs.Chain.{stops, IsLinked}
 use Rattle.list_core.proofs.Chains.{linked_beside}
 use Rattle.segment_machine.specs.declared.entry.Entry.{Entry}
 use Rattle.segment_machine.specs.declared.actor.Actor.{Actor}
@@ -20,11 +21,11 @@ use Rattle.alloc_core.specs.Laws.{Behind}
 use Rattle.segment_machine.specs.Entry.{tally_units}
 use Rattle.segment_machine.specs.Actor.{counted_of, all_counted, all_taken, taken_units}
 use Rattle.segment_machine.specs.State.{State}
-use Rattle.segment_invariant.specs.Body.{Body, held, words_of, is_claimed, Piece, extent_of, Anatomy, order_of, free_of}
+use Rattle.segment_invariant.specs.Body.{Body, held, words_of, is_claimed, Piece, extent_of, Anatomy, layout_of, order_of, claims_of, free_of}
 use Rattle.segment_invariant.specs.Seen.{Stands, Sees}
-use Rattle.segment_invariant.specs.Invariant.{RecordsAreKept, StandsRight, HoldsOwn, CallsRight, HasKey, SumsAreNear, LooksBack, FinalsAreExact, Invariant}
+use Rattle.segment_invariant.specs.Invariant.{RecordsAreKept, StandsRight, HoldsOwn, CallsRight, HasKey, SumsAreNear, LooksBack, FinalsAreExact, StandStill, Invariant}
 use Rattle.segment_invariant.proofs.Frames.Ahead.{KeepsUp}
-use Rattle.segment_invariant.proofs.Allocating.Claimers.{still_put, right_put}
+use Rattle.segment_invariant.proofs.Allocating.Claimers.{still_put, AllClaimedRight, right_put}
 use Rattle.segment_invariant.proofs.Blocks.Pieces.{one_index, one_piece, first_piece, piece_stored, free_with, claims_same, stands_beside, stands_here}
 use Rattle.segment_invariant.proofs.Blocks.Stops.{stop_open}
 use Rattle.segment_invariant.proofs.Frames.Onward.{GoesAs, goes_itself, Onward, sees_on}
@@ -121,6 +122,34 @@ module _ (shape : Dimensions) (opened : Anatomy) (state : State) (kept : Invaria
       let four = (first_piece shape state.words kept.anatomy kept.shown p (subst (λ (m : ℕ). get_elem? kept.anatomy.pieces m ≡ some p) first stands.1)).2 in
       omega (arith, five, four)
 
+  -- its words are shown, it stays where it is, and as it was claimed; the list goes on
+  pub turned_shown : IsShown shape (set state.words (at + j) v) (layout_of behind)
+  turned_shown = piece_stored shape state.words kept.anatomy k p q j v kept.shown stands.1 not_queue turns.within turns.is refl
+
+  pub turned_still : StandStill kept.anatomy.pieces turned
+  turned_still = still_put kept.anatomy.pieces k p q stands.1 refl
+
+  pub turned_right : AllClaimedRight turned
+  turned_right = right_put kept.anatomy.pieces k q (λ claimed.
+      let right = kept.blocks k p stands.1 turns.claimed in (
+        ap (λ (ws : List ℕ). slice_index ws 0) turns.is ∙ (get_or-set_other (words_of body) j 0 v 0 (λ e. turns.inside.0 (sym e)) ∙ (right.0 ∙ sym long)),
+        subst (λ (n : ℕ). 5 ≤ n) (sym long) right.1,
+        inl refl,
+      )) kept.blocks
+
+  pub turned_linked : IsLinked (set state.words (at + j) v) (order_of kept.anatomy)
+  turned_linked = linked_beside state.words (order_of kept.anatomy) (at + j) v kept.list.linked (λ i le same.
+      let stop = stop_open shape state.words kept.anatomy kept.shown kept.list.standing (slice_index (stops (order_of kept.anatomy)) i) (i, le, refl) in
+      let wide = stop.long in
+      let begins = stop.begins in
+      let index = one_index shape state.words kept.anatomy kept.shown stop.index k stop.piece p 3 j stop.there stands.1 (omega (arith, wide)) turns.within
+      (omega (arith, begins, same)) in
+      let place = ap (λ (z : Piece). z.at) (some-injective _ _ (sym stop.there ∙ (ap (get_elem? kept.anatomy.pieces) index ∙ stands.1))) in
+      turns.inside.1 (omega (arith, same, begins, place)))
+
+  pub turned_claims : claims_of turned ≡ claims_of kept.anatomy.pieces
+  turned_claims = claims_same kept.anatomy.pieces k p q stands.1 (turns.still ∙ sym turns.claimed) refl long
+
   -- What has to be shown beside: of the records, the ledger, the keys and the sums, and of the recorder, which keeps its blocks.
   pub record Turned (opener : Actor) (id : ℕ) (a : Actor) (d : Deed) : Type 0 where
     pub records : RecordsAreKept shape.page behind
@@ -146,27 +175,15 @@ module _ (shape : Dimensions) (opened : Anatomy) (state : State) (kept : Invaria
   turned_on id a mine recorder lived d shows =
       let fits = kept.each id a mine lived in
       changes_on shape opened state kept id a mine recorder lived d turned (set state.words (at + j) v) (λ at body. ⊥) (record {
-        shown = piece_stored shape state.words kept.anatomy k p q j v kept.shown stands.1 not_queue turns.within turns.is refl;
+        shown = turned_shown;
         onward = turned_onward;
         bare = λ place s new_one. new_one;
         listed = λ place other new_one. absurd new_one;
         others = λ other place b ne. stands_owned other place b;
-        still = still_put kept.anatomy.pieces k p q stands.1 refl;
-        blocks = right_put kept.anatomy.pieces k q (λ claimed.
-            let right = kept.blocks k p stands.1 turns.claimed in (
-              ap (λ (ws : List ℕ). slice_index ws 0) turns.is ∙ (get_or-set_other (words_of body) j 0 v 0 (λ e. turns.inside.0 (sym e)) ∙ (right.0 ∙ sym long)),
-              subst (λ (n : ℕ). 5 ≤ n) (sym long) right.1,
-              inl refl,
-            )) kept.blocks;
-        linked = linked_beside state.words (order_of kept.anatomy) (at + j) v kept.list.linked (λ i le same.
-            let stop = stop_open shape state.words kept.anatomy kept.shown kept.list.standing (slice_index (stops (order_of kept.anatomy)) i) (i, le, refl) in
-            let wide = stop.long in
-            let begins = stop.begins in
-            let index = one_index shape state.words kept.anatomy kept.shown stop.index k stop.piece p 3 j stop.there stands.1 (omega (arith, wide)) turns.within
-            (omega (arith, begins, same)) in
-            let place = ap (λ (z : Piece). z.at) (some-injective _ _ (sym stop.there ∙ (ap (get_elem? kept.anatomy.pieces) index ∙ stands.1))) in
-            turns.inside.1 (omega (arith, same, begins, place)));
-        claims = claims_same kept.anatomy.pieces k p q stands.1 (turns.still ∙ sym turns.claimed) refl long;
+        still = turned_still;
+        blocks = turned_right;
+        linked = turned_linked;
+        claims = turned_claims;
         free = turned_free;
         records = shows.records;
         balanced = balanced_beside kept.anatomy.pieces k p q stands.1 state.actors id a (changed a d) mine kept.anatomy.version opened.pieces shows.balances shows.taken

@@ -1,6 +1,8 @@
 pub mod Beaten
 pub mod Forms
 pub mod Loads
+pub mod MountRecords
+pub mod MountWins
 pub mod Mounted
 pub mod Mounts
 pub mod Moved

@@ -39,7 +39,7 @@ same_sample : (s s' : Sample) → sample s' ≡ sample s → s' ≡ s
 same_sample s s' is = cc is
 
 -- a spec that is the same as a sparse one is sparse
-sparse_same : (s : Spec) → spec_fields s ≡ spec_fields Sparse → s ≡ Sparse
+pub sparse_same : (s : Spec) → spec_fields s ≡ spec_fields Sparse → s ≡ Sparse
 sparse_same (Linear min max n) is = let kind = ap (λ (l : List ℕ). slice_index l 0) is in absurd (omega (arith, kind))
 sparse_same Boolean is = let kind = ap (λ (l : List ℕ). slice_index l 0) is in absurd (omega (arith, kind))
 sparse_same (Custom values) is = let kind = ap (λ (l : List ℕ). slice_index l 0) is in absurd (omega (arith, kind))

@@ -5,5 +5,6 @@ pub mod Looks
 pub mod Others
 pub mod Places
 pub mod Records
+pub mod Samples
 pub mod Sums
 pub mod Words

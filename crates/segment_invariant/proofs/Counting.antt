@@ -10,6 +10,8 @@ pub mod Seen
 pub mod Learned
 pub mod Loaded
 pub mod LoadCounts
+pub mod SampleSeen
+pub mod AddSample
 pub mod Accepted
 pub mod Whole
 pub mod Looks

@@ -1,16 +1,14 @@
 -- The counts reference of a histogram is loaded, and its actor goes on with what it had loaded of it before.
-use Rattle.std.proofs.Common.{◌≡◌, ◌≢◌, Bool, true, false, ◌==◌, if◌then◌else◌, ℕ, ◌+◌, List, [], ◌∷◌, ◌++◌, Contains, Some, refl, sym, ap, ◌∙◌, subst, arith, eqb-true, ne_eqb}
+use Rattle.std.proofs.Common.{◌≡◌, ◌≢◌, Bool, true, false, ◌==◌, if◌then◌else◌, ℕ, ◌+◌, List, [], ◌∷◌, ◌++◌, Contains, Some, refl, sym, ◌∙◌, subst, arith, ne_eqb}
 use Rattle.std.proofs.lemmas.List.Elements.{Contains-push}
 use mathlib.Core.Option.{some}
 use lib.ListN.{get_elem?}
 use Rattle.segment_image.specs.Shape.{Dimensions}
 use Rattle.segment_image.specs.Words.{word_at}
 use Rattle.segment_machine.specs.declared.actor.Actor.{Actor}
-use Rattle.segment_machine.specs.declared.place.Look.{Look}
 use Rattle.segment_machine.specs.declared.place.Place.{Place}
-use Rattle.segment_machine.specs.declared.place.Place.TheVariants.{Spent, Looking}
+use Rattle.segment_machine.specs.declared.place.Place.TheVariants.{Looking}
 use Rattle.segment_machine.specs.declared.seen.Sighting.{Sighting}
-use Rattle.segment_machine.specs.Actor.{is_bound}
 use Rattle.segment_machine.specs.Calls.{look_of, nothing_of, sight_counts}
 use Rattle.segment_machine.specs.Counting.{load_counts}
 use Rattle.segment_machine.specs.Event.{counting_event, Ready, next}

@@ -1,0 +1,230 @@
+-- The units of the entry that is next are added to the count of the first sample of their value.
+use Rattle.std.proofs.Common.{◌≡◌, ◌≢◌, Bool, true, false, if◌then◌else◌, ◌&&◌, ℕ, ◌+◌, ◌%◌, ◌^◌, ◌<◌, ◌≤◌, ℤ, List, [], ◌∷◌, ◌++◌, length, set, Contains, inr, refl, sym, ap, ◌∙◌, subst, arith}
+use Rattle.std.specs.Prelude.{Some}
+use Rattle.std.specs.Ordering.{int_eq}
+use Rattle.std.specs.Str.{bytes_eq}
+use Rattle.std.proofs.Math.Nat.{mod-eq_of_lt}
+use Rattle.std.proofs.lemmas.List.{set-set, get_or-set_same}
+use Rattle.std.proofs.lemmas.List.Elements.{Contains-append_right}
+use mathlib.Core.Option.{some}
+use lib.ListN.{get_elem?}
+use Rattle.alloc_core.proofs.Owners.{set_at}
+use Rattle.bucket_ranges.specs.declared.spec.Spec.TheVariants as spec
+use Rattle.segment_image.specs.Shape.{Dimensions}
+use Rattle.segment_image.specs.Words.{word_at}
+use Rattle.segment_machine.specs.declared.entry.Counting.{Counting}
+use Rattle.segment_machine.specs.declared.actor.Actor.{Actor}
+use Rattle.segment_machine.specs.declared.actor.Known.{Known}
+use Rattle.segment_machine.specs.declared.actor.Made.TheVariants as made
+use Rattle.segment_machine.specs.declared.place.Place.TheVariants.{Spent, Idle}
+use Rattle.segment_machine.specs.declared.seen.Seen.{Seen}
+use Rattle.segment_machine.specs.Entry.{is_counted}
+use Rattle.segment_machine.specs.Actor.{is_bound, Sparse}
+use Rattle.segment_machine.specs.Calls.{CountsNext, MayTurn}
+use Rattle.segment_machine.specs.Counting.{add_count}
+use Rattle.segment_machine.specs.Event.{counting_event}
+use Rattle.segment_machine.specs.Made.{SawSample, IsFirstSample}
+use Rattle.segment_machine.specs.State.{State}
+use Rattle.segment_invariant.specs.Body.{Sample, sample, histogram, Listed, Anatomy}
+use Rattle.segment_invariant.specs.Ledger.{units_held}
+use Rattle.segment_invariant.specs.Seen.{HasSample, IsFirst, IsFirstOf}
+use Rattle.segment_invariant.specs.Invariant.{Invariant}
+use Rattle.segment_invariant.proofs.Lists.Elements.{first_unique}
+use Rattle.segment_invariant.proofs.Consistency.Books.{one_name, sample_first}
+use Rattle.segment_invariant.proofs.Consistency.Firsts.{sample_of_first}
+use Rattle.segment_invariant.proofs.Frames.Answers.{first_one}
+use Rattle.segment_invariant.proofs.Frames.GoesOn.{happens}
+use Rattle.segment_invariant.proofs.Frames.SeesMore.{seer}
+use Rattle.segment_invariant.proofs.Frames.Shown.{Goes}
+use Rattle.segment_invariant.proofs.Changes.Samples.{sample_kept, no_sample_was}
+use Rattle.segment_invariant.proofs.Changes.Words.{Turns}
+use Rattle.segment_invariant.proofs.Counting.Bounds.{counted_fits}
+use Rattle.segment_invariant.proofs.Counting.Counted.{its_units, as_counted, counter, CountedInto, units_counted}
+use Rattle.segment_invariant.proofs.Counting.Looks.{knows_of, body_word}
+use Rattle.segment_invariant.proofs.Counting.Running.{Next, next_of}
+use Rattle.segment_invariant.proofs.Counting.Samples.{first_met}
+use Rattle.segment_invariant.proofs.Counting.SampleSeen.{sample_seen}
+use Rattle.segment_invariant.proofs.Counting.Sights.{word_within}
+use Rattle.segment_invariant.proofs.Counting.Whole.{whole_sample}
+
+-- a value has one first sample
+one_sample : (records : List Listed) (of : ℕ) (value : ℤ) (at place : ℕ) → IsFirstOf records of value at → IsFirstOf records of value place → at ≡ place
+one_sample records of value at place (xs, rest, is, before) (ys, more, also, others) =
+    ap (λ (l : Listed). l.reference)
+    (first_unique (λ (l : Listed). l.made ≡ Some (made.Sample of value)) xs ys (record { reference = at; made = Some (made.Sample of value) })
+    (record { reference = place; made = Some (made.Sample of value) }) rest more (sym is ∙ also) before others refl refl)
+
+module _ (shape : Dimensions) (opened : Anatomy) (state : State) (kept : Invariant shape opened state) (id : ℕ) (a : Actor)
+    (mine : get_elem? state.actors id ≡ some a) (recorder : a.opener ≡ 0) (unbound : is_bound a.place ≡ false)
+    (entry : Counting) (next : Next a.running entry) (uncounted : is_counted entry ≡ false)
+    (known : Known) (has : Contains a.names known) (named : entry.entry.name ≡ known.name)
+    (at : ℕ) (saw : IsFirstSample a.seen known.reference entry.entry.key at) where
+  lives : a.place ≢ Spent
+  lives spent = cc (unbound, ap is_bound spent)
+
+  abbrev units : ℕ
+  units = entry.entry.units
+
+  -- it met the sample
+  met : Contains a.seen.chain at × SawSample a.seen known.reference entry.entry.key at
+  met =
+      let (front, between, behind, is, others, its) = saw in (
+        subst (λ (l : List ℕ). Contains l at) (sym is)
+            (Contains-append_right front (known.reference ∷ (between ++ at ∷ behind)) at
+            (Contains-append_right (known.reference ∷ between) (at ∷ behind) at (0, omega arith, refl))),
+        its,
+      )
+
+  first : IsFirstOf kept.anatomy.records known.reference entry.entry.key at
+  first = first_met shape opened state kept id a mine lives known.reference entry.entry.key at saw
+
+  -- it is a sample of the name, and of the value
+  found : (s : Sample) × HasSample kept.anatomy.pieces at s × (s.of ≡ known.reference) × (s.value ≡ entry.entry.key) × (s.name ≡ entry.entry.name)
+  found =
+      let (s, (there, of_it, valued)) = sample_of_first shape opened state kept known.reference entry.entry.key at first in
+      let (r, its_first, stands, called, many, keys) = knows_of shape opened state kept id a mine recorder lives known has in
+      let name = one_name shape opened state kept s.name known.name spec.Sparse r.spec known.reference
+      (subst (λ (n : ℕ). IsFirst kept.anatomy.records s.name spec.Sparse n) of_it (sample_first shape opened state kept at s there)) its_first in
+      (s, there, of_it, valued, name ∙ sym named)
+
+  abbrev s : Sample
+  s = found.0
+
+  abbrev stands : HasSample kept.anatomy.pieces at s
+  stands = found.1
+
+  sparse_first : IsFirst kept.anatomy.records entry.entry.name spec.Sparse known.reference
+  sparse_first = subst (λ (p : List ℕ × ℕ). IsFirst kept.anatomy.records p.0 spec.Sparse p.1) (λ i. (found.4 i, found.2 i)) (sample_first shape opened state kept at s stands)
+
+  -- ---- the count rises
+
+  abbrev v : ℕ
+  v = s.units + units
+
+  abbrev more : Sample
+  more = record s { units = v }
+
+  turns : Turns kept.anatomy.version (sample s) (sample more) 6 v
+  turns = record {
+    claimed = refl;
+    still = refl;
+    is = refl;
+    within = omega arith;
+    inside = (λ e. omega (arith, e), λ e. omega (arith, e));
+    goes = (more, refl, record { is = refl; units = omega arith; mark = omega arith });
+  }
+
+  held : (name : List ℕ) (key : ℤ)
+      → units_held kept.anatomy.version name key (sample more) ≡ units_held kept.anatomy.version name key (sample s) + its_units entry name key
+  held name key =
+      by_name (bytes_eq s.name name) (int_eq s.value key)
+      ∙ ap (λ (n : ℕ). units_held kept.anatomy.version name key (sample s) + n) (λ i. if bytes_eq (found.4 i) name && int_eq (found.3 i) key then units else 0)
+    where
+      by_name : (p t : Bool) → (if p then (if t then v else 0) else 0) ≡ (if p then (if t then s.units else 0) else 0) + (if p && t then units else 0)
+      by_name true true = refl
+      by_name true false = refl
+      by_name false t = refl
+
+  shows : CountedInto shape opened state kept id a mine recorder unbound entry next uncounted at (sample s) (sample more) 6 v stands turns
+  shows = record {
+    records =
+        let lawful = kept.records.valued at s stands in
+        let taken = lawful.taken in
+        sample_kept shape opened state kept at s more 6 v stands turns refl
+        (record { sized = lawful.sized; valued = lawful.valued; taken = omega (arith, taken) })
+        (λ place is. one_sample kept.anatomy.records known.reference entry.entry.key place at
+        (subst (λ (p : ℕ × ℤ). IsFirstOf kept.anatomy.records p.0 p.1 place) (λ i. (found.2 i, found.3 i)) is) first);
+    units = held;
+    marks = λ name key. refl;
+    sum = λ name. refl;
+    sum_mark = λ name. refl;
+    noted = λ name. refl;
+    sums = λ place z there. (z, no_sample_was shape opened state kept at s more 6 v stands turns place (histogram z) (λ e. cc e) there, refl, refl, refl);
+    key = (spec.Sparse, known.reference, sparse_first, inr (refl, at, first));
+    met = λ of its.
+        let place = first_one kept.anatomy.records entry.entry.name spec.Sparse spec.Sparse of known.reference its sparse_first in (
+          at,
+          subst (λ (n : ℕ). IsFirstOf kept.anatomy.records n entry.entry.key at) (sym place) first,
+          met.0,
+          subst (λ (n : ℕ). SawSample a.seen n entry.entry.key at) (sym place) met.1,
+        );
+  }
+
+  -- ---- and then it sees the count
+
+  there : at + 6 < length state.words
+  there = word_within shape opened state kept at 6 (sample s) stands refl (omega arith)
+
+  found_is : word_at state.words (at + 6) ≡ s.units
+  found_is = body_word shape opened state kept at 6 (sample s) stands (omega arith)
+
+  abbrev b : Actor
+  b = counter shape opened state kept id a mine recorder unbound entry next uncounted
+
+  abbrev between : State
+  between = record { words = set state.words (at + 6) v; cursors = state.cursors; actors = set state.actors id b }
+
+  kept_between : Invariant shape opened between
+  kept_between = units_counted shape opened state kept id a mine recorder unbound entry next uncounted at (sample s) (sample more) 6 v stands turns shows
+
+  mine_between : get_elem? between.actors id ≡ some b
+  mine_between = set_at state.actors id a b mine
+
+  word_between : word_at between.words (at + 6) ≡ v
+  word_between = get_or-set_same state.words (at + 6) v 0 there
+
+  -- the sum fits
+  fits : v ≤ 4294967295
+  fits =
+      let its = first_met shape opened between kept_between id b mine_between (λ spent. cc spent) known.reference entry.entry.key at saw in
+      let (t, (stood, of_it, valued)) = sample_of_first shape opened between kept_between known.reference entry.entry.key at its in
+      let word = body_word shape opened between kept_between at 6 (sample t) stood (omega arith) in
+      let whole = whole_sample shape opened between kept_between known.reference entry.entry.key at t its stood in
+      let bound = counted_fits shape opened between kept_between t.name entry.entry.key in
+      omega (arith, word, word_between, whole, bound)
+
+  abbrev seen : Seen
+  seen = record a.seen { counts = a.seen.counts ++ record { at = at + 6; word = word_at between.words (at + 6) } ∷ [] }
+
+  left : Invariant shape opened (record {
+    words = between.words;
+    cursors = state.cursors;
+    actors = set between.actors id (seer b Idle seen a.given a.lost);
+  })
+  left = sample_seen shape opened between kept_between id b mine_between recorder refl at known.reference entry.entry.key met.0 met.1 Idle refl
+      (λ reference sum is. cc is) tt
+
+  carry : v ≡ (word_at state.words (at + 6) + units) % 2 ^ 64
+  carry =
+      let small = fits in
+      sym (mod-eq_of_lt (omega (arith, small))) ∙ ap (λ (n : ℕ). (n + units) % 2 ^ 64) (sym found_is)
+
+  pub counted_at : Goes shape opened state kept id a mine recorder (counting_event (add_count (at + 6) units))
+  counted_at =
+      let small = fits in
+      happens opened.version state id a (counting_event (add_count (at + 6) units)) there shape opened (
+        subst (λ (p : List ℕ × List Actor). Invariant shape opened (record { words = p.0; cursors = state.cursors; actors = p.1 }))
+            (λ i. (
+              set state.words (at + 6) (carry i),
+              (set-set state.actors id b (seer b Idle seen a.given a.lost) ∙ (λ j. set state.actors id (record a {
+                place = Idle;
+                running = (sym (next.changed as_counted)) j;
+                seen = record a.seen { counts = a.seen.counts ++ record { at = at + 6; word = (word_between ∙ ap (λ (n : ℕ). n + units) (sym found_is)) j } ∷ [] };
+              }))) i,
+            )) left,
+        omega (arith, small, found_is),
+      )
+
+module _ (shape : Dimensions) (opened : Anatomy) (state : State) (kept : Invariant shape opened state) (id : ℕ) (a : Actor)
+    (mine : get_elem? state.actors id ≡ some a) (recorder : a.opener ≡ 0) where
+  -- the units are those of the next entry, and the word is the count of the first sample of their value
+  abbrev pub CountsSample : ℕ → ℕ → Type 0
+  CountsSample at units =
+      (c : Counting) × (known : Known) × CountsNext a c × (c.entry.name ≡ known.name) × (c.entry.units ≡ units)
+      × ((sample : ℕ) × MayTurn a × Sparse a known.reference known × IsFirstSample a.seen known.reference c.entry.key sample × (at ≡ sample + 6))
+
+  -- adding them keeps what holds
+  pub sample_counted : (at units : ℕ) → CountsSample at units → Goes shape opened state kept id a mine recorder (counting_event (add_count at units))
+  sample_counted word amount (c, known, ((rest, is_next), uncounted), named, units_are, (at, unbound, (has, refers, sparse), saw, place)) =
+      subst (λ (p : ℕ × ℕ). Goes shape opened state kept id a mine recorder (counting_event (add_count p.0 p.1))) (λ i. (sym place i, units_are i))
+      (counted_at shape opened state kept id a mine recorder unbound c (next_of a.running c rest is_next) uncounted known has named at saw)

@@ -21,3 +21,4 @@ pub mod Sights
 pub mod CountSeen
 pub mod Counted
 pub mod AddCount
+pub mod Keeps

@@ -6,4 +6,5 @@ pub mod MountWins
 pub mod Mounted
 pub mod Mounts
 pub mod Moved
+pub mod Packs
 pub mod Purges

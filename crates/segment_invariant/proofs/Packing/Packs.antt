@@ -1,17 +1,14 @@
--- Units of the entry that is next are packed into the single word of its histogram.
-use Rattle.std.proofs.Common.{◌≡◌, ◌≢◌, ◌⊎◌, ℕ, ◌+◌, ◌<◌, ◌≤◌, ℤ, pos, ◌+ℤ◌, Bool, true, false, cond, not, ◌&&◌, ◌||◌, ◌==◌, if◌then◌else◌, Option, Some, None, List, [], ◌∷◌, ◌++◌, map, filter, length, set, All, Contains, inl, inr, ⊎_elim, refl, sym, ap, ◌∙◌, subst, arith}
+-- Units of the entry that is next are packed into the single word of its histogram: the invariant is kept, with what is learned.
+use Rattle.std.proofs.Common.{◌≡◌, ◌≢◌, ◌⊎◌, ℕ, ◌+◌, ◌<◌, ◌≤◌, ℤ, Bool, true, false, ◌&&◌, ◌==◌, if◌then◌else◌, Option, Some, None, List, [], ◌∷◌, ◌++◌, length, set, inl, ⊎_elim, refl, sym, ap, ◌∙◌, subst, arith, eqb-true}
 use Rattle.std.specs.Prelude.{slice_index, max}
 use Rattle.std.specs.Ordering.{int_eq}
 use Rattle.std.specs.Str.{bytes_eq}
-use Rattle.std.proofs.Math.IntN.{+ℤ_idr}
-use Rattle.std.proofs.lemmas.List.{length-map}
-use Rattle.std.proofs.lemmas.List.Elements.{All-contains, Contains-append_right}
+use Rattle.std.proofs.lemmas.List.{set-set, get_or-set_same}
 use mathlib.Core.Option.{some, none}
 use lib.ListN.{get_elem?}
-use Rattle.atomic_table.proofs.Lists.{set_else}
+use Rattle.alloc_core.proofs.Owners.{set_at}
 use Rattle.segment_image.specs.Shape.{Dimensions}
 use Rattle.segment_image.specs.Words.{word_at}
-use Rattle.bucket_ranges.specs.declared.spec.Spec.{Spec}
 use Rattle.bucket_ranges.specs.declared.spec.Spec.TheVariants as spec
 use Rattle.bucket_ranges.specs.declared.single.SingleWord.{SingleWord}
 use Rattle.bucket_ranges.specs.declared.single.SingleWord.TheVariants.{Empty, Packed, Disabled, FrozenEmpty, Frozen}
@@ -20,20 +17,36 @@ use Rattle.bucket_ranges.specs.Single.{single_of, packed_bucket, units_packed}
 use Rattle.segment_machine.specs.declared.actor.Actor.{Actor}
 use Rattle.segment_machine.specs.declared.actor.Known.{Known}
 use Rattle.segment_machine.specs.declared.entry.Counting.{Counting}
-use Rattle.segment_machine.specs.declared.entry.Entry.{Entry}
 use Rattle.segment_machine.specs.declared.place.Place.TheVariants.{Spent, Idle}
-use Rattle.segment_machine.specs.Actor.{is_bound, Buckets, bucket_key, counted_of, summed_of, noted_of}
-use Rattle.segment_machine.specs.Entry.{is_counted, is_summed, is_noted, is_of, tally_units, counted_among, summed_among, noted_among}
+use Rattle.segment_machine.specs.Actor.{is_bound, Buckets}
+use Rattle.segment_machine.specs.Calls.{IsKeyOfBucket}
+use Rattle.segment_machine.specs.Entry.{is_counted}
+use Rattle.segment_machine.specs.Event.{packing_event, Ready}
 use Rattle.segment_machine.specs.Form.{is_off, units_in, IsPacking}
+use Rattle.segment_machine.specs.Packing.{pack, after_pack}
 use Rattle.segment_machine.specs.State.{State}
 use Rattle.segment_invariant.specs.Body.{Record, Counts, histogram, Anatomy}
+use Rattle.segment_invariant.specs.Keeps.{EventKeeps}
 use Rattle.segment_invariant.specs.Ledger.{form_at, of_name, key_of_bucket, at_bucket, units_held, marks_held}
 use Rattle.segment_invariant.specs.Seen.{HasRecord, IsFirst}
 use Rattle.segment_invariant.specs.Invariant.{IsLawfulRecord, IsCountsOf, Invariant}
-use Rattle.segment_invariant.proofs.Consistency.Keys.{at_no_bucket, no_packed}
-use Rattle.segment_invariant.proofs.Counting.Held.{not_sparse}
 use Rattle.segment_invariant.proofs.Lists.FewTerms.{zero_index}
-use Rattle.segment_invariant.proofs.Packing.Forms.{Packing}
+use Rattle.segment_invariant.proofs.Frames.Answers.{first_one}
+use Rattle.segment_invariant.proofs.Frames.GoesOn.{happens}
+use Rattle.segment_invariant.proofs.Frames.SeesMore.{seer}
+use Rattle.segment_invariant.proofs.Frames.Shown.{Goes}
+use Rattle.segment_invariant.proofs.Changes.Records.{record_kept}
+use Rattle.segment_invariant.proofs.Changes.Words.{Turns, came_from}
+use Rattle.segment_invariant.proofs.Consistency.Firsts.{record_of_first}
+use Rattle.segment_invariant.proofs.Consistency.Keys.{at_no_bucket, no_packed}
+use Rattle.segment_invariant.proofs.Counting.Counted.{as_counted, has_units, counter, CountedInto, units_counted}
+use Rattle.segment_invariant.proofs.Counting.Held.{not_sparse}
+use Rattle.segment_invariant.proofs.Counting.Looks.{knows_of, one_record, body_word}
+use Rattle.segment_invariant.proofs.Counting.Running.{Next, next_of}
+use Rattle.segment_invariant.proofs.Counting.Sights.{word_within}
+use Rattle.segment_invariant.proofs.Packing.Beaten.{single_seen, pack_beaten}
+use Rattle.segment_invariant.proofs.Packing.Forms.{Packing, packing}
+use Rattle.segment_invariant.proofs.Packing.Loads.{learns_single}
 
 -- ---- the record with another single word
 
@@ -148,3 +161,191 @@ module _ (version page : ℕ) (versions : (version ≡ 1) ⊎ (version ≡ 2)) (
       ∙ (sym (at_no_bucket r.spec key (packed_bucket (form_at version r))) ∙ ap (at_bucket r.spec key (packed_bucket (form_at version r))) (sym (no_mark empty)))))
       (λ names. ap (λ (packed : Option ℕ). at_bucket r.spec key packed r.mark) (sym names))
       packs.named)
+
+-- ---- the exchange
+
+module _ (shape : Dimensions) (opened : Anatomy) (state : State) (kept : Invariant shape opened state) (id : ℕ) (a : Actor)
+    (mine : get_elem? state.actors id ≡ some a) (recorder : a.opener ≡ 0) (unbound : is_bound a.place ≡ false) (entry : Counting) (next : Next a.running entry)
+    (uncounted : is_counted entry ≡ false) (h : ℕ) (known : Known) (buckets : Buckets a h known) (named : entry.entry.name ≡ known.name)
+    (bucket : ℕ) (is_key : IsKeyOfBucket known bucket entry.entry.key) (new : ℕ) (found_on : is_off (word_at state.words (h + 9)) ≡ false)
+    (word_packs : IsPacking bucket entry.entry.units (word_at state.words (h + 9)) new) where
+  lives : a.place ≢ Spent
+  lives spent = cc (unbound, ap is_bound spent)
+
+  abbrev version : ℕ
+  version = kept.anatomy.version
+
+  abbrev units : ℕ
+  units = entry.entry.units
+
+  -- the first record of the name, whose single word that is
+  abbrev Found : Type 0
+  Found = (r : Record) × HasRecord kept.anatomy.pieces h r × (word_at state.words (h + 9) ≡ r.single) × (bucket < buckets_of r.spec)
+      × (r.name ≡ entry.entry.name) × (key_of_bucket r.spec bucket ≡ entry.entry.key) × IsFirst kept.anatomy.records entry.entry.name r.spec h
+
+  found : Found
+  found =
+      let (has, refers, bucketed) = buckets in
+      let (r, first, there, called, many, keys) = knows_of shape opened state kept id a mine recorder lives known has in
+      let stands : HasRecord kept.anatomy.pieces h r = subst (λ (n : ℕ). HasRecord kept.anatomy.pieces n r) refers there in
+      let within = is_key.0 in (
+        r,
+        stands,
+        body_word shape opened state kept h 9 (histogram r) stands (omega arith),
+        omega (arith, within, many),
+        called ∙ sym named,
+        keys bucket ∙ is_key.1,
+        subst (λ (p : List ℕ × ℕ). IsFirst kept.anatomy.records p.0 r.spec p.1) (λ i. (sym named i, refers i)) first,
+      )
+
+  abbrev r : Record
+  r = found.0
+
+  abbrev stands : HasRecord kept.anatomy.pieces h r
+  stands = found.1
+
+  abbrev below : bucket < buckets_of r.spec
+  below = found.3
+
+  lawful : IsLawfulRecord version shape.page r
+  lawful = kept.records.lawful h r stands
+
+  few : buckets_of r.spec ≤ 1048576
+  few =
+      let fits = lawful.fits in
+      let one = kept.shown.sound.lawful.one in
+      let many = kept.shown.sound.lawful.many in
+      omega (arith, fits, one, many)
+
+  on : is_off r.single ≡ false
+  on = ap is_off (sym found.2) ∙ found_on
+
+  packs : Packing version (buckets_of r.spec) bucket below few units r.single new
+  packs = packing version (buckets_of r.spec) bucket below few units r.single new (has_units entry uncounted)
+      (subst (λ (w : ℕ). IsPacking bucket units w new) found.2 word_packs)
+
+  -- ---- the record goes on
+
+  abbrev s : Record
+  s = with_single r new
+
+  turns : Turns version (histogram r) (histogram s) 9 new
+  turns = record {
+    claimed = refl;
+    still = refl;
+    is = refl;
+    within = omega arith;
+    inside = (λ e. omega (arith, e), λ e. omega (arith, e));
+    goes = (s, refl, record { is = refl; counts = λ there. refl; single = packs.leads; mark = omega arith; noted = omega arith });
+  }
+
+  shows : CountedInto shape opened state kept id a mine recorder unbound entry next uncounted h (histogram r) (histogram s) 9 new stands turns
+  shows = record {
+    records = record_kept shape opened state kept h r s 9 new stands turns refl
+        (packed_lawful version shape.page kept.versions r bucket units new below few on packs lawful)
+        (λ c there is. packed_counts version shape.page kept.versions r bucket units new below few on packs lawful h c is)
+        (λ none_there. packed_mark version shape.page kept.versions r bucket units new below few on packs lawful (kept.records.packed h r stands none_there))
+        (λ kind place is. first_one kept.anatomy.records entry.entry.name kind r.spec place h
+        (subst (λ (name : List ℕ). IsFirst kept.anatomy.records name kind place) found.4 is) found.6);
+    units = λ name key.
+        packed_held version shape.page kept.versions r bucket units new below few on packs lawful name key
+        ∙ ap (λ (n : ℕ). units_held version name key (histogram r) + n)
+        (by_tests (bytes_eq r.name name) (int_eq (key_of_bucket r.spec bucket) key)
+        ∙ (λ i. if bytes_eq (found.4 i) name && int_eq (found.5 i) key then units else 0));
+    marks = λ name key. packed_marks version shape.page kept.versions r bucket units new below few on packs lawful name key;
+    sum = λ name. refl;
+    sum_mark = λ name. refl;
+    noted = λ name. refl;
+    sums = λ at z there. ⊎_elim
+        (λ t. (z, t.0, refl, refl, refl))
+        (λ t.
+        let one : s ≡ z = cc (sym t.1) in (
+          r,
+          subst (λ (n : ℕ). HasRecord kept.anatomy.pieces n r) (sym t.0) stands,
+          ap (λ (w : Record). w.name) one,
+          ap (λ (w : Record). w.sum) one,
+          ap (λ (w : Record). w.sum_mark) one,
+        ))
+        (came_from shape opened state kept h (histogram r) (histogram s) 9 new stands turns at none (histogram z) there);
+    key = (r.spec, h, found.6, inl (bucket, below, sym found.5));
+    met = λ of first.
+        let place = first_one kept.anatomy.records entry.entry.name spec.Sparse r.spec of h first found.6 in
+        let (q, (there, its, sparse)) = record_of_first shape opened state kept entry.entry.name spec.Sparse of first in
+        let same = one_record shape opened state kept h q r (subst (λ (n : ℕ). HasRecord kept.anatomy.pieces n q) place there) stands in
+        absurd (not_sparse r.spec bucket below (sym (ap (λ (z : Record). z.spec) same) ∙ sparse));
+  }
+    where
+      by_tests : (b c : Bool) → (if b then (if c then units else 0) else 0) ≡ (if b && c then units else 0)
+      by_tests true c = refl
+      by_tests false c = refl
+
+  -- ---- and then it sees the word
+
+  abbrev b : Actor
+  b = counter shape opened state kept id a mine recorder unbound entry next uncounted
+
+  abbrev between : State
+  between = record { words = set state.words (h + 9) new; cursors = state.cursors; actors = set state.actors id b }
+
+  kept_between : Invariant shape opened between
+  kept_between = units_counted shape opened state kept id a mine recorder unbound entry next uncounted h (histogram r) (histogram s) 9 new stands turns shows
+
+  there : h + 9 < length state.words
+  there = word_within shape opened state kept h 9 (histogram r) stands refl (omega arith)
+
+  word_between : word_at between.words (h + 9) ≡ new
+  word_between = get_or-set_same state.words (h + 9) new 0 there
+
+  left : Invariant shape opened (record {
+    words = between.words;
+    cursors = state.cursors;
+    actors = set between.actors id (seer b Idle (record a.seen { singles = a.seen.singles ++ record { at = h + 9; word = word_at between.words (h + 9) } ∷ [] }) a.given a.lost);
+  })
+  left = single_seen shape opened between kept_between id b (set_at state.actors id a b mine) recorder refl h known buckets Idle refl (λ reference sum is. cc is) (λ word. tt)
+
+  -- the state is kept
+  pub units_packed_on : Invariant shape opened (record {
+    words = set state.words (h + 9) new;
+    cursors = state.cursors;
+    actors = set state.actors id (after_pack true a h new (word_at state.words (h + 9)));
+  })
+  units_packed_on = subst (λ (actors : List Actor). Invariant shape opened (record { words = between.words; cursors = state.cursors; actors = actors }))
+      (set-set state.actors id b _ ∙ (λ i. set state.actors id (record a {
+        place = Idle;
+        running = sym (next.changed as_counted) i;
+        seen = record a.seen { singles = a.seen.singles ++ record { at = h + 9; word = word_between i } ∷ [] };
+      }))) left
+
+  pub within_words : h + 9 < length state.words
+  within_words = there
+
+module _ (shape : Dimensions) (opened : Anatomy) (state : State) (kept : Invariant shape opened state) (id : ℕ) (a : Actor)
+    (mine : get_elem? state.actors id ≡ some a) (recorder : a.opener ≡ 0) where
+  -- so packing that goes through keeps what holds
+  pub pack_through : (h old new : ℕ) → Ready a (packing_event (pack h old new)) → (word_at state.words (h + 9) == old) ≡ true
+      → Goes shape opened state kept id a mine recorder (packing_event (pack h old new))
+  pack_through h old new (c, look, known, bucket, ((rest, is_next), uncounted), (placed, of_it, single, on, buckets), named, keyed, packs) early =
+      let word : ℕ = word_at state.words (h + 9) in
+      let same : word ≡ old = eqb-true (word_at state.words (h + 9)) old early in
+      let unbound = ap is_bound placed in
+      let lives : a.place ≢ Spent = λ spent. cc (sym placed ∙ spent) in
+      let next = next_of a.running c rest is_next in
+      let still = ap is_off same ∙ on in
+      let packed = subst (λ (w : ℕ). IsPacking bucket c.entry.units w new) (sym same) packs in
+      happens opened.version state id a (packing_event (pack h old new))
+      (within_words shape opened state kept id a mine recorder unbound c next uncounted h known buckets named bucket keyed new still packed) shape opened (
+        subst (λ (b : Bool). Invariant shape opened (record {
+          words = set state.words (h + 9) (if b then new else word);
+          cursors = state.cursors;
+          actors = set state.actors id (after_pack b a h new word);
+        })) (sym early) (units_packed_on shape opened state kept id a mine recorder unbound c next uncounted h known buckets named bucket keyed new still packed),
+        learns_single shape opened state kept id a mine recorder lives h,
+      )
+
+-- the event
+pub pack_kept : (h old new : ℕ) → EventKeeps (packing_event (pack h old new))
+pack_kept h old new shape opened state id a kept mine recorder ready = by_test (word_at state.words (h + 9) == old) refl
+  where
+    by_test : (b : Bool) → (word_at state.words (h + 9) == old) ≡ b → Goes shape opened state kept id a mine recorder (packing_event (pack h old new))
+    by_test true early = pack_through shape opened state kept id a mine recorder h old new ready early
+    by_test false late = pack_beaten shape opened state kept id a mine recorder h old new ready late

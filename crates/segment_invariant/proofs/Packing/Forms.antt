@@ -1,9 +1,9 @@
 -- The form of a word to which units of a bucket are packed: its packed bucket and its units; and the word before leads to it.
-use Rattle.std.proofs.Common.{◌≡◌, ◌≢◌, ◌⊎◌, Bool, true, false, ◌&&◌, ◌==◌, nat_lt, nat_le, if◌then◌else◌, ℕ, ◌+◌, ◌*◌, ◌/◌, ◌%◌, ◌^◌, ◌<◌, ◌≤◌, Option, Some, None, inl, inr, refl, sym, ap, ◌∙◌, subst, arith}
+use Rattle.std.proofs.Common.{◌≡◌, ◌≢◌, ◌⊎◌, Bool, true, false, ◌&&◌, ◌==◌, nat_lt, nat_le, if◌then◌else◌, ℕ, ◌+◌, ◌/◌, ◌%◌, ◌^◌, ◌<◌, ◌≤◌, Option, Some, None, inl, inr, sym, ap, ◌∙◌, arith}
 use Rattle.std.proofs.lemmas.Bool.{lt-ltb, lt-leb, le-leb, ne_eqb}
 use Rattle.bucket_ranges.specs.declared.single.SingleWord.{SingleWord}
 use Rattle.bucket_ranges.specs.declared.single.SingleWord.TheVariants.{Empty, Packed}
-use Rattle.bucket_ranges.specs.Single.{single_of, is_packed_word, packed_of, packed_bucket, units_packed}
+use Rattle.bucket_ranges.specs.Single.{single_of, is_packed_word, packed_bucket}
 use Rattle.segment_machine.specs.Form.{is_off, units_in, packed_word, IsPacking, Leads}
 
 module _ (version n bucket : ℕ) (below : bucket < n) (few : n ≤ 1048576) where
@@ -72,7 +72,3 @@ module _ (version n bucket : ℕ) (below : bucket < n) (few : n ≤ 1048576) whe
         few_units = omega (arith, had, all);
         leads = inr (inr (ap is_off was ∙ packed_on j (omega (arith, all)), ap packed_bucket form ∙ sym (ap packed_bucket before), inl (omega (arith, units, had))));
       }
-
-  -- and so it has a form
-  pub named_formed : (word : ℕ) → packed_bucket (single_of version n word) ≡ Some bucket → single_of version n word ≢ None
-  named_formed word names none_there = cc (sym names ∙ ap packed_bucket none_there)

@@ -36,7 +36,8 @@ use Rattle.segment_invariant.proofs.Frames.Shown.{Goes, loaded}
 use Rattle.segment_invariant.proofs.Counting.Bounds.{counted_fits}
 use Rattle.segment_invariant.proofs.Counting.Looks.{knows_of, body_word, same_block, single_now, counts_was, count_now, looks_count}
 use Rattle.segment_invariant.proofs.Counting.Samples.{sample_met, later_learned}
-use Rattle.segment_invariant.proofs.Counting.Sights.{word_within, counter_is, no_count, sees_on}
+use Rattle.segment_invariant.proofs.Counting.SampleSeen.{sample_seen}
+use Rattle.segment_invariant.proofs.Counting.Sights.{word_within, counter_is, sees_on}
 use Rattle.segment_invariant.proofs.Counting.Whole.{whole_mounted}
 
 -- the place after the count of a sample was loaded
@@ -145,11 +146,9 @@ module _ (shape : Dimensions) (opened : Anatomy) (state : State) (kept : Invaria
     sample_loaded : (known : Known) (reference : ℕ) (value : ℤ) → Sparse a known.reference known → Contains a.seen.chain reference
         → SawSample a.seen known.reference value reference → is_looking a.place ≡ false → LoadsCount (reference + 6)
     sample_loaded known reference value sparse met saw looks =
-        let fits = kept.each id a mine lives in
         let at : ℕ = reference + 6 in
         let found : ℕ = word_at state.words at in
         let z : Sighting = record { at = at; word = found } in
-        let place : Place = SampleLoaded reference found in
         let (s, stands, of_it, valued) = sample_met shape opened state kept id a mine lives reference known.reference value met saw in
         let now = body_word shape opened state kept reference 6 (sample s) stands (omega arith) in
         let most = sample_most reference s stands in
@@ -162,31 +161,10 @@ module _ (shape : Dimensions) (opened : Anatomy) (state : State) (kept : Invaria
                 cursors = state.cursors;
                 actors = set state.actors id (seer a p (record a.seen { counts = a.seen.counts ++ z ∷ [] }) a.given a.lost);
               })) (sym (at_sample a.place at found looks ∙ ap (λ (n : ℕ). SampleLoaded n found) back))
-              (sees_on shape opened state kept id a mine records place a.seen.singles (a.seen.counts ++ z ∷ []) unbound refl
-              (λ name key. sym (rests_at a name key a.place still))
-              (near_on shape opened state kept id a mine records place (record a.seen { counts = a.seen.counts ++ z ∷ [] }) a.given a.lost lives (λ is. cc is)
-              (λ name key. sym (rests_at a name key a.place still)) (λ reference sum is. absurd (cc is)))
-              fits.sees.singles
-              (All-push (WasCounter kept.anatomy.pieces) a.seen.counts z fits.sees.counters
-              (counter_is shape opened state kept at reference 6 (sample s) stands (inl refl) refl))
-              (All-push (WasInUse kept.anatomy.pieces) a.seen.counts z fits.sees.in_use
-              (no_count shape opened state kept at reference 6 (sample s) stands (inl refl) refl (λ c is. cc is)))
-              (All-push (WasMet kept.anatomy.pieces a.seen) a.seen.counts z fits.sees.met (λ other x is_sample which. ⊎_elim
-              (λ six. met_again s other 6 x stands of_it valued is_sample six (omega arith))
-              (λ seven. met_again s other 7 x stands of_it valued is_sample seven (omega arith))
-              which))
-              ((known.reference, known, value, sparse, met, saw), Contains-push a.seen.counts z)
-              (looks_count shape opened state kept id a mine records lives at place a.given still (λ reference sum is. absurd (cc is))))),
+              (sample_seen shape opened state kept id a mine records unbound reference known.reference value met saw (SampleLoaded reference found) refl
+              (λ other sum is. cc is) ((known.reference, known, value, sparse, met, saw), Contains-push a.seen.counts z))),
           (omega (arith, now, most, bound), λ other at_is later. ap (word_at state.words) at_is ∙ later_learned shape opened state kept id a mine lives other later),
         )
-      where
-        met_again : (s : Sample) (other i : ℕ) (x : Sample) → HasSample kept.anatomy.pieces reference s → s.of ≡ known.reference → s.value ≡ value
-            → HasSample kept.anatomy.pieces other x → reference + 6 ≡ other + i → i < 8 → Contains a.seen.chain other × SawSample a.seen x.of x.value other
-        met_again s other i x stands of_it valued is_sample spot low =
-            let (place, bodies, index) = same_block shape opened state kept reference other 6 i (sample s) (sample x) stands is_sample (omega arith) (omega (arith, low)) spot in
-            let same : s ≡ x = cc bodies in
-            subst (λ (p : ℕ × ℕ × ℤ). Contains a.seen.chain p.0 × SawSample a.seen p.1 p.2 p.0)
-            (λ j. (place j, (sym of_it ∙ ap (λ (s : Sample). s.of) same) j, (sym valued ∙ ap (λ (s : Sample). s.value) same) j)) (met, saw)
 
   pub count_loaded : (at : ℕ) → Ready a (taking_event (load_count at)) → LoadsCount at
   count_loaded at (inl (look, known, bucket, inl (placed, some_counts, off, buckets), below, at_is)) =

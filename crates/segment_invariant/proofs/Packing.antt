@@ -1,4 +1,5 @@
 pub mod Beaten
+pub mod Disables
 pub mod Forms
 pub mod Loads
 pub mod MountRecords
@@ -6,5 +7,6 @@ pub mod MountWins
 pub mod Mounted
 pub mod Mounts
 pub mod Moved
+pub mod OffForms
 pub mod Packs
 pub mod Purges

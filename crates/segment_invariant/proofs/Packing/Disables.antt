@@ -1,0 +1,489 @@
+-- A single word is disabled, or frozen: the invariant is kept, with what is learned. First the word changes, and then its actor sees it.
+use Rattle.std.proofs.Common.{◌≡◌, ◌≢◌, Bool, true, false, ◌&&◌, ◌==◌, nat_lt, if◌then◌else◌, ℕ, ◌+◌, ◌<◌, ◌≤◌, ℤ, pos, max, List, [], ◌∷◌, ◌++◌, length, set, All, Contains, Option, Some, None, inl, ⊎_elim, refl, sym, ap, ◌∙◌, subst, arith, true≢false, eqb-true, eq-eqb}
+use Rattle.std.specs.Prelude.{unwrap_or}
+use Rattle.std.specs.Ordering.{int_eq}
+use Rattle.std.specs.Str.{bytes_eq}
+use Rattle.std.proofs.Math.IntN.{+ℤ_idr}
+use Rattle.std.proofs.lemmas.Bool.{and_cases, and_parts, eqb-false, ltb-true, ltb-false}
+use Rattle.std.proofs.lemmas.List.{set-set, get_or-set_same}
+use Rattle.std.proofs.lemmas.List.Elements.{All-contains, All-push, All-weaker, Contains-push}
+use mathlib.Core.Option.{some, none}
+use lib.ListN.{get_elem?}
+use Rattle.alloc_core.proofs.Owners.{set_at}
+use Rattle.segment_image.specs.Shape.{Dimensions}
+use Rattle.segment_image.specs.Words.{word_at}
+use Rattle.bucket_ranges.specs.declared.single.SingleWord.{SingleWord}
+use Rattle.bucket_ranges.specs.declared.single.SingleWord.TheVariants.{Empty, Packed, Disabled, FrozenEmpty, Frozen}
+use Rattle.bucket_ranges.specs.declared.spec.Spec.{Spec}
+use Rattle.bucket_ranges.specs.Spec.{buckets_of}
+use Rattle.bucket_ranges.specs.Single.{single_of, packed_bucket, units_packed}
+use Rattle.segment_machine.specs.declared.actor.Actor.{Actor}
+use Rattle.segment_machine.specs.declared.actor.Known.{Known}
+use Rattle.segment_machine.specs.declared.place.Look.{Look}
+use Rattle.segment_machine.specs.declared.place.Place.{Place}
+use Rattle.segment_machine.specs.declared.place.Place.TheVariants.{Spent, Looking, SumLoaded, Moving}
+use Rattle.segment_machine.specs.declared.seen.Seen.{Seen}
+use Rattle.segment_machine.specs.declared.seen.Sighting.{Sighting}
+use Rattle.segment_machine.specs.Actor.{taken_units, known_at, known_buckets, bucket_key, Buckets}
+use Rattle.segment_machine.specs.Calls.{look_of, nothing_of, form_seen}
+use Rattle.segment_machine.specs.Event.{packing_event, Ready}
+use Rattle.segment_machine.specs.Form.{is_off, units_in, off_word}
+use Rattle.segment_machine.specs.Packing.{disable, after_disabling, after_disable}
+use Rattle.segment_machine.specs.State.{State}
+use Rattle.segment_invariant.specs.Body.{Record, Counts, histogram, Anatomy, order_of}
+use Rattle.segment_invariant.specs.Keeps.{EventKeeps}
+use Rattle.segment_invariant.specs.Ledger.{form_at, of_name, at_bucket, key_of_bucket, units_held, moving_at, moving_of}
+use Rattle.segment_invariant.specs.Seen.{HasRecord, IsFirst, WasFixed, WasInUse, WasSingle}
+use Rattle.segment_invariant.specs.Invariant.{is_beaten, LooksRight, IsLawfulRecord, IsCountsOf, StandsRight, Invariant}
+use Rattle.segment_invariant.proofs.Lists.Elements.{at_from}
+use Rattle.segment_invariant.proofs.Lists.FewTerms.{if_nothing, zero_index}
+use Rattle.segment_invariant.proofs.Consistency.Keys.{packed_within, no_units, at_no_bucket}
+use Rattle.segment_invariant.proofs.Consistency.Totals.{find_known}
+use Rattle.segment_invariant.proofs.Frames.Ahead.{KeepsUp, ahead_at}
+use Rattle.segment_invariant.proofs.Frames.Answers.{first_one}
+use Rattle.segment_invariant.proofs.Frames.GoesOn.{happens}
+use Rattle.segment_invariant.proofs.Frames.SeesMore.{seer, calls_more, later_itself, near_on, given_on, sees_more}
+use Rattle.segment_invariant.proofs.Frames.Shown.{Goes}
+use Rattle.segment_invariant.proofs.Changes.Others.{deed_of, changed}
+use Rattle.segment_invariant.proofs.Changes.Places.{Placed, places_on}
+use Rattle.segment_invariant.proofs.Changes.Records.{record_kept}
+use Rattle.segment_invariant.proofs.Changes.Words.{Turns, behind, stands_then, came_from}
+use Rattle.segment_invariant.proofs.Counting.Looks.{knows_of, body_word, counts_was, in_use_now, looks_single}
+use Rattle.segment_invariant.proofs.Counting.Sights.{word_within}
+use Rattle.segment_invariant.proofs.Packing.Beaten.{disable_beaten}
+use Rattle.segment_invariant.proofs.Packing.Loads.{learns_single}
+use Rattle.segment_invariant.proofs.Packing.OffForms.{Disabling, disabling, few_buckets}
+
+-- ---- the record with its word off
+
+abbrev with_single : Record → ℕ → Record
+with_single r word = record r { single = word }
+
+-- a form holds no more of a bucket than it holds
+units_fewer : (form : Option SingleWord) (i : ℕ) → units_packed form i ≤ units_in form
+units_fewer (Some (Packed bucket units)) i = by_test (bucket == i)
+  where
+    by_test : (b : Bool) → (if b then units else 0) ≤ units
+    by_test true = omega arith
+    by_test false = omega arith
+units_fewer (Some (Frozen bucket units)) i = by_test (bucket == i)
+  where
+    by_test : (b : Bool) → (if b then units else 0) ≤ units
+    by_test true = omega arith
+    by_test false = omega arith
+units_fewer (Some Empty) i = omega arith
+units_fewer (Some (Disabled packed)) i = omega arith
+units_fewer (Some FrozenEmpty) i = omega arith
+units_fewer None i = omega arith
+
+-- what is at most the greater of two small numbers is small, so at most the greater of any and the limit
+low_mark : (mark few more limit : ℕ) → mark ≤ max few limit → few ≤ limit → mark ≤ max more limit
+low_mark mark few more limit most low = omega (arith, most, low)
+
+module _ (version at : ℕ) (r : Record) (d : Disabling version (buckets_of r.spec) r.single) (on : is_off r.single ≡ false) (mounts : r.counts ≢ 0) where
+  abbrev off : Record
+  off = with_single r (off_word version r.single)
+
+  lawful_off : (page : ℕ) → IsLawfulRecord version page r → IsLawfulRecord version page off
+  lawful_off page is = record {
+    sized = is.sized;
+    least = is.least;
+    named = is.named;
+    lettered = is.lettered;
+    lawful = is.lawful;
+    fields = is.fields;
+    fits = is.fits;
+    formed = d.formed;
+    unpacked = λ none_there. is.unpacked (sym d.names ∙ none_there);
+    off = λ _. mounts;
+    sparse = λ sparse. absurd (mounts (is.sparse sparse).0);
+    narrow = is.narrow;
+  }
+
+  -- in version 1 nothing was counted behind the word, so the mark is at most 65,535
+  counts_off : (c : Counts) → IsCountsOf version at r c → IsCountsOf version at off c
+  counts_off c is = record {
+    mine = is.mine;
+    named = is.named;
+    same = is.same;
+    units = is.units;
+    marks = is.marks;
+    sized = is.sized;
+    packed = λ i packs. is.packed i (sym d.names ∙ packs);
+    unused = λ still. absurd (true≢false (sym d.off ∙ still));
+    mark = λ one i packs.
+        let none_there = zero_index c.units i (is.unused on).0 in
+        let fewer = units_fewer (form_at version r) i in
+        let few = d.few in
+        low_mark r.mark _ _ 65535 (is.mark one i (sym d.names ∙ packs)) (omega (arith, none_there, fewer, few));
+  }
+
+-- ---- the actor sees the word
+
+module _ (shape : Dimensions) (opened : Anatomy) (state : State) (kept : Invariant shape opened state) (id : ℕ) (a : Actor)
+    (mine : get_elem? state.actors id ≡ some a) (recorder : a.opener ≡ 0) (lived : a.place ≢ Spent) (h : ℕ) (known : Known) (buckets : Buckets a h known) where
+  abbrev sees_single : ℕ → Seen
+  sees_single word = record a.seen { singles = a.seen.singles ++ record { at = h + 9; word = word } ∷ [] }
+
+  abbrev with_sight : Place → ℕ → Actor
+  with_sight place word = seer a place (sees_single word) a.given a.lost
+
+  -- the state is kept where it sees the single word as it is, and goes on to a place with the same units in transit
+  now_seen : (place : Place) → place ≢ Spent → ((name : List ℕ) (key : ℤ) → moving_at a name key place ≡ moving_at a name key a.place)
+      → ((reference : ℕ) (sum : ℤ) → place ≢ SumLoaded reference sum) → KeepsUp a.place place
+      → (word : ℕ) → word_at state.words (h + 9) ≡ word → StandsRight shape kept.anatomy id (with_sight place word) place
+      → Invariant shape opened (record { words = state.words; cursors = state.cursors; actors = set state.actors id (with_sight place word) })
+  now_seen place lives moves no_sum up found is stood =
+      let fits = kept.each id a mine lived in
+      let (r, first, there, named, many, keys) = knows_of shape opened state kept id a mine recorder lived known buckets.0 in
+      let stands : HasRecord kept.anatomy.pieces h r = subst (λ (n : ℕ). HasRecord kept.anatomy.pieces n r) buckets.1 there in
+      let word : r.single ≡ found = sym (body_word shape opened state kept h 9 (histogram r) stands (omega arith)) ∙ is in
+      let y : Sighting = record { at = h + 9; word = r.single } in
+      subst (λ (n : ℕ). Invariant shape opened (record {
+        words = state.words;
+        cursors = state.cursors;
+        actors = set state.actors id (with_sight place n);
+      })) word
+      (sees_more shape opened state kept id a mine recorder place (sees_single r.single) a.given a.lost lived lives moves state.cursors
+      (later_itself (order_of kept.anatomy) state.cursors)
+      (near_on shape opened state kept id a mine recorder place (sees_single r.single) a.given a.lost lived lives moves
+      (λ reference sum loads. absurd (no_sum reference sum loads)))
+      (given_on shape opened state kept id a mine recorder place (sees_single r.single) a.given a.lost lived lives moves refl)
+      (record {
+        free = fits.sees.free;
+        walked = fits.sees.walked;
+        tails = fits.sees.tails;
+        singles = All-push (WasSingle kept.anatomy.version kept.anatomy.pieces) a.seen.singles y fits.sees.singles
+            (h, r, stands, refl, (kept.records.lawful h r stands).formed, inl refl);
+        counters = fits.sees.counters;
+        in_use = fits.sees.in_use;
+        met = fits.sees.met;
+        fixed = fits.sees.fixed;
+        shared = fits.sees.shared;
+      })
+      (ahead_at (order_of kept.anatomy) kept.anatomy.tail state.cursors a.place a.beaten a.lost fits.ahead place up)
+      (subst (λ (n : ℕ). StandsRight shape kept.anatomy id (with_sight place n) place) (sym word) stood)
+      (calls_more kept.anatomy a place (sees_single r.single) a.given a.lost (λ at has. has) (λ at word has. has) fits.calls)
+      (looks_single shape opened state kept id a mine recorder lived h r stands place a.given no_sum))
+
+-- ---- the word changes
+
+module _ (shape : Dimensions) (opened : Anatomy) (state : State) (kept : Invariant shape opened state) (id : ℕ) (a : Actor)
+    (mine : get_elem? state.actors id ≡ some a) (recorder : a.opener ≡ 0) (look : Look) (old : ℕ) (asked : Known) (placed : a.place ≡ Looking look)
+    (single : look.single ≡ Some old) (on : is_off old ≡ false) (buckets : Buckets a look.histogram asked) (some_counts : look.counts ≢ 0)
+    (is_old : word_at state.words (look.histogram + 9) ≡ old) where
+  lives : a.place ≢ Spent
+  lives spent = cc (sym placed ∙ spent)
+
+  abbrev h : ℕ
+  h = look.histogram
+
+  abbrev version : ℕ
+  version = kept.anatomy.version
+
+  abbrev right : LooksRight a look
+  right = subst (StandsRight shape kept.anatomy id a) placed (kept.standing id a mine)
+
+  -- what it finds under the reference: the record, whose single word is the old one, and its counts
+  abbrev Found : Type 0
+  Found = (known : Known) × (r : Record) × HasRecord kept.anatomy.pieces h r × (r.single ≡ old) × (r.counts ≡ look.counts) × (r.counts ≢ 0)
+      × (r.name ≡ known.name) × (buckets_of r.spec ≡ buckets_of known.spec) × ((i : ℕ) → key_of_bucket r.spec i ≡ bucket_key (Some known) i)
+      × (known_at a.names h ≡ Some known) × ((kind : Spec) (place : ℕ) → IsFirst kept.anatomy.records r.name kind place → place ≡ h)
+
+  found : Found
+  found =
+      let fits = kept.each id a mine lives in
+      let among = at_from a.names asked buckets.0 in
+      let (known, is, has, refers) = find_known a.names h among.0 asked among.1 buckets.1 in
+      let (r, first, there, named, many, keys) = knows_of shape opened state kept id a mine recorder lives known has in
+      let stands : HasRecord kept.anatomy.pieces h r = subst (λ (n : ℕ). HasRecord kept.anatomy.pieces n r) refers there in
+      let (counts_is, mounts) = counts_was shape opened state kept h look.counts r stands
+      (All-contains (WasFixed kept.anatomy.pieces) a.seen.words _ fits.sees.fixed (right.counts some_counts)) in (
+        known,
+        r,
+        stands,
+        sym (body_word shape opened state kept h 9 (histogram r) stands (omega arith)) ∙ is_old,
+        counts_is,
+        mounts,
+        named,
+        many,
+        keys,
+        is,
+        λ kind place is_first. first_one kept.anatomy.records known.name kind r.spec place known.reference
+            (subst (λ (name : List ℕ). IsFirst kept.anatomy.records name kind place) named is_first) first ∙ refers,
+      )
+
+  abbrev known : Known
+  known = found.0
+
+  abbrev r : Record
+  r = found.1
+
+  abbrev stands : HasRecord kept.anatomy.pieces h r
+  stands = found.2
+
+  still_on : is_off r.single ≡ false
+  still_on = ap is_off found.3 ∙ on
+
+  abbrev d : Disabling version (buckets_of r.spec) r.single
+  d =
+      let lawful = kept.records.lawful h r stands in
+      let few = few_buckets r.spec lawful.lawful in
+      disabling version (buckets_of r.spec) r.single kept.versions (omega (arith, few)) lawful.formed still_on
+
+  abbrev v : ℕ
+  v = off_word version r.single
+
+  abbrev s : Record
+  s = with_single r v
+
+  abbrev turns : Turns version (histogram r) (histogram s) 9 v
+  turns = record {
+    claimed = refl;
+    still = refl;
+    is = refl;
+    within = omega arith;
+    inside = (λ e. omega (arith, e), λ e. omega (arith, e));
+    goes = (s, refl, record { is = refl; counts = λ there. refl; single = d.leads; mark = omega arith; noted = omega arith });
+  }
+
+  abbrev new : Anatomy
+  new = behind shape opened state kept h (histogram r) (histogram s) 9 v stands turns
+
+  -- what it looks at before it sees the word, and then
+  abbrev unseen : Look
+  unseen = record look { single = None }
+
+  abbrev looked : Look
+  looked = record look { single = Some v }
+
+  there : h + 9 < length state.words
+  there = word_within shape opened state kept h 9 (histogram r) stands refl (omega arith)
+
+  -- It turns to a place that is one of looks: the word changes, and it is seen.
+  module _ (turn : Look → Place) (alive : (l : Look) → turn l ≢ Spent) (no_sum : (l : Look) (reference : ℕ) (sum : ℤ) → turn l ≢ SumLoaded reference sum)
+      (held : (name : List ℕ) (key : ℤ) → units_held version name key (histogram s) + moving_at a name key (turn unseen) ≡ units_held version name key (histogram r))
+      (moves : (b : Actor) (name : List ℕ) (key : ℤ) → moving_at b name key (turn looked) ≡ moving_at b name key (turn unseen))
+      (keeps_up : KeepsUp (turn unseen) (turn looked))
+      (stood : LooksRight (changed a (record (deed_of a) { place = turn unseen })) unseen
+      → StandsRight shape new id (changed a (record (deed_of a) { place = turn unseen })) (turn unseen))
+      (goes_on : (anatomy : Anatomy) (b : Actor) → StandsRight shape anatomy id (changed a (record (deed_of a) { place = turn unseen })) (turn unseen)
+      → b.seen.counts ≡ a.seen.counts → LooksRight b looked → StandsRight shape anatomy id b (turn looked)) where
+    abbrev b : Actor
+    b = changed a (record (deed_of a) { place = turn unseen })
+
+    abbrev between : State
+    between = record { words = set state.words (h + 9) v; cursors = state.cursors; actors = set state.actors id b }
+
+    shows : Placed shape opened state kept h (histogram r) (histogram s) 9 v stands turns id a mine recorder lives (turn unseen)
+    shows = record {
+      records = record_kept shape opened state kept h r s 9 v stands turns refl (lawful_off version h r d still_on found.5 shape.page (kept.records.lawful h r stands))
+          (λ c there is. counts_off version h r d still_on found.5 c is) (λ none_there. absurd (found.5 none_there)) found.10;
+      balances = record {
+        units = λ name key.
+            let all = held name key in
+            let rests : moving_at a name key a.place ≡ 0 = ap (moving_at a name key) placed in
+            omega (arith, all, rests);
+        marks = λ name key. ap (λ (packed : Option ℕ). of_name r.name name (at_bucket r.spec key packed r.mark) + taken_units a.taken name key) d.names;
+        sums = λ name. (pos 0, sym (+ℤ_idr _), sym (+ℤ_idr _));
+        sum_marks = λ name. (pos 0, sym (+ℤ_idr _), sym (+ℤ_idr _));
+        noted = λ name. refl;
+      };
+      sums = λ at q is_there. ⊎_elim
+          (λ t. (q, t.0, refl, refl, refl))
+          (λ t.
+          let same : q ≡ s = cc t.1 in (
+            r,
+            subst (λ (n : ℕ). HasRecord kept.anatomy.pieces n r) (sym t.0) stands,
+            ap (λ (z : Record). z.name) (sym same),
+            ap (λ (z : Record). z.sum) (sym same),
+            ap (λ (z : Record). z.sum_mark) (sym same),
+          ))
+          (came_from shape opened state kept h (histogram r) (histogram s) 9 v stands turns at none (histogram q) is_there);
+      lives = alive unseen;
+      no_sum = no_sum unseen;
+      stood = stood (record { known = right.known; knows = right.knows; single = λ w is. absurd (cc is); counts = right.counts });
+      up = λ free. subst (λ (p : Place). is_beaten p ≡ false) (sym placed) refl;
+    }
+
+    kept_between : Invariant shape opened between
+    kept_between = places_on shape opened state kept h (histogram r) (histogram s) 9 v stands turns id a mine recorder lives (turn unseen) shows
+
+    mine_between : get_elem? between.actors id ≡ some b
+    mine_between = set_at state.actors id a b mine
+
+    abbrev c : Actor
+    c = seer b (turn looked) (record a.seen { singles = a.seen.singles ++ record { at = h + 9; word = v } ∷ [] }) a.given a.lost
+
+    left : Invariant shape opened (record { words = between.words; cursors = state.cursors; actors = set between.actors id c })
+    left = now_seen shape opened between kept_between id b mine_between recorder (alive unseen) h asked buckets (turn looked) (alive looked) (moves b) (no_sum looked) keeps_up
+        v (get_or-set_same state.words (h + 9) v 0 there)
+        (goes_on kept_between.anatomy c (kept_between.standing id b mine_between) refl (record {
+          known = right.known;
+          knows = right.knows;
+          single = λ w is. subst (λ (n : ℕ). Contains (a.seen.singles ++ record { at = h + 9; word = v } ∷ []) (record { at = h + 9; word = n })) (cc is)
+              (Contains-push a.seen.singles (record { at = h + 9; word = v }));
+          counts = right.counts;
+        }))
+
+    -- so the event keeps what holds, where that is the place behind it
+    went : turn looked ≡ after_disabling a.version (look_of a.place h) old (form_seen a h old) → Goes shape opened state kept id a mine recorder (packing_event (disable h old))
+    went place_is =
+        let fits = kept.each id a mine lives in
+        let same : v ≡ off_word opened.version old = (λ i. off_word (kept.same.0 i) (found.3 i)) in
+        let seen_as : v ≡ off_word a.version old = (λ i. off_word (sym fits.versioned i) (found.3 i)) in
+        happens opened.version state id a (packing_event (disable h old)) there shape opened (
+          subst (λ (test : Bool). Invariant shape opened (record {
+            words = set state.words (h + 9) (if test then off_word opened.version old else word_at state.words (h + 9));
+            cursors = state.cursors;
+            actors = set state.actors id (after_disable test a h old (word_at state.words (h + 9)));
+          })) (sym (eq-eqb (word_at state.words (h + 9)) old is_old))
+              (subst (λ (p : List ℕ × List Actor). Invariant shape opened (record { words = p.0; cursors = state.cursors; actors = p.1 }))
+              (λ i. (
+                set state.words (h + 9) (same i),
+                (set-set state.actors id b c ∙ (λ j. set state.actors id (record a {
+                  place = place_is j;
+                  seen = record a.seen { singles = a.seen.singles ++ record { at = h + 9; word = seen_as j } ∷ [] };
+                }))) i,
+              )) left),
+          learns_single shape opened state kept id a mine recorder lives h,
+        )
+
+  -- ---- what is in transit then
+
+  abbrev in_transit : Bool
+  in_transit = (a.version == 1) && nat_lt 0 old
+
+  abbrev form : Option SingleWord
+  form = form_at version r
+
+  abbrev bucket : ℕ
+  bucket = unwrap_or (packed_bucket form) 0
+
+  abbrev units : ℕ
+  units = units_in form
+
+  versioned : a.version ≡ version
+  versioned = (kept.each id a mine lives).versioned
+
+  look_is : look_of a.place h ≡ look
+  look_is = ap (λ (p : Place). look_of p h) placed ∙ (λ i. if eq-eqb h h refl i then look else nothing_of h)
+
+  form_is : form_seen a h old ≡ form
+  form_is = (λ i. single_of (versioned i) (known_buckets (found.9 i)) (sym found.3 i)) ∙ ap (λ (n : ℕ). single_of version n r.single) (sym found.7)
+
+  word_is : off_word a.version old ≡ v
+  word_is = λ i. off_word (versioned i) (sym found.3 i)
+
+  place_is : (b : Bool) → in_transit ≡ b
+      → after_disabling a.version (look_of a.place h) old (form_seen a h old) ≡ (if b then Moving looked bucket units else Looking looked)
+  place_is b test = λ i. if test i
+      then Moving (record (look_is i) { single = Some (word_is i) }) (unwrap_or (packed_bucket (form_is i)) 0) (units_in (form_is i))
+      else Looking (record (look_is i) { single = Some (word_is i) })
+
+  -- a word that leaves nothing in transit keeps its units: it is frozen, or it was empty
+  units_stay : in_transit ≡ false → units_in (form_at version s) ≡ units
+  units_stay test = ⊎_elim frozen empty (and_cases (a.version == 1) (nat_lt 0 old) test)
+    where
+      frozen : (a.version == 1) ≡ false → units_in (form_at version s) ≡ units
+      frozen other = ⊎_elim
+          (λ one. absurd (eqb-false a.version 1 other (versioned ∙ one)))
+          (λ two. d.units ∙ (λ i. if two i == 2 then units else 0))
+          kept.versions
+
+      empty : nat_lt 0 old ≡ false → units_in (form_at version s) ≡ units
+      empty none_there =
+          let low = ltb-false 0 old none_there in
+          let is = found.3 in
+          let nothing = no_units version (buckets_of r.spec) r.single kept.versions (omega (arith, low, is)) in
+          d.units ∙ (if_nothing (version == 2) units 0 nothing ∙ sym nothing)
+
+  looking : in_transit ≡ false → Goes shape opened state kept id a mine recorder (packing_event (disable h old))
+  looking test = went Looking (λ l e. cc e) (λ l reference sum e. cc e)
+      (λ name key.
+      let same : units_held version name key (histogram s) ≡ units_held version name key (histogram r) =
+      (λ i. of_name r.name name (at_bucket r.spec key (d.names i) (units_stay test i))) in
+      omega (arith, same))
+      (λ b name key. refl) (λ free. refl) (λ right. right) (λ anatomy b was same right. right) (sym (place_is false test))
+
+  -- where units are in transit they are those that the word had
+  module _ (test : in_transit ≡ true) where
+    one : version ≡ 1
+    one = sym versioned ∙ eqb-true a.version 1 (and_parts (a.version == 1) (nat_lt 0 old) test).0
+
+    some_there : r.single ≢ 0
+    some_there empty = let low = ltb-true 0 old (and_parts (a.version == 1) (nat_lt 0 old) test).1 in let is = found.3 in omega (arith, low, is, empty)
+
+    packs : packed_bucket form ≡ Some bucket
+    packs = let is = (d.packed some_there).1 in is ∙ sym (ap (λ (packed : Option ℕ). Some (unwrap_or packed 0)) is)
+
+    nothing_held : (name : List ℕ) (key : ℤ) → units_held version name key (histogram s) ≡ 0
+    nothing_held name key =
+        ap (λ (n : ℕ). of_name r.name name (at_bucket r.spec key (packed_bucket (form_at version s)) n)) (d.units ∙ (λ i. if one i == 2 then units else 0))
+        ∙ (ap (of_name r.name name) (at_no_bucket r.spec key (packed_bucket (form_at version s))) ∙ if_nothing (bytes_eq r.name name) 0 0 refl)
+
+    all_moves : (name : List ℕ) (key : ℤ) → moving_at a name key (Moving unseen bucket units) ≡ units_held version name key (histogram r)
+    all_moves name key =
+        ap (λ (known : Option Known). moving_of name key known bucket units) found.9
+        ∙ ((λ i. of_name (sym found.6 i) name (if int_eq (sym (found.8 bucket) i) key then units else 0))
+        ∙ sym (ap (λ (packed : Option ℕ). of_name r.name name (at_bucket r.spec key packed units)) packs))
+
+    -- no count of that bucket was seen, for the word was on
+    unseen_count : All (λ t. t.at ≢ look.counts + 4 + bucket) a.seen.counts
+    unseen_count =
+        let (c, mounted, of_it) = kept.records.mounted h r stands found.5 in
+        let within = packed_within version (buckets_of r.spec) r.single bucket packs in
+        let long = of_it.units in
+        let refers = found.4 in
+        All-weaker (WasInUse kept.anatomy.pieces) (λ t. t.at ≢ look.counts + 4 + bucket)
+        (λ t was spot. true≢false (sym (in_use_now shape opened state kept t r c h (4 + bucket) was stands mounted (omega (arith, spot, refers)) (omega arith)
+        (omega (arith, within, long))) ∙ still_on))
+        a.seen.counts (kept.each id a mine lives).sees.in_use
+
+    moving : Goes shape opened state kept id a mine recorder (packing_event (disable h old))
+    moving = went (λ l. Moving l bucket units) (λ l e. cc e) (λ l reference sum e. cc e)
+        (λ name key. let none_there = nothing_held name key in let all = all_moves name key in omega (arith, none_there, all))
+        (λ b name key. refl) (λ free. refl)
+        (λ right. (
+          right,
+          one,
+          some_counts,
+          (d.packed some_there).2,
+          d.few,
+          (
+            s,
+            stands_then shape opened state kept h (histogram r) (histogram s) 9 v stands turns,
+            (λ i. packed_bucket (form_at (sym one i) s)) ∙ (d.names ∙ packs),
+            d.off,
+          ),
+          unseen_count,
+        ))
+        (λ anatomy b was same right. (
+          right,
+          was.1,
+          was.2,
+          was.3,
+          was.4,
+          was.5,
+          subst (All (λ t. t.at ≢ look.counts + 4 + bucket)) (sym same) was.6,
+        ))
+        (sym (place_is true test))
+
+  disabled_at : Goes shape opened state kept id a mine recorder (packing_event (disable h old))
+  disabled_at = by_test in_transit refl
+    where
+      by_test : (b : Bool) → in_transit ≡ b → Goes shape opened state kept id a mine recorder (packing_event (disable h old))
+      by_test true test = moving test
+      by_test false test = looking test
+
+-- disabling keeps what holds, whether it goes through or comes too late
+pub disable_kept : (h old : ℕ) → EventKeeps (packing_event (disable h old))
+disable_kept h old shape opened state id a kept mine recorder ready = by_test (word_at state.words (h + 9) == old) refl ready
+  where
+    by_test : (b : Bool) → (word_at state.words (h + 9) == old) ≡ b → Ready a (packing_event (disable h old))
+        → Goes shape opened state kept id a mine recorder (packing_event (disable h old))
+    by_test false late ready = disable_beaten shape opened state kept id a mine recorder h old ready late
+    by_test true here (look, known, (placed, of_it, single, on, buckets), some_counts, counts_in) =
+        subst (λ (n : ℕ). Goes shape opened state kept id a mine recorder (packing_event (disable n old))) of_it
+        (disabled_at shape opened state kept id a mine recorder look old known placed single on (subst (λ (n : ℕ). Buckets a n known) (sym of_it) buckets) some_counts
+        (ap (λ (n : ℕ). word_at state.words (n + 9)) of_it ∙ eqb-true _ _ here))

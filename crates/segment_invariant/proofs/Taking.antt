@@ -1,3 +1,6 @@
+pub mod Lasts
+pub mod Takes
+pub mod Marks
 pub mod Loads
 pub mod Counts
 pub mod SumMarks

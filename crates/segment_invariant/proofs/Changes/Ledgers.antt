@@ -72,7 +72,7 @@ module _ (pieces : List Piece) (k : ℕ) (p q : Piece) (there : get_elem? pieces
   amounts_of holds d more = amounts_moved (all_amounts holds) (amounts_total (λ (piece : Piece). holds piece.body)) pieces k p q d there
       (+ℤ_idl (holds q.body) ∙ (more ∙ ap (λ n. n +ℤ d) (sym (+ℤ_idl (holds p.body)))))
 
-  deeds_of : {B : Type 0} (total : List B → ℤ) → IsTotal ◌+ℤ◌ total → (f : Actor → List B) (d : ℤ) → total (f b) ≡ total (f a) +ℤ d
+  pub deeds_of : {B : Type 0} (total : List B → ℤ) → IsTotal ◌+ℤ◌ total → (f : Actor → List B) (d : ℤ) → total (f b) ≡ total (f a) +ℤ d
       → total (flat_map f (set actors id b)) ≡ total (flat_map f actors) +ℤ d
   deeds_of total sums f d more = amounts_moved (λ (list : List Actor). total (flat_map f list))
       (λ xs ys. ap total (flat_map-append f xs ys) ∙ sums (flat_map f xs) (flat_map f ys)) actors id a b d mine

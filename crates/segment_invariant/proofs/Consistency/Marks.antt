@@ -37,7 +37,7 @@ use Rattle.segment_invariant.proofs.Consistency.Totals.{sparse_kind, bucketed_ki
 
 -- ---- the packed bucket of a form
 
-packed_is : (form : Option SingleWord) (i : ℕ) → is_packed_bucket form i ≡ true → packed_bucket form ≡ Some i
+pub packed_is : (form : Option SingleWord) (i : ℕ) → is_packed_bucket form i ≡ true → packed_bucket form ≡ Some i
 packed_is form i = by_packed (packed_bucket form) refl
   where
     by_packed : (packed : Option ℕ) → packed_bucket form ≡ packed → is_packed_bucket form i ≡ true → packed_bucket form ≡ Some i

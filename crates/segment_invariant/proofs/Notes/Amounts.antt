@@ -29,7 +29,7 @@ use Rattle.segment_invariant.proofs.Notes.Actors.{noting_fits, looks_on, finals_
 use Rattle.segment_invariant.proofs.Notes.Begins.{takes_nothing}
 
 -- the last of a list, changed
-last_changed : {X : Type 0} (f : X → X) (xs : List X) (x : X) → change_last f (xs ++ x ∷ []) ≡ xs ++ f x ∷ []
+pub last_changed : {X : Type 0} (f : X → X) (xs : List X) (x : X) → change_last f (xs ++ x ∷ []) ≡ xs ++ f x ∷ []
 last_changed f [] x = refl
 last_changed f (y ∷ []) x = refl
 last_changed f (y ∷ z ∷ xs) x = ap (λ list. y ∷ list) (last_changed f (z ∷ xs) x)

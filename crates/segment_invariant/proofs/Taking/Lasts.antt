@@ -1,0 +1,180 @@
+-- A delta goes on, which is the last of its actor: what was taken, and that final deltas and snapshots are as exact as they were.
+use Rattle.std.proofs.Common.{◌≡◌, ◌≢◌, ◌⊎◌, ℕ, ◌+◌, ◌-◌, ◌<◌, ◌≤◌, ℤ, pos, ◌+ℤ◌, Bool, true, false, List, [], ◌∷◌, ◌++◌, length, take, set, Contains, inl, inr, ⊎_elim, refl, sym, ap, ◌∙◌, subst, arith}
+use Rattle.std.specs.Prelude.{if◌then◌else◌}
+use Rattle.std.specs.Str.{bytes_eq}
+use Rattle.std.proofs.Math.IntN.{+ℤ_assoc, +ℤ_idl}
+use Rattle.std.proofs.Math.Seq.{take-append_seam}
+use Rattle.std.proofs.lemmas.List.{length_push, same_from_push}
+use Rattle.std.proofs.lemmas.List.Elements.{Contains-append_cases, Contains-append_left, Contains-append_right}
+use Rattle.std.proofs.lemmas.List.Sums.{sum_by_push}
+use mathlib.Core.Option.{some}
+use lib.ListN.{get_elem?}
+use Rattle.segment_machine.specs.declared.actor.Actor.{Actor}
+use Rattle.segment_machine.specs.declared.actor.Moment.{Moment}
+use Rattle.segment_machine.specs.declared.actor.Taken.{Taken}
+use Rattle.segment_machine.specs.declared.entry.Entry.{Entry}
+use Rattle.segment_machine.specs.declared.place.Place.{Place}
+use Rattle.segment_machine.specs.declared.seen.Sighting.{Sighting}
+use Rattle.bucket_ranges.specs.declared.spec.Spec.TheVariants as spec
+use Rattle.segment_machine.specs.Made.{SawSample}
+use Rattle.segment_machine.specs.Calls.{change_last}
+use Rattle.segment_machine.specs.Entry.{tally_units, tally_sum, tally_noted}
+use Rattle.segment_machine.specs.Actor.{counted_of, units_listed, taken_units, taken_sum, all_counted, all_summed, all_noted, all_taken}
+use Rattle.segment_invariant.specs.Body.{Listed, Anatomy}
+use Rattle.segment_invariant.specs.Seen.{IsFirst, IsFirstOf}
+use Rattle.segment_invariant.specs.Ledger.{of_name, amount_of_name}
+use Rattle.segment_invariant.specs.Invariant.{ended_deltas, IsAlone, IsMoment, IsMomentOf, CallsRight, RolesAreKept, FinalsAreExact}
+use Rattle.segment_invariant.proofs.Lists.Elements.{one_in}
+use Rattle.segment_invariant.proofs.Lists.FewTerms.{if_nothing}
+use Rattle.segment_invariant.proofs.Lists.Sums.{amounts_total}
+use Rattle.segment_invariant.proofs.Notes.Amounts.{last_changed}
+use Rattle.segment_invariant.proofs.Frames.Roles.{AllStood}
+use Rattle.segment_invariant.proofs.Frames.Together.{IsLater, moment, ended_began}
+use Rattle.segment_invariant.proofs.Changes.Others.{Deed, deed_of, changed, is_later, alone_was}
+
+-- the last of a list of what was taken goes on, and keeps its name and its moment
+module _ (taken before : List Taken) (last : Taken) (is : taken ≡ before ++ last ∷ []) (f : Taken → Taken) (named : (f last).name ≡ last.name)
+    (began : (f last).moment ≡ last.moment) where
+  abbrev pub further : List Taken
+  further = change_last f taken
+
+  pub further_is : further ≡ before ++ f last ∷ []
+  further_is = ap (change_last f) is ∙ last_changed f before last
+
+  pub last_in : Contains taken last
+  last_in = subst (λ (l : List Taken). Contains l last) (sym is) (Contains-append_right before (last ∷ []) last (0, omega arith, refl))
+
+  -- each was there, or is the last
+  pub further_from : (t : Taken) → Contains further t → Contains taken t ⊎ (t ≡ f last)
+  further_from t has = ⊎_elim
+      (λ old. inl (subst (λ (l : List Taken). Contains l t) (sym is) (Contains-append_left before (last ∷ []) t old)))
+      (λ new. inr (sym (one_in (f last) t new)))
+      (Contains-append_cases before (f last ∷ []) t (subst (λ (l : List Taken). Contains l t) further_is has))
+
+  -- those before it stay
+  front_of : (list : List Taken) (x : Taken) → list ≡ before ++ x ∷ [] → take (length list - 1) list ≡ before
+  front_of list x e =
+      let long = length_push before x in
+      let count : length (before ++ x ∷ []) - 1 ≡ length before = omega (arith, long) in
+      ap (λ (l : List Taken). take (length l - 1) l) e ∙ (ap (λ (k : ℕ). take k (before ++ x ∷ [])) count ∙ take-append_seam before (x ∷ []))
+
+  pub front_same : take (length further - 1) further ≡ take (length taken - 1) taken
+  front_same = front_of further (f last) further_is ∙ sym (front_of taken last is)
+
+  -- units that were taken
+  pub units_further : (name : List ℕ) (key : ℤ)
+      → taken_units further name key + of_name last.name name (units_listed last.counts key)
+      ≡ taken_units taken name key + of_name last.name name (units_listed (f last).counts key)
+  units_further name key =
+      let now = ap (λ (l : List Taken). taken_units l name key) further_is in
+      let was = ap (λ (l : List Taken). taken_units l name key) is in
+      let each : (t : Taken) → taken_units (before ++ t ∷ []) name key ≡ taken_units before name key + of_name t.name name (units_listed t.counts key) =
+      λ t. sum_by_push (λ (t : Taken). if bytes_eq t.name name then units_listed t.counts key else 0) before t in
+      let new = each (f last) in
+      let old = each last in
+      let same = ap (λ (n : List ℕ). of_name n name (units_listed (f last).counts key)) named in
+      omega (arith, now, was, new, old, same)
+
+  -- and of the sum
+  pub sum_further : (d : ℤ) → (f last).sum ≡ last.sum +ℤ d → (name : List ℕ) → taken_sum further name ≡ taken_sum taken name +ℤ amount_of_name last.name name d
+  sum_further d more name =
+      ap (λ (l : List Taken). taken_sum l name) further_is
+      ∙ (parts (f last)
+      ∙ (ap (λ (z : ℤ). taken_sum before name +ℤ z) (+ℤ_idl (amount (f last)) ∙ (grown ∙ ap (λ (z : ℤ). z +ℤ amount_of_name last.name name d) (sym (+ℤ_idl (amount last)))))
+      ∙ (sym (+ℤ_assoc (taken_sum before name) (pos 0 +ℤ amount last) (amount_of_name last.name name d))
+      ∙ ap (λ (z : ℤ). z +ℤ amount_of_name last.name name d) (sym (parts last) ∙ sym (ap (λ (l : List Taken). taken_sum l name) is)))))
+    where
+      amount : Taken → ℤ
+      amount t = if bytes_eq t.name name then t.sum else pos 0
+
+      parts : (t : Taken) → taken_sum (before ++ t ∷ []) name ≡ taken_sum before name +ℤ (pos 0 +ℤ amount t)
+      parts t = amounts_total amount before (t ∷ [])
+
+      by_test : (b : Bool) → (if b then (f last).sum else pos 0) ≡ (if b then last.sum else pos 0) +ℤ (if b then d else pos 0)
+      by_test true = more
+      by_test false = refl
+
+      grown : amount (f last) ≡ amount last +ℤ amount_of_name last.name name d
+      grown = ap (λ (n : List ℕ). if bytes_eq n name then (f last).sum else pos 0) named ∙ by_test (bytes_eq last.name name)
+
+-- the actor whose delta goes on
+module _ (a : Actor) (before : List Taken) (last : Taken) (is : a.taken ≡ before ++ last ∷ []) (f : Taken → Taken) (named : (f last).name ≡ last.name)
+    (began : (f last).moment ≡ last.moment) (taking : a.taking ≡ true) (place : Place) (counts : List Sighting) where
+  abbrev pub takes_on : Deed
+  takes_on = record (deed_of a) { place = place; taken = change_last f a.taken; seen = record a.seen { counts = counts } }
+
+  abbrev b : Actor
+  b = changed a takes_on
+
+  -- its call stays right
+  pub calls_taken : (old new : Anatomy) → new.records ≡ old.records → CallsRight old a → CallsRight new b
+  calls_taken old new records calls = record {
+    ordered = calls.ordered;
+    within = calls.within;
+    held = calls.held;
+    ended = calls.ended;
+    spent = calls.spent;
+    met = subst (λ (l : List Listed). (entry : Entry) (of : ℕ) → Contains (a.inherited ++ counted_of a) entry → 0 < entry.units → IsFirst l entry.name spec.Sparse of
+        → (at : ℕ) × IsFirstOf l of entry.key at × Contains a.seen.chain at × SawSample a.seen of entry.key at) (sym records) calls.met;
+    taking = λ goes. ((calls.taking taking).0, (before, f last, further_is a.taken before last is f named began));
+  }
+
+  -- the deltas that have ended are those that had
+  ended_same : ended_deltas b ≡ ended_deltas a
+  ended_same =
+      ap (λ (b : Bool). if b then take (length (change_last f a.taken) - 1) (change_last f a.taken) else change_last f a.taken) taking
+      ∙ (front_same a.taken before last is f named began ∙ sym (ap (λ (b : Bool). if b then take (length a.taken - 1) a.taken else a.taken) taking))
+
+  -- a moment of it was one
+  moment_was : (m : Moment) → IsMomentOf b m → IsMomentOf a m
+  moment_was m (inl (t, has, at)) = ⊎_elim
+      (λ old. inl (t, old, at))
+      (λ same. inl (last, last_in a.taken before last is f named began, sym began ∙ (ap (λ (t : Taken). t.moment) (sym same) ∙ at)))
+      (further_from a.taken before last is f named began t has)
+  moment_was m (inr answered) = inr answered
+
+  -- Nothing is counted, added or noted; no less is taken of a key, and no more than was counted. Then final deltas and snapshots are as exact,
+  -- where one that is alone leaves what was taken of a sum exact
+  module _ (old new : List Actor) (roles : RolesAreKept old) (stood : AllStood old new) (first : get_elem? new 0 ≡ get_elem? old 0) (id : ℕ) (recorder : a.opener ≡ 0)
+      (counted : all_counted new ≡ all_counted old) (summed : all_summed new ≡ all_summed old) (noted : all_noted new ≡ all_noted old)
+      (up : (name : List ℕ) (key : ℤ) → taken_units (all_taken old) name key ≤ taken_units (all_taken new) name key)
+      (most : (name : List ℕ) (key : ℤ) → taken_units (all_taken new) name key ≤ tally_units (all_counted new) name key)
+      (exact_sum : IsAlone old a → (name : List ℕ) → taken_sum (all_taken old) name ≡ tally_sum (all_summed old) name
+      → taken_sum (all_taken new) name ≡ tally_sum (all_summed old) name)
+      (swapped : IsAlone old a → (f last).swapped ≡ true → taken_sum (all_taken new) (f last).name ≡ tally_sum (all_summed old) (f last).name) where
+    -- who has a final moment is alone
+    alone_at : (m : Moment) → IsMoment old roles.opener id a m → m.outstanding ≡ 0 → m.before + 1 ≡ roles.opener.made → IsAlone old a
+    alone_at m is none youngest =
+        let (made, outstanding) = is.mine recorder in
+        (roles.opener, roles.stands, sym outstanding ∙ none, ap (λ (n : ℕ). n + 1) (sym made) ∙ youngest)
+
+    pub finals_taken : FinalsAreExact old roles.opener id a → FinalsAreExact new roles.opener id b
+    finals_taken exact = record {
+      deltas = λ t has none youngest quiet.
+          let there = subst (λ (l : List Taken). Contains l t) ended_same has in
+          let was = exact.deltas t there none youngest quiet in (
+            λ key.
+                let more = up t.name key in
+                let few = most t.name key in
+                let same = was.0 key in
+                let tally = ap (λ entries. tally_units entries t.name key) counted in
+                omega (arith, more, few, same, tally),
+            exact_sum (alone_at t.moment (exact.moments t.moment (ended_began a t there)) none youngest) t.name was.1
+                ∙ ap (λ entries. tally_sum entries t.name) (sym summed),
+          );
+      snapshots = λ s has none youngest quiet.
+          let was = exact.snapshots s has none youngest quiet in (
+            λ key. was.0 key ∙ ap (λ entries. tally_units entries s.name key) (sym counted),
+            was.1 ∙ ap (λ entries. tally_sum entries s.name) (sym summed),
+            (let redundant = was.2 in let same = ap (λ entries. tally_noted entries s.name) noted in omega (arith, redundant, same)),
+          );
+      moments = λ m of.
+          let is = moment old new roles.opener roles.opener id a m (is_later old new roles stood first) (exact.moments m (moment_was m of)) in
+          record { logged = is.logged; before = is.before; mine = is.mine; eldest = is.eldest };
+      swapped = λ front x goes ends was_swapped alone.
+          let same = (same_from_push before front (f last) x
+              (sym (further_is a.taken before last is f named began) ∙ ends)).1 in
+          subst (λ (t : Taken). taken_sum (all_taken new) t.name ≡ tally_sum (all_summed new) t.name) same
+          (swapped (alone_was old new roles stood first b a refl refl alone) (ap (λ (t : Taken). t.swapped) same ∙ was_swapped)
+          ∙ ap (λ entries. tally_sum entries (f last).name) (sym summed));
+    }

@@ -1,0 +1,248 @@
+-- A mark rises, and the delta of its recorder takes the units between: what was taken of a key, and the state that is left.
+use Rattle.std.proofs.Common.{◌≡◌, ◌≢◌, ◌⊎◌, ℕ, ◌+◌, ◌-◌, ◌<◌, ◌≤◌, ℤ, pos, ◌+ℤ◌, Bool, true, false, nat_lt, if◌then◌else◌, List, [], ◌∷◌, ◌++◌, set, Contains, inl, inr, ⊎_elim, refl, sym, ap, ◌∙◌, subst, arith}
+use Rattle.std.specs.Str.{bytes_eq}
+use Rattle.std.specs.Ordering.{int_eq}
+use Rattle.std.proofs.Math.IntN.{+ℤ_idr}
+use Rattle.std.proofs.lemmas.Bool.{ltb-false}
+use Rattle.std.proofs.lemmas.Bool.Decides.{Decides-int_eq}
+use Rattle.std.proofs.lemmas.List.Elements.{Contains-append_cases}
+use Rattle.std.proofs.lemmas.List.Sums.{sum_by-append, sum_by-cons}
+use Rattle.std.proofs.lemmas.Slice.Eq.{bytes_eq-Decides}
+use mathlib.Core.Option.{some, none}
+use lib.ListN.{get_elem?}
+use Rattle.atomic_table.proofs.Lists.{set_else}
+use Rattle.segment_image.specs.Shape.{Dimensions}
+use Rattle.segment_machine.specs.declared.actor.Actor.{Actor}
+use Rattle.segment_machine.specs.declared.actor.Known.{Known}
+use Rattle.segment_machine.specs.declared.actor.Taken.{Taken}
+use Rattle.segment_machine.specs.declared.place.Look.{Look}
+use Rattle.segment_machine.specs.declared.place.Place.{Place}
+use Rattle.segment_machine.specs.declared.place.Place.TheVariants.{Spent, SumLoaded, Moving}
+use Rattle.segment_machine.specs.Calls.{change_last}
+use Rattle.segment_machine.specs.Entry.{tally_units, tally_sum, tally_noted}
+use Rattle.segment_machine.specs.Actor.{counted_of, summed_of, noted_of, units_listed, taken_units, taken_sum, all_counted, all_summed, all_noted, all_taken}
+use Rattle.segment_machine.specs.State.{State}
+use Rattle.segment_machine.specs.Taking.{take_units}
+use Rattle.segment_invariant.specs.Body.{Body, Anatomy}
+use Rattle.segment_invariant.specs.Ledger.{of_name, amount_of_name, units_held, marks_held, sum_held, sum_mark_held, noted_held}
+use Rattle.segment_invariant.specs.Seen.{Stands}
+use Rattle.segment_invariant.specs.Invariant.{RecordsAreKept, StandsRight, IsAlone, summed_cost, HasKey, Invariant}
+use Rattle.segment_invariant.proofs.Lists.Elements.{rows, row_in, one_in, none_in, sum_same}
+use Rattle.segment_invariant.proofs.Lists.Sums.{amounts_total}
+use Rattle.segment_invariant.proofs.Frames.Ahead.{KeepsUp}
+use Rattle.segment_invariant.proofs.Frames.GoesOn.{not_opener}
+use Rattle.segment_invariant.proofs.Frames.OneActor.{lives_on, rests_at}
+use Rattle.segment_invariant.proofs.Frames.Roles.{SameRole, AllStood, stood_set}
+use Rattle.segment_invariant.proofs.Frames.Together.{loaded_set}
+use Rattle.segment_invariant.proofs.Counting.Seen.{known_stands}
+use Rattle.segment_invariant.proofs.Changes.Ledgers.{rows_beside, deeds_of}
+use Rattle.segment_invariant.proofs.Changes.Others.{Deed, changed, alone_was, looks_on}
+use Rattle.segment_invariant.proofs.Changes.Sums.{SameSum, sums_on}
+use Rattle.segment_invariant.proofs.Changes.Words.{Turns, behind, turned_onward, sees_turned, turned_on}
+use Rattle.segment_invariant.proofs.Taking.Lasts.{further_from, last_in, units_further, sum_further, takes_on, calls_taken, finals_taken}
+
+-- what is listed of a key
+listed_more : (key other : ℤ) (least found : ℕ) (t : Taken)
+    → units_listed (take_units key least found t).counts other ≡ units_listed t.counts other + (if int_eq key other then least - found else 0)
+listed_more key other least found t = by_test (nat_lt found least) (ltb-false found least)
+  where
+    of_key : ℤ × ℕ → ℕ
+    of_key count = if int_eq count.0 other then count.1 else 0
+
+    nothing : (b : Bool) (n : ℕ) → n ≡ 0 → (if b then n else 0) ≡ 0
+    nothing true n is = is
+    nothing false n is = refl
+
+    by_test : (b : Bool) → (b ≡ false → least ≤ found)
+        → units_listed (t.counts ++ (if b then (key, least - found) ∷ [] else [])) other ≡ units_listed t.counts other + (if int_eq key other then least - found else 0)
+    by_test true low =
+        let all = sum_by-append of_key t.counts ((key, least - found) ∷ []) in
+        let one = sum_by-cons of_key (key, least - found) [] in
+        omega (arith, all, one)
+    by_test false low =
+        let all = sum_by-append of_key t.counts [] in
+        let none = nothing (int_eq key other) (least - found) (let le = low refl in omega (arith, le)) in
+        omega (arith, all, none)
+
+-- what it has listed was, or is of the key
+listed_from : (key : ℤ) (least found : ℕ) (t : Taken) (count : ℤ × ℕ) → Contains (take_units key least found t).counts count
+    → Contains t.counts count ⊎ (key ≡ count.0)
+listed_from key least found t count has = by_test (nat_lt found least) has
+  where
+    by_test : (b : Bool) → Contains (t.counts ++ (if b then (key, least - found) ∷ [] else [])) count → Contains t.counts count ⊎ (key ≡ count.0)
+    by_test true has = ⊎_elim (λ old. inl old) (λ new. inr (ap (λ (c : ℤ × ℕ). c.0) (one_in (key, least - found) count new)))
+        (Contains-append_cases t.counts ((key, least - found) ∷ []) count has)
+    by_test false has = ⊎_elim (λ old. inl old) (λ new. absurd (none_in count new)) (Contains-append_cases t.counts [] count has)
+
+of_name_more : (mine name : List ℕ) (x y z : ℕ) → z ≡ x + y → of_name mine name z ≡ of_name mine name x + of_name mine name y
+of_name_more mine name x y z is = by_test (bytes_eq mine name)
+  where
+    by_test : (b : Bool) → (if b then z else 0) ≡ (if b then x else 0) + (if b then y else 0)
+    by_test true = is
+    by_test false = refl
+
+no_more_amount : (mine name : List ℕ) → amount_of_name mine name (pos 0) ≡ pos 0
+no_more_amount mine name = by_test (bytes_eq mine name)
+  where
+    by_test : (b : Bool) → (if b then pos 0 else pos 0) ≡ pos 0
+    by_test true = refl
+    by_test false = refl
+
+module _ (shape : Dimensions) (opened : Anatomy) (state : State) (kept : Invariant shape opened state) (at : ℕ) (body then_is : Body) (j v : ℕ)
+    (stands : Stands kept.anatomy.pieces at none body) (turns : Turns kept.anatomy.version body then_is j v) (id : ℕ) (a : Actor)
+    (mine : get_elem? state.actors id ≡ some a) (recorder : a.opener ≡ 0) (lived : a.place ≢ Spent) (known : Known) (taking : a.taking ≡ true)
+    (front : List Taken) (last : Taken) (taken_is : a.taken ≡ front ++ last ∷ []) (named : last.name ≡ known.name) (key : ℤ) (least found : ℕ) (place : Place) where
+  abbrev f : Taken → Taken
+  f = take_units key least found
+
+  abbrev pub deed : Deed
+  deed = takes_on a front last taken_is f refl refl taking place a.seen.counts
+
+  abbrev pub b : Actor
+  b = changed a deed
+
+  abbrev actors : List Actor
+  actors = set state.actors id b
+
+  abbrev new : Anatomy
+  new = behind shape opened state kept at body then_is j v stands turns
+
+  -- the units that it takes of a name and a key
+  abbrev pub more_of : List ℕ → ℤ → ℕ
+  more_of name other = of_name known.name name (if int_eq key other then least - found else 0)
+
+  -- What has to be shown: of the records, the ledger, the sums, the key, and the place.
+  pub record Takes : Type 0 where
+    pub records : RecordsAreKept shape.page new
+    pub units : (name : List ℕ) (other : ℤ) → units_held kept.anatomy.version name other then_is ≡ units_held kept.anatomy.version name other body
+    pub marks : (name : List ℕ) (other : ℤ)
+        → marks_held kept.anatomy.version name other then_is ≡ marks_held kept.anatomy.version name other body + more_of name other
+    pub amounts : (name : List ℕ) → (sum_held name then_is ≡ sum_held name body) × (sum_mark_held name then_is ≡ sum_mark_held name body)
+        × (noted_held name then_is ≡ noted_held name body)
+    pub sums : SameSum kept.anatomy.pieces new.pieces
+    pub few : taken_units (all_taken state.actors) known.name key + (least - found) ≤ tally_units (all_counted state.actors) known.name key
+    pub keyed : HasKey kept.anatomy.records known.name key
+    pub lives : place ≢ Spent
+    pub no_sum : (reference : ℕ) (sum : ℤ) → place ≢ SumLoaded reference sum
+    pub still : ((look : Look) (bucket units : ℕ) → a.place ≢ Moving look bucket units) × ((look : Look) (bucket units : ℕ) → place ≢ Moving look bucket units)
+    pub stood : StandsRight shape new id b place
+    pub up : KeepsUp a.place place
+
+  module _ (shows : Takes) where
+    role : SameRole b a
+    role = record {
+      living = lives_on b recorder shows.lives ∙ sym (lives_on a recorder lived);
+      opener = refl;
+      first = refl;
+      first_noted = refl;
+      made = refl;
+      outstanding = refl;
+      inherited = refl;
+      offered = refl;
+    }
+
+    stood : AllStood state.actors actors
+    stood = stood_set state.actors id a b mine role
+
+    first : get_elem? actors 0 ≡ get_elem? state.actors 0
+    first = set_else state.actors id 0 b (λ same. not_opener shape opened state kept id a mine recorder (sym same))
+
+    counted : all_counted actors ≡ all_counted state.actors
+    counted = rows counted_of state.actors id a b mine refl
+
+    summed : all_summed actors ≡ all_summed state.actors
+    summed = rows summed_of state.actors id a b mine refl
+
+    noted : all_noted actors ≡ all_noted state.actors
+    noted = rows noted_of state.actors id a b mine refl
+
+    -- ---- what was taken
+
+    took : (name : List ℕ) (other : ℤ) → taken_units b.taken name other ≡ taken_units a.taken name other + more_of name other
+    took name other =
+        let all = units_further a.taken front last taken_is f refl refl name other in
+        let one = of_name_more last.name name (units_listed last.counts other) (if int_eq key other then least - found else 0) (units_listed (f last).counts other)
+        (listed_more key other least found last) in
+        let mine_is = ap (λ (n : List ℕ). of_name n name (if int_eq key other then least - found else 0)) named in
+        omega (arith, all, one, mine_is)
+
+    took_all : (name : List ℕ) (other : ℤ) → taken_units (all_taken actors) name other ≡ taken_units (all_taken state.actors) name other + more_of name other
+    took_all name other =
+        let all = rows_beside (λ list. taken_units list name other)
+        (sum_by-append (λ (t : Taken). if bytes_eq t.name name then units_listed t.counts other else 0)) (λ (c : Actor). c.taken) state.actors id a b mine in
+        let its = took name other in
+        omega (arith, all, its)
+
+    most : (name : List ℕ) (other : ℤ) → taken_units (all_taken actors) name other ≤ tally_units (all_counted actors) name other
+    most name other =
+        let tally = ap (λ entries. tally_units entries name other) counted in
+        let all = took_all name other in
+        let bound = by_tests (bytes_eq known.name name) (int_eq key other) (bytes_eq-Decides known.name name).0 (Decides-int_eq key other).0 in
+        omega (arith, tally, all, bound)
+      where
+        by_tests : (x y : Bool) → (x ≡ true → known.name ≡ name) → (y ≡ true → key ≡ other)
+            → taken_units (all_taken state.actors) name other + (if x then (if y then least - found else 0) else 0) ≤ tally_units (all_counted state.actors) name other
+        by_tests true true is same = subst (λ (p : List ℕ × ℤ).
+            taken_units (all_taken state.actors) p.0 p.1 + (least - found) ≤ tally_units (all_counted state.actors) p.0 p.1) (λ i. (is refl i, same refl i)) shows.few
+        by_tests true false is same = let was = kept.balanced.taken name other in omega (arith, was)
+        by_tests false y is same = let was = kept.balanced.taken name other in omega (arith, was)
+
+    took_sum : (name : List ℕ) → taken_sum b.taken name ≡ taken_sum a.taken name +ℤ pos 0
+    took_sum name = sum_further a.taken front last taken_is f refl refl (pos 0) (sym (+ℤ_idr last.sum)) name
+        ∙ ap (λ z. taken_sum a.taken name +ℤ z) (no_more_amount last.name name)
+
+    sum_same_all : (name : List ℕ) → taken_sum (all_taken actors) name ≡ taken_sum (all_taken state.actors) name
+    sum_same_all name = deeds_of kept.anatomy.pieces stands.0 _ (record { at = at; owner = none; body = then_is }) stands.1 state.actors id a b mine
+        (λ list. taken_sum list name) (amounts_total (λ (t : Taken). if bytes_eq t.name name then t.sum else pos 0)) (λ (c : Actor). c.taken) (pos 0) (took_sum name)
+        ∙ +ℤ_idr (taken_sum (all_taken state.actors) name)
+
+    has_keys : (t : Taken) (count : ℤ × ℕ) → Contains b.taken t → Contains t.counts count → HasKey kept.anatomy.records t.name count.0
+    has_keys t count has among = ⊎_elim
+        (λ old. kept.taken_keys t count (row_in (λ (c : Actor). c.taken) state.actors id a t mine old) among)
+        (λ one. subst (λ (n : List ℕ). HasKey kept.anatomy.records n count.0) (sym (ap (λ (t : Taken). t.name) one)) (⊎_elim
+        (λ was. kept.taken_keys last count (row_in (λ (c : Actor). c.taken) state.actors id a last mine (last_in a.taken front last taken_is f refl refl)) was)
+        (λ same. subst (λ (p : List ℕ × ℤ). HasKey kept.anatomy.records p.0 p.1) (λ i. (sym named i, same i)) shows.keyed)
+        (listed_from key least found last count (subst (λ (list : List (ℤ × ℕ)). Contains list count) (ap (λ (t : Taken). t.counts) one) among))))
+        (further_from a.taken front last taken_is f refl refl t has)
+
+    -- the state that is left is kept
+    pub takes_kept : Invariant shape opened (record { words = set state.words (at + j) v; cursors = state.cursors; actors = actors })
+    takes_kept =
+        let fits = kept.each id a mine lived in
+        turned_on shape opened state kept at body then_is j v stands turns id a mine recorder lived deed (record {
+          records = shows.records;
+          balances = record {
+            units = λ name other.
+                let same = shows.units name other in
+                let was = rests_at a name other a.place shows.still.0 in
+                let now = rests_at b name other place shows.still.1 in
+                omega (arith, same, was, now);
+            marks = λ name other. let its = took name other in let held = shows.marks name other in omega (arith, its, held);
+            sums = λ name. (pos 0, (shows.amounts name).0 ∙ sym (+ℤ_idr _), sym (+ℤ_idr _));
+            sum_marks = λ name. (pos 0, (shows.amounts name).1 ∙ sym (+ℤ_idr _), took_sum name);
+            noted = λ name. let same = (shows.amounts name).2 in omega (arith, same);
+          };
+          taken = most;
+          counted = λ name other. omega arith;
+          keys = λ entry has. kept.keys entry (row_in counted_of state.actors id a entry mine has);
+          taken_keys = has_keys;
+          sums = sums_on kept.anatomy.pieces new.pieces state.actors actors shows.sums
+              (loaded_set state.actors id a b mine (λ reference sum loaded. absurd (shows.no_sum reference sum loaded)))
+              (λ name. let same = sum_same (summed_cost name) state.actors id a b mine refl in omega (arith, same)) kept.sums;
+          lives = shows.lives;
+          stood = shows.stood;
+          sees = sees_turned shape opened state kept at body then_is j v stands turns a.seen fits.sees;
+          up = shows.up;
+          own = refl;
+          calls = calls_taken a front last taken_is f refl refl taking place a.seen.counts kept.anatomy new refl fits.calls;
+          looks = looks_on shape state.words kept.anatomy new kept.shown (λ at body. ⊥) (turned_onward shape opened state kept at body then_is j v stands turns) refl
+              shape.page kept.records shows.records a fits.sees.counters fits.sees.in_use state.actors actors kept.roles.opener deed
+              (λ name other. let same = ap (λ entries. tally_units entries name other) counted in omega (arith, same))
+              (alone_was state.actors actors kept.roles stood first a a refl refl)
+              (λ one has. let (r, there, its, bounds, many) = known_stands shape opened state kept id a mine lived one has in (r, there, many))
+              (fits.looks recorder) (λ reference sum s loaded. absurd (shows.no_sum reference sum loaded)) (λ at s new_one. new_one);
+          finals = finals_taken a front last taken_is f refl refl taking place a.seen.counts state.actors actors kept.roles stood first id recorder counted summed noted
+              (λ name other. let all = took_all name other in omega (arith, all)) most
+              (λ alone name was. sum_same_all name ∙ was)
+              (λ alone swapped. sum_same_all last.name ∙ fits.finals.swapped front last taking taken_is swapped alone) fits.finals;
+        })

@@ -1,5 +1,6 @@
 pub mod Lasts
 pub mod Takes
+pub mod MarkWords
 pub mod Marks
 pub mod Loads
 pub mod Counts

@@ -57,157 +57,199 @@ use Rattle.segment_invariant.proofs.Counting.Seen.{mark_in}
 use Rattle.segment_invariant.proofs.Counting.Sights.{word_within, counter_is, sees_on}
 use Rattle.segment_invariant.proofs.Counting.Whole.{whole_mounted}
 use Rattle.segment_invariant.proofs.Taking.Takes.{deed, b, takes_kept}
+use Rattle.segment_invariant.proofs.Taking.MarkWords.{marked, marked_turns, marked_counts, TheMarks, the_marks, mark_now, mark_seen}
 
--- ---- the block
-
-module _ (c : Counts) (i u : ℕ) (below : i < length c.marks) where
-  -- with so many units more in a mark
-  abbrev pub marked : Counts
-  marked = record c { marks = set c.marks i (slice_index c.marks i + u) }
-
-  abbrev spot : ℕ
-  spot = 4 + (length c.units + i)
-
-  abbrev v : ℕ
-  v = slice_index c.marks i + u
-
-  marked_words : counts_words marked ≡ set (counts_words c) spot v
-  marked_words =
-      let long = length-append c.units c.marks in
-      let four : suc (suc (suc (suc (length c.units + i)))) ≡ spot = omega arith in
-      let back : length c.units + i - length c.units ≡ i = omega arith in
-      ap (λ (l : List ℕ). c.size ∷ 0xC8799269 ∷ 2 ∷ c.next ∷ l)
-      (sym (set-append_left (c.units ++ c.marks) c.rest (length c.units + i) v (omega (arith, below, long))
-      ∙ ap (λ (l : List ℕ). l ++ c.rest) (set-append_right c.units c.marks (length c.units) (length c.units + i) v refl (omega arith)
-      ∙ ap (λ (k : ℕ). c.units ++ set c.marks k v) back)))
-      ∙ ap (λ (k : ℕ). set (counts_words c) k v) four
-
-  within : spot < length (counts_words c)
-  within =
-      let long = length-append c.units c.marks in
-      let all = length-append (c.units ++ c.marks) c.rest in
-      omega (arith, below, long, all)
-
-  rises : (k : ℕ) → slice_index (counts_words c) k ≤ slice_index (counts_words marked) k
-  rises k =
-      let words = ap (λ (l : List ℕ). slice_index l k) marked_words in
-      dite (ℕ_discrete k spot)
-      (λ same.
-      let now = ap (slice_index (set (counts_words c) spot v)) same ∙ get_or-set_same (counts_words c) spot v 0 within in
-      let four : 4 + length c.units + i ≡ spot = omega arith in
-      let was = ap (slice_index (counts_words c)) (same ∙ sym four) ∙ mark_in c i below in
-      omega (arith, words, now, was))
-      (λ ne. let now = get_or-set_other (counts_words c) spot k v 0 ne in omega (arith, words, now))
-
-  -- it goes on so
-  pub marked_turns : (version : ℕ) → Turns version (counts c) (counts marked) spot v
-  marked_turns version = record {
-    claimed = refl;
-    still = refl;
-    is = marked_words;
-    within = within;
-    inside = (λ e. omega (arith, e), λ e. omega (arith, e));
-    goes = (marked, refl, record { is = refl; long = (refl, length-set c.marks i v); rise = rises });
-  }
-
-  -- and is the counts block of a record whose single word is off and packs another bucket
-  pub marked_counts : (version at : ℕ) (r : Record) → is_off r.single ≡ true → packed_bucket (form_at version r) ≢ Some i → IsCountsOf version at r c
-      → IsCountsOf version at r marked
-  marked_counts version at r off apart is = record {
-    mine = is.mine;
-    named = is.named;
-    same = is.same;
-    units = is.units;
-    marks = length-set c.marks i v ∙ is.marks;
-    sized = (let sized = is.sized in let long = length-set c.marks i v in omega (arith, sized, long));
-    packed = λ k packs. get_or-set_other c.marks i k v 0 (λ same. apart (packs ∙ ap Some same)) ∙ is.packed k packs;
-    unused = λ on. absurd (cc (sym off ∙ on));
-    mark = is.mark;
-  }
-
--- ---- what a recorder knows that has loaded a count
+not_packed : (form : Option SingleWord) (i : ℕ) → packed_bucket form ≢ Some i → is_packed_bucket form i ≡ false
+not_packed form i apart = by_test (is_packed_bucket form i) refl
+  where
+    by_test : (b : Bool) → is_packed_bucket form i ≡ b → is_packed_bucket form i ≡ false
+    by_test true is = absurd (apart (packed_is form i is))
+    by_test false is = is
 
 module _ (shape : Dimensions) (opened : Anatomy) (state : State) (kept : Invariant shape opened state) (id : ℕ) (a : Actor)
-    (mine : get_elem? state.actors id ≡ some a) (recorder : a.opener ≡ 0) (unbound : is_bound a.place ≡ false) (look : Look) (off : LoadedOff a look) (bucket : ℕ)
-    (below : bucket < buckets_of off.0.known.spec) where
-  abbrev TheMarks : Type 0
-  TheMarks = (r : Record) × (c : Counts) × HasRecord kept.anatomy.pieces look.histogram r × HasCounts kept.anatomy.pieces look.counts c
-      × IsCountsOf kept.anatomy.version look.histogram r c × (bucket < length c.marks) × (off.2.0 ≡ r.single) × (is_off r.single ≡ true)
-      × (word_at state.words (look.counts + 4 + bucket) ≡ slice_index c.units bucket)
+    (mine : get_elem? state.actors id ≡ some a) (recorder : a.opener ≡ 0) (look : Look) (known : Known) (bucket least word : ℕ)
+    (placed : a.place ≡ CountLoaded look bucket least) (takes : Takes a look.histogram known) (single_is : look.single ≡ Some word)
+    (apart : packed_bucket (form_seen a look.histogram word) ≢ Some bucket) where
+  lives : a.place ≢ Spent
+  lives spent = cc (sym placed ∙ spent)
 
-  pub the_marks : TheMarks
-  the_marks =
-      let fits = kept.each id a mine (λ spent. cc (unbound, ap is_bound spent)) in
-      let (r, c, stands, mounted, of_it, low, now, few) = the_counts shape opened state kept id a mine recorder unbound look off.0 off.1 bucket below in
-      let leads = single_now shape opened state kept (record { at = look.histogram + 9; word = off.2.0 }) look.histogram r
-      (All-contains (WasSingle kept.anatomy.version kept.anatomy.pieces) a.seen.singles _ fits.sees.singles (off.0.single off.2.0 off.2.1)) refl stands in
-      let same = off_leads kept.anatomy.version (buckets_of r.spec) off.2.0 r.single off.2.2 leads.1 in
-      let units = of_it.units in
-      let marks = of_it.marks in
-      (r, c, stands, mounted, of_it, omega (arith, low, units, marks), same, sym (ap is_off same) ∙ off.2.2, now)
+  abbrev stood : StandsRight shape kept.anatomy id a (CountLoaded look bucket least)
+  stood = subst (StandsRight shape kept.anatomy id a) placed (kept.standing id a mine)
+
+  abbrev off : LoadedOff a look
+  off = stood.0
+
+  abbrev marks_there : TheMarks shape opened state kept id a mine recorder (ap is_bound placed) look off bucket stood.1
+  marks_there = the_marks shape opened state kept id a mine recorder (ap is_bound placed) look off bucket stood.1
+
+  abbrev r : Record
+  r = marks_there.0
 
   abbrev c : Counts
-  c = the_marks.1
+  c = marks_there.1
+
+  has : HasRecord kept.anatomy.pieces look.histogram r
+  has = marks_there.2
+
+  mounted : HasCounts kept.anatomy.pieces look.counts c
+  mounted = marks_there.3
+
+  of_it : IsCountsOf kept.anatomy.version look.histogram r c
+  of_it = marks_there.4
+
+  low : bucket < length c.marks
+  low = marks_there.5
+
+  within : bucket < buckets_of r.spec
+  within = let below = low in let marks = of_it.marks in omega (arith, below, marks)
+
+  -- the record is the first of the name of the delta, with as many buckets, and packs another one
+  abbrev Named : Type 0
+  Named = IsFirst kept.anatomy.records known.name r.spec look.histogram × (r.name ≡ known.name) × (buckets_of r.spec ≡ buckets_of known.spec)
+      × (packed_bucket (form_at kept.anatomy.version r) ≢ Some bucket)
+      × (bucket_key (known_at a.names look.histogram) bucket ≡ key_of_bucket r.spec bucket)
+
+  named_it : Named
+  named_it =
+      let fits = kept.each id a mine lives in
+      let (q, first, stands, named, many, keys) = knows_of shape opened state kept id a mine recorder lives known takes.1 in
+      let same = one_record shape opened state kept look.histogram q r (subst (λ (n : ℕ). HasRecord kept.anatomy.pieces n q) takes.2 stands) has in
+      let among = at_from a.names known takes.1 in
+      let (found, is, there, refers) = find_known a.names look.histogram among.0 known among.1 takes.2 in
+      let (p, its_first, its_stands, its_named, its_many, its_keys) = knows_of shape opened state kept id a mine recorder lives found there in
+      let same_found = one_record shape opened state kept look.histogram p r (subst (λ (n : ℕ). HasRecord kept.anatomy.pieces n p) refers its_stands) has in
+      let count : known_buckets (known_at a.names look.histogram) ≡ buckets_of r.spec =
+      ap known_buckets is ∙ (sym its_many ∙ ap (λ (z : Record). buckets_of z.spec) same_found) in
+      let some_word : Some word ≡ Some off.2.0 = sym single_is ∙ off.2.1 in
+      let word_is : word ≡ off.2.0 = cc some_word in
+      let form : form_seen a look.histogram word ≡ form_at kept.anatomy.version r =
+      (λ j. single_of (fits.versioned j) (count j) ((word_is ∙ marks_there.6) j)) in (
+        subst (λ (p : ℕ × Record). IsFirst kept.anatomy.records known.name p.1.spec p.0) (λ j. (takes.2 j, same j)) first,
+        sym (ap (λ (z : Record). z.name) same) ∙ named,
+        sym (ap (λ (z : Record). buckets_of z.spec) same) ∙ many,
+        λ packs. apart (ap packed_bucket form ∙ packs),
+        ap (λ (x : Option Known). bucket_key x bucket) is ∙ (sym (its_keys bucket) ∙ ap (λ (z : Record). key_of_bucket z.spec bucket) same_found),
+      )
+
+  abbrev key : ℤ
+  key = key_of_bucket r.spec bucket
+
+  abbrev m : ℕ
+  m = slice_index c.marks bucket
+
+  -- the mark is what was taken
+  taken_is : taken_units (all_taken state.actors) known.name key ≡ m
+  taken_is =
+      let lawful = (kept.records.lawful look.histogram r has).lawful in
+      let bucketed = not_sparse r.spec bucket within in
+      let (refers, mounts) = counts_was shape opened state kept look.histogram look.counts r has
+      (All-contains (WasFixed kept.anatomy.pieces) a.seen.words _ (kept.each id a mine lives).sees.fixed (off.0.counts off.1)) in
+      let all = bucket_mounted shape opened state kept known.name r.spec look.histogram r named_it.0 has named_it.1 refl key _ _ _ _
+      (marks_book kept.anatomy.version known.name key) bucketed c (subst (λ (n : ℕ). HasCounts kept.anatomy.pieces n c) (sym refers) mounted) of_it.named in
+      let packed = packed_mark r.spec lawful bucketed bucket within (form_at kept.anatomy.version r) r.mark
+      (λ b is. packed_within kept.anatomy.version (buckets_of r.spec) r.single b is)
+      ∙ ap (λ (b : Bool). if b then r.mark else 0) (not_packed (form_at kept.anatomy.version r) bucket named_it.3) in
+      let one = ap (λ (kind : Spec). keyed kind key c.marks) of_it.same ∙ keyed_one r.spec c.marks bucket lawful bucketed of_it.marks within in
+      let ledger = kept.balanced.marks known.name key in
+      omega (arith, all, packed, one, ledger)
+
+  -- the count that was loaded is at most what was counted
+  least_is : least ≤ tally_units (all_counted state.actors) known.name key
+  least_is =
+      let fits = kept.each id a mine lives in
+      let now = counter_now shape opened state kept _ (All-contains (WasCounter kept.anatomy.pieces) a.seen.counts _ fits.sees.counters stood.2) in
+      let word = marks_there.8 in
+      let (refers, mounts) = counts_was shape opened state kept look.histogram look.counts r has
+      (All-contains (WasFixed kept.anatomy.pieces) a.seen.words _ fits.sees.fixed (off.0.counts off.1)) in
+      let whole = whole_mounted shape opened state kept known.name r.spec look.histogram r named_it.0 has named_it.1 refl bucket within c
+      (subst (λ (n : ℕ). HasCounts kept.anatomy.pieces n c) (sym refers) mounted) of_it in
+      omega (arith, now, word, whole)
+
+  few : taken_units (all_taken state.actors) known.name key + (least - m) ≤ tally_units (all_counted state.actors) known.name key
+  few =
+      let taken = taken_is in
+      let most = kept.balanced.taken known.name key in
+      let bound = least_is in
+      omega (arith, taken, most, bound)
+
+  -- ---- the mark rises
+
+  abbrev more : Counts
+  more = marked c bucket (least - m) low
+
+  abbrev v : ℕ
+  v = m + (least - m)
 
   abbrev i : ℕ
   i = 4 + (length c.units + bucket)
 
-  pub mark_now : word_at state.words (look.counts + (4 + (length c.units + bucket))) ≡ slice_index c.marks bucket
-  mark_now =
-      let low = the_marks.5 in
-      let four : 4 + (length c.units + bucket) ≡ 4 + length c.units + bucket = omega arith in
-      body_word shape opened state kept look.counts i (counts c) the_marks.3 (counter_within (counts c) i (omega arith, omega (arith, low)))
-      ∙ (ap (slice_index (counts_words c)) four ∙ mark_in c bucket low)
+  abbrev turns : Turns kept.anatomy.version (counts c) (counts more) i v
+  turns = marked_turns c bucket (least - m) low kept.anatomy.version
 
-  -- ---- it sees the mark
+  abbrev front : List Taken
+  front = takes.3.0
 
-  module _ (at : ℕ) (spot : at ≡ look.counts + (4 + (length c.units + bucket))) where
-    abbrev z : Sighting
-    z = record { at = at; word = word_at state.words at }
+  abbrev last : Taken
+  last = takes.3.1
 
-    abbrev saw : Seen
-    saw = record a.seen { counts = a.seen.counts ++ z ∷ [] }
+  marks_more : (name : List ℕ) (other : ℤ) → marks_held kept.anatomy.version name other (counts more)
+      ≡ marks_held kept.anatomy.version name other (counts c) + of_name known.name name (if int_eq key other then least - m else 0)
+  marks_more name other =
+      ap (of_name c.name name) (keyed_risen c.spec other c.marks bucket (least - m) low)
+      ∙ (by_name (bytes_eq c.name name)
+      ∙ ap (λ (n : ℕ). of_name c.name name (keyed c.spec other c.marks) + n)
+      (λ j. of_name ((of_it.named ∙ named_it.1) j) name (if int_eq (key_of_bucket (of_it.same j) bucket) other then least - m else 0)))
+    where
+      by_name : (b : Bool) → (if b then keyed c.spec other c.marks + (if int_eq (key_of_bucket c.spec bucket) other then least - m else 0) else 0)
+          ≡ (if b then keyed c.spec other c.marks else 0) + (if b then (if int_eq (key_of_bucket c.spec bucket) other then least - m else 0) else 0)
+      by_name true = refl
+      by_name false = refl
 
-    used : WasInUse kept.anatomy.pieces z
-    used other k d there is from inside =
-        let low = the_marks.5 in
-        let long = length-append d.units d.marks in
-        let all = length-append (d.units ++ d.marks) d.rest in
-        let (place, bodies, index) = same_block shape opened state kept look.counts other i k (counts c) (counts d) the_marks.3 there
-        (counter_within (counts c) i (omega arith, omega (arith, low))) (omega (arith, inside, long, all)) (sym spot ∙ is) in
-        let same : c ≡ d = cc bodies in
-        (the_marks.0, subst (λ (n : ℕ). HasRecord kept.anatomy.pieces n the_marks.0) (sym the_marks.4.mine ∙ ap (λ (c : Counts). c.of) same) the_marks.2, the_marks.7)
+  abbrev d : Actor
+  d = b shape opened state kept look.counts (counts c) (counts more) i v mounted turns id a mine recorder lives known takes.0 front last takes.3.2 takes.3.3 key least m
+      (Looking look)
 
-    no_sample : {X : Type 0} (other k : ℕ) (x : Sample) → HasSample kept.anatomy.pieces other x → at ≡ other + k → k < 8 → X
-    no_sample other k x is_sample same few =
-        let low = the_marks.5 in
-        let (place, bodies, index) = same_block shape opened state kept look.counts other i k (counts c) (sample x) the_marks.3 is_sample
-        (counter_within (counts c) i (omega arith, omega (arith, low))) (omega (arith, few)) (sym spot ∙ same) in
-        absurd (cc bodies)
+  abbrev between : State
+  between = record { words = set state.words (look.counts + i) v; cursors = state.cursors; actors = set state.actors id d }
 
-    -- so the state is kept where it sees that mark and looks on
-    pub mark_seen : Invariant shape opened (record {
-      words = state.words;
-      cursors = state.cursors;
-      actors = set state.actors id (seer a (Looking look) saw a.given a.lost);
-    })
-    mark_seen =
-        let lives : a.place ≢ Spent = λ spent. cc (unbound, ap is_bound spent) in
-        let still : (look : Look) (bucket units : ℕ) → a.place ≢ Moving look bucket units = λ look bucket units moving. cc (unbound, ap is_bound moving) in
-        let fits = kept.each id a mine lives in
-        let low = the_marks.5 in
-        let right = off.0 in
-        sees_on shape opened state kept id a mine recorder (Looking look) a.seen.singles (a.seen.counts ++ z ∷ []) unbound refl
-        (λ name key. sym (rests_at a name key a.place still))
-        (near_on shape opened state kept id a mine recorder (Looking look) saw a.given a.lost lives (λ spent. cc spent)
-        (λ name key. sym (rests_at a name key a.place still)) (λ reference sum is. absurd (cc is)))
-        fits.sees.singles
-        (All-push (WasCounter kept.anatomy.pieces) a.seen.counts z fits.sees.counters
-        (counter_is shape opened state kept at look.counts i (counts c) the_marks.3 (omega arith, omega (arith, low)) spot))
-        (All-push (WasInUse kept.anatomy.pieces) a.seen.counts z fits.sees.in_use used)
-        (All-push (WasMet kept.anatomy.pieces a.seen) a.seen.counts z fits.sees.met (λ other x is_sample which. ⊎_elim
-        (λ six. no_sample other 6 x is_sample six (omega arith))
-        (λ seven. no_sample other 7 x is_sample seven (omega arith))
-        which))
-        (record { known = right.known; knows = right.knows; single = right.single; counts = right.counts })
-        (looks_count shape opened state kept id a mine recorder lives at (Looking look) a.given still (λ reference sum is. absurd (cc is)))
+  kept_between : Invariant shape opened between
+  kept_between = takes_kept shape opened state kept look.counts (counts c) (counts more) i v mounted turns id a mine recorder lives known takes.0 front last takes.3.2
+      takes.3.3 key least m (Looking look) (record {
+        records = counts_kept shape opened state kept look.counts c more i v mounted turns refl (λ at z there refers is.
+            let owner : at ≡ look.histogram = sym is.mine ∙ of_it.mine in
+            let same = one_record shape opened state kept look.histogram z r (subst (λ (n : ℕ). HasRecord kept.anatomy.pieces n z) owner there) has in
+            marked_counts c bucket (least - m) low kept.anatomy.version at z (ap (λ (w : Record). is_off w.single) same ∙ marks_there.7)
+            (λ packs. named_it.3 (sym (ap (λ (w : Record). packed_bucket (form_at kept.anatomy.version w)) same) ∙ packs)) is);
+        units = λ name other. refl;
+        marks = marks_more;
+        amounts = λ name. (refl, refl, refl);
+        sums = λ at s there. ⊎_elim
+            (λ t. (s, t.0, refl, refl, refl))
+            (λ t. absurd (cc t.1))
+            (came_from shape opened state kept look.counts (counts c) (counts more) i v mounted turns at none (histogram s) there);
+        few = few;
+        keyed = (r.spec, look.histogram, named_it.0, inl (bucket, within, refl));
+        lives = λ spent. cc spent;
+        no_sum = λ reference sum is. cc is;
+        still = (λ other bucket units moving. cc (sym placed ∙ moving), λ other bucket units moving. cc moving);
+        stood = record { known = off.0.known; knows = off.0.knows; single = off.0.single; counts = off.0.counts };
+        up = λ free. subst (λ (p : Place). is_beaten p ≡ false) (sym placed) refl;
+      })
+
+  mine_between : get_elem? between.actors id ≡ some d
+  mine_between = set_at state.actors id a d mine
+
+  off_between : LoadedOff d look
+  off_between = (record { known = off.0.known; knows = off.0.knows; single = off.0.single; counts = off.0.counts }, off.1, off.2)
+
+  abbrev at : ℕ
+  at = look.counts + 4 + buckets_of known.spec + bucket
+
+  spot : at ≡ look.counts + i
+  spot = let many = named_it.2 in let units = of_it.units in omega (arith, many, units)
+
+  there : look.counts + i < length state.words
+  there = word_within shape opened state kept look.counts i (counts c) mounted refl (let below = low in counter_within (counts c) i (omega arith, omega (arith, below)))
+
+  found_is : word_at state.words at ≡ m
+  found_is = ap (word_at state.words) spot ∙ mark_now shape opened state kept id a mine recorder (ap is_bound placed) look off bucket stood.1

@@ -1,5 +1,5 @@
 -- A delta goes on, which is the last of its actor: what was taken, and that final deltas and snapshots are as exact as they were.
-use Rattle.std.proofs.Common.{◌≡◌, ◌≢◌, ◌⊎◌, ℕ, ◌+◌, ◌-◌, ◌<◌, ◌≤◌, ℤ, pos, ◌+ℤ◌, Bool, true, false, List, [], ◌∷◌, ◌++◌, length, take, set, Contains, inl, inr, ⊎_elim, refl, sym, ap, ◌∙◌, subst, arith}
+use Rattle.std.proofs.Common.{◌≡◌, ◌⊎◌, ℕ, ◌+◌, ◌-◌, ◌<◌, ◌≤◌, ℤ, pos, ◌+ℤ◌, Bool, true, false, List, [], ◌∷◌, ◌++◌, length, take, Contains, inl, inr, ⊎_elim, refl, sym, ap, ◌∙◌, subst, arith}
 use Rattle.std.specs.Prelude.{if◌then◌else◌}
 use Rattle.std.specs.Str.{bytes_eq}
 use Rattle.std.proofs.Math.IntN.{+ℤ_assoc, +ℤ_idl}
@@ -7,7 +7,6 @@ use Rattle.std.proofs.Math.Seq.{take-append_seam}
 use Rattle.std.proofs.lemmas.List.{length_push, same_from_push}
 use Rattle.std.proofs.lemmas.List.Elements.{Contains-append_cases, Contains-append_left, Contains-append_right}
 use Rattle.std.proofs.lemmas.List.Sums.{sum_by_push}
-use mathlib.Core.Option.{some}
 use lib.ListN.{get_elem?}
 use Rattle.segment_machine.specs.declared.actor.Actor.{Actor}
 use Rattle.segment_machine.specs.declared.actor.Moment.{Moment}
@@ -25,11 +24,10 @@ use Rattle.segment_invariant.specs.Seen.{IsFirst, IsFirstOf}
 use Rattle.segment_invariant.specs.Ledger.{of_name, amount_of_name}
 use Rattle.segment_invariant.specs.Invariant.{ended_deltas, IsAlone, IsMoment, IsMomentOf, CallsRight, RolesAreKept, FinalsAreExact}
 use Rattle.segment_invariant.proofs.Lists.Elements.{one_in}
-use Rattle.segment_invariant.proofs.Lists.FewTerms.{if_nothing}
 use Rattle.segment_invariant.proofs.Lists.Sums.{amounts_total}
 use Rattle.segment_invariant.proofs.Notes.Amounts.{last_changed}
 use Rattle.segment_invariant.proofs.Frames.Roles.{AllStood}
-use Rattle.segment_invariant.proofs.Frames.Together.{IsLater, moment, ended_began}
+use Rattle.segment_invariant.proofs.Frames.Together.{moment, ended_began}
 use Rattle.segment_invariant.proofs.Changes.Others.{Deed, deed_of, changed, is_later, alone_was}
 
 -- the last of a list of what was taken goes on, and keeps its name and its moment

@@ -1,62 +1,37 @@
 -- A mark of a counts block rises: the block goes on. What a recorder knows of a mark that has loaded a count, and that it sees the mark.
-use Rattle.std.proofs.Common.{◌≡◌, ◌≢◌, Bool, true, false, if◌then◌else◌, ℕ, suc, ◌+◌, ◌-◌, max, ◌<◌, ◌≤◌, ℤ, List, [], ◌∷◌, ◌++◌, length, set, Option, Some, Contains, inl, inr, ⊎_elim, refl, sym, ap, ◌∙◌, subst, arith, length-append, length-set}
+use Rattle.std.proofs.Common.{◌≡◌, ◌≢◌, true, false, ℕ, suc, ◌+◌, ◌-◌, ◌<◌, ◌≤◌, List, [], ◌∷◌, ◌++◌, length, set, Some, ⊎_elim, refl, sym, ap, ◌∙◌, subst, arith, length-append, length-set}
 use Rattle.std.specs.Prelude.{slice_index}
-use Rattle.std.specs.Ordering.{int_eq}
-use Rattle.std.specs.Str.{bytes_eq}
-use Rattle.std.proofs.lemmas.List.{set-set, get_or-set_same, get_or-set_other, set-append_left, set-append_right}
+use Rattle.std.proofs.lemmas.List.{get_or-set_same, get_or-set_other, set-append_left, set-append_right}
 use Rattle.std.proofs.lemmas.List.Elements.{All-contains, All-push}
 use mathlib.Core.Logic.{dite}
-use mathlib.Core.Option.{some, none}
+use mathlib.Core.Option.{some}
 use native.Mathlib.Decide.{ℕ_discrete}
 use lib.ListN.{get_elem?}
-use Rattle.alloc_core.proofs.Owners.{set_at}
 use Rattle.segment_image.specs.Shape.{Dimensions}
 use Rattle.segment_image.specs.Words.{word_at}
-use Rattle.bucket_ranges.specs.declared.spec.Spec.{Spec}
-use Rattle.bucket_ranges.specs.declared.single.SingleWord.{SingleWord}
 use Rattle.bucket_ranges.specs.Spec.{buckets_of}
-use Rattle.bucket_ranges.specs.Single.{single_of, packed_bucket, is_packed_bucket}
+use Rattle.bucket_ranges.specs.Single.{packed_bucket}
 use Rattle.segment_machine.specs.declared.actor.Actor.{Actor}
-use Rattle.segment_machine.specs.declared.actor.Known.{Known}
-use Rattle.segment_machine.specs.declared.actor.Taken.{Taken}
 use Rattle.segment_machine.specs.declared.place.Look.{Look}
-use Rattle.segment_machine.specs.declared.place.Place.{Place}
-use Rattle.segment_machine.specs.declared.place.Place.TheVariants.{Spent, Looking, CountLoaded, SumLoaded, Moving}
+use Rattle.segment_machine.specs.declared.place.Place.TheVariants.{Spent, Looking, Moving}
 use Rattle.segment_machine.specs.declared.seen.Seen.{Seen}
 use Rattle.segment_machine.specs.declared.seen.Sighting.{Sighting}
-use Rattle.segment_machine.specs.Actor.{is_bound, bucket_key, known_at, known_buckets, all_counted, all_taken, taken_units}
-use Rattle.segment_machine.specs.Calls.{back, change_last, form_seen}
-use Rattle.segment_machine.specs.Entry.{tally_units}
-use Rattle.segment_machine.specs.Event.{taking_event}
+use Rattle.segment_machine.specs.Actor.{is_bound}
 use Rattle.segment_machine.specs.Form.{is_off}
 use Rattle.segment_machine.specs.State.{State}
-use Rattle.segment_machine.specs.Taking.{raise_mark, take_units, Takes}
-use Rattle.segment_invariant.specs.Body.{Record, Counts, Sample, histogram, counts, sample, counts_words, Anatomy}
-use Rattle.segment_invariant.specs.Ledger.{of_name, form_at, key_of_bucket, keyed, at_bucket, marks_held}
-use Rattle.segment_invariant.specs.Seen.{HasRecord, HasCounts, HasSample, IsFirst, WasFixed, WasCounter, WasInUse, WasSingle, WasMet}
-use Rattle.segment_invariant.specs.Invariant.{IsCountsOf, LooksRight, LoadedOff, StandsRight, Invariant, is_beaten}
-use Rattle.segment_invariant.proofs.Lists.Elements.{at_from}
+use Rattle.segment_invariant.specs.Body.{Record, Counts, Sample, counts, sample, counts_words, Anatomy}
+use Rattle.segment_invariant.specs.Ledger.{form_at}
+use Rattle.segment_invariant.specs.Seen.{HasRecord, HasCounts, HasSample, WasCounter, WasInUse, WasSingle, WasMet}
+use Rattle.segment_invariant.specs.Invariant.{IsCountsOf, LoadedOff, Invariant}
 use Rattle.segment_invariant.proofs.Blocks.Places.{counter_within}
-use Rattle.segment_invariant.proofs.Consistency.Books.{marks_book, keyed_one, bucket_mounted}
-use Rattle.segment_invariant.proofs.Consistency.Keys.{packed_within, packed_mark}
-use Rattle.segment_invariant.proofs.Consistency.Marks.{packed_is}
-use Rattle.segment_invariant.proofs.Consistency.Totals.{find_known}
-use Rattle.segment_invariant.proofs.Frames.GoesOn.{happens}
 use Rattle.segment_invariant.proofs.Frames.Leads.{off_leads}
 use Rattle.segment_invariant.proofs.Frames.OneActor.{rests_at}
 use Rattle.segment_invariant.proofs.Frames.SeesMore.{seer, near_on}
-use Rattle.segment_invariant.proofs.Frames.Shown.{Goes}
-use Rattle.segment_invariant.proofs.Changes.Counts.{keyed_risen}
-use Rattle.segment_invariant.proofs.Changes.Records.{counts_kept}
-use Rattle.segment_invariant.proofs.Changes.Words.{Turns, came_from}
-use Rattle.segment_invariant.proofs.Counting.Bounds.{counted_fits}
+use Rattle.segment_invariant.proofs.Changes.Words.{Turns}
 use Rattle.segment_invariant.proofs.Counting.CountSeen.{the_counts}
-use Rattle.segment_invariant.proofs.Counting.Held.{not_sparse}
-use Rattle.segment_invariant.proofs.Counting.Looks.{knows_of, one_record, same_block, body_word, single_now, counter_now, counts_was, looks_count}
+use Rattle.segment_invariant.proofs.Counting.Looks.{same_block, body_word, single_now, looks_count}
 use Rattle.segment_invariant.proofs.Counting.Seen.{mark_in}
-use Rattle.segment_invariant.proofs.Counting.Sights.{word_within, counter_is, sees_on}
-use Rattle.segment_invariant.proofs.Counting.Whole.{whole_mounted}
-use Rattle.segment_invariant.proofs.Taking.Takes.{deed, b, takes_kept}
+use Rattle.segment_invariant.proofs.Counting.Sights.{counter_is, sees_on}
 
 -- ---- the block
 

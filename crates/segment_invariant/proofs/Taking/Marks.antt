@@ -1,13 +1,11 @@
 -- The mark of a bucket is raised to the count that was loaded: the invariant is kept, with what is learned.
-use Rattle.std.proofs.Common.{◌≡◌, ◌≢◌, Bool, true, false, if◌then◌else◌, ℕ, suc, ◌+◌, ◌-◌, max, ◌<◌, ◌≤◌, ℤ, List, [], ◌∷◌, ◌++◌, length, set, Option, Some, Contains, inl, inr, ⊎_elim, refl, sym, ap, ◌∙◌, subst, arith, length-append, length-set}
+use Rattle.std.proofs.Common.{◌≡◌, ◌≢◌, Bool, true, false, if◌then◌else◌, ℕ, ◌+◌, ◌-◌, max, ◌<◌, ◌≤◌, ℤ, List, [], ◌∷◌, ◌++◌, length, set, Option, Some, inl, ⊎_elim, refl, sym, ap, ◌∙◌, subst, arith}
 use Rattle.std.specs.Prelude.{slice_index}
 use Rattle.std.specs.Ordering.{int_eq}
 use Rattle.std.specs.Str.{bytes_eq}
-use Rattle.std.proofs.lemmas.List.{set-set, get_or-set_same, get_or-set_other, set-append_left, set-append_right}
-use Rattle.std.proofs.lemmas.List.Elements.{All-contains, All-push}
-use mathlib.Core.Logic.{dite}
+use Rattle.std.proofs.lemmas.List.{set-set, get_or-set_same}
+use Rattle.std.proofs.lemmas.List.Elements.{All-contains}
 use mathlib.Core.Option.{some, none}
-use native.Mathlib.Decide.{ℕ_discrete}
 use lib.ListN.{get_elem?}
 use Rattle.alloc_core.proofs.Owners.{set_at}
 use Rattle.segment_image.specs.Shape.{Dimensions}
@@ -21,20 +19,18 @@ use Rattle.segment_machine.specs.declared.actor.Known.{Known}
 use Rattle.segment_machine.specs.declared.actor.Taken.{Taken}
 use Rattle.segment_machine.specs.declared.place.Look.{Look}
 use Rattle.segment_machine.specs.declared.place.Place.{Place}
-use Rattle.segment_machine.specs.declared.place.Place.TheVariants.{Spent, Looking, CountLoaded, SumLoaded, Moving}
-use Rattle.segment_machine.specs.declared.seen.Seen.{Seen}
-use Rattle.segment_machine.specs.declared.seen.Sighting.{Sighting}
+use Rattle.segment_machine.specs.declared.place.Place.TheVariants.{Spent, Looking, CountLoaded}
 use Rattle.segment_machine.specs.Actor.{is_bound, bucket_key, known_at, known_buckets, all_counted, all_taken, taken_units}
 use Rattle.segment_machine.specs.Calls.{back, change_last, form_seen}
 use Rattle.segment_machine.specs.Entry.{tally_units}
 use Rattle.segment_machine.specs.Event.{taking_event}
 use Rattle.segment_machine.specs.Form.{is_off}
 use Rattle.segment_machine.specs.State.{State}
-use Rattle.segment_machine.specs.Taking.{raise_mark, take_units, Takes}
-use Rattle.segment_invariant.specs.Body.{Record, Counts, Sample, histogram, counts, sample, counts_words, Anatomy}
-use Rattle.segment_invariant.specs.Ledger.{of_name, form_at, key_of_bucket, keyed, at_bucket, marks_held}
-use Rattle.segment_invariant.specs.Seen.{HasRecord, HasCounts, HasSample, IsFirst, WasFixed, WasCounter, WasInUse, WasSingle, WasMet}
-use Rattle.segment_invariant.specs.Invariant.{IsCountsOf, LooksRight, LoadedOff, StandsRight, Invariant, is_beaten}
+use Rattle.segment_machine.specs.Taking.{raise_mark, take_units, taken_key, Takes}
+use Rattle.segment_invariant.specs.Body.{Record, Counts, histogram, counts, Anatomy}
+use Rattle.segment_invariant.specs.Ledger.{of_name, form_at, key_of_bucket, keyed, marks_held}
+use Rattle.segment_invariant.specs.Seen.{HasRecord, HasCounts, IsFirst, WasFixed, WasCounter}
+use Rattle.segment_invariant.specs.Invariant.{IsCountsOf, LoadedOff, StandsRight, Invariant, is_beaten}
 use Rattle.segment_invariant.proofs.Lists.Elements.{at_from}
 use Rattle.segment_invariant.proofs.Blocks.Places.{counter_within}
 use Rattle.segment_invariant.proofs.Consistency.Books.{marks_book, keyed_one, bucket_mounted}
@@ -42,21 +38,17 @@ use Rattle.segment_invariant.proofs.Consistency.Keys.{packed_within, packed_mark
 use Rattle.segment_invariant.proofs.Consistency.Marks.{packed_is}
 use Rattle.segment_invariant.proofs.Consistency.Totals.{find_known}
 use Rattle.segment_invariant.proofs.Frames.GoesOn.{happens}
-use Rattle.segment_invariant.proofs.Frames.Leads.{off_leads}
-use Rattle.segment_invariant.proofs.Frames.OneActor.{rests_at}
-use Rattle.segment_invariant.proofs.Frames.SeesMore.{seer, near_on}
+use Rattle.segment_invariant.proofs.Frames.SeesMore.{seer}
 use Rattle.segment_invariant.proofs.Frames.Shown.{Goes}
 use Rattle.segment_invariant.proofs.Changes.Counts.{keyed_risen}
 use Rattle.segment_invariant.proofs.Changes.Records.{counts_kept}
 use Rattle.segment_invariant.proofs.Changes.Words.{Turns, came_from}
 use Rattle.segment_invariant.proofs.Counting.Bounds.{counted_fits}
-use Rattle.segment_invariant.proofs.Counting.CountSeen.{the_counts}
 use Rattle.segment_invariant.proofs.Counting.Held.{not_sparse}
-use Rattle.segment_invariant.proofs.Counting.Looks.{knows_of, one_record, same_block, body_word, single_now, counter_now, counts_was, looks_count}
-use Rattle.segment_invariant.proofs.Counting.Seen.{mark_in}
-use Rattle.segment_invariant.proofs.Counting.Sights.{word_within, counter_is, sees_on}
+use Rattle.segment_invariant.proofs.Counting.Looks.{knows_of, one_record, counter_now, counts_was}
+use Rattle.segment_invariant.proofs.Counting.Sights.{word_within}
 use Rattle.segment_invariant.proofs.Counting.Whole.{whole_mounted}
-use Rattle.segment_invariant.proofs.Taking.Takes.{deed, b, takes_kept}
+use Rattle.segment_invariant.proofs.Taking.Takes.{b, takes_kept}
 use Rattle.segment_invariant.proofs.Taking.MarkWords.{marked, marked_turns, marked_counts, TheMarks, the_marks, mark_now, mark_seen}
 
 not_packed : (form : Option SingleWord) (i : ℕ) → packed_bucket form ≢ Some i → is_packed_bucket form i ≡ false
@@ -239,7 +231,7 @@ module _ (shape : Dimensions) (opened : Anatomy) (state : State) (kept : Invaria
   mine_between : get_elem? between.actors id ≡ some d
   mine_between = set_at state.actors id a d mine
 
-  off_between : LoadedOff d look
+  abbrev off_between : LoadedOff d look
   off_between = (record { known = off.0.known; knows = off.0.knows; single = off.0.single; counts = off.0.counts }, off.1, off.2)
 
   abbrev at : ℕ
@@ -253,3 +245,64 @@ module _ (shape : Dimensions) (opened : Anatomy) (state : State) (kept : Invaria
 
   found_is : word_at state.words at ≡ m
   found_is = ap (word_at state.words) spot ∙ mark_now shape opened state kept id a mine recorder (ap is_bound placed) look off bucket stood.1
+
+  -- ---- what it leaves
+
+  word_between : word_at between.words at ≡ v
+  word_between = ap (word_at between.words) spot ∙ get_or-set_same state.words (look.counts + i) v 0 there
+
+  spot_between : at ≡ look.counts + (4 + (length (the_marks shape opened between kept_between id d mine_between recorder refl look off_between bucket stood.1).1.units + bucket))
+  spot_between =
+      let its = the_marks shape opened between kept_between id d mine_between recorder refl look off_between bucket stood.1 in
+      let (q, first, stands, named, many, keys) = knows_of shape opened between kept_between id d mine_between recorder (λ spent. cc spent) known takes.1 in
+      let same = one_record shape opened between kept_between look.histogram q its.0
+      (subst (λ (n : ℕ). HasRecord kept_between.anatomy.pieces n q) takes.2 stands) its.2 in
+      let kind = ap (λ (z : Record). buckets_of z.spec) same in
+      let units = its.4.units in
+      omega (arith, many, kind, units)
+
+  left : Invariant shape opened (record {
+    words = between.words;
+    cursors = state.cursors;
+    actors = set between.actors id (seer d (Looking look) (record a.seen { counts = a.seen.counts ++ record { at = at; word = word_at between.words at } ∷ [] }) a.given a.lost);
+  })
+  left = mark_seen shape opened between kept_between id d mine_between recorder refl look off_between bucket stood.1 at spot_between
+
+  carry : v ≡ max (word_at state.words at) least
+  carry = greater m least ∙ ap (λ (n : ℕ). max n least) (sym found_is)
+    where
+      greater : (x y : ℕ) → x + (y - x) ≡ max x y
+      greater x y = omega arith
+
+  key_is : key ≡ taken_key a a.place
+  key_is = sym (ap (taken_key a) placed ∙ named_it.4)
+
+  raised_at : Goes shape opened state kept id a mine recorder (taking_event (raise_mark at least))
+  raised_at = happens opened.version state id a (taking_event (raise_mark at least)) (let below = there in omega (arith, spot, below)) shape opened (
+    subst (λ (p : List ℕ × List Actor). Invariant shape opened (record { words = p.0; cursors = state.cursors; actors = p.1 }))
+        (λ i. (
+          set state.words (sym spot i) (carry i),
+          (set-set state.actors id d (seer d (Looking look) (record a.seen { counts = a.seen.counts ++ record { at = at; word = word_at between.words at } ∷ [] }) a.given a.lost)
+              ∙ (λ j. set state.actors id (record a {
+                place = (sym (ap back placed)) j;
+                taken = change_last (take_units (key_is j) least (sym found_is j)) a.taken;
+                seen = record a.seen { counts = a.seen.counts ++ record { at = at; word = (word_between ∙ carry) j } ∷ [] };
+              }))) i,
+        )) left,
+    (let taken = taken_is in let most = kept.balanced.taken known.name key in let bound = counted_fits shape opened state kept known.name key in
+        omega (arith, found_is, taken, most, bound)),
+  )
+
+-- A mark of a bucket that is not the packed one is raised
+abbrev pub RaisesBucket : Actor → ℕ → ℕ → Type 0
+RaisesBucket a at least =
+    (look : Look) × (known : Known) × (bucket word : ℕ) × (a.place ≡ CountLoaded look bucket least) × Takes a look.histogram known × (look.single ≡ Some word)
+    × (packed_bucket (form_seen a look.histogram word) ≢ Some bucket) × (at ≡ look.counts + 4 + buckets_of known.spec + bucket)
+
+-- so what holds is kept
+pub bucket_raised : (shape : Dimensions) (opened : Anatomy) (state : State) (kept : Invariant shape opened state) (id : ℕ) (a : Actor)
+    (mine : get_elem? state.actors id ≡ some a) (recorder : a.opener ≡ 0) (place least : ℕ) → RaisesBucket a place least
+    → Goes shape opened state kept id a mine recorder (taking_event (raise_mark place least))
+bucket_raised shape opened state kept id a mine recorder place least (look, known, bucket, word, placed, takes, single_is, apart, is) =
+    subst (λ (n : ℕ). Goes shape opened state kept id a mine recorder (taking_event (raise_mark n least))) (sym is)
+    (raised_at shape opened state kept id a mine recorder look known bucket least word placed takes single_is apart)

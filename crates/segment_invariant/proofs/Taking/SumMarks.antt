@@ -46,6 +46,7 @@ use Rattle.segment_invariant.proofs.Changes.Others.{Deed, deed_of, changed, look
 use Rattle.segment_invariant.proofs.Changes.Records.{record_kept}
 use Rattle.segment_invariant.proofs.Changes.Words.{Turns, behind, came_from, turned_onward, sees_turned, turned_on}
 use Rattle.segment_invariant.proofs.Consistency.Sums.{sum_is, sum_mark_is}
+use Rattle.segment_invariant.proofs.Notes.Amounts.{last_changed}
 use Rattle.segment_invariant.proofs.Counting.Bounds.{sum_fits, sums_fit}
 use Rattle.segment_invariant.proofs.Counting.Looks.{knows_of, body_word}
 use Rattle.segment_invariant.proofs.Counting.Seen.{known_stands}
@@ -53,12 +54,6 @@ use Rattle.segment_invariant.proofs.Counting.Sights.{word_within}
 use Rattle.std.proofs.lemmas.Grind.{flat_map-append}
 
 -- ---- lists and amounts
-
--- the last of a list is changed
-changed_last : {X : Type 0} (f : X → X) (front : List X) (x : X) → change_last f (front ++ x ∷ []) ≡ front ++ f x ∷ []
-changed_last f [] x = refl
-changed_last f (y ∷ []) x = refl
-changed_last f (y ∷ z ∷ zs) x = ap (λ list. y ∷ list) (changed_last f (z ∷ zs) x)
 
 -- what is before the last
 before_last : {X : Type 0} (front : List X) (x : X) → take (length (front ++ x ∷ []) - 1) (front ++ x ∷ []) ≡ front
@@ -452,7 +447,7 @@ sum_mark_swapped h sum shape opened state id a kept mine recorder (known, (takin
       })) (λ i. (
         refers i,
         sym (ap (change_last (swap_sum sum (cast_signed w64 (word_at state.words (h + 12))))) taken_is
-            ∙ (changed_last (swap_sum sum (cast_signed w64 (word_at state.words (h + 12)))) front last
+            ∙ (last_changed (swap_sum sum (cast_signed w64 (word_at state.words (h + 12)))) front last
             ∙ ap (λ (n : ℕ). front ++ swap_sum sum (cast_signed w64 n) last ∷ []) found)) i,
       )) (sum_marked shape opened state kept id a mine recorder sum known has taking front last taken_is named here),
       (

@@ -1,5 +1,5 @@
 -- A mark rises, and the delta of its recorder takes the units between: what was taken of a key, and the state that is left.
-use Rattle.std.proofs.Common.{◌≡◌, ◌≢◌, ◌⊎◌, ℕ, ◌+◌, ◌-◌, ◌<◌, ◌≤◌, ℤ, pos, ◌+ℤ◌, Bool, true, false, nat_lt, if◌then◌else◌, List, [], ◌∷◌, ◌++◌, set, Contains, inl, inr, ⊎_elim, refl, sym, ap, ◌∙◌, subst, arith}
+use Rattle.std.proofs.Common.{◌≡◌, ◌≢◌, ◌⊎◌, ℕ, ◌+◌, ◌-◌, ◌≤◌, ℤ, pos, ◌+ℤ◌, Bool, true, false, nat_lt, if◌then◌else◌, List, [], ◌∷◌, ◌++◌, set, Contains, inl, inr, ⊎_elim, refl, sym, ap, ◌∙◌, subst, arith}
 use Rattle.std.specs.Str.{bytes_eq}
 use Rattle.std.specs.Ordering.{int_eq}
 use Rattle.std.proofs.Math.IntN.{+ℤ_idr}
@@ -18,15 +18,14 @@ use Rattle.segment_machine.specs.declared.actor.Taken.{Taken}
 use Rattle.segment_machine.specs.declared.place.Look.{Look}
 use Rattle.segment_machine.specs.declared.place.Place.{Place}
 use Rattle.segment_machine.specs.declared.place.Place.TheVariants.{Spent, SumLoaded, Moving}
-use Rattle.segment_machine.specs.Calls.{change_last}
-use Rattle.segment_machine.specs.Entry.{tally_units, tally_sum, tally_noted}
+use Rattle.segment_machine.specs.Entry.{tally_units}
 use Rattle.segment_machine.specs.Actor.{counted_of, summed_of, noted_of, units_listed, taken_units, taken_sum, all_counted, all_summed, all_noted, all_taken}
 use Rattle.segment_machine.specs.State.{State}
 use Rattle.segment_machine.specs.Taking.{take_units}
 use Rattle.segment_invariant.specs.Body.{Body, Anatomy}
 use Rattle.segment_invariant.specs.Ledger.{of_name, amount_of_name, units_held, marks_held, sum_held, sum_mark_held, noted_held}
 use Rattle.segment_invariant.specs.Seen.{Stands}
-use Rattle.segment_invariant.specs.Invariant.{RecordsAreKept, StandsRight, IsAlone, summed_cost, HasKey, Invariant}
+use Rattle.segment_invariant.specs.Invariant.{RecordsAreKept, StandsRight, summed_cost, HasKey, Invariant}
 use Rattle.segment_invariant.proofs.Lists.Elements.{rows, row_in, one_in, none_in, sum_same}
 use Rattle.segment_invariant.proofs.Lists.Sums.{amounts_total}
 use Rattle.segment_invariant.proofs.Frames.Ahead.{KeepsUp}

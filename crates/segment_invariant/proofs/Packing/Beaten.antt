@@ -18,16 +18,64 @@ use Rattle.segment_machine.specs.Calls.{look_of}
 use Rattle.segment_machine.specs.Form.{off_word}
 use Rattle.segment_machine.specs.Packing.{pack, disable, after_pack, after_disable}
 use Rattle.segment_machine.specs.State.{State}
-use Rattle.segment_invariant.specs.Body.{Record, histogram, Anatomy}
+use Rattle.segment_invariant.specs.Body.{Record, histogram, Anatomy, order_of}
+use Rattle.segment_invariant.specs.Ledger.{moving_at}
 use Rattle.segment_invariant.specs.Seen.{HasRecord, WasSingle}
 use Rattle.segment_invariant.specs.Invariant.{StandsRight, Invariant}
 use Rattle.segment_invariant.proofs.Frames.GoesOn.{happens}
 use Rattle.segment_invariant.proofs.Frames.OneActor.{rests_at}
-use Rattle.segment_invariant.proofs.Frames.SeesMore.{seer, near_on}
+use Rattle.segment_invariant.proofs.Frames.Ahead.{KeepsUp, ahead_at, unbound_unbeaten}
+use Rattle.segment_invariant.proofs.Frames.SeesMore.{seer, calls_more, later_itself, near_on, given_on, sees_more}
 use Rattle.segment_invariant.proofs.Frames.Shown.{Goes, loaded}
 use Rattle.segment_invariant.proofs.Counting.Looks.{knows_of, body_word, looks_single}
-use Rattle.segment_invariant.proofs.Counting.Sights.{word_within, sees_on}
+use Rattle.segment_invariant.proofs.Counting.Sights.{word_within}
 use Rattle.segment_invariant.proofs.Packing.Loads.{look_right, learns_single}
+
+module _ (shape : Dimensions) (opened : Anatomy) (state : State) (kept : Invariant shape opened state) (id : ℕ) (a : Actor)
+    (mine : get_elem? state.actors id ≡ some a) (recorder : a.opener ≡ 0) (lived : a.place ≢ Spent) (h : ℕ) (known : Known) (buckets : Buckets a h known) where
+  abbrev sight_more : ℕ → Seen
+  sight_more word = record a.seen { singles = a.seen.singles ++ record { at = h + 9; word = word } ∷ [] }
+
+  abbrev with_sight : Place → ℕ → Actor
+  with_sight place word = seer a place (sight_more word) a.given a.lost
+
+  -- the state is kept where it sees the single word as it is, and goes on to a place with the same units in transit
+  pub now_seen : (place : Place) → place ≢ Spent → ((name : List ℕ) (key : ℤ) → moving_at a name key place ≡ moving_at a name key a.place)
+      → ((reference : ℕ) (sum : ℤ) → place ≢ SumLoaded reference sum) → KeepsUp a.place place
+      → (word : ℕ) → word_at state.words (h + 9) ≡ word → StandsRight shape kept.anatomy id (with_sight place word) place
+      → Invariant shape opened (record { words = state.words; cursors = state.cursors; actors = set state.actors id (with_sight place word) })
+  now_seen place lives moves no_sum up found is stood =
+      let fits = kept.each id a mine lived in
+      let (r, first, there, named, many, keys) = knows_of shape opened state kept id a mine recorder lived known buckets.0 in
+      let stands : HasRecord kept.anatomy.pieces h r = subst (λ (n : ℕ). HasRecord kept.anatomy.pieces n r) buckets.1 there in
+      let word : r.single ≡ found = sym (body_word shape opened state kept h 9 (histogram r) stands (omega arith)) ∙ is in
+      let y : Sighting = record { at = h + 9; word = r.single } in
+      subst (λ (n : ℕ). Invariant shape opened (record {
+        words = state.words;
+        cursors = state.cursors;
+        actors = set state.actors id (with_sight place n);
+      })) word
+      (sees_more shape opened state kept id a mine recorder place (sight_more r.single) a.given a.lost lived lives moves state.cursors
+      (later_itself (order_of kept.anatomy) state.cursors)
+      (near_on shape opened state kept id a mine recorder place (sight_more r.single) a.given a.lost lived lives moves
+      (λ reference sum loads. absurd (no_sum reference sum loads)))
+      (given_on shape opened state kept id a mine recorder place (sight_more r.single) a.given a.lost lived lives moves refl)
+      (record {
+        free = fits.sees.free;
+        walked = fits.sees.walked;
+        tails = fits.sees.tails;
+        singles = All-push (WasSingle kept.anatomy.version kept.anatomy.pieces) a.seen.singles y fits.sees.singles
+            (h, r, stands, refl, (kept.records.lawful h r stands).formed, inl refl);
+        counters = fits.sees.counters;
+        in_use = fits.sees.in_use;
+        met = fits.sees.met;
+        fixed = fits.sees.fixed;
+        shared = fits.sees.shared;
+      })
+      (ahead_at (order_of kept.anatomy) kept.anatomy.tail state.cursors a.place a.beaten a.lost fits.ahead place up)
+      (subst (λ (n : ℕ). StandsRight shape kept.anatomy id (with_sight place n) place) (sym word) stood)
+      (calls_more kept.anatomy a place (sight_more r.single) a.given a.lost (λ at has. has) (λ at word has. has) fits.calls)
+      (looks_single shape opened state kept id a mine recorder lived h r stands place a.given no_sum))
 
 module _ (shape : Dimensions) (opened : Anatomy) (state : State) (kept : Invariant shape opened state) (id : ℕ) (a : Actor)
     (mine : get_elem? state.actors id ≡ some a) (recorder : a.opener ≡ 0) (unbound : is_bound a.place ≡ false) (h : ℕ) (known : Known) (buckets : Buckets a h known) where
@@ -52,23 +100,11 @@ module _ (shape : Dimensions) (opened : Anatomy) (state : State) (kept : Invaria
         actors = set state.actors id (seer a place (sees_single (word_at state.words (h + 9))) a.given a.lost);
       })
   single_seen place free no_sum stood =
-      let fits = kept.each id a mine lives in
-      let (r, stands, word) = the_record in
       let still : (look : Look) (bucket units : ℕ) → a.place ≢ Moving look bucket units = λ look bucket units moving. cc (unbound, ap is_bound moving) in
       let moves : (name : List ℕ) (key : ℤ) → _ = λ name key. rests_at a name key place (λ look bucket units moving. cc (free, ap is_bound moving))
       ∙ sym (rests_at a name key a.place still) in
-      let y : Sighting = record { at = h + 9; word = r.single } in
-      subst (λ (n : ℕ). Invariant shape opened (record {
-        words = state.words;
-        cursors = state.cursors;
-        actors = set state.actors id (seer a place (sees_single n) a.given a.lost);
-      })) (sym word)
-      (sees_on shape opened state kept id a mine recorder place (a.seen.singles ++ y ∷ []) a.seen.counts unbound free moves
-      (near_on shape opened state kept id a mine recorder place (sees_single r.single) a.given a.lost lives (λ spent. cc (free, ap is_bound spent)) moves
-      (λ reference sum is. absurd (no_sum reference sum is)))
-      (All-push (WasSingle kept.anatomy.version kept.anatomy.pieces) a.seen.singles y fits.sees.singles (h, r, stands, refl, (kept.records.lawful h r stands).formed, inl refl))
-      fits.sees.counters fits.sees.in_use fits.sees.met (stood r.single)
-      (looks_single shape opened state kept id a mine recorder lives h r stands place a.given no_sum))
+      now_seen shape opened state kept id a mine recorder lives h known buckets place (λ spent. cc (free, ap is_bound spent)) moves no_sum
+      (λ no. unbound_unbeaten a.place unbound) (word_at state.words (h + 9)) refl (stood (word_at state.words (h + 9)))
 
 module _ (shape : Dimensions) (opened : Anatomy) (state : State) (kept : Invariant shape opened state) (id : ℕ) (a : Actor)
     (mine : get_elem? state.actors id ≡ some a) (recorder : a.opener ≡ 0) where

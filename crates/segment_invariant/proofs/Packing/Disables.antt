@@ -1,12 +1,12 @@
 -- A single word is disabled, or frozen: the invariant is kept, with what is learned. First the word changes, and then its actor sees it.
-use Rattle.std.proofs.Common.{◌≡◌, ◌≢◌, Bool, true, false, ◌&&◌, ◌==◌, nat_lt, if◌then◌else◌, ℕ, ◌+◌, ◌<◌, ◌≤◌, ℤ, pos, max, List, [], ◌∷◌, ◌++◌, length, set, All, Contains, Option, Some, None, inl, ⊎_elim, refl, sym, ap, ◌∙◌, subst, arith, true≢false, eqb-true, eq-eqb}
+use Rattle.std.proofs.Common.{◌≡◌, ◌≢◌, Bool, true, false, ◌&&◌, ◌==◌, nat_lt, if◌then◌else◌, ℕ, ◌+◌, ◌<◌, ◌≤◌, ℤ, pos, max, List, [], ◌∷◌, ◌++◌, length, set, All, Contains, Option, Some, None, ⊎_elim, refl, sym, ap, ◌∙◌, subst, arith, true≢false, eqb-true, eq-eqb}
 use Rattle.std.specs.Prelude.{unwrap_or}
 use Rattle.std.specs.Ordering.{int_eq}
 use Rattle.std.specs.Str.{bytes_eq}
 use Rattle.std.proofs.Math.IntN.{+ℤ_idr}
 use Rattle.std.proofs.lemmas.Bool.{and_cases, and_parts, eqb-false, ltb-true, ltb-false}
 use Rattle.std.proofs.lemmas.List.{set-set, get_or-set_same}
-use Rattle.std.proofs.lemmas.List.Elements.{All-contains, All-push, All-weaker, Contains-push}
+use Rattle.std.proofs.lemmas.List.Elements.{All-contains, All-weaker, Contains-push}
 use mathlib.Core.Option.{some, none}
 use lib.ListN.{get_elem?}
 use Rattle.alloc_core.proofs.Owners.{set_at}
@@ -22,42 +22,38 @@ use Rattle.segment_machine.specs.declared.actor.Known.{Known}
 use Rattle.segment_machine.specs.declared.place.Look.{Look}
 use Rattle.segment_machine.specs.declared.place.Place.{Place}
 use Rattle.segment_machine.specs.declared.place.Place.TheVariants.{Spent, Looking, SumLoaded, Moving}
-use Rattle.segment_machine.specs.declared.seen.Seen.{Seen}
-use Rattle.segment_machine.specs.declared.seen.Sighting.{Sighting}
 use Rattle.segment_machine.specs.Actor.{taken_units, known_at, known_buckets, bucket_key, Buckets}
 use Rattle.segment_machine.specs.Calls.{look_of, nothing_of, form_seen}
 use Rattle.segment_machine.specs.Event.{packing_event, Ready}
 use Rattle.segment_machine.specs.Form.{is_off, units_in, off_word}
 use Rattle.segment_machine.specs.Packing.{disable, after_disabling, after_disable}
 use Rattle.segment_machine.specs.State.{State}
-use Rattle.segment_invariant.specs.Body.{Record, Counts, histogram, Anatomy, order_of}
+use Rattle.segment_invariant.specs.Body.{Record, Counts, histogram, Anatomy}
 use Rattle.segment_invariant.specs.Keeps.{EventKeeps}
 use Rattle.segment_invariant.specs.Ledger.{form_at, of_name, at_bucket, key_of_bucket, units_held, moving_at, moving_of}
-use Rattle.segment_invariant.specs.Seen.{HasRecord, IsFirst, WasFixed, WasInUse, WasSingle}
+use Rattle.segment_invariant.specs.Seen.{HasRecord, IsFirst, WasFixed, WasInUse}
 use Rattle.segment_invariant.specs.Invariant.{is_beaten, LooksRight, IsLawfulRecord, IsCountsOf, StandsRight, Invariant}
 use Rattle.segment_invariant.proofs.Lists.Elements.{at_from}
 use Rattle.segment_invariant.proofs.Lists.FewTerms.{if_nothing, zero_index}
 use Rattle.segment_invariant.proofs.Consistency.Keys.{packed_within, no_units, at_no_bucket}
 use Rattle.segment_invariant.proofs.Consistency.Totals.{find_known}
-use Rattle.segment_invariant.proofs.Frames.Ahead.{KeepsUp, ahead_at}
+use Rattle.segment_invariant.proofs.Frames.Ahead.{KeepsUp}
 use Rattle.segment_invariant.proofs.Frames.Answers.{first_one}
 use Rattle.segment_invariant.proofs.Frames.GoesOn.{happens}
-use Rattle.segment_invariant.proofs.Frames.SeesMore.{seer, calls_more, later_itself, near_on, given_on, sees_more}
+use Rattle.segment_invariant.proofs.Frames.SeesMore.{seer}
 use Rattle.segment_invariant.proofs.Frames.Shown.{Goes}
 use Rattle.segment_invariant.proofs.Changes.Others.{deed_of, changed}
 use Rattle.segment_invariant.proofs.Changes.Places.{Placed, places_on}
 use Rattle.segment_invariant.proofs.Changes.Records.{record_kept}
 use Rattle.segment_invariant.proofs.Changes.Words.{Turns, behind, stands_then, came_from}
-use Rattle.segment_invariant.proofs.Counting.Looks.{knows_of, body_word, counts_was, in_use_now, looks_single}
+use Rattle.segment_invariant.proofs.Counting.Looks.{knows_of, body_word, counts_was, in_use_now}
 use Rattle.segment_invariant.proofs.Counting.Sights.{word_within}
-use Rattle.segment_invariant.proofs.Packing.Beaten.{disable_beaten}
+use Rattle.segment_invariant.proofs.Packing.Beaten.{now_seen, disable_beaten}
 use Rattle.segment_invariant.proofs.Packing.Loads.{learns_single}
 use Rattle.segment_invariant.proofs.Packing.OffForms.{Disabling, disabling, few_buckets}
+use Rattle.segment_invariant.proofs.Packing.Packs.{with_single}
 
 -- ---- the record with its word off
-
-abbrev with_single : Record → ℕ → Record
-with_single r word = record r { single = word }
 
 -- a form holds no more of a bucket than it holds
 units_fewer : (form : Option SingleWord) (i : ℕ) → units_packed form i ≤ units_in form
@@ -117,54 +113,6 @@ module _ (version at : ℕ) (r : Record) (d : Disabling version (buckets_of r.sp
         let few = d.few in
         low_mark r.mark _ _ 65535 (is.mark one i (sym d.names ∙ packs)) (omega (arith, none_there, fewer, few));
   }
-
--- ---- the actor sees the word
-
-module _ (shape : Dimensions) (opened : Anatomy) (state : State) (kept : Invariant shape opened state) (id : ℕ) (a : Actor)
-    (mine : get_elem? state.actors id ≡ some a) (recorder : a.opener ≡ 0) (lived : a.place ≢ Spent) (h : ℕ) (known : Known) (buckets : Buckets a h known) where
-  abbrev sees_single : ℕ → Seen
-  sees_single word = record a.seen { singles = a.seen.singles ++ record { at = h + 9; word = word } ∷ [] }
-
-  abbrev with_sight : Place → ℕ → Actor
-  with_sight place word = seer a place (sees_single word) a.given a.lost
-
-  -- the state is kept where it sees the single word as it is, and goes on to a place with the same units in transit
-  now_seen : (place : Place) → place ≢ Spent → ((name : List ℕ) (key : ℤ) → moving_at a name key place ≡ moving_at a name key a.place)
-      → ((reference : ℕ) (sum : ℤ) → place ≢ SumLoaded reference sum) → KeepsUp a.place place
-      → (word : ℕ) → word_at state.words (h + 9) ≡ word → StandsRight shape kept.anatomy id (with_sight place word) place
-      → Invariant shape opened (record { words = state.words; cursors = state.cursors; actors = set state.actors id (with_sight place word) })
-  now_seen place lives moves no_sum up found is stood =
-      let fits = kept.each id a mine lived in
-      let (r, first, there, named, many, keys) = knows_of shape opened state kept id a mine recorder lived known buckets.0 in
-      let stands : HasRecord kept.anatomy.pieces h r = subst (λ (n : ℕ). HasRecord kept.anatomy.pieces n r) buckets.1 there in
-      let word : r.single ≡ found = sym (body_word shape opened state kept h 9 (histogram r) stands (omega arith)) ∙ is in
-      let y : Sighting = record { at = h + 9; word = r.single } in
-      subst (λ (n : ℕ). Invariant shape opened (record {
-        words = state.words;
-        cursors = state.cursors;
-        actors = set state.actors id (with_sight place n);
-      })) word
-      (sees_more shape opened state kept id a mine recorder place (sees_single r.single) a.given a.lost lived lives moves state.cursors
-      (later_itself (order_of kept.anatomy) state.cursors)
-      (near_on shape opened state kept id a mine recorder place (sees_single r.single) a.given a.lost lived lives moves
-      (λ reference sum loads. absurd (no_sum reference sum loads)))
-      (given_on shape opened state kept id a mine recorder place (sees_single r.single) a.given a.lost lived lives moves refl)
-      (record {
-        free = fits.sees.free;
-        walked = fits.sees.walked;
-        tails = fits.sees.tails;
-        singles = All-push (WasSingle kept.anatomy.version kept.anatomy.pieces) a.seen.singles y fits.sees.singles
-            (h, r, stands, refl, (kept.records.lawful h r stands).formed, inl refl);
-        counters = fits.sees.counters;
-        in_use = fits.sees.in_use;
-        met = fits.sees.met;
-        fixed = fits.sees.fixed;
-        shared = fits.sees.shared;
-      })
-      (ahead_at (order_of kept.anatomy) kept.anatomy.tail state.cursors a.place a.beaten a.lost fits.ahead place up)
-      (subst (λ (n : ℕ). StandsRight shape kept.anatomy id (with_sight place n) place) (sym word) stood)
-      (calls_more kept.anatomy a place (sees_single r.single) a.given a.lost (λ at has. has) (λ at word has. has) fits.calls)
-      (looks_single shape opened state kept id a mine recorder lived h r stands place a.given no_sum))
 
 -- ---- the word changes
 

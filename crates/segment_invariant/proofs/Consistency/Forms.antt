@@ -11,7 +11,7 @@ use Rattle.bucket_ranges.specs.Single.{packed_bucket}
 use Rattle.segment_machine.specs.State.{State}
 use Rattle.segment_machine.specs.Form.{is_off}
 use Rattle.segment_invariant.specs.Consistent.{HasForm}
-use Rattle.segment_invariant.specs.Body.{Record, Counts, blank}
+use Rattle.segment_invariant.specs.Body.{Record, Counts, Anatomy}
 use Rattle.segment_invariant.specs.Ledger.{form_at}
 use Rattle.segment_invariant.specs.Seen.{HasRecord, HasCounts}
 use Rattle.segment_invariant.specs.Invariant.{IsLawfulRecord, IsCountsOf, Invariant}
@@ -24,7 +24,7 @@ use Rattle.segment_invariant.proofs.Consistency.Keys.{packed_within}
 use Rattle.segment_invariant.proofs.Consistency.Totals.{sparse_kind, kind_word, mark_word}
 use Rattle.segment_invariant.proofs.Consistency.Held.{counts_ref, counts_nothing}
 
-module _ (shape : Dimensions) (version id : ℕ) (state : State) (kept : Invariant shape (blank version id shape.size) state)
+module _ (shape : Dimensions) (opened : Anatomy) (state : State) (kept : Invariant shape opened state)
     (at : ℕ) (r : Record) (has : HasRecord kept.anatomy.pieces at r) where
   right : IsLawfulRecord kept.anatomy.version shape.page r
   right = kept.records.lawful at r has
@@ -33,7 +33,7 @@ module _ (shape : Dimensions) (version id : ℕ) (state : State) (kept : Invaria
   many = buckets_are shape state.words kept.anatomy kept.shown kept.anatomy.version at r has right
 
   reference : field_at state.words at 8 ≡ r.counts
-  reference = counts_ref shape version id state kept at r has
+  reference = counts_ref shape opened state kept at r has
 
   single : field_at state.words at 9 ≡ r.single
   single = record_word shape state.words kept.anatomy kept.shown at r 9 has (omega arith)
@@ -60,7 +60,8 @@ module _ (shape : Dimensions) (version id : ℕ) (state : State) (kept : Invaria
       and_from _ _ (and_from _ _ block (eq-eqb (field_at state.words r.counts 2) 2 tag))
       (le-leb (4 + 2 * buckets_of r.spec) (field_at state.words r.counts 0) (omega (arith, size, units, marks, sized)))
 
-  counts_are : has_counts state.words (head_of state.words) at ≡ true
+  -- its counts reference is 0 or leads to them
+  pub counts_are : has_counts state.words (head_of state.words) at ≡ true
   counts_are = by_counts (r.counts == 0) (eqb-true r.counts 0) (eqb-false r.counts 0)
     where
       by_counts : (b : Bool) → (b ≡ true → r.counts ≡ 0) → (b ≡ false → r.counts ≢ 0) → has_counts state.words (head_of state.words) at ≡ true
@@ -73,7 +74,7 @@ module _ (shape : Dimensions) (version id : ℕ) (state : State) (kept : Invaria
   has_form : HasForm kept.anatomy.version state.words at
   has_form = record {
     sparse = λ is i from below.
-        let kind = sparse_kind r.spec (sym (kind_word shape (blank version id shape.size) state kept at r has) ∙ is) in
+        let kind = sparse_kind r.spec (sym (kind_word shape opened state kept at r has) ∙ is) in
         let empty = right.sparse kind in
         let split : 8 + (i - 8) ≡ i = omega (arith, from) in
         subst (λ (i : ℕ). field_at state.words at i ≡ 0) split
@@ -86,7 +87,7 @@ module _ (shape : Dimensions) (version id : ℕ) (state : State) (kept : Invaria
         let (c, mounted, of_it) = named_counts some_there in
         let zeros = of_it.unused (subst (λ (n : ℕ). is_off n ≡ false) single on) in
         ap (λ (counts : ℕ). field_at state.words counts (4 + i)) reference
-        ∙ counts_nothing shape version id state kept r.counts c (buckets_of r.spec) i mounted of_it.units of_it.marks zeros.0 zeros.1
+        ∙ counts_nothing shape opened state kept r.counts c (buckets_of r.spec) i mounted of_it.units of_it.marks zeros.0 zeros.1
         (subst (λ (n : ℕ). i < 2 * n) many below);
     packed = λ is some_there i first.
         let (c, mounted, of_it) = named_counts some_there in
@@ -94,8 +95,8 @@ module _ (shape : Dimensions) (version id : ℕ) (state : State) (kept : Invaria
         let below = packed_within kept.anatomy.version (buckets_of r.spec) r.single i here in
         let long : length c.marks ≡ buckets_of r.spec = of_it.marks in
         (λ j. field_at state.words (reference j) (4 + many j + i))
-        ∙ (mark_word shape (blank version id shape.size) state kept r.counts c (buckets_of r.spec) i mounted of_it.units (omega (arith, below, long)) ∙ of_it.packed i here);
+        ∙ (mark_word shape opened state kept r.counts c (buckets_of r.spec) i mounted of_it.units (omega (arith, below, long)) ∙ of_it.packed i here);
   }
 
-  pub formed_as : HasForm version state.words at
+  pub formed_as : HasForm opened.version state.words at
   formed_as = subst (λ (v : ℕ). HasForm v state.words at) kept.same.0 has_form

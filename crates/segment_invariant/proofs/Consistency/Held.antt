@@ -19,7 +19,7 @@ use Rattle.segment_machine.specs.State.{State}
 use Rattle.segment_invariant.specs.Consistent.{new_opening}
 use Rattle.segment_machine.specs.Form.{Leads}
 use Rattle.segment_invariant.specs.Consistent.{IsHistogram, IsSample, HoldsNothing}
-use Rattle.segment_invariant.specs.Body.{Record, record_words, Counts, Body, histogram, counts, sample, other, Listed, order_of, blank}
+use Rattle.segment_invariant.specs.Body.{Record, record_words, Counts, Body, histogram, counts, sample, other, Listed, Anatomy, order_of, blank}
 use Rattle.segment_invariant.specs.Seen.{Stands, HasRecord, HasCounts, IsFirst, IsFirstOf, WasSingle}
 use Rattle.segment_invariant.specs.Invariant.{StandsAs, Invariant}
 use Rattle.segment_invariant.proofs.Blocks.Pieces.{piece_word, one_stands}
@@ -30,7 +30,7 @@ use Rattle.segment_invariant.proofs.Lists.FewTerms.{zero_index}
 use Rattle.segment_machine.proofs.SmallNumbers.{below_three}
 use Rattle.segment_invariant.proofs.Consistency.Totals.{count_word, mark_word}
 
-module _ (shape : Dimensions) (version id : ℕ) (state : State) (kept : Invariant shape (blank version id shape.size) state) where
+module _ (shape : Dimensions) (opened : Anatomy) (state : State) (kept : Invariant shape opened state) where
   -- a block stands at one place
   counts_there : (at : ℕ) (c d : Counts) → HasCounts kept.anatomy.pieces at c → HasCounts kept.anatomy.pieces at d → c ≡ d
   counts_there at c d first second =
@@ -44,25 +44,28 @@ module _ (shape : Dimensions) (version id : ℕ) (state : State) (kept : Invaria
   pub counts_nothing : (at : ℕ) (c : Counts) (n i : ℕ) → HasCounts kept.anatomy.pieces at c → length c.units ≡ n → length c.marks ≡ n
       → All (λ n. n ≡ 0) c.units → All (λ n. n ≡ 0) c.marks → i < 2 * n → field_at state.words at (4 + i) ≡ 0
   counts_nothing at c n i has units marks no_units no_marks below = elim (cases_lt i n) [
-    | inl low ↦ count_word shape (blank version id shape.size) state kept at c i has (omega (arith, units, low)) ∙ zero_index c.units i no_units
+    | inl low ↦ count_word shape opened state kept at c i has (omega (arith, units, low)) ∙ zero_index c.units i no_units
     | inr high ↦
         let place : 4 + i ≡ 4 + n + (i - n) = omega (arith, high) in
         ap (field_at state.words at) place
-        ∙ (mark_word shape (blank version id shape.size) state kept at c n (i - n) has units (omega (arith, marks, high, below)) ∙ zero_index c.marks (i - n) no_marks)
+        ∙ (mark_word shape opened state kept at c n (i - n) has units (omega (arith, marks, high, below)) ∙ zero_index c.marks (i - n) no_marks)
   ]
 
+-- ---- a new segment
+
+module _ (shape : Dimensions) (version id : ℕ) (state : State) (kept : Invariant shape (blank version id shape.size) state) where
   -- no two records name one counts block
   pub own_counts : (a b : ℕ) → Contains (order_of kept.anatomy) a → Contains (order_of kept.anatomy) b → field_at state.words a 2 ≡ 1 → field_at state.words b 2 ≡ 1
       → field_at state.words a 8 ≢ 0 → field_at state.words a 8 ≡ field_at state.words b 8 → a ≡ b
   own_counts a b there here one also some_there same =
       let (l, name, kind, r, among, place, made, (has, named, specified)) = listed_record shape version id state kept a there one in
       let (m, mine, sort, q, within, spot, given, (stands, called, sorted)) = listed_record shape version id state kept b here also in
-      let first = counts_ref a r has in
-      let second = counts_ref b q stands in
+      let first = counts_ref shape (blank version id shape.size) state kept a r has in
+      let second = counts_ref shape (blank version id shape.size) state kept b q stands in
       let (c, mounted, of_it) = kept.records.mounted a r has (λ e. some_there (first ∙ e)) in
       let equal : q.counts ≡ r.counts = sym second ∙ (sym same ∙ first) in
       let (d, also_mounted, of_other) = kept.records.mounted b q stands (λ e. some_there (first ∙ (sym equal ∙ e))) in
-      let one_block = counts_there r.counts c d mounted (subst (λ (at : ℕ). HasCounts kept.anatomy.pieces at d) equal also_mounted) in
+      let one_block = counts_there shape (blank version id shape.size) state kept r.counts c d mounted (subst (λ (at : ℕ). HasCounts kept.anatomy.pieces at d) equal also_mounted) in
       sym of_it.mine ∙ (ap (λ (c : Counts). c.of) one_block ∙ of_other.mine)
 
   -- a counts block is no record

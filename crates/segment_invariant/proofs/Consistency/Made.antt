@@ -24,14 +24,14 @@ use Rattle.segment_machine.specs.State.{State}
 use Rattle.segment_machine.specs.Made.{AreNameWords}
 use Rattle.segment_machine.specs.Actor.{all_published}
 use Rattle.segment_invariant.specs.Consistent.{HoldsMade}
-use Rattle.segment_invariant.specs.Body.{Record, Listed, listed, order_of, blank}
+use Rattle.segment_invariant.specs.Body.{Record, Listed, listed, Anatomy, order_of, blank}
 use Rattle.segment_invariant.specs.Seen.{HasRecord, IsFirst, WasSingle}
 use Rattle.segment_invariant.specs.Invariant.{StandsAs, Invariant}
 use Rattle.segment_invariant.specs.Keeps.{KeptRecordsHold}
 use Rattle.segment_invariant.proofs.Lists.Elements.{at_from, contains_at, split_at}
 use Rattle.segment_invariant.proofs.Blocks.Pieces.{piece_word}
 use Rattle.segment_invariant.proofs.Consistency.Blocks.{claimed_piece}
-use Rattle.segment_invariant.proofs.Consistency.Chain.{shape_is, claimed_at}
+use Rattle.segment_invariant.proofs.Consistency.Chain.{claimed_at}
 use Rattle.segment_invariant.proofs.Consistency.Records.{record_word, name_long, letters_part}
 use Rattle.segment_invariant.proofs.Consistency.Specs.{same_spelled, record_spec, ranges_part, ranges_fewer, buckets_are}
 use Rattle.segment_invariant.proofs.Consistency.Firsts.{standing_of, says_name, is_sample_of, listed_record, first_of_name, name_of_first}
@@ -75,16 +75,16 @@ kind_named spec.Boolean = refl
 kind_named (spec.Custom values) = refl
 kind_named spec.Sparse = refl
 
--- ---- a kept state of a new segment
+-- ---- a kept state
 
-module _ (shape : Dimensions) (version id : ℕ) (state : State) (lawful : IsShape shape) (kept : Invariant shape (blank version id shape.size) state) where
+module _ (shape : Dimensions) (opened : Anatomy) (state : State) (kept : Invariant shape opened state) where
   -- what a record of a histogram holds
-  holds_histogram : (at : ℕ) (r : Record) → HasRecord kept.anatomy.pieces at r
+  pub holds_histogram : (at : ℕ) (r : Record) → HasRecord kept.anatomy.pieces at r
       → HoldsMade state.words (order_of kept.anatomy) at (made.Histogram r.name r.spec)
   holds_histogram at r has =
       let right = kept.records.lawful at r has in
       let word = λ (j : ℕ) (below : j < 15). record_word shape state.words kept.anatomy kept.shown at r j has below in
-      let named = says_name shape (blank version id shape.size) state kept at r has in
+      let named = says_name shape opened state kept at r has in
       let letters = name_long shape state.words kept.anatomy kept.shown kept.anatomy.version r right in
       let len = word 14 (omega arith) in
       let long = ap name_words len in
@@ -93,7 +93,7 @@ module _ (shape : Dimensions) (version id : ℕ) (state : State) (lawful : IsSha
       let ranges = ranges_part shape state.words kept.anatomy kept.shown kept.anatomy.version at r has right in
       let spec_is = record_spec shape state.words kept.anatomy kept.shown kept.anatomy.version at r has right in
       let many = buckets_are shape state.words kept.anatomy kept.shown kept.anatomy.version at r has right in
-      let page = ap (λ (s : Dimensions). s.page) (shape_is shape version id state lawful kept) in
+      let page = ap (λ (ws : List ℕ). slice_index ws 3) kept.shown.shows in
       let fits = right.fits in (
         word 2 (omega arith),
         and_from _ _ (le-leb (15 + name_words (field_at state.words at 14)) (field_at state.words at 0) (omega (arith, long, letters, size, sized)))
@@ -119,12 +119,15 @@ module _ (shape : Dimensions) (version id : ℕ) (state : State) (lawful : IsSha
       room at r has true custom fields ranges less are most = let e = are (custom refl) in omega (arith, e, less, most)
       room at r has false custom fields ranges less are most = omega (arith, less, most)
 
+-- ---- a kept state of a new segment
+
+module _ (shape : Dimensions) (version id : ℕ) (state : State) (lawful : IsShape shape) (kept : Invariant shape (blank version id shape.size) state) where
   -- what a record of the list holds
   holds_given : (l : Listed) → Contains kept.anatomy.records l → (m : Made) → l.made ≡ Some m → HoldsMade state.words (order_of kept.anatomy) l.reference m
   holds_given l there (made.Histogram name kind) is =
       let (r, has, named, specified) = subst (StandsAs kept.anatomy.pieces l) is (standing_of shape (blank version id shape.size) state kept l there) in
       subst (λ (p : List ℕ × Spec). HoldsMade state.words (order_of kept.anatomy) l.reference (made.Histogram p.0 p.1)) (λ j. (named j, specified j))
-      (holds_histogram l.reference r has)
+      (holds_histogram shape (blank version id shape.size) state kept l.reference r has)
   holds_given l there (made.Sample of value) is =
       let (s, has, mine, valued) = subst (StandsAs kept.anatomy.pieces l) is (standing_of shape (blank version id shape.size) state kept l there) in
       let right = kept.records.valued l.reference s has in
@@ -172,11 +175,11 @@ records_hold shape version id state lawful kept = record {
   still = λ front at is there. absurd (none_before shape version id state kept front at is there);
   formed = λ at there one.
       let (l, name, kind, r, among, place, made, (has, named, specified)) = listed_record shape version id state kept at there one in
-      formed_as shape version id state kept at r has;
+      formed_as shape (blank version id shape.size) state kept at r has;
   own_counts = own_counts shape version id state kept;
   claimed_counts = λ at there one some_there.
       let (l, name, kind, r, among, place, made, (has, named, specified)) = listed_record shape version id state kept at there one in
-      let names_it = counts_ref shape version id state kept at r has in
+      let names_it = counts_ref shape (blank version id shape.size) state kept at r has in
       let (c, mounted, of_it) = kept.records.mounted at r has (λ e. some_there (names_it ∙ e)) in (
         subst (Contains _) (sym names_it) (claimed_at shape version id state lawful kept mounted.0 _ mounted.1 refl),
         subst (λ (at : ℕ). ¬ (Contains (order_of kept.anatomy) at)) (sym names_it) (counts_unlisted shape version id state kept r.counts c mounted),

@@ -20,7 +20,7 @@ use Rattle.segment_machine.specs.Entry.{tally_units}
 use Rattle.segment_machine.specs.Form.{units_in}
 use Rattle.segment_machine.specs.Actor.{all_counted}
 use Rattle.segment_invariant.specs.Consistent.{key_at, units_taken}
-use Rattle.segment_invariant.specs.Body.{Record, blank}
+use Rattle.segment_invariant.specs.Body.{Record, Anatomy, blank}
 use Rattle.segment_invariant.specs.Ledger.{form_at, key_of_bucket, at_bucket, keyed, marks_held, all_held}
 use Rattle.segment_invariant.specs.Seen.{HasRecord, IsFirst, WasCounter}
 use Rattle.segment_invariant.specs.Invariant.{Invariant}
@@ -63,14 +63,14 @@ packed_all None i is = refl
 at_most_greater : (k n m : ℕ) → k ≤ n → k ≤ max n m
 at_most_greater k n m le = omega (arith, le)
 
--- ---- a kept state of a new segment
+-- ---- a kept state
 
-module _ (shape : Dimensions) (version id : ℕ) (state : State) (kept : Invariant shape (blank version id shape.size) state) where
+module _ (shape : Dimensions) (opened : Anatomy) (state : State) (kept : Invariant shape opened state) where
   abbrev form : Record → Option SingleWord
   form r = form_at kept.anatomy.version r
 
   -- a bucket's mark is what blocks hold of its key
-  mark_held : (name : List ℕ) (kind : Spec) (at : ℕ) (r : Record) → IsFirst kept.anatomy.records name kind at → HasRecord kept.anatomy.pieces at r
+  pub mark_held : (name : List ℕ) (kind : Spec) (at : ℕ) (r : Record) → IsFirst kept.anatomy.records name kind at → HasRecord kept.anatomy.pieces at r
       → r.name ≡ name → r.spec ≡ kind → r.spec ≢ spec.Sparse → (i : ℕ) → i < buckets_of r.spec
       → mark_of kept.anatomy.version state.words at i ≡ all_held (marks_held kept.anatomy.version name (key_of_bucket r.spec i)) kept.anatomy.pieces
   mark_held name kind at r first has named specified bucketed i below = words_say ∙ by_counts (r.counts == 0) (eqb-true r.counts 0) (eqb-false r.counts 0)
@@ -98,26 +98,26 @@ module _ (shape : Dimensions) (version id : ℕ) (state : State) (kept : Invaria
           ≡ all_held (marks_held kept.anatomy.version name (key_of_bucket r.spec i)) kept.anatomy.pieces
       by_counts true none_there some_there =
           ap (λ (counts_ref : ℕ). mark_at state.words counts_ref (buckets_of r.spec) (form r) r.mark i) (none_there refl)
-          ∙ sym (bucket_alone shape (blank version id shape.size) state kept name kind at r first has named specified (key_of_bucket r.spec i) _ _ _ _
+          ∙ sym (bucket_alone shape opened state kept name kind at r first has named specified (key_of_bucket r.spec i) _ _ _ _
           (marks_book kept.anatomy.version name (key_of_bucket r.spec i)) bucketed (none_there refl) ∙ packed)
       by_counts false none_there some_there =
           let (c, mounted, of_it) = kept.records.mounted at r has (some_there refl) in
           let long : length c.marks ≡ buckets_of r.spec = of_it.marks in
-          let all = bucket_mounted shape (blank version id shape.size) state kept name kind at r first has named specified (key_of_bucket r.spec i) _ _ _ _
+          let all = bucket_mounted shape opened state kept name kind at r first has named specified (key_of_bucket r.spec i) _ _ _ _
           (marks_book kept.anatomy.version name (key_of_bucket r.spec i)) bucketed c mounted of_it.named in
           let one = ap (λ (kind : Spec). keyed kind (key_of_bucket r.spec i) c.marks) of_it.same
           ∙ keyed_one r.spec c.marks i (kept.records.lawful at r has).lawful bucketed long below in
           let word = ap (λ (b : Bool). if b then 0 else field_at state.words r.counts (4 + buckets_of r.spec + i)) (ne_eqb r.counts 0 (some_there refl))
-          ∙ mark_word shape (blank version id shape.size) state kept r.counts c (buckets_of r.spec) i mounted of_it.units (omega (arith, below, long)) in
+          ∙ mark_word shape opened state kept r.counts c (buckets_of r.spec) i mounted of_it.units (omega (arith, below, long)) in
           let says = ap (λ (rest : ℕ). if is_packed_bucket (form r) i then r.mark else rest) word in
           let parts = either (is_packed_bucket (form r) i) r.mark (slice_index c.marks i) (λ passes. of_it.packed i (packed_is (form r) i passes)) in
           omega (arith, says, parts, all, packed, one)
 
   -- in version 1 the single mark is at most the greater of its bucket's total and 65,535
-  mark_bound : (at : ℕ) (r : Record) → HasRecord kept.anatomy.pieces at r → kept.anatomy.version ≡ 1 → (i : ℕ) → packed_bucket (form r) ≡ Some i
+  pub mark_bound : (at : ℕ) (r : Record) → HasRecord kept.anatomy.pieces at r → kept.anatomy.version ≡ 1 → (i : ℕ) → packed_bucket (form r) ≡ Some i
       → r.mark ≤ max (total_of kept.anatomy.version state.words at i) 65535
   mark_bound at r has one i packed =
-      subst (λ (n : ℕ). r.mark ≤ max n 65535) (sym (total_words shape (blank version id shape.size) state kept at r has kept.anatomy.version i))
+      subst (λ (n : ℕ). r.mark ≤ max n 65535) (sym (total_words shape opened state kept at r has kept.anatomy.version i))
       (by_counts (r.counts == 0) (eqb-true r.counts 0) (eqb-false r.counts 0))
     where
       by_counts : (b : Bool) → (b ≡ true → r.counts ≡ 0) → (b ≡ false → r.counts ≢ 0)
@@ -131,7 +131,7 @@ module _ (shape : Dimensions) (version id : ℕ) (state : State) (kept : Invaria
           let long : length c.units ≡ buckets_of r.spec = of_it.units in
           let below = packed_within kept.anatomy.version (buckets_of r.spec) r.single i packed in
           let count = ap (λ (b : Bool). if b then 0 else field_at state.words r.counts (4 + i)) (ne_eqb r.counts 0 (some_there refl))
-          ∙ count_word shape (blank version id shape.size) state kept r.counts c i mounted (omega (arith, below, long)) in
+          ∙ count_word shape opened state kept r.counts c i mounted (omega (arith, below, long)) in
           subst (λ (n : ℕ). r.mark ≤ max (n + units_packed (form r) i) 65535) (sym count) (of_it.mark one i packed)
 
   -- a counter that was seen is at most the present one
@@ -148,7 +148,7 @@ marks_are_taken shape version id state lawful kept = record {
       let right = kept.records.lawful at r has in
       let bucketed = bucketed_kind r.spec (sym (kind_word shape (blank version id shape.size) state kept at r has) ∙ plain) in
       let within : i < buckets_of r.spec = subst (λ (n : ℕ). i < n) (buckets_are shape state.words kept.anatomy kept.shown kept.anatomy.version at r has right) below in
-      let held = mark_held shape version id state kept name kind at r first has named specified bucketed i within in
+      let held = mark_held shape (blank version id shape.size) state kept name kind at r first has named specified bucketed i within in
       let key = key_is shape state.words kept.anatomy kept.shown kept.anatomy.version at r has right i in
       let taken : mark_of version state.words at i ≡ units_taken state.actors name (key_at state.words at i) =
       ap (λ (v : ℕ). mark_of v state.words at i) (sym kept.same.0)
@@ -178,7 +178,7 @@ marks_are_taken shape version id state lawful kept = record {
       let single = form_is shape state.words kept.anatomy kept.shown kept.anatomy.version at r has right version in
       let here : packed_bucket (form_at kept.anatomy.version r) ≡ Some i =
       ap (λ (v : ℕ). packed_bucket (form_at v r)) kept.same.0 ∙ (ap packed_bucket (sym single) ∙ packed) in
-      let bound = mark_bound shape version id state kept at r has (kept.same.0 ∙ first) i here in
+      let bound = mark_bound shape (blank version id shape.size) state kept at r has (kept.same.0 ∙ first) i here in
       subst (λ (p : ℕ × ℕ). p.0 ≤ max (total_of p.1 state.words at i) 65535)
       (λ j. (sym (record_word shape state.words kept.anatomy kept.shown at r 10 has (omega arith)) j, kept.same.0 j)) bound;
   sum = λ name at is.
@@ -186,6 +186,6 @@ marks_are_taken shape version id state lawful kept = record {
       ap (cast_signed w64) (record_word shape state.words kept.anatomy kept.shown at r 12 has (omega arith))
       ∙ (sym (sum_mark_is shape (blank version id shape.size) state kept name kind at r first has named) ∙ kept.balanced.sum_marks name);
   seen = λ who a there lives. All-weaker (WasCounter kept.anatomy.pieces) (λ s. s.word ≤ word_at state.words s.at)
-      (seen_within shape version id state kept) a.seen.counts (kept.each who a there lives).sees.counters;
+      (seen_within shape (blank version id shape.size) state kept) a.seen.counts (kept.each who a there lives).sees.counters;
   snapshots = λ who a there lives. (kept.each who a there lives).snapshots;
 }

@@ -1,0 +1,107 @@
+-- The record of a histogram in a kept state's words: the checks of its kind, name, spec, single word and sums find nothing.
+use Rattle.std.proofs.Common.{◌≡◌, ◌≢◌, ◌||◌, Bool, true, false, if◌then◌else◌, ℕ, ◌+◌, ◌-◌, ◌*◌, ◌^◌, ◌<◌, ℤ, pos, inl, inr, refl, ap, subst, ◌∙◌, arith, Option, Some, None}
+use Rattle.std.specs.Prelude.{not, ◌==◌, nat_lt, slice_index, unsigned_abs, ◌-ℤ◌}
+use Rattle.std.specs.Int.{w64, cast_signed}
+use Rattle.std.proofs.Math.IntN.{+ℤ_idr}
+use Rattle.std.proofs.lemmas.Bool.{or_from, le-ltb, le-leb, ltb-false, ne_eqb}
+use Rattle.std.proofs.lemmas.List.Sums.{sum_by-le-sum_by}
+use Rattle.segment_image.specs.Shape.{Dimensions}
+use Rattle.segment_image.specs.Head.{head_of}
+use Rattle.segment_image.specs.Blocks.{field_at}
+use Rattle.bucket_ranges.specs.declared.single.SingleWord.{SingleWord}
+use Rattle.bucket_ranges.specs.declared.single.SingleWord.TheVariants.{Empty, Packed, Disabled, FrozenEmpty, Frozen}
+use Rattle.bucket_ranges.specs.Single.{single_of, is_packed_word, packed_of, frozen_of, disabled_of, is_disabled}
+use Rattle.bucket_ranges.specs.Spec.{buckets_of}
+use Rattle.bucket_ranges.specs.Reading.{is_bad_kind, has_name, is_bad_spec, record_buckets, is_bad_single, is_bad_record_single, is_beyond, is_bad_sum, is_bad_record_sum}
+use Rattle.segment_machine.specs.State.{State}
+use Rattle.segment_machine.specs.Form.{is_off}
+use Rattle.segment_machine.specs.Actor.{units_of}
+use Rattle.segment_invariant.specs.Body.{Record, record_words, Anatomy}
+use Rattle.segment_invariant.specs.Ledger.{form_at}
+use Rattle.segment_invariant.specs.Seen.{HasRecord}
+use Rattle.segment_invariant.specs.Invariant.{summed_cost, IsSumOf, IsLawfulRecord, Invariant}
+use Rattle.segment_invariant.proofs.Counting.Learned.{summed_least}
+use Rattle.segment_invariant.proofs.Consistency.Records.{record_word}
+use Rattle.segment_invariant.proofs.Consistency.Specs.{form_is}
+use Rattle.segment_invariant.proofs.Consistency.Made.{holds_histogram}
+
+-- ---- a single word
+
+-- a word whose form is disabled or frozen is off
+packed_on : (b : Bool) (bucket units : ℕ) → is_disabled (if b then Some (Packed bucket units) else None) ≢ true
+packed_on true bucket units is = cc is
+packed_on false bucket units is = cc is
+
+not_low : (n word : ℕ) (empty low : Bool) (high : Option SingleWord)
+    → is_disabled (if empty then Some Empty else (if low then packed_of n word else high)) ≡ true → low ≡ false
+not_low n word true low high is = cc is
+not_low n word false true high is = absurd (packed_on (is_packed_word n word) _ _ is)
+not_low n word false false high is = refl
+
+disabled_off : (version n word : ℕ) → is_disabled (single_of version n word) ≡ true → is_off word ≡ true
+disabled_off version n word is =
+    le-leb (2 ^ 63) word (ltb-false word (2 ^ 63)
+    (not_low n word (word == 0) (nat_lt word (2 ^ 63)) (if version == 2 then frozen_of n (word - 2 ^ 63) else disabled_of n (word - 2 ^ 63)) is))
+
+-- a form that is there is not bad where its counts are there once it is disabled
+single_lawful : (form : Option SingleWord) (counts : ℕ) → form ≢ None → (is_disabled form ≡ true → counts ≢ 0) → is_bad_single form counts ≡ false
+single_lawful (Some Empty) counts formed used = refl
+single_lawful (Some (Packed bucket units)) counts formed used = refl
+single_lawful (Some (Disabled packed)) counts formed used = ne_eqb counts 0 (used refl)
+single_lawful (Some FrozenEmpty) counts formed used = ne_eqb counts 0 (used refl)
+single_lawful (Some (Frozen bucket units)) counts formed used = ne_eqb counts 0 (used refl)
+single_lawful None counts formed used = absurd (formed refl)
+
+-- ---- a record of a kept state
+
+module _ (shape : Dimensions) (opened : Anatomy) (state : State) (kept : Invariant shape opened state) (at : ℕ) (r : Record)
+    (has : HasRecord kept.anatomy.pieces at r) where
+  right : IsLawfulRecord kept.anatomy.version shape.page r
+  right = kept.records.lawful at r has
+
+  word : (j : ℕ) → j < 15 → field_at state.words at j ≡ slice_index (record_words r) j
+  word j below = record_word shape state.words kept.anatomy kept.shown at r j has below
+
+  pub kind_is_right : is_bad_kind state.words at ≡ false
+  kind_is_right =
+      let (tag, named, its_name, kind, specified, same, fits, letters) = holds_histogram shape opened state kept at r has in
+      let size = word 0 (omega arith) in
+      let least = right.least in
+      or_from _ _ (le-ltb (field_at state.words at 0) 16 (omega (arith, size, least))) (ap not kind)
+
+  pub name_is_right : not (has_name state.words at) ≡ false
+  name_is_right =
+      let (tag, named, its_name, kind, specified, same, fits, letters) = holds_histogram shape opened state kept at r has in ap not named
+
+  pub spec_is_right : is_bad_spec state.words (head_of state.words).shape.page at ≡ false
+  spec_is_right =
+      let (tag, named, its_name, kind, specified, same, fits, letters) = holds_histogram shape opened state kept at r has in
+      or_from _ _ (ap not specified) (le-ltb (head_of state.words).shape.page (4 + 2 * record_buckets state.words at) fits)
+
+  pub single_is_right : is_bad_record_single kept.anatomy.version state.words at ≡ false
+  single_is_right =
+      let form = form_is shape state.words kept.anatomy kept.shown kept.anatomy.version at r has right kept.anatomy.version in
+      let counts = word 8 (omega arith) in
+      (λ i. is_bad_single (form i) (counts i))
+      ∙ single_lawful (form_at kept.anatomy.version r) r.counts right.formed
+      (λ disabled. right.off (disabled_off kept.anatomy.version (buckets_of r.spec) r.single disabled))
+
+  -- two sums differ by no more than all units can have brought
+  near : (x y : ℤ) → IsSumOf state.actors at r x → IsSumOf state.actors at r y → is_beyond (x -ℤ y) ≡ false
+  near x y first second =
+      let close = kept.sums at r x y has first second in
+      let few = sum_by-le-sum_by (summed_cost r.name) units_of state.actors (summed_least r.name) in
+      let pool = kept.pool in
+      le-ltb 9223372034707292160 (unsigned_abs (x -ℤ y)) (omega (arith, close, few, pool))
+
+  small : (x : ℤ) → IsSumOf state.actors at r x → is_beyond x ≡ false
+  small x is = subst (λ (z : ℤ). is_beyond z ≡ false) (+ℤ_idr x) (near x (pos 0) is (inl refl))
+
+  pub sum_is_right : is_bad_record_sum state.words at ≡ false
+  sum_is_right =
+      let sum : ℤ = cast_signed w64 r.sum in
+      let mark : ℤ = cast_signed w64 r.sum_mark in
+      let sum_word = ap (cast_signed w64) (word 11 (omega arith)) in
+      let mark_word = ap (cast_signed w64) (word 12 (omega arith)) in
+      (λ i. is_bad_sum (sum_word i) (mark_word i))
+      ∙ (λ i. small sum (inr (inl refl)) i || small mark (inr (inr (inl refl))) i || near sum mark (inr (inl refl)) (inr (inr (inl refl))) i)

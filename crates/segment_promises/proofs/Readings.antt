@@ -1,3 +1,4 @@
+pub mod Counts
 pub mod Heads
 pub mod Lists
 pub mod Records

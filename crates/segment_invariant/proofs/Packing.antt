@@ -1,6 +1,7 @@
 pub mod Beaten
 pub mod Disables
 pub mod Forms
+pub mod Keeps
 pub mod Loads
 pub mod MountRecords
 pub mod MountWins

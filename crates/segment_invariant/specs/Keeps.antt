@@ -8,11 +8,12 @@ use Rattle.segment_image.specs.Shape.{Dimensions}
 use Rattle.segment_image.specs.Words.{word_at}
 use Rattle.alloc_core.specs.Layout.{IsShape}
 use Rattle.segment_machine.specs.declared.actor.Actor.{Actor}
-use Rattle.segment_machine.specs.Event.{Event, allocating_event, publishing_event, walking_event, counting_event, spot, after, next, Ready, Learned, cursor_event}
+use Rattle.segment_machine.specs.Event.{Event, allocating_event, publishing_event, walking_event, counting_event, packing_event, spot, after, next, Ready, Learned, cursor_event}
 use Rattle.segment_machine.specs.Allocating.{AllocatingEvent}
 use Rattle.segment_machine.specs.Publishing.{PublishingEvent}
 use Rattle.segment_machine.specs.Walking.{WalkingEvent}
 use Rattle.segment_machine.specs.Counting.{CountingEvent}
+use Rattle.segment_machine.specs.Packing.{PackingEvent}
 use Rattle.segment_machine.specs.Cursors.{CursorEvent}
 use Rattle.segment_machine.specs.State.{State, memory}
 use Rattle.segment_invariant.specs.Consistent.{ListIsChain, FlagsAreSet, UnitsAreKept, RecordsHold, TotalsAreCounted, MarksAreTaken, SumsAreAmounts, TransitIsLocal, IsConsistent, new_opening}
@@ -72,6 +73,10 @@ WalkingKeeps = (event : WalkingEvent) → EventKeeps (walking_event event)
 -- the events that count an entry: its units, its amount and its redundant count
 abbrev pub CountingKeeps : Type 0
 CountingKeeps = (event : CountingEvent) → EventKeeps (counting_event event)
+
+-- the events that pack units into a single word, mount counts and move units there
+abbrev pub PackingKeeps : Type 0
+PackingKeeps = (event : PackingEvent) → EventKeeps (packing_event event)
 
 -- the events of shared cursors
 abbrev pub CursorsKeep : Type 0

@@ -6,7 +6,7 @@
 ghost use Rattle.segment_invariant.specs.Examples.{PackedThenMounted, StoppedInTransit, PackingLimit, DeltasAndMarks, TwoTakers, SparseSamples, MountedIsConsistent, ListBreaks, RecordsBreak, TotalsBreak, MarksBreak, SumsBreak, TransitBreaks, FlagsBreak, UnitsBreak};
 ghost use Rattle.segment_invariant.specs.Accounts.{MountedAgrees, LimitAgrees, TakersAgree, SparseAgrees, BatchAgrees};
 ghost use Rattle.segment_invariant.specs.Refused.{CountsLoaded, UnitsSpent, CountsOwe, WordsFormed, KindsRead};
-ghost use Rattle.segment_invariant.specs.Keeps.{OpeningIsKept, OpeningsAreKept, AllocatingKeeps, PublishingKeeps, WalkingKeeps, CountingKeeps, CursorsKeep, OffersKeep, SplitsKeep, JoinsKeep, LendsKeep, ReturnsKeep, AnnouncementsKeep, KeptFlagsAreSet, KeptIsChain, KeptUnitsAreKept, KeptTransitIsLocal, KeptSumsAreAmounts, KeptTotalsAreCounted, KeptMarksAreTaken, NotesKeep, KeptRecordsHold, KeptIsConsistent};
+ghost use Rattle.segment_invariant.specs.Keeps.{OpeningIsKept, OpeningsAreKept, AllocatingKeeps, PublishingKeeps, WalkingKeeps, CountingKeeps, PackingKeeps, CursorsKeep, OffersKeep, SplitsKeep, JoinsKeep, LendsKeep, ReturnsKeep, AnnouncementsKeep, KeptFlagsAreSet, KeptIsChain, KeptUnitsAreKept, KeptTransitIsLocal, KeptSumsAreAmounts, KeptTotalsAreCounted, KeptMarksAreTaken, NotesKeep, KeptRecordsHold, KeptIsConsistent};
 
 /// Two packed units are moved to the counts, where the next sample is counted: the words become those of the segment, and the
 /// totals, the sum and the redundant count are those of the entries.
@@ -168,6 +168,13 @@ pub fn walking_keeps()
 /// units to a redundant count. Its actor learns that counts lie within the segment, and that the units it adds fit.
 pub fn counting_keeps()
     ensures { CountingKeeps }
+{}
+
+/// Each event that packs keeps what holds: loading and packing a single word, mounting counts or purging a lost block of them,
+/// disabling the word, and adding the units that it had. Its actor learns what became of the word that it saw before, and that the
+/// units it adds fit.
+pub fn packing_keeps()
+    ensures { PackingKeeps }
 {}
 
 /// Each event of a shared cursor keeps what holds, and its actor learns that the cursor stood at a record, or before the first one.

@@ -171,7 +171,7 @@ module _ (a : Actor) (before : List Taken) (last : Taken) (is : a.taken ≡ befo
           record { logged = is.logged; before = is.before; mine = is.mine; eldest = is.eldest };
       swapped = λ front x goes ends was_swapped alone.
           let same = (same_from_push before front (f last) x
-              (sym (further_is a.taken before last is f named began) ∙ ends)).1 in
+          (sym (further_is a.taken before last is f named began) ∙ ends)).1 in
           subst (λ (t : Taken). taken_sum (all_taken new) t.name ≡ tally_sum (all_summed new) t.name) same
           (swapped (alone_was old new roles stood first b a refl refl alone) (ap (λ (t : Taken). t.swapped) same ∙ was_swapped)
           ∙ ap (λ entries. tally_sum entries (f last).name) (sym summed));

@@ -3,7 +3,7 @@ use Rattle.std.specs.Prelude.{◌≡◌, ℕ, ◌+◌, ◌-◌, ◌*◌, ◌%◌
 use mathlib.Core.Option.{Option, some, none}
 use lib.ListN.{get_elem?}
 use Rattle.segment_image.specs.Shape.{Dimensions}
-use Rattle.segment_image.specs.declared.layout.TheConstants.{HEADER_WORDS, SEGMENT_COOKIE, STATE_READY, FLAG_CORRUPT, FLAG_FULL, QUEUE, QUEUE_SIZE, QUEUE_COOKIE, TYPE_PURGED, BLOCK_LEAST}
+use Rattle.segment_image.specs.declared.layout.TheConstants.{HEADER_WORDS, MIN_PAGE, MAX_PAGE, PAGE_STEP, MAX_SIZE, SEGMENT_COOKIE, STATE_READY, FLAG_CORRUPT, FLAG_FULL, QUEUE, QUEUE_SIZE, QUEUE_COOKIE, TYPE_PURGED, BLOCK_LEAST}
 
 -- A piece of a segment: the word where it begins, the one whose it is, where there is one, and its words. The queue block
 -- is the first piece; the others are blocks that were claimed, wasted rests of pages, and gaps.
@@ -69,11 +69,14 @@ IsLaid page at (block ∷ blocks) =
 abbrev pub queue_block : ℕ → Block
 queue_block next = record { at = QUEUE; owner = none; words = QUEUE_SIZE ∷ QUEUE_COOKIE ∷ TYPE_PURGED ∷ next ∷ [] }
 
--- a page has at least 64 words, and a segment at most 2^20, in whole pages
+-- a shape is lawful: a page has a multiple of 16 words, from 64 to 65,536, and a segment has whole pages, one or more, of at most 2^20
+-- words together
 pub record IsShape (shape : Dimensions) : Type 0 where
-  pub wide : 64 ≤ shape.page
+  pub wide : MIN_PAGE ≤ shape.page
+  pub narrow : shape.page ≤ MAX_PAGE
+  pub even : shape.page % PAGE_STEP ≡ 0
   pub one : shape.page ≤ shape.size
-  pub many : shape.size ≤ 1048576
+  pub many : shape.size ≤ MAX_SIZE
   pub whole : shape.size % shape.page ≡ 0
 
 -- the layout is one of a segment: the blocks follow one another from the queue block on, they and the spare words are

@@ -8,6 +8,7 @@ pub mod Held
 pub mod Keys
 pub mod Made
 pub mod Marks
+pub mod PassedOver
 pub mod Records
 pub mod Specs
 pub mod Sums

@@ -1,4 +1,5 @@
 pub mod Ahead
+pub mod Anew
 pub mod Anatomies
 pub mod Answers
 pub mod Books
@@ -11,6 +12,7 @@ pub mod GrowthOfActors
 pub mod GrowthOfRecords
 pub mod GrowthOfStates
 pub mod OneActor
+pub mod PassedOver
 pub mod Roles
 pub mod Shown
 pub mod Spending

@@ -4,6 +4,7 @@ pub mod Changes
 pub mod Consistency
 pub mod Counting
 pub mod Cursors
+pub mod Events
 pub mod Examples
 pub mod Frames
 pub mod Lists

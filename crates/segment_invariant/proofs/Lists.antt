@@ -4,5 +4,6 @@ pub mod Ends
 pub mod FewTerms
 pub mod Maps
 pub mod Pairs
+pub mod Portions
 pub mod Sums
 pub mod Tallies

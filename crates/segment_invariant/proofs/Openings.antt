@@ -1,2 +1,3 @@
+pub mod FirstActors
 pub mod Recorders
 pub mod Segments

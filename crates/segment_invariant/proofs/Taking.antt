@@ -1,7 +1,11 @@
 pub mod Lasts
 pub mod Takes
+pub mod Knowns
 pub mod MarkWords
 pub mod Marks
+pub mod SampleMarks
+pub mod SingleMarkRises
+pub mod SingleMarks
 pub mod Loads
 pub mod Counts
 pub mod SumMarks

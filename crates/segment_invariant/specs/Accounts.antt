@@ -9,7 +9,7 @@ use Rattle.segment_machine.specs.Entry.{sample_entry, batch_entries, tally_units
 use Rattle.segment_machine.specs.Actor.{all_counted, all_summed, all_noted, all_taken, taken_units, taken_sum}
 use Rattle.segment_invariant.specs.Body.{Body, queue, histogram, counts, sample, Piece, listed, Anatomy, layout_of, blank}
 use Rattle.segment_invariant.specs.Ledger.{units_held, marks_held, sum_held, sum_mark_held, noted_held, all_held, all_amounts, all_moving}
-use Rattle.segment_machine.specs.Examples.{shape, letter_a, boolean, maker, mounter, mover, whole, taken_at, three_deltas, mounted, in_transit, sparse_segment, letter_s}
+use Rattle.segment_machine.specs.Examples.{with_log, with_taken, shape, letter_a, boolean, maker, mounter, mover, whole, taken_at, three_deltas, mounted, in_transit, sparse_segment, letter_s}
 
 -- ---- what is compared
 
@@ -81,7 +81,7 @@ MountedAgrees =
 
 -- samples of 1 with these units
 abbrev pub samples_of_one : List ℕ → Actor
-samples_of_one units = record (mounter []) { log = map (λ n. whole (sample_entry letter_a boolean (pos 1, n))) units }
+samples_of_one units = with_log (mounter []) (map (λ n. whole (sample_entry letter_a boolean (pos 1, n))) units)
 
 -- 70,000 units at once are counted and never packed; 65,535 are packed, and one more moves them to the counts
 abbrev pub LimitAgrees : Type 0
@@ -100,11 +100,11 @@ abbrev pub TakersAgree : Type 0
 TakersAgree =
     Agree letter_a keys
     (mounted_pieces 9223372036854775809 2 2 2 3 (1 ∷ 2 ∷ 0 ∷ []) (1 ∷ 0 ∷ 0 ∷ []))
-    (record (mounter (1 ∷ 1 ∷ 0 ∷ [])) { taken = three_deltas } ∷ [])
+    (with_taken (mounter (1 ∷ 1 ∷ 0 ∷ [])) three_deltas ∷ [])
     × Agree letter_a keys
     (mounted_pieces 9223372036854775809 3 3 3 4 (1 ∷ 3 ∷ 0 ∷ []) (1 ∷ 0 ∷ 0 ∷ []))
-    (record (mounter (1 ∷ 1 ∷ 0 ∷ 1 ∷ [])) { taken = taken_at 4 ((pos 0, 1) ∷ (pos 1, 3) ∷ []) (pos 3) ∷ [] }
-    ∷ record (maker []) { taken = taken_at 0 [] (pos 0) ∷ [] } ∷ [])
+    (with_taken (mounter (1 ∷ 1 ∷ 0 ∷ 1 ∷ [])) (taken_at 4 ((pos 0, 1) ∷ (pos 1, 3) ∷ []) (pos 3) ∷ [])
+    ∷ with_taken (maker []) (taken_at 0 [] (pos 0) ∷ []) ∷ [])
 
 -- ---- sparse samples
 
@@ -141,10 +141,9 @@ sparse_anatomy = record (blank 1 7 128) {
 
 -- who recorded two units of -5 and one of 7, and took them
 abbrev pub sparse_recorder : Actor
-sparse_recorder = record (maker []) {
-  log = map whole (sample_entry letter_s [] (negsuc 4, 2) ∷ sample_entry letter_s [] (pos 7, 1) ∷ []);
-  taken = record (taken_at 2 ((negsuc 4, 2) ∷ (pos 7, 1) ∷ []) (negsuc 2)) { name = letter_s } ∷ [];
-}
+sparse_recorder = with_taken
+    (with_log (maker []) (map whole (sample_entry letter_s [] (negsuc 4, 2) ∷ sample_entry letter_s [] (pos 7, 1) ∷ [])))
+    (record (taken_at 2 ((negsuc 4, 2) ∷ (pos 7, 1) ∷ []) (negsuc 2)) { name = letter_s } ∷ [])
 
 abbrev pub SparseAgrees : Type 0
 SparseAgrees =
@@ -157,4 +156,4 @@ abbrev pub BatchAgrees : Type 0
 BatchAgrees =
     Agree letter_a keys
     (mounted_pieces (2 ^ 63 + 65535) 0 3 0 5 (2 ∷ 3 ∷ 0 ∷ []) (0 ∷ 0 ∷ 0 ∷ []))
-    (record (mounter []) { log = map whole (batch_entries letter_a boolean ((pos 0, 2) ∷ (pos 1, 3) ∷ []) (pos 3)) } ∷ [])
+    (with_log (mounter []) (map whole (batch_entries letter_a boolean ((pos 0, 2) ∷ (pos 1, 3) ∷ []) (pos 3))) ∷ [])

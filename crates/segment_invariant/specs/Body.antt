@@ -56,8 +56,9 @@ pub record Sample : Type 0 where
   pub rest : List ℕ
 
 -- the queue block; words that nobody has claimed, as a block in the making, a wasted rest of a page or what lies between the
--- blocks of an adopted image; a claimed block that is still its claimer's own; a record; a counts block; a sample; and a published
--- record of another type, which only an adopted image can have
+-- blocks of an adopted image; a claimed block that is still its claimer's own; a record; a counts block; a sample; and a block of
+-- which nothing changes but its next, which only an adopted image can have: a published record of another type, a histogram's record that is
+-- passed over, since it is not the first of its name, and the counts block that such a record names
 pub data Body : Type 0 where
   queue : (next : ℕ) → Body
   plain : (words : List ℕ) → Body
@@ -121,8 +122,8 @@ extent_of piece = length (words_of piece.body)
 abbrev pub block_of : Piece → layout.Block
 block_of piece = record { at = piece.at; owner = piece.owner; words = words_of piece.body }
 
--- A record on the list: where it is, and what was given to its maker. An adopted image can have records of other types, of which
--- nothing is said.
+-- A record on the list: where it is, and what was given to its maker. An adopted image can have records of other types, and records
+-- that are passed over, of which nothing is said here.
 pub record Listed : Type 0 where
   pub reference : ℕ
   pub made : std.Option Made

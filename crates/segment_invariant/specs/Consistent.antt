@@ -20,13 +20,13 @@ use Rattle.bucket_ranges.specs.Reading.{name_of, name_words, is_kind, is_sparse,
 use Rattle.segment_machine.specs.declared.entry.Entry.{Entry}
 use Rattle.segment_machine.specs.declared.place.Place.TheVariants.{SumLoaded}
 use Rattle.segment_machine.specs.declared.actor.Actor.{Actor}
+use Rattle.segment_machine.specs.declared.actor.Portion.{Portion}
 use Rattle.segment_machine.specs.declared.actor.Answered.{Answered}
 use Rattle.segment_machine.specs.declared.actor.Claim.{Claim}
 use Rattle.segment_machine.specs.declared.actor.Made.{Made}
 use Rattle.segment_machine.specs.declared.actor.Made.TheVariants.{Histogram, Sample}
 use Rattle.segment_machine.specs.declared.actor.Published.{Published}
 use Rattle.segment_machine.specs.declared.seen.Sighting.{Sighting}
-use Rattle.segment_machine.specs.declared.actor.Taken.{Taken}
 use Rattle.segment_machine.specs.Entry.{has_ended, tally_units, tally_sum, tally_noted}
 use Rattle.segment_machine.specs.Form.{is_off, Leads}
 use Rattle.segment_machine.specs.Actor.{Each, all_counted, all_summed, all_noted, all_taken, all_published, all_given, all_costs, taken_units, taken_sum, transit_of, units_of}
@@ -72,7 +72,7 @@ key_at words at i = pos (slice_index (boundaries_of (spec_of words at)) i)
 
 -- what an adopted image had as blocks, and what actors claimed
 abbrev pub all_claims : List Claim → List Actor → List Claim
-all_claims first actors = first ++ flat_map (λ a. a.claimed) actors
+all_claims first actors = first ++ flat_map (λ a. a.done.claimed) actors
 
 -- a claimed block, as a word and a size
 abbrev pub run_of : Claim → ℕ × ℕ
@@ -218,7 +218,7 @@ pub record TotalsAreCounted (version : ℕ) (words : List ℕ) (actors : List Ac
   -- units that are counted have a key that is there
   pub placed : (entry : Entry) → Contains (all_counted actors) entry → 0 < entry.units → HasPlace words chain entry.name entry.key
   -- of each entry of an ended call all three events have happened
-  pub ended : Each actors (λ a. All (λ c. has_ended c ≡ true) a.log)
+  pub ended : Each actors (λ a. All (λ c. has_ended c ≡ true) a.entries.log)
 
 -- ---- 4: marks are what was taken
 
@@ -240,7 +240,7 @@ pub record MarksAreTaken (version : ℕ) (words : List ℕ) (actors : List Actor
       → IsSample words chain at value sample
       → (field_at words sample SAMPLE_MARK ≡ units_taken actors name value) × (field_at words sample SAMPLE_MARK ≤ field_at words sample SAMPLE_COUNT)
   -- units that were taken have a key that is there
-  pub placed : (t : Taken) (count : ℤ × ℕ) → Contains (all_taken actors) t → Contains t.counts count
+  pub placed : (t : Portion) (count : ℤ × ℕ) → Contains (all_taken actors) t → Contains t.counts count
       → HasPlace words chain t.name count.0
   -- the single mark is 0 while no bucket is or was packed; in version 1 it is at most the greater of that bucket's total and
   -- 65,535, since its units may be in transit
@@ -254,7 +254,7 @@ pub record MarksAreTaken (version : ℕ) (words : List ℕ) (actors : List Actor
   -- counts, marks and redundant counts that an actor saw are at most the present ones
   pub seen : Each actors (λ a. All (λ s. s.word ≤ word_at words s.at) a.seen.counts)
   -- and a bucket of a snapshot is at most what is counted there
-  pub snapshots : Each actors (λ a. All (IsWithinCounts actors) a.snapshots)
+  pub snapshots : Each actors (λ a. All (IsWithinCounts actors) a.deltas.snapshots)
 
 -- ---- 5: sums are amounts
 
@@ -281,16 +281,16 @@ TransitIsLocal version words actors =
 -- the corrupt flag, and the full flag, is set exactly where it was at the opening or an actor has set it; other bits stay
 pub record FlagsAreSet (opened words : List ℕ) (actors : List Actor) : Type 0 where
   pub corrupt : (bit_and (word_at words FLAGS_WORD) FLAG_CORRUPT ≡ FLAG_CORRUPT)
-      ↔ ((bit_and (word_at opened FLAGS_WORD) FLAG_CORRUPT ≡ FLAG_CORRUPT) ⊎ Contains (map (λ a. a.spoiled) actors) true)
+      ↔ ((bit_and (word_at opened FLAGS_WORD) FLAG_CORRUPT ≡ FLAG_CORRUPT) ⊎ Contains (map (λ a. a.done.spoiled) actors) true)
   pub full : (bit_and (word_at words FLAGS_WORD) FLAG_FULL ≡ FLAG_FULL)
-      ↔ ((bit_and (word_at opened FLAGS_WORD) FLAG_FULL ≡ FLAG_FULL) ⊎ Contains (map (λ a. a.filled) actors) true)
+      ↔ ((bit_and (word_at opened FLAGS_WORD) FLAG_FULL ≡ FLAG_FULL) ⊎ Contains (map (λ a. a.done.filled) actors) true)
   pub others : word_at words FLAGS_WORD / 4 ≡ word_at opened FLAGS_WORD / 4
 
 -- ---- 8: units are kept
 
 -- a sum that a running delta has loaded of a histogram, if there is one
 abbrev pub IsLoaded : List Actor → ℕ → ℤ → Type 0
-IsLoaded actors at sum = (a : Actor) × Contains actors a × (a.place ≡ SumLoaded at sum)
+IsLoaded actors at sum = (a : Actor) × Contains actors a × (a.hand.place ≡ SumLoaded at sum)
 
 -- a sum of a histogram: the present one, its mark, or one that a running delta has loaded
 abbrev pub IsSum : List ℕ → List Actor → ℕ → ℤ → Type 0

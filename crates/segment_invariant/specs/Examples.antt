@@ -4,15 +4,16 @@ use Rattle.segment_image.specs.Image.{blank_words}
 use Rattle.segment_image.specs.Blocks.{field_at}
 use Rattle.bucket_ranges.specs.Reading.{sum_of, sum_mark_of, total_of, mark_of}
 use Rattle.segment_machine.specs.declared.actor.Actor.{Actor}
+use Rattle.segment_machine.specs.declared.actor.Taken.{Taken}
 use Rattle.segment_machine.specs.Entry.{sample_entry, tally_units, tally_sum}
 use Rattle.segment_machine.specs.Form.{off_word, packed_word}
-use Rattle.segment_machine.specs.Actor.{log_of, counted_of, taken_units, taken_sum, transit_of, units_of, IsFinal}
+use Rattle.segment_machine.specs.Actor.{log_of, counted_of, taken_units, taken_sum, transit_of, units_of, IsFinal, portion_of}
 use Rattle.segment_machine.specs.Packing.{disable, add_moved}
 use Rattle.segment_machine.specs.Event.{packing_event, counting_event, after}
 use Rattle.segment_machine.specs.Counting.{add_count, add_redundant}
 use Rattle.segment_invariant.specs.Consistent.{IsSampleOf, ListIsChain, RecordsHold, TotalsAreCounted, MarksAreTaken, SumsAreAmounts, TransitIsLocal, FlagsAreSet, UnitsAreKept, Opening, IsConsistent}
 use Rattle.segment_machine.specs.State.{State}
-use Rattle.segment_machine.specs.Examples.{packed_segment, mounted_segment, letter_a, maker, mounter, taken_at, mounted, in_transit, mover, three_deltas, sparse_segment}
+use Rattle.segment_machine.specs.Examples.{with_taken, packed_segment, mounted_segment, letter_a, maker, mounter, taken_at, mounted, in_transit, mover, marked, three_deltas, taken_once, sparse_segment}
 
 -- ---- packed, then mounted
 
@@ -54,21 +55,25 @@ PackingLimit =
 -- and the second and the third delta are final ones, the first is not
 abbrev pub DeltasAndMarks : Type 0
 DeltasAndMarks =
-    (map (mark_of 1 (mounted_segment 9223372036854775809 2 2 2 3 (1 ∷ 2 ∷ 0 ∷ 1 ∷ 0 ∷ 0 ∷ [])) 16) (0 ∷ 1 ∷ 2 ∷ []) ≡ 1 ∷ 2 ∷ 0 ∷ [])
-    × (map (λ key. taken_units three_deltas letter_a (pos key)) (0 ∷ 1 ∷ 2 ∷ []) ≡ 1 ∷ 2 ∷ 0 ∷ [])
-    × (taken_sum three_deltas letter_a ≡ pos 2)
+    (map (mark_of 1 marked 16) (0 ∷ 1 ∷ 2 ∷ []) ≡ 1 ∷ 2 ∷ 0 ∷ [])
+    × (map (λ key. taken_units (map portion_of three_deltas) letter_a (pos key)) (0 ∷ 1 ∷ 2 ∷ []) ≡ 1 ∷ 2 ∷ 0 ∷ [])
+    × (taken_sum (map portion_of three_deltas) letter_a ≡ pos 2)
     × IsFinal 1 (log_of (mounter (1 ∷ 1 ∷ 0 ∷ []))) letter_a (record { log = 3; before = 0; outstanding = 0 })
     × (¬ (IsFinal 1 (log_of (mounter (1 ∷ 1 ∷ 0 ∷ []))) letter_a (record { log = 2; before = 0; outstanding = 0 })))
 
 -- ---- two takers of a packed word
 
+-- what the deltas of two takers took: Y's all, X's nothing
+abbrev two_deltas : List Taken
+two_deltas = taken_at 4 ((pos 0, 1) ∷ (pos 1, 3) ∷ []) (pos 3) ∷ taken_at 4 [] (pos 0) ∷ []
+
 -- X loads the single word (1, 2) and stalls; samples 0 and 1 follow, and Y's delta takes all; X then takes nothing
 abbrev pub TwoTakers : Type 0
 TwoTakers =
-    (map (λ key. taken_units (taken_at 4 ((pos 0, 1) ∷ (pos 1, 3) ∷ []) (pos 3) ∷ taken_at 4 [] (pos 0) ∷ []) letter_a (pos key)) (0 ∷ 1 ∷ 2 ∷ [])
+    (map (λ key. taken_units (map portion_of two_deltas) letter_a (pos key)) (0 ∷ 1 ∷ 2 ∷ [])
     ≡ 1 ∷ 3 ∷ 0 ∷ [])
-    × (map (mark_of 1 (mounted_segment 9223372036854775809 3 3 3 4 (1 ∷ 3 ∷ 0 ∷ 1 ∷ 0 ∷ 0 ∷ [])) 16) (0 ∷ 1 ∷ 2 ∷ []) ≡ 1 ∷ 3 ∷ 0 ∷ [])
-    × (taken_sum (taken_at 4 ((pos 0, 1) ∷ (pos 1, 3) ∷ []) (pos 3) ∷ taken_at 4 [] (pos 0) ∷ []) letter_a ≡ pos 3)
+    × (map (mark_of 1 taken_once 16) (0 ∷ 1 ∷ 2 ∷ []) ≡ 1 ∷ 3 ∷ 0 ∷ [])
+    × (taken_sum (map portion_of two_deltas) letter_a ≡ pos 3)
 
 -- ---- sparse samples
 
@@ -110,7 +115,7 @@ TotalsBreak =
 
 -- two deltas took the same two units
 abbrev pub twice_taker : Actor
-twice_taker = record (maker (1 ∷ 1 ∷ [])) { taken = taken_at 2 ((pos 1, 2) ∷ []) (pos 2) ∷ taken_at 2 ((pos 1, 2) ∷ []) (pos 0) ∷ [] }
+twice_taker = with_taken (maker (1 ∷ 1 ∷ [])) (taken_at 2 ((pos 1, 2) ∷ []) (pos 2) ∷ taken_at 2 ((pos 1, 2) ∷ []) (pos 0) ∷ [])
 
 abbrev pub MarksBreak : Type 0
 MarksBreak = ¬ (MarksAreTaken 1 (packed_segment 4294967298 2 2 2 2) (twice_taker ∷ []) (16 ∷ []))
@@ -129,7 +134,7 @@ FlagsBreak = ¬ (FlagsAreSet opening.words (slice_set (packed_segment 0 0 0 0 0)
 
 -- a unit was spent and is still in the share
 abbrev pub saver : Actor
-saver = record (maker (1 ∷ [])) { share = 4294967295 }
+saver = record (maker (1 ∷ [])) { units = record (maker (1 ∷ [])).units { share = 4294967295 } }
 
 abbrev pub UnitsBreak : Type 0
 UnitsBreak = ¬ (UnitsAreKept (packed_segment 4294967297 0 1 0 1) (saver ∷ []) (16 ∷ []))

@@ -12,8 +12,8 @@ use Rattle.alloc_core.specs.Alloc.{IsPlace}
 use Rattle.bucket_ranges.specs.declared.spec.Spec.{Spec}
 use Rattle.bucket_ranges.specs.declared.spec.Spec.TheVariants as spec
 use Rattle.bucket_ranges.specs.Spec.{buckets_of, spec_fault, spec_fields, spec_ranges}
-use Rattle.bucket_ranges.specs.Reading.{is_name, is_i32}
-use Rattle.bucket_ranges.specs.Single.{single_of, packed_bucket, units_packed}
+use Rattle.bucket_ranges.specs.Reading.{is_name, is_i32, is_bad_sum}
+use Rattle.bucket_ranges.specs.Single.{single_of, packed_bucket, is_packed_bucket, units_packed}
 use Rattle.list_core.specs.Chain.{stops, IsLinked}
 use Rattle.list_core.specs.Laws.{IsStop, AreNeighbours}
 use Rattle.segment_machine.specs.declared.entry.Entry.{Entry}
@@ -22,6 +22,7 @@ use Rattle.segment_machine.specs.declared.place.Look.{Look}
 use Rattle.segment_machine.specs.declared.place.Place.{Place}
 use Rattle.segment_machine.specs.declared.place.Place.TheVariants.{Spent, Idle, FlagsLoaded, FreeLoaded, Raised, Sized, Marked, TailLoaded, Beaten, Linked, Looking, Losing, Moving, CountLoaded, SampleLoaded, SumLoaded, CursorLoaded, BehindCursor}
 use Rattle.segment_machine.specs.declared.actor.Actor.{Actor}
+use Rattle.segment_machine.specs.declared.actor.Portion.{Portion}
 use Rattle.segment_machine.specs.declared.actor.Answered.{Answered}
 use Rattle.segment_machine.specs.declared.actor.Given.{Given}
 use Rattle.segment_machine.specs.declared.actor.Known.{Known}
@@ -34,21 +35,21 @@ use Rattle.segment_machine.specs.declared.seen.Sighting.{Sighting}
 use Rattle.segment_machine.specs.declared.actor.Taken.{Taken}
 use Rattle.segment_machine.specs.Entry.{is_counted, is_summed, has_ended, AreWithin, is_of, tally_units, tally_sum, tally_noted}
 use Rattle.segment_machine.specs.Form.{is_off, units_in, Leads}
-use Rattle.segment_machine.specs.Actor.{Buckets, Sparse, log_of, counted_of, bucket_key, units_listed, taken_sum, all_counted, all_summed, all_noted, all_taken, all_published, all_given, cost_of, units_of, SawSingle, SawCount, all_names, all_owed}
+use Rattle.segment_machine.specs.Actor.{Buckets, Sparse, log_of, counted_of, bucket_key, units_listed, taken_sum, all_counted, all_summed, all_noted, all_taken, all_published, all_given, cost_of, units_of, SawSingle, SawCount, all_names, all_owed, is_opener, made_of, offered_of, outstanding_of}
 use Rattle.segment_machine.specs.Made.{AreNameWords, SawSample}
 use Rattle.segment_machine.specs.Note.{is_untouched, SawBucket}
 use Rattle.segment_machine.specs.Actor.{accepted_by, accepted_since}
 use Rattle.segment_invariant.specs.Consistent.{units_taken, IsWithinCounts}
 use Rattle.segment_machine.specs.Seats.{spent}
 use Rattle.segment_machine.specs.State.{State}
-use Rattle.segment_invariant.specs.Body.{Record, Counts, Sample, Body, held, histogram, sample, other, words_of, is_claimed, Piece, extent_of, Listed, listed, Anatomy, layout_of, order_of, claims_of}
+use Rattle.segment_invariant.specs.Body.{Record, Counts, Sample, Body, held, histogram, counts, sample, other, words_of, is_claimed, Piece, extent_of, Listed, listed, Anatomy, layout_of, order_of, claims_of}
 use Rattle.segment_invariant.specs.Ledger.{form_at, key_of_bucket, noted_held, all_held, IsBalanced}
-use Rattle.segment_invariant.specs.Seen.{Stands, HasPlain, HasOwn, HasRecord, HasCounts, HasSample, IsFirst, IsFirstOf, IsReachedAt, Sees, Knows}
+use Rattle.segment_invariant.specs.Seen.{Stands, HasStill, HoldsAs, HasPlain, HasOwn, HasRecord, HasCounts, HasSample, IsFirst, IsFirstOf, IsReachedAt, Sees, Knows}
 
 -- ---- the list
 
--- a listed record stands as what it was given; one of another type is neither a histogram's nor a sample, and has five words at
--- least, as each claimed block
+-- a listed record stands as what it was given; one to which nothing was given is no sample, and has five words at least, as each
+-- claimed block
 abbrev pub StandsAs : List Piece → Listed → Option Made → Type 0
 StandsAs pieces l (Some (made.Histogram name spec)) =
     (r : Record) × HasRecord pieces l.reference r × (r.name ≡ name) × (r.spec ≡ spec)
@@ -56,13 +57,13 @@ StandsAs pieces l (Some (made.Sample of value)) =
     (s : Sample) × HasSample pieces l.reference s × (s.of ≡ of) × (s.value ≡ value)
 StandsAs pieces l None =
     (size tag next : ℕ) × (payload : List ℕ) × Stands pieces l.reference none (other size tag next payload)
-    × (tag ≢ TYPE_HISTOGRAM) × (tag ≢ TYPE_SAMPLE) × (1 ≤ length payload)
+    × (tag ≢ TYPE_SAMPLE) × (1 ≤ length payload)
 
--- a published block is on the list
+-- a published block is on the list; a counts block need not be
 abbrev pub IsListed : List Listed → ℕ → Body → Type 0
 IsListed records at (histogram r) = Contains records (record { reference = at; made = Some (made.Histogram r.name r.spec) })
 IsListed records at (sample s) = Contains records (record { reference = at; made = Some (made.Sample s.of s.value) })
-IsListed records at (other size tag next payload) = Contains records (record { reference = at; made = None })
+IsListed records at (other size tag next payload) = tag ≢ TYPE_COUNTS → Contains records (record { reference = at; made = None })
 IsListed records at _ = ⊤
 
 -- The nexts lead along the records in their order; these are the records of the opening, then those that actors linked; each
@@ -79,40 +80,46 @@ pub record ListIsKept (words : List ℕ) (opened anatomy : Anatomy) (actors : Li
 
 -- the words of a record fit in its block, its name and spec are lawful, its counts fit in a page, and its single word has a form.
 -- While no bucket is or was packed the single mark is 0; a sparse record has neither single word nor counts
-pub record IsLawfulRecord (version page : ℕ) (r : Record) : Type 0 where
-  pub sized : r.size ≡ HISTOGRAM_NAME + (length r.letters + (length (spec_ranges r.spec) + length r.rest))
-  pub least : HISTOGRAM_LEAST ≤ r.size
-  pub named : is_name r.name ≡ true
-  pub lettered : AreNameWords r.name r.letters
-  pub lawful : spec_fault r.spec ≡ None
-  pub fields : length (spec_fields r.spec) ≡ 4
-  pub fits : BLOCK_HEADER + 2 * buckets_of r.spec ≤ page
-  pub formed : form_at version r ≢ None
-  pub unpacked : packed_bucket (form_at version r) ≡ None → r.mark ≡ 0
-  pub off : is_off r.single ≡ true → r.counts ≢ 0
-  pub sparse : r.spec ≡ spec.Sparse → (r.counts ≡ 0) × (r.single ≡ 0) × (r.mark ≡ 0)
-  pub narrow : (r.sum < 2 ^ 64) × (r.sum_mark < 2 ^ 64)
+abbrev pub IsLawfulRecord : ℕ → ℕ → Record → Type 0
+IsLawfulRecord version page r = record {
+  sized : r.size ≡ HISTOGRAM_NAME + (length r.letters + (length (spec_ranges r.spec) + length r.rest));
+  least : HISTOGRAM_LEAST ≤ r.size;
+  named : is_name r.name ≡ true;
+  lettered : AreNameWords r.name r.letters;
+  lawful : spec_fault r.spec ≡ None;
+  fields : length (spec_fields r.spec) ≡ 4;
+  fits : BLOCK_HEADER + 2 * buckets_of r.spec ≤ page;
+  formed : form_at version r ≢ None;
+  unpacked : packed_bucket (form_at version r) ≡ None → r.mark ≡ 0;
+  off : is_off r.single ≡ true → r.counts ≢ 0;
+  sparse : r.spec ≡ spec.Sparse → (r.counts ≡ 0) × (r.single ≡ 0) × (r.mark ≡ 0);
+  narrow : (r.sum < 2 ^ 64) × (r.sum_mark < 2 ^ 64);
+}
 
 -- the counts block of a record: a count and a mark for each bucket. The mark of the packed bucket is the single mark, so its own
 -- stays 0; until the single word is off all are 0. In version 1 the single mark is at most the greater of its bucket's total and
 -- 65,535, since its units may be in transit
-pub record IsCountsOf (version : ℕ) (at : ℕ) (r : Record) (c : Counts) : Type 0 where
-  pub mine : c.of ≡ at
-  pub named : c.name ≡ r.name
-  pub same : c.spec ≡ r.spec
-  pub units : length c.units ≡ buckets_of r.spec
-  pub marks : length c.marks ≡ buckets_of r.spec
-  pub sized : c.size ≡ BLOCK_HEADER + (length c.units + (length c.marks + length c.rest))
-  pub packed : (i : ℕ) → packed_bucket (form_at version r) ≡ Some i → slice_index c.marks i ≡ 0
-  pub unused : is_off r.single ≡ false → All (λ n. n ≡ 0) c.units × All (λ n. n ≡ 0) c.marks
-  pub mark : version ≡ 1 → (i : ℕ) → packed_bucket (form_at version r) ≡ Some i
-      → r.mark ≤ max (slice_index c.units i + units_packed (form_at version r) i) 65535
+abbrev pub IsCountsOf : ℕ → ℕ → Record → Counts → Type 0
+IsCountsOf version at r c = record {
+  mine : c.of ≡ at;
+  named : c.name ≡ r.name;
+  same : c.spec ≡ r.spec;
+  units : length c.units ≡ buckets_of r.spec;
+  marks : length c.marks ≡ buckets_of r.spec;
+  sized : c.size ≡ BLOCK_HEADER + (length c.units + (length c.marks + length c.rest));
+  packed : (i : ℕ) → packed_bucket (form_at version r) ≡ Some i → slice_index c.marks i ≡ 0;
+  unused : is_off r.single ≡ false → All (λ n. n ≡ 0) c.units × All (λ n. n ≡ 0) c.marks;
+  mark : version ≡ 1 → (i : ℕ) → packed_bucket (form_at version r) ≡ Some i
+      → r.mark ≤ max (slice_index c.units i + units_packed (form_at version r) i) 65535;
+}
 
 -- the words of a sample fit in its block, and its value is one
-pub record IsLawfulSample (s : Sample) : Type 0 where
-  pub sized : s.size ≡ SAMPLE_LEAST + length s.rest
-  pub valued : is_i32 s.value ≡ true
-  pub taken : s.mark ≤ s.units
+abbrev pub IsLawfulSample : Sample → Type 0
+IsLawfulSample s = record {
+  sized : s.size ≡ SAMPLE_LEAST + length s.rest;
+  valued : is_i32 s.value ≡ true;
+  taken : s.mark ≤ s.units;
+}
 
 -- in a record that is not the first of its name nothing is counted
 abbrev pub CountsNothing : Record → Type 0
@@ -136,14 +143,53 @@ pub record RecordsAreKept (page : ℕ) (anatomy : Anatomy) : Type 0 where
   pub later_samples : (at other : ℕ) (s : Sample) → HasSample anatomy.pieces at s → IsFirstOf anatomy.records s.of s.value other → other ≢ at
       → (s.units ≡ 0) × (s.mark ≡ 0)
 
+-- ---- what is passed over
+
+-- the total of a bucket of a record with such a counts block, and its mark, which for the packed bucket is the single mark
+abbrev pub total_in : ℕ → Record → Counts → ℕ → ℕ
+total_in version r c i = slice_index c.units i + units_packed (form_at version r) i
+
+abbrev pub mark_in : ℕ → Record → Counts → ℕ → ℕ
+mark_in version r c i = if is_packed_bucket (form_at version r) i then r.mark else slice_index c.marks i
+
+-- A record is passed over, since one of those that are before it on the list has its name. It is lawful, no total is above what a segment
+-- may count, no mark above its total, and its sums are such as a segment can reach; what it counts is bound to nothing else.
+pub record IsPassedOver (version page : ℕ) (pieces : List Piece) (front : List Listed) (at : ℕ) (r : Record) : Type 0 where
+  pub stands : HoldsAs pieces at (histogram r)
+  pub lawful : IsLawfulRecord version page r
+  pub named : (kind : Spec) × (first : ℕ) × IsFirst front r.name kind first
+  pub counted : r.counts ≢ 0 → (c : Counts) × HoldsAs pieces r.counts (counts c) × IsCountsOf version at r c
+      × ((i : ℕ) → i < buckets_of r.spec → (total_in version r c i ≤ 4294967295) × (mark_in version r c i ≤ total_in version r c i))
+  pub packed : r.counts ≡ 0 → r.mark ≤ units_in (form_at version r)
+  pub sums : is_bad_sum (cast_signed w64 r.sum) (cast_signed w64 r.sum_mark) ≡ false
+
+-- a block is of another type than a histogram's record
+abbrev pub IsOfOtherType : List Piece → ℕ → Type 0
+IsOfOtherType pieces at = (size tag next : ℕ) × (payload : List ℕ) × Stands pieces at none (other size tag next payload) × (tag ≢ TYPE_HISTOGRAM)
+
+-- the opening has a record at a place that is passed over
+abbrev pub HasPassedOver : Anatomy → ℕ → Record → Type 0
+HasPassedOver opened at r = Contains opened.records (record { reference = at; made = None }) × HoldsAs opened.pieces at (histogram r)
+
+-- Of the records of the opening those to which nothing was given are of another type, or passed over. The counts block that one of these
+-- names is no other's, and not on the list. All these blocks stay.
+pub record ArePassedOver (page : ℕ) (opened : Anatomy) (pieces : List Piece) : Type 0 where
+  pub stay : (at size tag : ℕ) (payload : List ℕ) → HasStill opened.pieces at size tag payload → HasStill pieces at size tag payload
+  pub each : (front behind : List Listed) (at : ℕ) → opened.records ≡ front ++ record { reference = at; made = None } ∷ behind
+      → IsOfOtherType opened.pieces at ⊎ ((r : Record) × IsPassedOver opened.version page opened.pieces front at r)
+  pub apart : (at place : ℕ) (r q : Record) → HasPassedOver opened at r → HasPassedOver opened place q → r.counts ≢ 0 → r.counts ≡ q.counts → at ≡ place
+  pub unlisted : (at : ℕ) (r : Record) → HasPassedOver opened at r → ¬ (Contains opened.records (record { reference = r.counts; made = None }))
+
 -- ---- what an actor has in hand
 
 -- what it has loaded of a histogram is what it saw: a single word, and the counts reference, which stays
-pub record LooksRight (a : Actor) (look : Look) : Type 0 where
-  pub known : Known
-  pub knows : Buckets a look.histogram known
-  pub single : (word : ℕ) → look.single ≡ Some word → Contains a.seen.singles (record { at = look.histogram + HISTOGRAM_SINGLE; word = word })
-  pub counts : look.counts ≢ 0 → Contains a.seen.words (record { at = look.histogram + HISTOGRAM_COUNTS; word = look.counts })
+abbrev pub LooksRight : Actor → Look → Type 0
+LooksRight a look = record {
+  known : Known;
+  knows : Buckets a look.histogram known;
+  single : (word : ℕ) → look.single ≡ Some word → Contains a.seen.singles (record { at = look.histogram + HISTOGRAM_SINGLE; word = word });
+  counts : look.counts ≢ 0 → Contains a.seen.words (record { at = look.histogram + HISTOGRAM_COUNTS; word = look.counts });
+}
 
 -- it has loaded a single word that is off, and the counts
 abbrev pub LoadedOff : Actor → Look → Type 0
@@ -165,13 +211,13 @@ StandsRight shape anatomy id a (Raised at size) = IsPlace shape at size × HasPl
 StandsRight shape anatomy id a (Sized at size) = IsPlace shape at size × HasPlain anatomy.pieces id at (size ∷ replicate (size - 1) 0)
 StandsRight shape anatomy id a (Marked at size) =
     IsPlace shape at size × HasPlain anatomy.pieces id at (size ∷ CLAIMED_COOKIE ∷ replicate (size - 2) 0)
-StandsRight shape anatomy id a (TailLoaded tail) = Contains a.seen.tails tail × IsReachedAt (order_of anatomy) a.beaten tail
+StandsRight shape anatomy id a (TailLoaded tail) = Contains a.seen.tails tail × IsReachedAt (order_of anatomy) a.done.beaten tail
 StandsRight shape anatomy id a (Beaten tail behind) =
-    AreNeighbours (order_of anatomy) tail behind × Contains a.seen.tails tail × IsReachedAt (order_of anatomy) a.beaten behind
+    AreNeighbours (order_of anatomy) tail behind × Contains a.seen.tails tail × IsReachedAt (order_of anatomy) a.done.beaten behind
 StandsRight shape anatomy id a (Linked at tail) = AreNeighbours (order_of anatomy) tail at
 StandsRight shape anatomy id a (Looking look) = LooksRight a look
 StandsRight shape anatomy id a (Losing look at) =
-    LooksRight a look × (look.counts ≢ 0) × (look.counts ≢ at) × ((own : Own) × Contains a.own own × (own.at ≡ at) × (own.tag ≡ TYPE_COUNTS))
+    LooksRight a look × (look.counts ≢ 0) × (look.counts ≢ at) × ((own : Own) × Contains a.hand.own own × (own.at ≡ at) × (own.tag ≡ TYPE_COUNTS))
 StandsRight shape anatomy id a (Moving look bucket units) =
     LooksRight a look × (anatomy.version ≡ 1) × (look.counts ≢ 0) × (1 ≤ units) × (units ≤ 65535)
     × ((r : Record) × HasRecord anatomy.pieces look.histogram r × (packed_bucket (form_at 1 r) ≡ Some bucket) × (is_off r.single ≡ true))
@@ -181,12 +227,12 @@ StandsRight shape anatomy id a (CountLoaded look bucket count) =
     × Contains a.seen.counts (record { at = look.counts + BLOCK_HEADER + bucket; word = count })
 StandsRight shape anatomy id a (SampleLoaded reference count) =
     MetSample a reference × Contains a.seen.counts (record { at = reference + SAMPLE_COUNT; word = count })
-StandsRight shape anatomy id a (SumLoaded reference sum) = (known : Known) × Contains a.names known × (known.reference ≡ reference)
+StandsRight shape anatomy id a (SumLoaded reference sum) = (known : Known) × Contains a.answers.names known × (known.reference ≡ reference)
 StandsRight shape anatomy id a (CursorLoaded cursor at) =
-    IsReachedAt (order_of anatomy) (slice_index a.lost cursor) at × Contains a.seen.cursors (record { at = cursor; word = at })
+    IsReachedAt (order_of anatomy) (slice_index a.done.lost cursor) at × Contains a.seen.cursors (record { at = cursor; word = at })
 StandsRight shape anatomy id a (BehindCursor cursor at next) =
     AreNeighbours (order_of anatomy) at next × Contains a.seen.cursors (record { at = cursor; word = at })
-    × IsReachedAt (order_of anatomy) (slice_index a.lost cursor) at
+    × IsReachedAt (order_of anatomy) (slice_index a.done.lost cursor) at
 
 -- a block of its own stands as it was stored, and has room for its payload
 pub record HoldsOwn (shape : Dimensions) (pieces : List Piece) (id : ℕ) (own : Own) : Type 0 where
@@ -210,18 +256,20 @@ pub record AreInOrder (running : List Counting) : Type 0 where
 -- A running call holds what its entries cost, of a histogram that its actor knows; in a log all entries have ended, and for each name
 -- the units of these are spent, with what the opening has used, which is the units of the first entries, or the redundant count that was
 -- there where that is more; of each entry of a sparse histogram that has units and was counted by its actor, or before it, its actor met the sample.
-pub record CallsRight (anatomy : Anatomy) (a : Actor) : Type 0 where
-  pub ordered : AreInOrder a.running
-  pub within : a.running ≢ [] → (name : List ℕ) × (cost : ℕ)
-      × (a.held ≡ record { name = name; units = cost } ∷ []) × AreWithin name cost (map (λ c. c.entry) a.running)
-      × Contains (map (λ known. known.name) a.names) name
-  pub held : length a.held ≤ 1
-  pub ended : All (λ c. has_ended c ≡ true) a.log
-  pub spent : (name : List ℕ)
-      → max (tally_noted a.first name) (cost_of a.first_noted name) + tally_noted (map (λ c. c.entry) a.log) name ≤ cost_of a.costs name
-  pub met : (entry : Entry) (of : ℕ) → Contains (a.inherited ++ counted_of a) entry → 0 < entry.units → IsFirst anatomy.records entry.name spec.Sparse of
-      → (at : ℕ) × IsFirstOf anatomy.records of entry.key at × Contains a.seen.chain at × SawSample a.seen of entry.key at
-  pub taking : a.taking ≡ true → (a.running ≡ []) × ((before : List Taken) × (last : Taken) × (a.taken ≡ before ++ last ∷ []))
+abbrev pub CallsRight : Anatomy → Actor → Type 0
+CallsRight anatomy a = record {
+  ordered : AreInOrder a.entries.running;
+  within : a.entries.running ≢ [] → (name : List ℕ) × (cost : ℕ)
+      × (a.units.held ≡ record { name = name; units = cost } ∷ []) × AreWithin name cost (map (λ c. c.entry) a.entries.running)
+      × Contains (map (λ known. known.name) a.answers.names) name;
+  held : length a.units.held ≤ 1;
+  ended : All (λ c. has_ended c ≡ true) a.entries.log;
+  spent : (name : List ℕ)
+      → max (tally_noted a.entries.first name) (cost_of a.entries.first_noted name) + tally_noted (map (λ c. c.entry) a.entries.log) name ≤ cost_of a.units.costs name;
+  met : (entry : Entry) (of : ℕ) → Contains (a.entries.inherited ++ counted_of a) entry → 0 < entry.units → IsFirst anatomy.records entry.name spec.Sparse of
+      → (at : ℕ) × IsFirstOf anatomy.records of entry.key at × Contains a.seen.chain at × SawSample a.seen of entry.key at;
+  taking : a.deltas.taking ≡ true → (a.entries.running ≡ []) × ((before : List Taken) × (last : Taken) × (a.deltas.taken ≡ before ++ last ∷ []));
+}
 
 -- an entry that has units, and units that were taken, have the key of a bucket of a histogram, or the value of one of its samples
 abbrev pub HasKey : List Listed → List ℕ → ℤ → Type 0
@@ -236,7 +284,7 @@ HasKey records name key =
 -- most, in 2^31
 abbrev pub summed_cost : List ℕ → Actor → ℕ
 summed_cost name a =
-    cost_of a.costs name + (if length (filter (λ c. c.summed) a.running) == 0 then 0 else cost_of a.held name)
+    cost_of a.units.costs name + (if length (filter (λ c. c.summed) a.entries.running) == 0 then 0 else cost_of a.units.held name)
 
 abbrev pub summed_costs : List ℕ → List Actor → ℕ
 summed_costs name actors = sum_by (summed_cost name) actors
@@ -245,7 +293,7 @@ summed_costs name actors = sum_by (summed_cost name) actors
 abbrev pub IsSumOf : List Actor → ℕ → Record → ℤ → Type 0
 IsSumOf actors at r sum =
     (sum ≡ pos 0) ⊎ (sum ≡ cast_signed w64 r.sum) ⊎ (sum ≡ cast_signed w64 r.sum_mark)
-    ⊎ ((id : ℕ) × (a : Actor) × (get_elem? actors id ≡ some a) × (a.place ≡ SumLoaded at sum))
+    ⊎ ((id : ℕ) × (a : Actor) × (get_elem? actors id ≡ some a) × (a.hand.place ≡ SumLoaded at sum))
 
 -- any two sums of a record differ by at most 2^31 times the units spent on it
 abbrev pub SumsAreNear : List Piece → List Actor → Type 0
@@ -256,7 +304,7 @@ SumsAreNear pieces actors = (at : ℕ) (r : Record) (x y : ℤ) → HasRecord pi
 
 -- whether an actor is a recorder that was not joined
 abbrev pub is_living : Actor → Bool
-is_living a = (a.opener == 0) && not (is_spent a.place)
+is_living a = not (is_opener a.role) && not (is_spent a.hand.place)
   where
     is_spent : Place → Bool
     is_spent Spent = true
@@ -268,24 +316,24 @@ is_living a = (a.opener == 0) && not (is_spent a.place)
 pub record RolesAreKept (actors : List Actor) : Type 0 where
   pub opener : Actor
   pub stands : get_elem? actors 0 ≡ some opener
-  pub opens : opener.opener ≡ 1
-  pub idle : opener.place ≡ Idle
-  pub rests : (opener.running ≡ []) × (opener.held ≡ []) × (opener.taking ≡ false) × (opener.inherited ≡ []) × (opener.owed ≡ [])
-  pub only : (id : ℕ) (a : Actor) → get_elem? actors id ≡ some a → id ≢ 0 → (a.opener ≡ 0) × (a.first ≡ []) × (a.first_noted ≡ []) × (a.offered ≡ 0)
-  pub offers : opener.offered ≤ opener.share
-  pub living : sum_by (λ a. if is_living a then 1 else 0) actors ≡ opener.outstanding
-  pub few : opener.outstanding ≤ 256
-  pub younger : (id : ℕ) (a : Actor) → get_elem? actors id ≡ some a → is_living a ≡ true → a.made < opener.made
+  pub opens : is_opener opener.role ≡ true
+  pub idle : opener.hand.place ≡ Idle
+  pub rests : (opener.entries.running ≡ []) × (opener.units.held ≡ []) × (opener.deltas.taking ≡ false) × (opener.entries.inherited ≡ []) × (opener.answers.owed ≡ [])
+  pub only : (id : ℕ) (a : Actor) → get_elem? actors id ≡ some a → id ≢ 0 → (is_opener a.role ≡ false) × (a.entries.first ≡ []) × (a.entries.first_noted ≡ []) × (a.deltas.first_taken ≡ []) × (offered_of a.role ≡ 0)
+  pub offers : offered_of opener.role ≤ opener.units.share
+  pub living : sum_by (λ a. if is_living a then 1 else 0) actors ≡ outstanding_of opener.role
+  pub few : outstanding_of opener.role ≤ 256
+  pub younger : (id : ℕ) (a : Actor) → get_elem? actors id ≡ some a → is_living a ≡ true → made_of a.role < made_of opener.role
   pub apart : (i j : ℕ) (a b : Actor) → get_elem? actors i ≡ some a → get_elem? actors j ≡ some b → is_living a ≡ true → is_living b ≡ true
-      → i ≢ j → a.made ≢ b.made
+      → i ≢ j → made_of a.role ≢ made_of b.role
   pub eldest : (i j : ℕ) (a b : Actor) → get_elem? actors i ≡ some a → get_elem? actors j ≡ some b → is_living a ≡ true → is_living b ≡ true
-      → i ≢ j → a.outstanding ≡ 0 → a.made < b.made
+      → i ≢ j → outstanding_of a.role ≡ 0 → made_of a.role < made_of b.role
   pub heirs : (id : ℕ) (a : Actor) → get_elem? actors id ≡ some a → is_living a ≡ true
-      → (more : List Entry) × (log_of opener ≡ a.inherited ++ more) × (a.outstanding ≡ 0 → a.made + 1 ≡ opener.made → more ≡ [])
+      → (more : List Entry) × (log_of opener ≡ a.entries.inherited ++ more) × (outstanding_of a.role ≡ 0 → made_of a.role + 1 ≡ made_of opener.role → more ≡ [])
 
 -- a recorder that is alone: none was outstanding when it was made, and none was made after it
 abbrev pub IsAlone : List Actor → Actor → Type 0
-IsAlone actors a = (opener : Actor) × (get_elem? actors 0 ≡ some opener) × (a.outstanding ≡ 0) × (a.made + 1 ≡ opener.made)
+IsAlone actors a = (opener : Actor) × (get_elem? actors 0 ≡ some opener) × (outstanding_of a.role ≡ 0) × (made_of a.role + 1 ≡ made_of opener.role)
 
 -- ---- names
 
@@ -312,72 +360,78 @@ IsSettled anatomy actors a known bucket =
 -- a frozen word keeps. So of a sample, and of redundant counts. Counters that it saw before are no more than those that it sees
 -- now, and single words that it saw before lead to those. Where it saw counts before, the single word is off by now. A sum that one
 -- alone has loaded is the sum.
-pub record LooksBack (anatomy : Anatomy) (actors : List Actor) (opener a : Actor) : Type 0 where
-  pub most : (known : Known) (bucket total : ℕ) → Contains a.names known → bucket < buckets_of known.spec → SawBucket a known bucket total
-      → total ≤ tally_units (all_counted actors) known.name (bucket_key (Some known) bucket)
-  pub packed : (known : Known) (bucket word : ℕ) → Contains a.names known → bucket < buckets_of known.spec
+abbrev pub LooksBack : Anatomy → List Actor → Actor → Actor → Type 0
+LooksBack anatomy actors opener a = record {
+  most : (known : Known) (bucket total : ℕ) → Contains a.answers.names known → bucket < buckets_of known.spec → SawBucket a known bucket total
+      → total ≤ tally_units (all_counted actors) known.name (bucket_key (Some known) bucket);
+  packed : (known : Known) (bucket word : ℕ) → Contains a.answers.names known → bucket < buckets_of known.spec
       → SawSingle a (known.reference + HISTOGRAM_SINGLE) word → is_off word ≡ false
-      → tally_units (accepted_by a) known.name (bucket_key (Some known) bucket) ≤ units_packed (single_of anatomy.version (buckets_of known.spec) word) bucket
-  pub counted : (known : Known) (bucket count : ℕ) (r : Record) → Contains a.names known → bucket < buckets_of known.spec
+      → tally_units (accepted_by a) known.name (bucket_key (Some known) bucket) ≤ units_packed (single_of anatomy.version (buckets_of known.spec) word) bucket;
+  counted : (known : Known) (bucket count : ℕ) (r : Record) → Contains a.answers.names known → bucket < buckets_of known.spec
       → HasRecord anatomy.pieces known.reference r → r.counts ≢ 0 → SawCount a (r.counts + BLOCK_HEADER + bucket) count
       → IsSettled anatomy actors a known bucket
-      → tally_units (accepted_by a) known.name (bucket_key (Some known) bucket) ≤ count + units_packed (form_at anatomy.version r) bucket
-  pub samples : (known : Known) (value : ℤ) (at count : ℕ) → Contains a.names known → IsFirstOf anatomy.records known.reference value at
-      → SawCount a (at + SAMPLE_COUNT) count → tally_units (accepted_by a) known.name value ≤ count
-  pub rising : (s t : Sighting) → Contains (take a.since_counts a.seen.counts) s → Contains (drop a.since_counts a.seen.counts) t
-      → s.at ≡ t.at → s.word ≤ t.word
-  pub leading : (s t : Sighting) (r : Record) (at : ℕ) → Contains (take a.since_singles a.seen.singles) s
-      → Contains (drop a.since_singles a.seen.singles) t → s.at ≡ t.at → t.at ≡ at + HISTOGRAM_SINGLE → HasRecord anatomy.pieces at r
-      → Leads anatomy.version (buckets_of r.spec) s.word t.word
-  pub closed : (s t : Sighting) (r : Record) (c : Counts) (at i : ℕ) → Contains (take a.since_counts a.seen.counts) s
-      → Contains (drop a.since_singles a.seen.singles) t → t.at ≡ at + HISTOGRAM_SINGLE → HasRecord anatomy.pieces at r
+      → tally_units (accepted_by a) known.name (bucket_key (Some known) bucket) ≤ count + units_packed (form_at anatomy.version r) bucket;
+  samples : (known : Known) (value : ℤ) (at count : ℕ) → Contains a.answers.names known → IsFirstOf anatomy.records known.reference value at
+      → SawCount a (at + SAMPLE_COUNT) count → tally_units (accepted_by a) known.name value ≤ count;
+  rising : (s t : Sighting) → Contains (take a.since.counts a.seen.counts) s → Contains (drop a.since.counts a.seen.counts) t
+      → s.at ≡ t.at → s.word ≤ t.word;
+  leading : (s t : Sighting) (r : Record) (at : ℕ) → Contains (take a.since.singles a.seen.singles) s
+      → Contains (drop a.since.singles a.seen.singles) t → s.at ≡ t.at → t.at ≡ at + HISTOGRAM_SINGLE → HasRecord anatomy.pieces at r
+      → Leads anatomy.version (buckets_of r.spec) s.word t.word;
+  closed : (s t : Sighting) (r : Record) (c : Counts) (at i : ℕ) → Contains (take a.since.counts a.seen.counts) s
+      → Contains (drop a.since.singles a.seen.singles) t → t.at ≡ at + HISTOGRAM_SINGLE → HasRecord anatomy.pieces at r
       → HasCounts anatomy.pieces r.counts c → s.at ≡ r.counts + i → BLOCK_HEADER ≤ i → i < BLOCK_HEADER + (length c.units + length c.marks)
-      → is_off t.word ≡ true
-  pub begun : (a.since_singles ≤ length a.seen.singles) × (a.since_counts ≤ length a.seen.counts)
-  pub noted : (known : Known) (count : ℕ) → Contains a.names known → SawCount a (known.reference + HISTOGRAM_REDUNDANT) count
-      → cost_of opener.first_noted known.name + tally_noted (accepted_since opener a) known.name ≤ count
-  pub sum : (reference : ℕ) (sum : ℤ) (r : Record) → a.place ≡ SumLoaded reference sum → IsAlone actors a
-      → HasRecord anatomy.pieces reference r → sum ≡ cast_signed w64 r.sum
+      → is_off t.word ≡ true;
+  begun : (a.since.singles ≤ length a.seen.singles) × (a.since.counts ≤ length a.seen.counts);
+  noted : (known : Known) (count : ℕ) → Contains a.answers.names known → SawCount a (known.reference + HISTOGRAM_REDUNDANT) count
+      → cost_of opener.entries.first_noted known.name + tally_noted (accepted_since opener a) known.name ≤ count;
+  sum : (reference : ℕ) (sum : ℤ) (r : Record) → a.hand.place ≡ SumLoaded reference sum → IsAlone actors a
+      → HasRecord anatomy.pieces reference r → sum ≡ cast_signed w64 r.sum;
+}
 
 -- nothing was counted of a name behind so many entries of a log, nor by a running call
 abbrev pub IsQuiet : Actor → List ℕ → ℕ → Type 0
 IsQuiet a name entries =
     All (λ entry. is_of name entry ≡ false) (drop entries (log_of a))
-    × All (λ c. (is_of name c.entry ≡ false) ⊎ (is_untouched c ≡ true)) a.running
+    × All (λ c. (is_of name c.entry ≡ false) ⊎ (is_untouched c ≡ true)) a.entries.running
 
 -- the deltas of an actor that are not going on any more
 abbrev pub ended_deltas : Actor → List Taken
-ended_deltas a = if a.taking then take (length a.taken - 1) a.taken else a.taken
+ended_deltas a = if a.deltas.taking then take (length a.deltas.taken - 1) a.deltas.taken else a.deltas.taken
 
 -- a moment at which a delta or a snapshot of an actor began
 abbrev pub IsMomentOf : Actor → Moment → Type 0
 IsMomentOf a m =
-    ((t : Taken) × Contains a.taken t × (t.moment ≡ m)) ⊎ ((s : Answered) × Contains a.snapshots s × (s.moment ≡ m))
+    ((t : Taken) × Contains a.deltas.taken t × (t.moment ≡ m)) ⊎ ((s : Answered) × Contains a.deltas.snapshots s × (s.moment ≡ m))
 
 -- A moment lies in the log and before the recorders that are made next; a recorder's own is told of that recorder. Where none was
 -- outstanding, all recorders that live, but the one itself, were made later.
-pub record IsMoment (actors : List Actor) (opener : Actor) (id : ℕ) (a : Actor) (m : Moment) : Type 0 where
-  pub logged : m.log ≤ length (log_of a)
-  pub before : m.before < opener.made
-  pub mine : a.opener ≡ 0 → (m.before ≡ a.made) × (m.outstanding ≡ a.outstanding)
-  pub eldest : m.outstanding ≡ 0 → (other : ℕ) (c : Actor) → get_elem? actors other ≡ some c → is_living c ≡ true
-      → other ≢ id → m.before < c.made
+abbrev pub IsMoment : List Actor → Actor → ℕ → Actor → Moment → Type 0
+IsMoment actors opener id a m = record {
+  logged : m.log ≤ length (log_of a);
+  before : m.before < made_of opener.role;
+  mine : is_opener a.role ≡ false → (m.before ≡ made_of a.role) × (m.outstanding ≡ outstanding_of a.role);
+  eldest : m.outstanding ≡ 0 → (other : ℕ) (c : Actor) → get_elem? actors other ≡ some c → is_living c ≡ true
+      → other ≢ id → m.before < made_of c.role;
+}
 
 -- Where a final delta was taken, all deltas have taken what is counted and the sum; and a final snapshot has what is counted, the
 -- sum and the redundant units. Final is so far: the recorder is alone, and nothing was counted since. So is the sum of a delta that
 -- goes on, once it was swapped.
-pub record FinalsAreExact (actors : List Actor) (opener : Actor) (id : ℕ) (a : Actor) : Type 0 where
-  pub deltas : (t : Taken) → Contains (ended_deltas a) t → t.moment.outstanding ≡ 0 → t.moment.before + 1 ≡ opener.made
+abbrev pub FinalsAreExact : List Actor → Actor → ℕ → Actor → Type 0
+FinalsAreExact actors opener id a = record {
+  deltas : (t : Taken) → Contains (ended_deltas a) t → t.moment.outstanding ≡ 0 → t.moment.before + 1 ≡ made_of opener.role
       → IsQuiet a t.name t.moment.log
       → ((key : ℤ) → units_taken actors t.name key ≡ tally_units (all_counted actors) t.name key)
-      × (taken_sum (all_taken actors) t.name ≡ tally_sum (all_summed actors) t.name)
-  pub snapshots : (s : Answered) → Contains a.snapshots s → s.moment.outstanding ≡ 0 → s.moment.before + 1 ≡ opener.made
+      × (taken_sum (all_taken actors) t.name ≡ tally_sum (all_summed actors) t.name);
+  snapshots : (s : Answered) → Contains a.deltas.snapshots s → s.moment.outstanding ≡ 0 → s.moment.before + 1 ≡ made_of opener.role
       → IsQuiet a s.name s.moment.log
       → ((key : ℤ) → units_listed s.counts key ≡ tally_units (all_counted actors) s.name key)
-      × (s.sum ≡ tally_sum (all_summed actors) s.name) × (s.redundant ≡ cost_of opener.first_noted s.name + tally_noted (all_noted actors) s.name)
-  pub moments : (m : Moment) → IsMomentOf a m → IsMoment actors opener id a m
-  pub swapped : (before : List Taken) (last : Taken) → a.taking ≡ true → a.taken ≡ before ++ last ∷ [] → last.swapped ≡ true → IsAlone actors a
-      → taken_sum (all_taken actors) last.name ≡ tally_sum (all_summed actors) last.name
+      × (s.sum ≡ tally_sum (all_summed actors) s.name) × (s.redundant ≡ cost_of opener.entries.first_noted s.name + tally_noted (all_noted actors) s.name);
+  moments : (m : Moment) → IsMomentOf a m → IsMoment actors opener id a m;
+  swapped : (before : List Taken) (last : Taken) → a.deltas.taking ≡ true → a.deltas.taken ≡ before ++ last ∷ [] → last.swapped ≡ true → IsAlone actors a
+      → taken_sum (all_taken actors) last.name ≡ tally_sum (all_summed actors) last.name;
+}
 
 -- who owes the answer of a `hist` has published its record
 abbrev pub HasPublished : List Published → Known → Type 0
@@ -404,29 +458,29 @@ pub record IsAhead (chain : List ℕ) (present : ℕ) (cursors : List ℕ) (plac
 
 -- what holds of one actor that was not joined
 pub record Fits (shape : Dimensions) (anatomy : Anatomy) (cursors : List ℕ) (actors : List Actor) (opener : Actor) (id : ℕ) (a : Actor) : Type 0 where
-  pub shaped : a.shape ≡ shape
-  pub versioned : a.version ≡ anatomy.version
-  pub numbered : a.cursors ≡ length cursors
+  pub shaped : a.segment.shape ≡ shape
+  pub versioned : a.segment.version ≡ anatomy.version
+  pub numbered : a.segment.cursors ≡ length cursors
   pub sees : Sees anatomy cursors a.seen
-  pub ahead : IsAhead (order_of anatomy) anatomy.tail cursors a.place a.beaten a.lost
-  pub names : All (Knows anatomy) a.names
-  pub own : All (HoldsOwn shape anatomy.pieces id) a.own
-  pub apart : (i j : ℕ) (x y : Own) → get_elem? a.own i ≡ some x → get_elem? a.own j ≡ some y → x.at ≡ y.at → i ≡ j
-  pub owes : OwesPublished a.published a.owed
+  pub ahead : IsAhead (order_of anatomy) anatomy.tail cursors a.hand.place a.done.beaten a.done.lost
+  pub names : All (Knows anatomy) a.answers.names
+  pub own : All (HoldsOwn shape anatomy.pieces id) a.hand.own
+  pub apart : (i j : ℕ) (x y : Own) → get_elem? a.hand.own i ≡ some x → get_elem? a.hand.own j ≡ some y → x.at ≡ y.at → i ≡ j
+  pub owes : OwesPublished a.done.published a.answers.owed
   pub calls : CallsRight anatomy a
-  pub looks : a.opener ≡ 0 → LooksBack anatomy actors opener a
+  pub looks : is_opener a.role ≡ false → LooksBack anatomy actors opener a
   pub finals : FinalsAreExact actors opener id a
-  pub snapshots : All (IsWithinCounts actors) a.snapshots
+  pub snapshots : All (IsWithinCounts actors) a.deltas.snapshots
 
 -- a shared cursor stands on the list, and has given the records up to there, each once, to each recorder in their order; what it
 -- gave is on the list
 pub record CursorsAreKept (chain cursors : List ℕ) (actors : List Actor) : Type 0 where
   pub stand : (k : ℕ) → k < length cursors → (place : ℕ) × (place ≤ length chain)
       × (slice_index (stops chain) place ≡ slice_index cursors k) × IsPermutation (all_given actors k) (take place chain)
-  pub ordered : (id : ℕ) (a : Actor) → get_elem? actors id ≡ some a → a.opener ≡ 0 → (i j k l : ℕ) (x y : Given) → i < j
-      → get_elem? a.given i ≡ some x → get_elem? a.given j ≡ some y → x.cursor ≡ y.cursor
+  pub ordered : (id : ℕ) (a : Actor) → get_elem? actors id ≡ some a → is_opener a.role ≡ false → (i j k l : ℕ) (x y : Given) → i < j
+      → get_elem? a.done.given i ≡ some x → get_elem? a.done.given j ≡ some y → x.cursor ≡ y.cursor
       → get_elem? chain k ≡ some x.reference → get_elem? chain l ≡ some y.reference → k < l
-  pub given : (id : ℕ) (a : Actor) → get_elem? actors id ≡ some a → All (λ g. Contains chain g.reference) a.given
+  pub given : (id : ℕ) (a : Actor) → get_elem? actors id ≡ some a → All (λ g. Contains chain g.reference) a.done.given
 
 -- a flag is set where it was at the opening or an actor has set it
 abbrev pub IsSetBy : Bool → Bool → List Bool → Type 0
@@ -452,20 +506,21 @@ pub record Invariant (shape : Dimensions) (opened : Anatomy) (state : State) : T
   pub still : StandStill opened.pieces anatomy.pieces
   pub blocks : (k : ℕ) (piece : Piece) → get_elem? anatomy.pieces k ≡ some piece → ClaimedRight piece
   pub list : ListIsKept state.words opened anatomy state.actors
-  pub claims : IsPermutation (claims_of anatomy.pieces) (claims_of opened.pieces ++ flat_map (λ a. a.claimed) state.actors)
+  pub claims : IsPermutation (claims_of anatomy.pieces) (claims_of opened.pieces ++ flat_map (λ a. a.done.claimed) state.actors)
   pub records : RecordsAreKept shape.page anatomy
+  pub passed_over : ArePassedOver shape.page opened anatomy.pieces
   pub balanced : IsBalanced anatomy.version opened.pieces anatomy.pieces state.actors
   pub keys : (entry : Entry) → Contains (all_counted state.actors) entry → 0 < entry.units → HasKey anatomy.records entry.name entry.key
-  pub taken_keys : (t : Taken) (count : ℤ × ℕ) → Contains (all_taken state.actors) t → Contains t.counts count
+  pub taken_keys : (t : Portion) (count : ℤ × ℕ) → Contains (all_taken state.actors) t → Contains t.counts count
       → HasKey anatomy.records t.name count.0
   pub sums : SumsAreNear anatomy.pieces state.actors
   pub pool : sum_by units_of state.actors ≡ 4294967295
-  pub corrupt : IsSetBy anatomy.corrupt opened.corrupt (map (λ a. a.spoiled) state.actors)
-  pub full : IsSetBy anatomy.full opened.full (map (λ a. a.filled) state.actors)
+  pub corrupt : IsSetBy anatomy.corrupt opened.corrupt (map (λ a. a.done.spoiled) state.actors)
+  pub full : IsSetBy anatomy.full opened.full (map (λ a. a.done.filled) state.actors)
   pub roles : RolesAreKept state.actors
-  pub first_noted : (name : List ℕ) → cost_of roles.opener.first_noted name ≡ all_held (noted_held name) opened.pieces
+  pub first_noted : (name : List ℕ) → cost_of roles.opener.entries.first_noted name ≡ all_held (noted_held name) opened.pieces
   pub answered : AreAnswered anatomy.records state.actors
   pub cursors : CursorsAreKept (order_of anatomy) state.cursors state.actors
-  pub standing : (id : ℕ) (a : Actor) → get_elem? state.actors id ≡ some a → StandsRight shape anatomy id a a.place
-  pub each : (id : ℕ) (a : Actor) → get_elem? state.actors id ≡ some a → a.place ≢ Spent
+  pub standing : (id : ℕ) (a : Actor) → get_elem? state.actors id ≡ some a → StandsRight shape anatomy id a a.hand.place
+  pub each : (id : ℕ) (a : Actor) → get_elem? state.actors id ≡ some a → a.hand.place ≢ Spent
       → Fits shape anatomy state.cursors state.actors roles.opener id a

@@ -1,6 +1,6 @@
 -- What is to be shown of what holds between any two events: it holds of a new segment, each event keeps it, recorders that are made
 -- and joined keep it, and it has the parts of consistency in it.
-use Rattle.std.specs.Prelude.{◌≡◌, ◌⊎◌, ℕ, zero, suc, [], take, drop, length, slice_set}
+use Rattle.std.specs.Prelude.{◌≡◌, ◌⊎◌, ℕ, zero, suc, [], take, drop, length, slice_set, false}
 use mathlib.Core.Option.{some}
 use lib.ListN.{get_elem?}
 use Rattle.segment_image.specs.declared.layout.TheConstants.{VERSION_WORD}
@@ -8,19 +8,21 @@ use Rattle.segment_image.specs.Shape.{Dimensions}
 use Rattle.segment_image.specs.Words.{word_at}
 use Rattle.alloc_core.specs.Layout.{IsShape}
 use Rattle.segment_machine.specs.declared.actor.Actor.{Actor}
-use Rattle.segment_machine.specs.Event.{Event, allocating_event, publishing_event, walking_event, counting_event, packing_event, spot, after, next, Ready, Learned, cursor_event}
+use Rattle.segment_machine.specs.Event.{Event, allocating_event, publishing_event, walking_event, counting_event, packing_event, taking_event, cursor_event, spot, after, next, Ready, Learned}
 use Rattle.segment_machine.specs.Allocating.{AllocatingEvent}
 use Rattle.segment_machine.specs.Publishing.{PublishingEvent}
 use Rattle.segment_machine.specs.Walking.{WalkingEvent}
 use Rattle.segment_machine.specs.Counting.{CountingEvent}
 use Rattle.segment_machine.specs.Packing.{PackingEvent}
+use Rattle.segment_machine.specs.Taking.{TakingEvent}
 use Rattle.segment_machine.specs.Cursors.{CursorEvent}
 use Rattle.segment_machine.specs.State.{State, memory}
 use Rattle.segment_invariant.specs.Consistent.{ListIsChain, FlagsAreSet, UnitsAreKept, RecordsHold, TotalsAreCounted, MarksAreTaken, SumsAreAmounts, TransitIsLocal, IsConsistent, new_opening}
-use Rattle.segment_machine.specs.Reached.{new_state, IsState, IsAnnounced, IsOffered, IsSplit, IsJoin, IsLent, IsReturned}
+use Rattle.segment_machine.specs.Reached.{new_state, IsAnnounced, IsOffered, IsSplit, IsJoin, IsLent, IsReturned}
 use Rattle.segment_invariant.specs.Body.{Anatomy, blank, order_of}
 use Rattle.segment_invariant.specs.Invariant.{Invariant}
 use Rattle.segment_machine.specs.Note.{Note, MayNote, noted}
+use Rattle.segment_machine.specs.Actor.{is_opener}
 
 -- ---- at the opening
 
@@ -55,7 +57,7 @@ happened version state id a event =
 -- an event that a recorder may do keeps what holds, and its actor learns of the number that it found
 abbrev pub EventKeeps : Event → Type 0
 EventKeeps event = (shape : Dimensions) (opened : Anatomy) (state : State) (id : ℕ) (a : Actor) → Invariant shape opened state
-    → get_elem? state.actors id ≡ some a → a.opener ≡ 0 → Ready a event
+    → get_elem? state.actors id ≡ some a → is_opener a.role ≡ false → Ready a event
     → Invariant shape opened (happened opened.version state id a event) × Learned a event (found_at state event)
 
 -- the events that allocate a block and set flags
@@ -78,16 +80,24 @@ CountingKeeps = (event : CountingEvent) → EventKeeps (counting_event event)
 abbrev pub PackingKeeps : Type 0
 PackingKeeps = (event : PackingEvent) → EventKeeps (packing_event event)
 
+-- the events of deltas and snapshots: what they load, the marks that they raise, the sum mark that they swap
+abbrev pub TakingKeeps : Type 0
+TakingKeeps = (event : TakingEvent) → EventKeeps (taking_event event)
+
 -- the events of shared cursors
 abbrev pub CursorsKeep : Type 0
 CursorsKeep = (event : CursorEvent) → EventKeeps (cursor_event event)
+
+-- so does each event
+abbrev pub EventsKeep : Type 0
+EventsKeep = (event : Event) → EventKeeps event
 
 -- ---- at notes
 
 -- a note that a recorder may make keeps what holds
 abbrev pub NoteKeeps : Note → Type 0
 NoteKeeps note = (shape : Dimensions) (opened : Anatomy) (state : State) (id : ℕ) (a : Actor) → Invariant shape opened state
-    → get_elem? state.actors id ≡ some a → a.opener ≡ 0 → MayNote a note
+    → get_elem? state.actors id ≡ some a → is_opener a.role ≡ false → MayNote a note
     → Invariant shape opened (record state { actors = slice_set state.actors id (noted a note) })
 
 -- each note does, and so does an announcement of notes
@@ -163,8 +173,3 @@ KeptTotalsAreCounted = (shape : Dimensions) (version id : ℕ) (state : State) �
 abbrev pub KeptIsConsistent : Type 0
 KeptIsConsistent = (shape : Dimensions) (version id : ℕ) (state : State) → IsShape shape → Invariant shape (blank version id shape.size) state
     → IsConsistent (new_opening shape version id) state
-
--- every state that is reached, in whatever order actors step, is kept
-abbrev pub StatesAreKept : Type 0
-StatesAreKept = (shape : Dimensions) (version id cursors : ℕ) (state : State) → IsState shape version id cursors state
-    → Invariant shape (blank version id shape.size) state

@@ -89,11 +89,11 @@ moving_of name key None bucket units = 0
 moving_of name key (Some known) bucket units = of_name known.name name (if int_eq (bucket_key (Some known) bucket) key then units else 0)
 
 abbrev pub moving_at : Actor → List ℕ → ℤ → Place → ℕ
-moving_at a name key (Moving look bucket units) = moving_of name key (known_at a.names look.histogram) bucket units
+moving_at a name key (Moving look bucket units) = moving_of name key (known_at a.answers.names look.histogram) bucket units
 moving_at a name key _ = 0
 
 abbrev pub all_moving : List ℕ → ℤ → List Actor → ℕ
-all_moving name key actors = sum_by (λ a. moving_at a name key a.place) actors
+all_moving name key actors = sum_by (λ a. moving_at a name key a.hand.place) actors
 
 -- ---- the ledger
 

@@ -10,22 +10,23 @@ use Rattle.segment_invariant.specs.Invariant.{StandsRight, CallsRight, LooksBack
 use Rattle.segment_machine.specs.Examples.{shape, letter_a, one, whole, maker, packed_segment, known_a}
 use Rattle.segment_invariant.specs.Accounts.{settled, mounted_anatomy}
 use Rattle.segment_machine.specs.Refused.{recorder, look}
+use Rattle.segment_machine.specs.declared.actor.Role.TheVariants.{Opener}
 
 -- what was loaded as a count of a bucket is one of a bucket, and as one of a sample is one of a sample
 abbrev pub CountsLoaded : Type 0
 CountsLoaded =
-    (¬ (StandsRight shape (mounted_anatomy settled) 1 (record recorder { names = known_a ∷ [] }) (CountLoaded (look 9223372036854775809 32) 3 0)))
+    (¬ (StandsRight shape (mounted_anatomy settled) 1 (record recorder { answers = record recorder.answers { names = known_a ∷ [] } }) (CountLoaded (look 9223372036854775809 32) 3 0)))
     × (¬ (StandsRight shape (mounted_anatomy settled) 1 recorder (SampleLoaded 57 1)))
 
 -- a unit that is logged is spent
 abbrev pub UnitsSpent : Type 0
-UnitsSpent = ¬ (CallsRight (mounted_anatomy settled) (record (maker (1 ∷ [])) { costs = [] }))
+UnitsSpent = ¬ (CallsRight (mounted_anatomy settled) (record (maker (1 ∷ [])) { units = record (maker (1 ∷ [])).units { costs = [] } }))
 
 -- a count that was seen of a known record owes what was accepted, whether the counts reference was seen or not
 abbrev pub CountsOwe : Type 0
 CountsOwe =
-    let opener = record (opener_of shape 1 1) { made = 1; outstanding = 1 } in
-    let who = record recorder { log = whole (one 0) ∷ []; seen = record recorder.seen { counts = record { at = 36; word = 0 } ∷ [] } } in
+    let opener = record (opener_of shape 1 1) { role = Opener 1 1 0 } in
+    let who = record recorder { entries = record recorder.entries { log = whole (one 0) ∷ [] }; seen = record recorder.seen { counts = record { at = 36; word = 0 } ∷ [] } } in
     ¬ (LooksBack (mounted_anatomy settled) (opener ∷ who ∷ []) opener who)
 
 -- a single word that was seen has a form

@@ -42,6 +42,16 @@ HasCounts pieces at c = Stands pieces at none (counts c)
 abbrev pub HasSample : List Piece → ℕ → Sample → Type 0
 HasSample pieces at s = Stands pieces at none (sample s)
 
+-- a block of which nothing changes but its next has this size, type and payload
+abbrev pub HasStill : List Piece → ℕ → ℕ → ℕ → List ℕ → Type 0
+HasStill pieces at size tag payload = (next : ℕ) × Stands pieces at none (other size tag next payload)
+
+-- such a block has the words of a body
+abbrev pub HoldsAs : List Piece → ℕ → Body → Type 0
+HoldsAs pieces at body =
+    (size tag next : ℕ) × (payload : List ℕ) × Stands pieces at none (other size tag next payload)
+    × (words_of body ≡ words_of (other size tag next payload))
+
 -- ---- the first record of a name, and of a value
 
 -- a listed record is one of a histogram of a name
@@ -70,7 +80,7 @@ IsFixedIn (histogram r) i =
     (i ≡ BLOCK_TYPE) ⊎ ((HISTOGRAM_KIND ≤ i) × (i < HISTOGRAM_COUNTS)) ⊎ ((i ≡ HISTOGRAM_COUNTS) × (r.counts ≢ 0))
     ⊎ ((HISTOGRAM_NAME_LENGTH ≤ i) × (i < length (words_of (histogram r))))
 IsFixedIn (sample s) i = (i ≡ BLOCK_TYPE) ⊎ (i ≡ SAMPLE_HISTOGRAM) ⊎ (i ≡ SAMPLE_VALUE)
-IsFixedIn (other size tag next payload) i = i ≡ BLOCK_TYPE
+IsFixedIn (other size tag next payload) i = (i ≡ BLOCK_TYPE) ⊎ ((BLOCK_HEADER ≤ i) × (i < BLOCK_HEADER + length payload))
 IsFixedIn _ i = ⊥
 
 -- a word of a block that only rises: a count, a mark or a redundant count
@@ -124,19 +134,23 @@ WasMet pieces seen s =
     → Contains seen.chain at × SawSample seen x.of x.value at
 
 -- what an actor knows of a histogram
-pub record Knows (anatomy : Anatomy) (known : Known) : Type 0 where
-  pub first_spec : Spec
-  pub first : IsFirst anatomy.records known.name first_spec known.reference
-  pub same : SameSpec first_spec known.spec
+abbrev pub Knows : Anatomy → Known → Type 0
+Knows anatomy known = record {
+  first_spec : Spec;
+  first : IsFirst anatomy.records known.name first_spec known.reference;
+  same : SameSpec first_spec known.spec;
+}
 
 -- all that an actor has seen
-pub record Sees (anatomy : Anatomy) (cursors : List ℕ) (seen : Seen) : Type 0 where
-  pub free : Behind seen.free (free_of anatomy)
-  pub walked : IsPrefix seen.chain (order_of anatomy)
-  pub tails : AreNoLater (order_of anatomy) seen.tails anatomy.tail
-  pub singles : All (WasSingle anatomy.version anatomy.pieces) seen.singles
-  pub counters : All (WasCounter anatomy.pieces) seen.counts
-  pub in_use : All (WasInUse anatomy.pieces) seen.counts
-  pub met : All (WasMet anatomy.pieces seen) seen.counts
-  pub fixed : All (WasFixed anatomy.pieces) seen.words
-  pub shared : All (λ s. (s.at < length cursors) × IsNoLater (order_of anatomy) s.word (slice_index cursors s.at)) seen.cursors
+abbrev pub Sees : Anatomy → List ℕ → Seen → Type 0
+Sees anatomy cursors seen = record {
+  free : Behind seen.free (free_of anatomy);
+  walked : IsPrefix seen.chain (order_of anatomy);
+  tails : AreNoLater (order_of anatomy) seen.tails anatomy.tail;
+  singles : All (WasSingle anatomy.version anatomy.pieces) seen.singles;
+  counters : All (WasCounter anatomy.pieces) seen.counts;
+  in_use : All (WasInUse anatomy.pieces) seen.counts;
+  met : All (WasMet anatomy.pieces seen) seen.counts;
+  fixed : All (WasFixed anatomy.pieces) seen.words;
+  shared : All (λ s. (s.at < length cursors) × IsNoLater (order_of anatomy) s.word (slice_index cursors s.at)) seen.cursors;
+}

@@ -1,4 +1,4 @@
-//! What holds between any two events holds of a new segment and is kept by all that is proved so far; and what is in it.
+//! What holds between any two events holds of a new segment and is kept by whatever happens; and what is in it.
 //!
 //! The functions do nothing. What each promises is a law of the definitions in `specs/`: that something is kept in
 //! `specs/Keeps.antt`, worked examples in `specs/Examples.antt`, `specs/Accounts.antt` and `specs/Refused.antt`.
@@ -6,7 +6,7 @@
 ghost use Rattle.segment_invariant.specs.Examples.{PackedThenMounted, StoppedInTransit, PackingLimit, DeltasAndMarks, TwoTakers, SparseSamples, MountedIsConsistent, ListBreaks, RecordsBreak, TotalsBreak, MarksBreak, SumsBreak, TransitBreaks, FlagsBreak, UnitsBreak};
 ghost use Rattle.segment_invariant.specs.Accounts.{MountedAgrees, LimitAgrees, TakersAgree, SparseAgrees, BatchAgrees};
 ghost use Rattle.segment_invariant.specs.Refused.{CountsLoaded, UnitsSpent, CountsOwe, WordsFormed, KindsRead};
-ghost use Rattle.segment_invariant.specs.Keeps.{OpeningIsKept, OpeningsAreKept, AllocatingKeeps, PublishingKeeps, WalkingKeeps, CountingKeeps, PackingKeeps, CursorsKeep, OffersKeep, SplitsKeep, JoinsKeep, LendsKeep, ReturnsKeep, AnnouncementsKeep, KeptFlagsAreSet, KeptIsChain, KeptUnitsAreKept, KeptTransitIsLocal, KeptSumsAreAmounts, KeptTotalsAreCounted, KeptMarksAreTaken, NotesKeep, KeptRecordsHold, KeptIsConsistent};
+ghost use Rattle.segment_invariant.specs.Keeps.{OpeningIsKept, OpeningsAreKept, AllocatingKeeps, PublishingKeeps, WalkingKeeps, CountingKeeps, PackingKeeps, TakingKeeps, CursorsKeep, EventsKeep, OffersKeep, SplitsKeep, JoinsKeep, LendsKeep, ReturnsKeep, AnnouncementsKeep, KeptFlagsAreSet, KeptIsChain, KeptUnitsAreKept, KeptTransitIsLocal, KeptSumsAreAmounts, KeptTotalsAreCounted, KeptMarksAreTaken, NotesKeep, KeptRecordsHold, KeptIsConsistent};
 
 /// Two packed units are moved to the counts, where the next sample is counted: the words become those of the segment, and the
 /// totals, the sum and the redundant count are those of the entries.
@@ -177,10 +177,22 @@ pub fn packing_keeps()
     ensures { PackingKeeps }
 {}
 
+/// Each event of a delta or a snapshot keeps what holds: loading a count, a sum or a redundant count, raising a mark to what was seen,
+/// and swapping the sum mark for the sum. Its actor learns that what it found is a number of units or a sum that fits, and that a later
+/// sample of a value counts nothing.
+pub fn taking_keeps()
+    ensures { TakingKeeps }
+{}
+
 /// Each event of a shared cursor keeps what holds, and its actor learns that the cursor stood at a record, or before the first one.
 /// An exchange that comes too late is one of few.
 pub fn cursors_keep()
     ensures { CursorsKeep }
+{}
+
+/// Each event keeps what holds, of whatever family, in versions 1 and 2, and its actor learns of what it found.
+pub fn events_keep()
+    ensures { EventsKeep }
 {}
 
 /// What holds between any two events holds on where an opener says how many units its next recorder is to have.

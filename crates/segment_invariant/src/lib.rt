@@ -1,11 +1,10 @@
 //! What holds of a segment and of all its actors between any two events, and that it is kept.
 //!
-//! Nothing here runs. `Invariant` says what holds. It holds of a new segment, and is kept by each event that allocates, lists
-//! or walks, by each note, and where recorders are made, joined and lent units; for the events that count and take this is
-//! open. A kept state is consistent: its totals, marks and sums are what actors did. The laws are in `laws`, the
-//! definitions in `specs/`: what is consistent by the words and the actors alone (`Consistent`); what each block is
-//! (`Body`), what blocks hold and actors did (`Ledger`), what was seen (`Seen`), all that holds (`Invariant`), and that it is
-//! kept (`Keeps`). Worked examples are in `Examples`, `Accounts` and `Refused`.
+//! Nothing here runs. `Invariant` says what holds. It holds of a new segment, and is kept by each event, by each note, and
+//! where recorders are made, joined and lent units. A kept state is consistent: its totals, marks and sums are what actors
+//! did. The laws are in `laws`, the definitions in `specs/`: what is consistent by the words and the actors alone
+//! (`Consistent`); what each block is (`Body`), what blocks hold and actors did (`Ledger`), what was seen (`Seen`), all that
+//! holds (`Invariant`), and that it is kept (`Keeps`). Worked examples are in `Examples`, `Accounts` and `Refused`.
 #![tactic(auto)]
 
 pub mod laws;

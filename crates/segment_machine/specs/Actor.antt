@@ -17,28 +17,53 @@ use Rattle.segment_machine.specs.declared.actor.Cost.{Cost}
 use Rattle.segment_machine.specs.declared.actor.Given.{Given}
 use Rattle.segment_machine.specs.declared.actor.Known.{Known}
 use Rattle.segment_machine.specs.declared.actor.Moment.{Moment}
+use Rattle.segment_machine.specs.declared.actor.Portion.{Portion}
 use Rattle.segment_machine.specs.declared.actor.Published.{Published}
 use Rattle.segment_machine.specs.declared.seen.Sighting.{Sighting}
 use Rattle.segment_machine.specs.declared.actor.Taken.{Taken}
 use Rattle.segment_machine.specs.Entry.{counted_among, summed_among, noted_among, is_of}
+use Rattle.segment_machine.specs.declared.actor.Role.{Role}
+use Rattle.segment_machine.specs.declared.actor.Role.TheVariants.{Opener, Recorder}
+
+-- ---- roles
+
+-- whether an actor is an opener
+abbrev pub is_opener : Role → Bool
+is_opener (Opener made outstanding offered) = true
+is_opener (Recorder before outstanding) = false
+
+-- how many recorders an opener has made; for a recorder, how many were made before it
+abbrev pub made_of : Role → ℕ
+made_of (Opener made outstanding offered) = made
+made_of (Recorder before outstanding) = before
+
+-- how many of these are not joined; for a recorder, how many were not when it was made
+abbrev pub outstanding_of : Role → ℕ
+outstanding_of (Opener made outstanding offered) = outstanding
+outstanding_of (Recorder before outstanding) = outstanding
+
+-- of an opener's share, the units that it said its next recorder is to have; a recorder offers none
+abbrev pub offered_of : Role → ℕ
+offered_of (Opener made outstanding offered) = offered
+offered_of (Recorder before outstanding) = 0
 
 -- ---- entries
 
 -- its accepted entries: those that an adopted image stands for, then its log
 abbrev pub log_of : Actor → List Entry
-log_of a = a.first ++ map (λ c. c.entry) a.log
+log_of a = a.entries.first ++ map (λ c. c.entry) a.entries.log
 
 -- the entries that are counted, by ended calls or by the running one; an adopted image's are
 abbrev pub counted_of : Actor → List Entry
-counted_of a = a.first ++ counted_among (a.log ++ a.running)
+counted_of a = a.entries.first ++ counted_among (a.entries.log ++ a.entries.running)
 
 -- those whose amounts are in the sum; an adopted image's are
 abbrev pub summed_of : Actor → List Entry
-summed_of a = a.first ++ summed_among (a.log ++ a.running)
+summed_of a = a.entries.first ++ summed_among (a.entries.log ++ a.entries.running)
 
 -- those whose units are in the redundant count; an adopted image's are not
 abbrev pub noted_of : Actor → List Entry
-noted_of a = noted_among (a.log ++ a.running)
+noted_of a = noted_among (a.entries.log ++ a.entries.running)
 
 -- ---- units in transit
 
@@ -49,7 +74,7 @@ transit_at _ histogram i = 0
 
 -- those of all actors
 abbrev pub transit_of : List Actor → ℕ → ℕ → ℕ
-transit_of actors histogram i = sum_by (λ a. transit_at a.place histogram i) actors
+transit_of actors histogram i = sum_by (λ a. transit_at a.hand.place histogram i) actors
 
 -- whether a call that stands here can only go on with what it has begun: to complete a header, to move the tail on, to purge a
 -- lost block, to add moved units; one that was joined does nothing at all
@@ -70,12 +95,20 @@ is_bound _ = false
 abbrev pub units_listed : List (ℤ × ℕ) → ℤ → ℕ
 units_listed counts key = sum_by (λ count. if int_eq count.0 key then count.1 else 0) counts
 
-abbrev pub taken_units : List Taken → List ℕ → ℤ → ℕ
+abbrev pub taken_units : List Portion → List ℕ → ℤ → ℕ
 taken_units list name key = sum_by (λ t. if bytes_eq t.name name then units_listed t.counts key else 0) list
 
 -- what they took of a sum
-abbrev pub taken_sum : List Taken → List ℕ → ℤ
+abbrev pub taken_sum : List Portion → List ℕ → ℤ
 taken_sum list name = fold ◌+ℤ◌ (pos 0) (map (λ t. if bytes_eq t.name name then t.sum else pos 0) list)
+
+-- what a delta took, whenever that was
+abbrev pub portion_of : Taken → Portion
+portion_of t = record { name = t.name; counts = t.counts; sum = t.sum }
+
+-- what was taken: what deltas had taken of an adopted image, then what its own took
+abbrev pub taken_of : Actor → List Portion
+taken_of a = a.deltas.first_taken ++ map portion_of a.deltas.taken
 
 -- A delta or snapshot of a name is a final one, among those of an opener that has made so many recorders and whose log is
 -- this: no recorder was outstanding when its recorder was made, none was made after that one, and the log, which is that
@@ -89,14 +122,14 @@ pub record IsFinal (made : ℕ) (log : List Entry) (name : List ℕ) (moment : M
 
 -- from now on it looks at single words and counts anew
 abbrev pub looking : Actor → Actor
-looking a = record a { since_singles = length a.seen.singles; since_counts = length a.seen.counts }
+looking a = record a { since = record { singles = length a.seen.singles; counts = length a.seen.counts } }
 
 -- single words, and counts, that it saw since its delta or snapshot began
 abbrev pub SawSingle : Actor → ℕ → ℕ → Type 0
-SawSingle a at word = Contains (drop a.since_singles a.seen.singles) (record { at = at; word = word })
+SawSingle a at word = Contains (drop a.since.singles a.seen.singles) (record { at = at; word = word })
 
 abbrev pub SawCount : Actor → ℕ → ℕ → Type 0
-SawCount a at word = Contains (drop a.since_counts a.seen.counts) (record { at = at; word = word })
+SawCount a at word = Contains (drop a.since.counts a.seen.counts) (record { at = at; word = word })
 
 -- ---- costs
 
@@ -109,7 +142,7 @@ cost_total costs = sum_by (λ cost. cost.units) costs
 
 -- all units that an actor has, spent or not
 abbrev pub units_of : Actor → ℕ
-units_of a = a.share + cost_total a.costs + cost_total a.held
+units_of a = a.units.share + cost_total a.units.costs + cost_total a.units.held
 
 -- ---- what it knows
 
@@ -127,11 +160,11 @@ has_buckets spec.Sparse = false
 
 -- the actor knows a histogram with buckets at a reference
 abbrev pub Buckets : Actor → ℕ → Known → Type 0
-Buckets a histogram known = Contains a.names known × (known.reference ≡ histogram) × (has_buckets known.spec ≡ true)
+Buckets a histogram known = Contains a.answers.names known × (known.reference ≡ histogram) × (has_buckets known.spec ≡ true)
 
 -- the actor knows a sparse histogram at a reference
 abbrev pub Sparse : Actor → ℕ → Known → Type 0
-Sparse a histogram known = Contains a.names known × (known.reference ≡ histogram) × (known.spec ≡ spec.Sparse)
+Sparse a histogram known = Contains a.answers.names known × (known.reference ≡ histogram) × (known.spec ≡ spec.Sparse)
 
 -- the number of its buckets, 0 where it is not known
 abbrev pub known_buckets : Option Known → ℕ
@@ -152,7 +185,7 @@ word_seen (seen ∷ rest) at = if seen.at == at then Some seen.word else word_se
 
 -- something holds of each actor that is not spent
 abbrev pub Each : List Actor → (Actor → Type 0) → Type 0
-Each actors holds = (id : ℕ) (a : Actor) → get_elem? actors id ≡ some a → a.place ≢ Spent → holds a
+Each actors holds = (id : ℕ) (a : Actor) → get_elem? actors id ≡ some a → a.hand.place ≢ Spent → holds a
 
 abbrev pub all_counted : List Actor → List Entry
 all_counted actors = flat_map counted_of actors
@@ -163,36 +196,36 @@ all_summed actors = flat_map summed_of actors
 abbrev pub all_noted : List Actor → List Entry
 all_noted actors = flat_map noted_of actors
 
-abbrev pub all_taken : List Actor → List Taken
-all_taken actors = flat_map (λ a. a.taken) actors
+abbrev pub all_taken : List Actor → List Portion
+all_taken actors = flat_map taken_of actors
 
 abbrev pub all_published : List Actor → List Published
-all_published actors = flat_map (λ a. a.published) actors
+all_published actors = flat_map (λ a. a.done.published) actors
 
 abbrev pub all_names : List Actor → List Known
-all_names actors = flat_map (λ a. a.names) actors
+all_names actors = flat_map (λ a. a.answers.names) actors
 
 abbrev pub all_owed : List Actor → List Known
-all_owed actors = flat_map (λ a. a.owed) actors
+all_owed actors = flat_map (λ a. a.answers.owed) actors
 
 -- the records that a cursor gave
 abbrev pub given_by : ℕ → List Given → List ℕ
 given_by cursor list = map (λ g. g.reference) (filter (λ g. g.cursor == cursor) list)
 
 abbrev pub all_given : List Actor → ℕ → List ℕ
-all_given actors cursor = flat_map (λ a. given_by cursor a.given) actors
+all_given actors cursor = flat_map (λ a. given_by cursor a.done.given) actors
 
 -- the units that were spent or are held for a histogram
 abbrev pub all_costs : List Actor → List ℕ → ℕ
-all_costs actors name = sum_by (λ a. cost_of a.costs name + cost_of a.held name) actors
+all_costs actors name = sum_by (λ a. cost_of a.units.costs name + cost_of a.units.held name) actors
 
 -- ---- what was accepted
 
 -- what had been accepted before a recorder was made, and what it has accepted itself
 abbrev pub accepted_by : Actor → List Entry
-accepted_by a = a.inherited ++ log_of a
+accepted_by a = a.entries.inherited ++ log_of a
 
 -- what had been accepted since the segment was opened, without the first entries of its opener, which stand in no redundant count
 -- that is kept here
 abbrev pub accepted_since : Actor → Actor → List Entry
-accepted_since opener a = drop (length opener.first) a.inherited ++ map (λ c. c.entry) a.log
+accepted_since opener a = drop (length opener.entries.first) a.entries.inherited ++ map (λ c. c.entry) a.entries.log

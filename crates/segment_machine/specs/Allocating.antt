@@ -39,16 +39,16 @@ operation size version (set_flag flag) = single (atomic.set_flag flag)
 
 abbrev pub Ready : Actor → AllocatingEvent → Type 0
 Ready a load_flags = MayTurn a
-Ready a load_free = a.place ≡ FlagsLoaded
+Ready a load_free = a.hand.place ≡ FlagsLoaded
 Ready a (exchange_free old new) =
-    (a.place ≡ FreeLoaded old) × (is_pointer a.shape old ≡ true) × IsRise a.shape old new
-Ready a (store_size at size) = a.place ≡ Raised at size
+    (a.hand.place ≡ FreeLoaded old) × (is_pointer a.segment.shape old ≡ true) × IsRise a.segment.shape old new
+Ready a (store_size at size) = a.hand.place ≡ Raised at size
 Ready a (store_cookie at cookie) =
-    ((size : ℕ) × (a.place ≡ Sized at size)) × ((cookie ≡ CLAIMED_COOKIE) ⊎ (cookie ≡ WASTED_COOKIE))
-Ready a (store_type at tag) = ((size : ℕ) × (a.place ≡ Marked at size)) × (TYPE_HISTOGRAM ≤ tag) × (tag ≤ TYPE_SAMPLE)
+    ((size : ℕ) × (a.hand.place ≡ Sized at size)) × ((cookie ≡ CLAIMED_COOKIE) ⊎ (cookie ≡ WASTED_COOKIE))
+Ready a (store_type at tag) = ((size : ℕ) × (a.hand.place ≡ Marked at size)) × (TYPE_HISTOGRAM ≤ tag) × (tag ≤ TYPE_SAMPLE)
 Ready a (store_payload at index value) =
     (own : Own) × Fills a own × (own.at ≡ at) × (length own.payload ≤ index) × (BLOCK_HEADER + index < own.size)
-Ready a (set_flag flag) = MayTurn a × ((flag ≡ FLAG_CORRUPT) ⊎ ((flag ≡ FLAG_FULL) × ((free : ℕ) × (a.place ≡ FreeLoaded free))))
+Ready a (set_flag flag) = MayTurn a × ((flag ≡ FLAG_CORRUPT) ⊎ ((flag ≡ FLAG_FULL) × ((free : ℕ) × (a.hand.place ≡ FreeLoaded free))))
 
 -- ---- what becomes of the actor
 
@@ -69,31 +69,30 @@ stored payload index value = payload ++ replicate (index - length payload) 0 ++ 
 
 -- after an exchange of the free pointer, which went through or not
 abbrev pub after_free : Bool → Actor → ℕ → ℕ → ℕ → Actor
-after_free true a old new found = record a { place = Raised old (new - old); seen = record a.seen { free = new } }
-after_free false a old new found = record a { place = Idle; seen = record a.seen { free = found } }
+after_free true a old new found = record a { hand = record a.hand { place = Raised old (new - old) }; seen = record a.seen { free = new } }
+after_free false a old new found = record a { hand = record a.hand { place = Idle }; seen = record a.seen { free = found } }
 
 abbrev pub next : Actor → AllocatingEvent → ℕ → Actor
-next a load_flags found = record a { place = if bit_and found FLAG_CORRUPT == 0 then FlagsLoaded else Idle }
-next a load_free found = record a { place = FreeLoaded found; seen = record a.seen { free = found } }
+next a load_flags found = record a { hand = record a.hand { place = if bit_and found FLAG_CORRUPT == 0 then FlagsLoaded else Idle } }
+next a load_free found = record a { hand = record a.hand { place = FreeLoaded found }; seen = record a.seen { free = found } }
 next a (exchange_free old new) found = after_free (found == old) a old new found
-next a (store_size at size) found = record a { place = Sized at size }
+next a (store_size at size) found = record a { hand = record a.hand { place = Sized at size } }
 next a (store_cookie at cookie) found =
-    record a { place = if cookie == CLAIMED_COOKIE then Marked at (size_at a.place) else Idle }
+    record a { hand = record a.hand { place = if cookie == CLAIMED_COOKIE then Marked at (size_at a.hand.place) else Idle } }
 next a (store_type at tag) found = record a {
-  place = Idle;
-  own = a.own ++ new_own at (size_at a.place) tag ∷ [];
-  claimed = a.claimed ++ record { at = at; size = size_at a.place } ∷ [];
+  hand = record { place = Idle; own = a.hand.own ++ new_own at (size_at a.hand.place) tag ∷ [] };
+  done = record a.done { claimed = a.done.claimed ++ record { at = at; size = size_at a.hand.place } ∷ [] };
 }
 next a (store_payload at index value) found =
-    record a { own = change_own at (λ own. record own { payload = stored own.payload index value }) a.own }
+    record a { hand = record a.hand { own = change_own at (λ own. record own { payload = stored own.payload index value }) a.hand.own } }
 next a (set_flag flag) found =
-    if flag == FLAG_CORRUPT then record a { place = Idle; spoiled = true } else record a { place = Idle; filled = true }
+    if flag == FLAG_CORRUPT then record a { hand = record a.hand { place = Idle }; done = record a.done { spoiled = true } } else record a { hand = record a.hand { place = Idle }; done = record a.done { filled = true } }
 
 -- ---- what it learns
 
 -- the flags have the corrupt one, where it has set it; a free pointer is lawful, and no earlier than the one that it knew
 abbrev pub Learned : Actor → AllocatingEvent → ℕ → Type 0
-Learned a load_flags found = a.spoiled ≡ true → bit_and found FLAG_CORRUPT ≡ FLAG_CORRUPT
-Learned a load_free found = Behind a.seen.free found × (is_pointer a.shape found ≡ true)
-Learned a (exchange_free old new) found = Behind old found × (is_pointer a.shape found ≡ true)
+Learned a load_flags found = a.done.spoiled ≡ true → bit_and found FLAG_CORRUPT ≡ FLAG_CORRUPT
+Learned a load_free found = Behind a.seen.free found × (is_pointer a.segment.shape found ≡ true)
+Learned a (exchange_free old new) found = Behind old found × (is_pointer a.segment.shape found ≡ true)
 Learned a _ found = ⊤

@@ -86,17 +86,17 @@ back _ = Idle
 
 -- the form of a word that it saw of a known histogram
 abbrev pub form_seen : Actor → ℕ → ℕ → Option SingleWord
-form_seen a histogram word = single_of a.version (known_buckets (known_at a.names histogram)) word
+form_seen a histogram word = single_of a.segment.version (known_buckets (known_at a.answers.names histogram)) word
 
 -- ---- what it may do
 
 -- it may turn to another part of its call, or to another call
 abbrev pub MayTurn : Actor → Type 0
-MayTurn a = is_bound a.place ≡ false
+MayTurn a = is_bound a.hand.place ≡ false
 
 -- the running entry that is next: the first that has not ended. So of a batch each item ends before the next one begins
 abbrev pub IsNext : Actor → Counting → Type 0
-IsNext a c = (rest : List Counting) × (filter (λ c. not (has_ended c)) a.running ≡ c ∷ rest)
+IsNext a c = (rest : List Counting) × (filter (λ c. not (has_ended c)) a.entries.running ≡ c ∷ rest)
 
 -- its units are counted next, its amount is added next, its units are noted next
 abbrev pub CountsNext : Actor → Counting → Type 0
@@ -104,7 +104,7 @@ CountsNext a c = IsNext a c × (is_counted c ≡ false)
 
 -- a block of its own whose next is not stored yet
 abbrev pub Fills : Actor → Own → Type 0
-Fills a own = Contains a.own own × (own.next ≡ 0)
+Fills a own = Contains a.hand.own own × (own.next ≡ 0)
 
 -- a bucket of a known histogram has this key
 abbrev pub IsKeyOfBucket : Known → ℕ → ℤ → Type 0
@@ -113,18 +113,18 @@ IsKeyOfBucket known bucket key = (bucket < buckets_of known.spec) × (bucket_key
 -- it looks at a histogram with buckets whose counts are not in use yet, or are
 abbrev pub LooksOpen : Actor → ℕ → ℕ → Look → Known → Type 0
 LooksOpen a histogram word look known =
-    (a.place ≡ Looking look) × (look.histogram ≡ histogram) × (look.single ≡ Some word) × (is_off word ≡ false) × Buckets a histogram known
+    (a.hand.place ≡ Looking look) × (look.histogram ≡ histogram) × (look.single ≡ Some word) × (is_off word ≡ false) × Buckets a histogram known
 
 abbrev pub LooksOff : Actor → Look → Known → Type 0
 LooksOff a look known =
-    (a.place ≡ Looking look) × (look.counts ≢ 0) × ((word : ℕ) × (look.single ≡ Some word) × (is_off word ≡ true))
+    (a.hand.place ≡ Looking look) × (look.counts ≢ 0) × ((word : ℕ) × (look.single ≡ Some word) × (is_off word ≡ true))
     × Buckets a look.histogram known
 
 -- ---- what it learns
 
 -- the end of the list, or a record within the segment
 abbrev pub IsReference : Actor → ℕ → Type 0
-IsReference a found = is_reference a.shape.size found ≡ true
+IsReference a found = is_reference a.segment.shape.size found ≡ true
 
 -- a number of units
 abbrev pub IsUnits : ℕ → Type 0
@@ -133,7 +133,7 @@ IsUnits found = found ≤ 4294967295
 -- counts of a histogram that it knows lie within the segment
 abbrev pub AreCountsOf : Actor → ℕ → ℕ → Type 0
 AreCountsOf a histogram found = (known : Known) → Buckets a histogram known → found ≢ 0
-    → found + (BLOCK_HEADER + 2 * buckets_of known.spec) ≤ a.shape.size
+    → found + (BLOCK_HEADER + 2 * buckets_of known.spec) ≤ a.segment.shape.size
 
 -- a counts reference stays once it was seen, and is there once a single word that is off was seen
 abbrev pub CountsStay : Seen → ℕ → ℕ → Type 0

@@ -52,10 +52,10 @@ Ready a (load_counts histogram) = MayTurn a × ((known : Known) × Buckets a his
 Ready a (add_count at units) = MayCount a at units
 Ready a (add_sum histogram amount) =
     MayTurn a × (c : Counting) × (known : Known) × SumsNext a c × (c.entry.amount ≡ amount)
-    × Contains a.names known × (known.reference ≡ histogram) × (known.name ≡ c.entry.name)
+    × Contains a.answers.names known × (known.reference ≡ histogram) × (known.name ≡ c.entry.name)
 Ready a (add_redundant histogram units) =
     MayTurn a × (c : Counting) × (known : Known) × NotesNext a c × (c.entry.units ≡ units)
-    × Contains a.names known × (known.reference ≡ histogram) × (known.name ≡ c.entry.name)
+    × Contains a.answers.names known × (known.reference ≡ histogram) × (known.name ≡ c.entry.name)
 
 -- ---- what becomes of the actor
 
@@ -67,14 +67,14 @@ note_next list = change_next (λ c. record c { noted = true }) list
 
 abbrev pub next : Actor → CountingEvent → ℕ → Actor
 next a (load_counts histogram) found = record a {
-  place = Looking (record (look_of a.place histogram) { counts = found });
+  hand = record a.hand { place = Looking (record (look_of a.hand.place histogram) { counts = found }) };
   seen = record a.seen { words = a.seen.words ++ sight_counts histogram found };
 }
 next a (add_count at units) found =
-    record a { place = Idle; running = count_next a.running; seen = record a.seen { counts = a.seen.counts ++ sight at (found + units) } }
-next a (add_sum histogram amount) found = record a { place = Idle; running = sum_next a.running }
+    record a { hand = record a.hand { place = Idle }; entries = record a.entries { running = count_next a.entries.running }; seen = record a.seen { counts = a.seen.counts ++ sight at (found + units) } }
+next a (add_sum histogram amount) found = record a { hand = record a.hand { place = Idle }; entries = record a.entries { running = sum_next a.entries.running } }
 next a (add_redundant histogram units) found =
-    record a { place = Idle; running = note_next a.running; seen = record a.seen { counts = a.seen.counts ++ sight (histogram + HISTOGRAM_REDUNDANT) (found + units) } }
+    record a { hand = record a.hand { place = Idle }; entries = record a.entries { running = note_next a.entries.running }; seen = record a.seen { counts = a.seen.counts ++ sight (histogram + HISTOGRAM_REDUNDANT) (found + units) } }
 
 -- ---- what it learns
 

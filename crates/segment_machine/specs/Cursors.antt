@@ -21,27 +21,27 @@ operation size version (move_cursor cursor old new) = single (atomic.exchange (s
 -- ---- when they are ready
 
 abbrev pub Ready : Actor → CursorEvent → Type 0
-Ready a (load_cursor cursor) = MayTurn a × (cursor < a.cursors)
-Ready a (move_cursor cursor old new) = a.place ≡ BehindCursor cursor old new
+Ready a (load_cursor cursor) = MayTurn a × (cursor < a.segment.cursors)
+Ready a (move_cursor cursor old new) = a.hand.place ≡ BehindCursor cursor old new
 
 -- ---- what becomes of the actor
 
 -- after an exchange of a shared cursor
 abbrev pub after_cursor : Bool → Actor → ℕ → ℕ → ℕ → Actor
 after_cursor true a cursor new found = record a {
-  place = Idle;
-  given = a.given ++ record { cursor = cursor; reference = new } ∷ [];
+  hand = record a.hand { place = Idle };
+  done = record a.done { given = a.done.given ++ record { cursor = cursor; reference = new } ∷ [] };
   seen = record a.seen { cursors = a.seen.cursors ++ sight cursor new };
 }
 after_cursor false a cursor new found = record a {
-  place = Idle;
-  lost = slice_set a.lost cursor (slice_index a.lost cursor + 1);
+  hand = record a.hand { place = Idle };
+  done = record a.done { lost = slice_set a.done.lost cursor (slice_index a.done.lost cursor + 1) };
   seen = record a.seen { cursors = a.seen.cursors ++ sight cursor found };
 }
 
 abbrev pub next : Actor → CursorEvent → ℕ → Actor
 next a (load_cursor cursor) found =
-    record a { place = CursorLoaded cursor found; seen = record a.seen { cursors = a.seen.cursors ++ sight cursor found } }
+    record a { hand = record a.hand { place = CursorLoaded cursor found }; seen = record a.seen { cursors = a.seen.cursors ++ sight cursor found } }
 next a (move_cursor cursor old new) found = after_cursor (found == old) a cursor new found
 
 -- ---- what it learns
@@ -49,4 +49,4 @@ next a (move_cursor cursor old new) found = after_cursor (found == old) a cursor
 -- an exchange that comes too late is one more of few: for each there is a record of five words on the list
 abbrev pub Learned : Actor → CursorEvent → ℕ → Type 0
 Learned a (load_cursor cursor) found = IsReference a found
-Learned a (move_cursor cursor old new) found = IsReference a found × (found ≢ old → BLOCK_LEAST * (slice_index a.lost cursor + 1) + HEADER_WORDS ≤ a.shape.size)
+Learned a (move_cursor cursor old new) found = IsReference a found × (found ≢ old → BLOCK_LEAST * (slice_index a.done.lost cursor + 1) + HEADER_WORDS ≤ a.segment.shape.size)

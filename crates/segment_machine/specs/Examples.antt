@@ -1,6 +1,6 @@
 -- Worked examples: the words of small segments, actors who made them, and runs of one actor.
 use Rattle.std.specs.Ordering.{int_eq}
-use Rattle.std.specs.Prelude.{not, ◌≡◌, true, ℕ, ◌+◌, ◌-◌, ◌*◌, ◌^◌, ℤ, pos, negsuc, List, [], ◌∷◌, ◌++◌, map, length, replicate, Some}
+use Rattle.std.specs.Prelude.{not, ◌≡◌, true, ℕ, ◌+◌, ◌-◌, ◌*◌, ◌^◌, ℤ, pos, negsuc, List, [], ◌∷◌, ◌++◌, map, length, replicate, slice_set, Some}
 use Rattle.segment_image.specs.Shape.{Dimensions}
 use Rattle.bucket_ranges.specs.declared.spec.Spec.TheVariants as spec
 use Rattle.segment_machine.specs.declared.entry.Entry.{Entry}
@@ -19,6 +19,7 @@ use Rattle.segment_machine.specs.Taking.{raise_single_mark, load_sum, swap_sum_m
 use Rattle.segment_machine.specs.Note.{MayNote, has_taken, noted, begins, takes, ends}
 use Rattle.segment_machine.specs.Seats.{nothing_seen, opener_of}
 use Rattle.segment_machine.specs.declared.actor.Known.{Known}
+use Rattle.segment_machine.specs.declared.place.Place.{Place}
 
 -- ---- segments of 128 words in pages of 64, with the id 7
 
@@ -47,6 +48,11 @@ abbrev pub mounted_segment : ℕ → ℕ → ℕ → ℕ → ℕ → List ℕ �
 mounted_segment single mark sum sum_mark redundant numbers =
     head_words 42 16 16 ++ boolean_words 32 single mark sum sum_mark redundant ++ counts_words numbers ++ replicate 86 0
 
+-- the same in version 2, where two units of 1 were packed first, and the frozen word keeps them
+abbrev pub frozen_segment : ℕ → ℕ → ℕ → ℕ → List ℕ → List ℕ
+frozen_segment mark sum sum_mark redundant numbers =
+    slice_set (mounted_segment 9223372041149743106 mark sum sum_mark redundant numbers) 1 2
+
 -- ---- actors
 
 abbrev pub shape : Dimensions
@@ -71,22 +77,37 @@ one value = sample_entry letter_a boolean (pos value, 1)
 abbrev pub whole : Entry → Counting
 whole entry = record { entry = entry; counted = true; summed = not (int_eq entry.amount (pos 0)); noted = true }
 
+-- an actor with another log, with other deltas, and at another place
+abbrev pub with_log : Actor → List Counting → Actor
+with_log a log = record a { entries = record a.entries { log = log } }
+
+abbrev pub with_taken : Actor → List Taken → Actor
+with_taken a taken = record a { deltas = record a.deltas { taken = taken } }
+
+abbrev pub at_place : Actor → Place → Actor
+at_place a place = record a { hand = record a.hand { place = place } }
+
 -- who made `A` and recorded these, of a unit each
 abbrev pub maker : List ℕ → Actor
 maker values = record (opener_of shape 1 0) {
-  share = 4294967295 - length values;
-  costs = record { name = letter_a; units = length values } ∷ [];
-  log = map (λ value. whole (one value)) values;
-  claimed = record { at = 16; size = 16 } ∷ [];
-  published = record { reference = 16; made = made.Histogram letter_a spec.Boolean } ∷ [];
+  units = record {
+    share = 4294967295 - length values;
+    costs = record { name = letter_a; units = length values } ∷ [];
+    held = [];
+  };
+  entries = record { first = []; first_noted = []; inherited = []; log = map (λ value. whole (one value)) values; running = [] };
+  done = record (opener_of shape 1 0).done {
+    claimed = record { at = 16; size = 16 } ∷ [];
+    published = record { reference = 16; made = made.Histogram letter_a spec.Boolean } ∷ [];
+  };
   seen = record nothing_seen { free = 32; chain = 16 ∷ []; tails = 16 ∷ [] };
-  names = record { name = letter_a; spec = spec.Boolean; reference = 16 } ∷ [];
+  answers = record { names = known_a ∷ []; owed = [] };
 }
 
 -- the same, with the counts block
 abbrev pub mounter : List ℕ → Actor
 mounter values = record (maker values) {
-  claimed = record { at = 16; size = 16 } ∷ record { at = 32; size = 10 } ∷ [];
+  done = record (maker values).done { claimed = record { at = 16; size = 16 } ∷ record { at = 32; size = 10 } ∷ [] };
   seen = record (maker values).seen { free = 42 };
 }
 
@@ -115,25 +136,51 @@ Keys =
 abbrev pub mounted : List ℕ
 mounted = mounted_segment 9223372036854775809 0 2 0 3 (1 ∷ 2 ∷ 0 ∷ 0 ∷ 0 ∷ 0 ∷ [])
 
+-- in version 2 the two units stay in the single word
+abbrev pub frozen : List ℕ
+frozen = frozen_segment 0 2 0 3 (1 ∷ 0 ∷ 0 ∷ 0 ∷ 0 ∷ 0 ∷ [])
+
 -- ---- stopped in transit
 
 -- between disabling and moving the totals are 0; the two units are with the actor
 abbrev pub in_transit : List ℕ
 in_transit = mounted_segment 9223372036854775809 0 2 0 2 (replicate 6 0)
 
+-- in version 2 the frozen word has them, and nothing is in transit
+abbrev pub stopped_frozen : List ℕ
+stopped_frozen = frozen_segment 0 2 0 2 (replicate 6 0)
+
 abbrev pub mover : Actor
 mover = record (mounter (1 ∷ 1 ∷ [])) {
-  share = 4294967292;
-  held = record { name = letter_a; units = 1 } ∷ [];
-  running = fresh (one 0) ∷ [];
-  place = Moving (record { histogram = 16; single = Some 9223372036854775809; counts = 32 }) 1 2;
+  units = record (mounter (1 ∷ 1 ∷ [])).units {
+    share = 4294967292;
+    held = record { name = letter_a; units = 1 } ∷ [];
+  };
+  entries = record (mounter (1 ∷ 1 ∷ [])).entries { running = fresh (one 0) ∷ [] };
+  hand = record { place = Moving (record { histogram = 16; single = Some 9223372036854775809; counts = 32 }) 1 2; own = [] };
 }
 
 -- ---- deltas and marks
 
+-- the mounted segment after deltas: the mark of bucket 1 is the single mark
+abbrev pub marked : List ℕ
+marked = mounted_segment 9223372036854775809 2 2 2 3 (1 ∷ 2 ∷ 0 ∷ 1 ∷ 0 ∷ 0 ∷ [])
+
+abbrev pub marked_frozen : List ℕ
+marked_frozen = frozen_segment 2 2 2 3 (1 ∷ 0 ∷ 0 ∷ 1 ∷ 0 ∷ 0 ∷ [])
+
 -- what three deltas of the mounted segment took: two units of 1, one of 0, and nothing
 abbrev pub three_deltas : List Taken
 three_deltas = taken_at 2 ((pos 1, 2) ∷ []) (pos 2) ∷ taken_at 3 ((pos 0, 1) ∷ []) (pos 0) ∷ taken_at 3 [] (pos 0) ∷ []
+
+-- ---- two takers of a packed word
+
+-- the mounted segment after one more sample of 1: of two deltas one took all, and the other nothing
+abbrev pub taken_once : List ℕ
+taken_once = mounted_segment 9223372036854775809 3 3 3 4 (1 ∷ 3 ∷ 0 ∷ 1 ∷ 0 ∷ 0 ∷ [])
+
+abbrev pub taken_once_frozen : List ℕ
+taken_once_frozen = frozen_segment 3 3 3 4 (1 ∷ 1 ∷ 0 ∷ 1 ∷ 0 ∷ 0 ∷ [])
 
 -- ---- runs of one actor
 
@@ -148,7 +195,7 @@ sampled = noted (next (next (next sampler (packing_event (pack 16 0 4294967297))
 abbrev pub PackedRun : Type 0
 PackedRun =
     Ready sampler (packing_event (pack 16 0 4294967297))
-    × (sampled.log ≡ whole (one 1) ∷ []) × (sampled.running ≡ []) × (sampled.share ≡ 4294967294)
+    × (sampled.entries.log ≡ whole (one 1) ∷ []) × (sampled.entries.running ≡ []) × (sampled.units.share ≡ 4294967294)
     × (units_of sampled ≡ 4294967295) × (units_of sampler ≡ 4294967295)
 
 -- events one after the other, each with what it found: each may be done, and what becomes of the actor
@@ -175,9 +222,9 @@ mounts = noted (maker (1 ∷ 1 ∷ [])) (begins letter_a 1 (one 0 ∷ []))
 abbrev pub MountingRun : Type 0
 MountingRun =
     AreReady mounts mounting
-    × ((noted (run mounts mounting) ends).log ≡ (mounter (1 ∷ 1 ∷ 0 ∷ [])).log)
-    × ((run mounts mounting).claimed ≡ (mounter (1 ∷ 1 ∷ 0 ∷ [])).claimed)
-    × ((run mounts mounting).own ≡ [])
+    × ((noted (run mounts mounting) ends).entries.log ≡ (mounter (1 ∷ 1 ∷ 0 ∷ [])).entries.log)
+    × ((run mounts mounting).done.claimed ≡ (mounter (1 ∷ 1 ∷ 0 ∷ [])).done.claimed)
+    × ((run mounts mounting).hand.own ≡ [])
     × ((run mounts mounting).seen.free ≡ 42)
 
 -- A taker has loaded the single word (1, 2). Where the mark was 0 it takes two units and the sum 2; where another taker has
@@ -191,8 +238,8 @@ took mark sum sum_mark =
 
 abbrev pub TakerRuns : Type 0
 TakerRuns =
-    (map (λ t. t.counts) (took 0 2 0).taken ≡ ((pos 1, 2) ∷ []) ∷ []) × (map (λ t. t.sum) (took 0 2 0).taken ≡ pos 2 ∷ [])
-    × (map (λ t. t.counts) (took 3 3 3).taken ≡ [] ∷ []) × (map (λ t. t.sum) (took 3 3 3).taken ≡ pos 0 ∷ [])
+    (map (λ t. t.counts) (took 0 2 0).deltas.taken ≡ ((pos 1, 2) ∷ []) ∷ []) × (map (λ t. t.sum) (took 0 2 0).deltas.taken ≡ pos 2 ∷ [])
+    × (map (λ t. t.counts) (took 3 3 3).deltas.taken ≡ [] ∷ []) × (map (λ t. t.sum) (took 3 3 3).deltas.taken ≡ pos 0 ∷ [])
 
 -- the events of that delta, each of which may be done; behind them the delta has taken all, and may end
 abbrev pub taking : List (Event × ℕ)

@@ -1,7 +1,7 @@
 -- Worked examples of a recorder from its making to its join.
 use Rattle.std.specs.Prelude.{◌≡◌, List, [], ◌∷◌, map}
 use Rattle.segment_machine.specs.declared.actor.Actor.{Actor}
-use Rattle.segment_machine.specs.Actor.{units_of}
+use Rattle.segment_machine.specs.Actor.{units_of, made_of}
 use Rattle.segment_machine.specs.Allocating.{load_flags}
 use Rattle.segment_machine.specs.Event.{allocating_event, cursor_event, next}
 use Rattle.segment_machine.specs.Cursors.{load_cursor}
@@ -44,5 +44,5 @@ joined_state = with_actors (last_opener ∷ spent ∷ [])
 abbrev pub RecorderIsJoined : Type 0
 RecorderIsJoined =
     IsState shape 1 7 1 joined_state × IsJoined joined_state last_opener
-    × (units_of split_opener ≡ 4294967290) × (units_of lent ≡ 7) × (last_opener.share ≡ 4294967295) × (last_opener.made ≡ 1)
+    × (units_of split_opener ≡ 4294967290) × (units_of lent ≡ 7) × (last_opener.units.share ≡ 4294967295) × (made_of last_opener.role ≡ 1)
     × (map (λ s. s.word) last_opener.seen.cursors ≡ 12 ∷ [])

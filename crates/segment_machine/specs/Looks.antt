@@ -1,5 +1,5 @@
 -- Worked runs of what only looks: a snapshot, and a cursor that two recorders share.
-use Rattle.std.specs.Prelude.{◌≡◌, ℕ, pos, List, [], ◌∷◌, ◌++◌, map, replicate, slice_set}
+use Rattle.std.specs.Prelude.{◌≡◌, ℕ, pos, List, [], ◌∷◌, ◌++◌, map}
 use Rattle.bucket_ranges.specs.declared.spec.Spec.TheVariants as spec
 use Rattle.segment_machine.specs.declared.actor.Answered.{Answered}
 use Rattle.segment_machine.specs.declared.actor.Known.{Known}
@@ -13,7 +13,7 @@ use Rattle.segment_machine.specs.Cursors.{load_cursor, move_cursor}
 use Rattle.segment_machine.specs.Note.{looks, answers}
 use Rattle.segment_machine.specs.State.{State}
 use Rattle.segment_machine.specs.Reached.{new_state, IsState}
-use Rattle.segment_machine.specs.Examples.{shape, letter_a, known_a, mounted_segment}
+use Rattle.segment_machine.specs.Examples.{shape, letter_a, known_a, mounted, frozen}
 use Rattle.segment_machine.specs.Worked.{Deed, acts, played, actor_of, by, claims, moves, hist, hist_found, two_recorders, two_packed}
 use Rattle.segment_machine.specs.Races.{finds_packed, disables, counts_zero}
 
@@ -43,10 +43,10 @@ snapped version = played version (new_state shape version 7 0) (snapping version
 -- in version 1 the two units stand in the counts, in version 2 in the frozen word
 abbrev pub SnapshotRun : Type 0
 SnapshotRun =
-    (IsState shape 1 7 0 (snapped 1) × ((actor_of (snapped 1) 1).snapshots ≡ snapshot ∷ [])
-    × ((snapped 1).words ≡ mounted_segment 9223372036854775809 0 2 0 3 (1 ∷ 2 ∷ 0 ∷ 0 ∷ 0 ∷ 0 ∷ [])))
-    × (IsState shape 2 7 0 (snapped 2) × ((actor_of (snapped 2) 1).snapshots ≡ snapshot ∷ [])
-    × ((snapped 2).words ≡ slice_set (mounted_segment 9223372041149743106 0 2 0 3 (1 ∷ replicate 5 0)) 1 2))
+    (IsState shape 1 7 0 (snapped 1) × ((actor_of (snapped 1) 1).deltas.snapshots ≡ snapshot ∷ [])
+    × ((snapped 1).words ≡ mounted))
+    × (IsState shape 2 7 0 (snapped 2) × ((actor_of (snapped 2) 1).deltas.snapshots ≡ snapshot ∷ [])
+    × ((snapped 2).words ≡ frozen))
 
 -- ---- a shared cursor
 
@@ -68,5 +68,5 @@ shared = played 1 (new_state shape 1 7 1) sharing
 -- the first is given 16, the second 32, and then there is none
 abbrev pub CursorRun : Type 0
 CursorRun =
-    IsState shape 1 7 1 shared × (shared.cursors ≡ 32 ∷ []) × (map (λ g. g.reference) (actor_of shared 1).given ≡ 16 ∷ [])
-    × (map (λ g. g.reference) (actor_of shared 2).given ≡ 32 ∷ []) × ((actor_of shared 1).place ≡ Idle)
+    IsState shape 1 7 1 shared × (shared.cursors ≡ 32 ∷ []) × (map (λ g. g.reference) (actor_of shared 1).done.given ≡ 16 ∷ [])
+    × (map (λ g. g.reference) (actor_of shared 2).done.given ≡ 32 ∷ []) × ((actor_of shared 1).hand.place ≡ Idle)

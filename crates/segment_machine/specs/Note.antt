@@ -23,7 +23,7 @@ use Rattle.bucket_ranges.specs.Spec.{buckets_of}
 use Rattle.bucket_ranges.specs.declared.spec.Spec.TheVariants as spec
 use Rattle.bucket_ranges.specs.Single.{single_of, units_packed, packed_bucket}
 use Rattle.segment_machine.specs.Form.{is_off}
-use Rattle.segment_machine.specs.Actor.{log_of, is_bound, looking, cost_total, bucket_key, has_buckets, word_seen, SawSingle, SawCount}
+use Rattle.segment_machine.specs.Actor.{log_of, is_bound, looking, cost_total, bucket_key, has_buckets, word_seen, SawSingle, SawCount, is_opener, made_of, outstanding_of}
 use Rattle.segment_machine.specs.Made.{IsFirstNamed, IsFirstSample, SawSample, SawSpec, AreNameWords, SawOtherSpec}
 use Rattle.segment_machine.specs.Calls.{change_last, change_own}
 
@@ -54,7 +54,7 @@ pub data Note : Type 0 where
 
 -- when a delta or a snapshot of this actor begins
 abbrev pub moment_of : Actor → Moment
-moment_of a = record { log = length (log_of a); before = a.made; outstanding = a.outstanding }
+moment_of a = record { log = length (log_of a); before = made_of a.role; outstanding = outstanding_of a.role }
 
 -- a delta that has taken nothing yet
 abbrev pub nothing_taken : Actor → List ℕ → Taken
@@ -70,42 +70,46 @@ units_running list name = tally_noted (map (λ c. c.entry) list) name
 
 -- what a refused call has spent: the units of its first entries
 abbrev pub spent_by : ℕ → Actor → List Cost
-spent_by added a = map (λ (cost : Cost). record cost { units = units_running (take added a.running) cost.name }) a.held
+spent_by added a = map (λ (cost : Cost). record cost { units = units_running (take added a.entries.running) cost.name }) a.units.held
 
 -- what becomes of its record
 abbrev pub noted : Actor → Note → Actor
 noted a (begins name cost entries) = record a {
-  share = a.share - cost;
-  held = record { name = name; units = cost } ∷ [];
-  running = map fresh entries;
+  units = record a.units { share = a.units.share - cost; held = record { name = name; units = cost } ∷ [] };
+  entries = record a.entries { running = map fresh entries };
 }
 noted a (goes_on entry cost) = record a {
-  share = a.share - cost;
-  held = map (λ (held : Cost). record held { units = held.units + cost }) a.held;
-  running = a.running ++ fresh entry ∷ [];
+  units = record a.units {
+    share = a.units.share - cost;
+    held = map (λ (held : Cost). record held { units = held.units + cost }) a.units.held;
+  };
+  entries = record a.entries { running = a.entries.running ++ fresh entry ∷ [] };
 }
 noted a (amounts amount) = record a {
-  running = change_last (λ c. let entry = c.entry in record c { entry = record entry { amount = amount } }) a.running;
+  entries = record a.entries { running = change_last (λ c. let entry = c.entry in record c { entry = record entry { amount = amount } }) a.entries.running };
 }
-noted a (asks at made) = record a { own = change_own at (λ own. record own { made = Some made }) a.own }
+noted a (asks at made) = record a { hand = record a.hand { own = change_own at (λ own. record own { made = Some made }) a.hand.own } }
 noted a (knows known) = record (looking a) {
-  names = a.names ++ known ∷ [];
-  owed = filter (λ (mine : Known). not (bytes_eq mine.name known.name)) a.owed;
+  answers = record {
+    names = a.answers.names ++ known ∷ [];
+    owed = filter (λ (mine : Known). not (bytes_eq mine.name known.name)) a.answers.owed;
+  };
 }
 noted a (declines mine) = record a {
-  owed = filter (λ (other : Known). not (bytes_eq other.name mine.name && (other.reference == mine.reference))) a.owed;
+  answers = record a.answers { owed = filter (λ (other : Known). not (bytes_eq other.name mine.name && (other.reference == mine.reference))) a.answers.owed };
 }
-noted a (takes name) = record (looking a) { taking = true; taken = a.taken ++ nothing_taken a name ∷ [] }
-noted a has_taken = record a { taking = false }
+noted a (takes name) = record (looking a) { deltas = record a.deltas { taking = true; taken = a.deltas.taken ++ nothing_taken a name ∷ [] } }
+noted a has_taken = record a { deltas = record a.deltas { taking = false } }
 noted a looks = looking a
-noted a (answers answered) = record a { snapshots = a.snapshots ++ answered ∷ [] }
-noted a ends = record (looking a) { log = a.log ++ a.running; running = []; costs = a.costs ++ a.held; held = [] }
+noted a (answers answered) = record a { deltas = record a.deltas { snapshots = a.deltas.snapshots ++ answered ∷ [] } }
+noted a ends = record (looking a) { entries = record a.entries { log = a.entries.log ++ a.entries.running; running = [] }; units = record a.units { costs = a.units.costs ++ a.units.held; held = [] } }
 noted a (refused added) = record (looking a) {
-  share = a.share + (cost_total a.held - cost_total (spent_by added a));
-  log = a.log ++ take added a.running;
-  running = [];
-  costs = a.costs ++ spent_by added a;
-  held = [];
+  units = record {
+    share = a.units.share + (cost_total a.units.held - cost_total (spent_by added a));
+    costs = a.units.costs ++ spent_by added a;
+    held = [];
+  };
+  entries = record a.entries { log = a.entries.log ++ take added a.entries.running; running = [] };
 }
 
 -- what it saw of a bucket: packed units; or, where the word is off, the count that stands behind the counts reference, in
@@ -113,7 +117,7 @@ noted a (refused added) = record (looking a) {
 abbrev pub SawBucket : Actor → Known → ℕ → ℕ → Type 0
 SawBucket a known bucket total =
     (word : ℕ) × SawSingle a (known.reference + HISTOGRAM_SINGLE) word
-    × let form = single_of a.version (buckets_of known.spec) word in
+    × let form = single_of a.segment.version (buckets_of known.spec) word in
     (((is_off word ≡ false) × (total ≡ units_packed form bucket))
     ⊎ ((is_off word ≡ true) × ((counts count : ℕ) × (word_seen a.seen.words (known.reference + HISTOGRAM_COUNTS) ≡ Some counts)
     × SawCount a (counts + BLOCK_HEADER + bucket) count × (total ≡ count + units_packed form bucket))))
@@ -122,7 +126,7 @@ SawBucket a known bucket total =
 abbrev pub IsMarkOf : Actor → Known → ℕ → ℕ → Type 0
 IsMarkOf a known bucket at =
     ((word : ℕ) × SawSingle a (known.reference + HISTOGRAM_SINGLE) word
-    × (packed_bucket (single_of a.version (buckets_of known.spec) word) ≡ Some bucket) × (at ≡ known.reference + HISTOGRAM_SINGLE_MARK))
+    × (packed_bucket (single_of a.segment.version (buckets_of known.spec) word) ≡ Some bucket) × (at ≡ known.reference + HISTOGRAM_SINGLE_MARK))
     ⊎ ((counts : ℕ) × (word_seen a.seen.words (known.reference + HISTOGRAM_COUNTS) ≡ Some counts) × (at ≡ counts + BLOCK_HEADER + buckets_of known.spec + bucket))
 
 -- what it saw of a bucket was taken: it is 0, or the mark was raised to it at least
@@ -140,7 +144,7 @@ pub record TookAll (a : Actor) (known : Known) : Type 0 where
   pub buckets : has_buckets known.spec ≡ true → (bucket : ℕ) → bucket < buckets_of known.spec → TookBucket a known bucket
   pub samples : known.spec ≡ spec.Sparse → (value : ℤ) (sample : ℕ) → Contains a.seen.chain sample
       → SawSample a.seen known.reference value sample → TookSample a sample
-  pub summed : (before : List Taken) × (last : Taken) × (a.taken ≡ before ++ last ∷ []) × (last.name ≡ known.name) × (last.swapped ≡ true)
+  pub summed : (before : List Taken) × (last : Taken) × (a.deltas.taken ≡ before ++ last ∷ []) × (last.name ≡ known.name) × (last.swapped ≡ true)
 
 -- A snapshot is what it saw since it began: each bucket once, in order, with its total; or samples, each value once with the
 -- count of its first sample, and of all samples of its histogram that it met each that has a count; the sum that it loaded; and
@@ -155,41 +159,41 @@ pub record SawAll (a : Actor) (known : Known) (answered : Answered) : Type 0 whe
       → x.0 ≡ y.0 → i ≡ j
   pub values : known.spec ≡ spec.Sparse → (value : ℤ) (sample : ℕ) → Contains a.seen.chain sample → SawSample a.seen known.reference value sample
       → (count : ℕ) × SawCount a (sample + SAMPLE_COUNT) count × ((count ≡ 0) ⊎ Contains (map (λ count. count.0) answered.counts) value)
-  pub sum : a.place ≡ SumLoaded known.reference answered.sum
-  pub redundant : (before : List Sighting) × (drop a.since_counts a.seen.counts ≡ before ++ record { at = known.reference + HISTOGRAM_REDUNDANT; word = answered.redundant } ∷ [])
+  pub sum : a.hand.place ≡ SumLoaded known.reference answered.sum
+  pub redundant : (before : List Sighting) × (drop a.since.counts a.seen.counts ≡ before ++ record { at = known.reference + HISTOGRAM_REDUNDANT; word = answered.redundant } ∷ [])
 
 -- when an actor may note it. An opener counts and takes nothing itself
 abbrev pub MayNote : Actor → Note → Type 0
 MayNote a (begins name cost entries) =
-    (a.place ≢ Spent) × (a.opener ≡ 0) × (a.running ≡ []) × (a.held ≡ []) × (a.taking ≡ false) × (cost ≤ a.share)
-    × Contains (map (λ known. known.name) a.names) name × AreWithin name cost entries
+    (a.hand.place ≢ Spent) × (is_opener a.role ≡ false) × (a.entries.running ≡ []) × (a.units.held ≡ []) × (a.deltas.taking ≡ false) × (cost ≤ a.units.share)
+    × Contains (map (λ known. known.name) a.answers.names) name × AreWithin name cost entries
 MayNote a (goes_on entry cost) =
-    (a.running ≢ []) × All (λ c. has_ended c ≡ true) a.running × (cost ≤ a.share)
-    × ((name : List ℕ) × (units : ℕ) × (a.held ≡ record { name = name; units = units } ∷ [])
-    × AreWithin name (units + cost) (map (λ c. c.entry) a.running ++ entry ∷ []))
+    (a.entries.running ≢ []) × All (λ c. has_ended c ≡ true) a.entries.running × (cost ≤ a.units.share)
+    × ((name : List ℕ) × (units : ℕ) × (a.units.held ≡ record { name = name; units = units } ∷ [])
+    × AreWithin name (units + cost) (map (λ c. c.entry) a.entries.running ++ entry ∷ []))
 MayNote a (amounts amount) =
-    ((before : List Counting) × (last : Counting) × (a.running ≡ before ++ last ∷ []) × (last.summed ≡ false) × (last.noted ≡ false))
-    × All (λ c. c.entry.amount ≡ pos 0) a.running
-    × (unsigned_abs amount ≤ 2147483648 * cost_total a.held)
-MayNote a (asks at made) = (own : Own) × Contains a.own own × (own.at ≡ at) × (own.made ≡ None)
+    ((before : List Counting) × (last : Counting) × (a.entries.running ≡ before ++ last ∷ []) × (last.summed ≡ false) × (last.noted ≡ false))
+    × All (λ c. c.entry.amount ≡ pos 0) a.entries.running
+    × (unsigned_abs amount ≤ 2147483648 * cost_total a.units.held)
+MayNote a (asks at made) = (own : Own) × Contains a.hand.own own × (own.at ≡ at) × (own.made ≡ None)
 MayNote a (knows known) =
     IsFirstNamed a.seen known.name known.reference
     × ((letters : List ℕ) × AreNameWords known.name letters × SawSpec a.seen known.spec (length letters) known.reference)
 MayNote a (declines mine) =
-    Contains a.owed mine
+    Contains a.answers.owed mine
     × ((at : ℕ) × (letters : List ℕ) × IsFirstNamed a.seen mine.name at × AreNameWords mine.name letters
     × SawOtherSpec a.seen mine.spec (length letters) at)
 MayNote a (takes name) =
-    (a.place ≢ Spent) × (a.opener ≡ 0) × (a.running ≡ []) × (a.taking ≡ false) × Contains (map (λ known. known.name) a.names) name
-MayNote a has_taken = (a.taking ≡ true) × ((known : Known) × Contains a.names known × TookAll a known)
-MayNote a looks = (a.place ≢ Spent) × (a.opener ≡ 0) × (a.running ≡ []) × (a.taking ≡ false)
+    (a.hand.place ≢ Spent) × (is_opener a.role ≡ false) × (a.entries.running ≡ []) × (a.deltas.taking ≡ false) × Contains (map (λ known. known.name) a.answers.names) name
+MayNote a has_taken = (a.deltas.taking ≡ true) × ((known : Known) × Contains a.answers.names known × TookAll a known)
+MayNote a looks = (a.hand.place ≢ Spent) × (is_opener a.role ≡ false) × (a.entries.running ≡ []) × (a.deltas.taking ≡ false)
 MayNote a (answers answered) =
-    (known : Known) × Contains a.names known × (known.name ≡ answered.name) × SawAll a known answered
+    (known : Known) × Contains a.answers.names known × (known.name ≡ answered.name) × SawAll a known answered
     × (answered.moment ≡ moment_of a)
-MayNote a ends = (is_bound a.place ≡ false) × All (λ c. has_ended c ≡ true) a.running
+MayNote a ends = (is_bound a.hand.place ≡ false) × All (λ c. has_ended c ≡ true) a.entries.running
 MayNote a (refused added) =
-    (is_bound a.place ≡ false) × All (λ c. has_ended c ≡ true) (take added a.running) × All (λ c. is_untouched c ≡ true) (drop added a.running)
-    × All (λ c. c.summed ≡ false) (take added a.running)
+    (is_bound a.hand.place ≡ false) × All (λ c. has_ended c ≡ true) (take added a.entries.running) × All (λ c. is_untouched c ≡ true) (drop added a.entries.running)
+    × All (λ c. c.summed ≡ false) (take added a.entries.running)
 
 -- notes one after the other
 abbrev pub Notes : Actor → List Note → Actor → Type 0

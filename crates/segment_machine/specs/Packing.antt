@@ -47,7 +47,7 @@ IsBlankCounts own n = (own.tag ≡ TYPE_COUNTS) × (own.next ≡ 0) × (own.payl
 -- a call that counts in a histogram may make room there: no delta is going on, and where an entry is next, it is of this histogram and
 -- not counted yet
 abbrev pub CountsIn : Actor → Known → Type 0
-CountsIn a known = (a.taking ≡ false) × ((c : Counting) → IsNext a c → (is_counted c ≡ false) × (c.entry.name ≡ known.name))
+CountsIn a known = (a.deltas.taking ≡ false) × ((c : Counting) → IsNext a c → (is_counted c ≡ false) × (c.entry.name ≡ known.name))
 
 abbrev pub Ready : Actor → PackingEvent → Type 0
 Ready a (load_single histogram) = MayTurn a × ((known : Known) × Buckets a histogram known)
@@ -55,12 +55,12 @@ Ready a (pack histogram old new) =
     (c : Counting) × (look : Look) × (known : Known) × (bucket : ℕ) × CountsNext a c × LooksOpen a histogram old look known
     × (c.entry.name ≡ known.name) × IsKeyOfBucket known bucket c.entry.key × IsPacking bucket c.entry.units old new
 Ready a (mount_counts histogram at) =
-    (own : Own) × (known : Known) × MayTurn a × Contains a.own own × (own.at ≡ at) × Buckets a histogram known
+    (own : Own) × (known : Known) × MayTurn a × Contains a.hand.own own × (own.at ≡ at) × Buckets a histogram known
     × CountsIn a known × IsBlankCounts own (buckets_of known.spec)
-Ready a (purge_block at) = (look : Look) × (a.place ≡ Losing look at)
+Ready a (purge_block at) = (look : Look) × (a.hand.place ≡ Losing look at)
 Ready a (disable histogram old) =
     (look : Look) × (known : Known) × LooksOpen a histogram old look known × (look.counts ≢ 0) × CountsIn a known
-Ready a (add_moved counts bucket units) = (look : Look) × (a.place ≡ Moving look bucket units) × (look.counts ≡ counts)
+Ready a (add_moved counts bucket units) = (look : Look) × (a.hand.place ≡ Moving look bucket units) × (look.counts ≡ counts)
 
 -- ---- what becomes of the actor
 
@@ -74,54 +74,56 @@ after_disabling version look old form =
 -- after a packing exchange
 abbrev pub after_pack : Bool → Actor → ℕ → ℕ → ℕ → Actor
 after_pack true a histogram new found =
-    record a { place = Idle; running = count_next a.running; seen = record a.seen { singles = a.seen.singles ++ sight (histogram + HISTOGRAM_SINGLE) new } }
+    record a { hand = record a.hand { place = Idle }; entries = record a.entries { running = count_next a.entries.running }; seen = record a.seen { singles = a.seen.singles ++ sight (histogram + HISTOGRAM_SINGLE) new } }
 after_pack false a histogram new found =
-    record a { place = Idle; seen = record a.seen { singles = a.seen.singles ++ sight (histogram + HISTOGRAM_SINGLE) found } }
+    record a { hand = record a.hand { place = Idle }; seen = record a.seen { singles = a.seen.singles ++ sight (histogram + HISTOGRAM_SINGLE) found } }
 
 -- after an exchange of the counts reference from 0
 abbrev pub after_mount : Bool → Actor → ℕ → ℕ → ℕ → Actor
 after_mount true a histogram at found = record a {
-  place = Looking (record { histogram = histogram; single = None; counts = at });
-  own = without at a.own;
+  hand = record {
+    place = Looking (record { histogram = histogram; single = None; counts = at });
+    own = without at a.hand.own;
+  };
   seen = record a.seen { words = a.seen.words ++ sight_counts histogram at };
 }
 after_mount false a histogram at found = record a {
-  place = Losing (record { histogram = histogram; single = None; counts = found }) at;
+  hand = record a.hand { place = Losing (record { histogram = histogram; single = None; counts = found }) at };
   seen = record a.seen { words = a.seen.words ++ sight_counts histogram found };
 }
 
 -- after a disabling exchange
 abbrev pub after_disable : Bool → Actor → ℕ → ℕ → ℕ → Actor
 after_disable true a histogram old found = record a {
-  place = after_disabling a.version (look_of a.place histogram) old (form_seen a histogram old);
-  seen = record a.seen { singles = a.seen.singles ++ sight (histogram + HISTOGRAM_SINGLE) (off_word a.version old) };
+  hand = record a.hand { place = after_disabling a.segment.version (look_of a.hand.place histogram) old (form_seen a histogram old) };
+  seen = record a.seen { singles = a.seen.singles ++ sight (histogram + HISTOGRAM_SINGLE) (off_word a.segment.version old) };
 }
 after_disable false a histogram old found = record a {
-  place = Looking (record (look_of a.place histogram) { single = None });
+  hand = record a.hand { place = Looking (record (look_of a.hand.place histogram) { single = None }) };
   seen = record a.seen { singles = a.seen.singles ++ sight (histogram + HISTOGRAM_SINGLE) found };
 }
 
 abbrev pub next : Actor → PackingEvent → ℕ → Actor
 next a (load_single histogram) found = record a {
-  place = Looking (record (look_of a.place histogram) { single = Some found });
+  hand = record a.hand { place = Looking (record (look_of a.hand.place histogram) { single = Some found }) };
   seen = record a.seen { singles = a.seen.singles ++ sight (histogram + HISTOGRAM_SINGLE) found };
 }
 next a (pack histogram old new) found = after_pack (found == old) a histogram new found
 next a (mount_counts histogram at) found = after_mount (found == 0) a histogram at found
 next a (purge_block at) found =
-    record a { place = back a.place; own = change_own at (λ own. record own { tag = TYPE_PURGED }) a.own }
+    record a { hand = record { place = back a.hand.place; own = change_own at (λ own. record own { tag = TYPE_PURGED }) a.hand.own } }
 next a (disable histogram old) found = after_disable (found == old) a histogram old found
 next a (add_moved counts bucket units) found =
-    record a { place = back a.place; seen = record a.seen { counts = a.seen.counts ++ sight (counts + BLOCK_HEADER + bucket) (found + units) } }
+    record a { hand = record a.hand { place = back a.hand.place }; seen = record a.seen { counts = a.seen.counts ++ sight (counts + BLOCK_HEADER + bucket) (found + units) } }
 
 -- ---- what it learns
 
 -- a single word of a histogram that it knows: it has a form, and each word that it saw before leads to it
 abbrev pub IsSingleOf : Actor → ℕ → ℕ → Type 0
 IsSingleOf a histogram found = (known : Known) → Buckets a histogram known
-    → (single_of a.version (buckets_of known.spec) found ≢ None)
+    → (single_of a.segment.version (buckets_of known.spec) found ≢ None)
     × ((word : ℕ) → Contains a.seen.singles (record { at = histogram + HISTOGRAM_SINGLE; word = word })
-    → Leads a.version (buckets_of known.spec) word found)
+    → Leads a.segment.version (buckets_of known.spec) word found)
 
 abbrev pub Learned : Actor → PackingEvent → ℕ → Type 0
 Learned a (load_single histogram) found = IsSingleOf a histogram found

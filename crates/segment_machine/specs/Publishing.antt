@@ -36,13 +36,13 @@ operation size version (move_tail old new) = single (publish.move_tail old new)
 
 -- a block of its own whose next is stored
 abbrev pub Waits : Actor → Own → Type 0
-Waits a own = Contains a.own own × (own.next ≡ QUEUE)
+Waits a own = Contains a.hand.own own × (own.next ≡ QUEUE)
 
 -- A block of its own may be published as what it is to hold. A histogram has a lawful name and a lawful spec, whose counts fit in a
 -- page. A sample has a value of an `i32`, and names a known sparse histogram.
 abbrev pub MayPublish : Actor → Own → Made → Type 0
 MayPublish a own (Histogram name spec) =
-    (own.tag ≡ TYPE_HISTOGRAM) × (is_name name ≡ true) × (spec_fault spec ≡ None) × (BLOCK_HEADER + 2 * buckets_of spec ≤ a.shape.page)
+    (own.tag ≡ TYPE_HISTOGRAM) × (is_name name ≡ true) × (spec_fault spec ≡ None) × (BLOCK_HEADER + 2 * buckets_of spec ≤ a.segment.shape.page)
 MayPublish a own (Sample histogram value) =
     (own.tag ≡ TYPE_SAMPLE) × (SAMPLE_LEAST ≤ own.size) × (is_i32 value ≡ true) × ((known : Known) × Sparse a histogram known)
 
@@ -50,9 +50,9 @@ abbrev pub Ready : Actor → PublishingEvent → Type 0
 Ready a (store_own_next at) = (own : Own) × Fills a own × (own.at ≡ at)
 Ready a load_tail = MayTurn a × ((own : Own) × Waits a own)
 Ready a (link tail at) =
-    (own : Own) × (made : Made) × (a.place ≡ TailLoaded tail) × Waits a own × (own.at ≡ at) × (own.made ≡ Some made)
+    (own : Own) × (made : Made) × (a.hand.place ≡ TailLoaded tail) × Waits a own × (own.at ≡ at) × (own.made ≡ Some made)
     × IsPayload made own.payload × MayPublish a own made
-Ready a (move_tail old new) = (a.place ≡ Linked new old) ⊎ (a.place ≡ Beaten old new)
+Ready a (move_tail old new) = (a.hand.place ≡ Linked new old) ⊎ (a.hand.place ≡ Beaten old new)
 
 -- ---- what becomes of the actor
 
@@ -83,25 +83,24 @@ owed_for (Some own) at = owed_made own.made at
 -- after a link, which went through or not
 abbrev pub after_link : Bool → Actor → ℕ → ℕ → ℕ → Actor
 after_link true a tail at found = record a {
-  place = Linked at tail;
-  published = a.published ++ published_as (own_at a.own at) at;
-  owed = a.owed ++ owed_for (own_at a.own at) at;
-  own = without at a.own;
+  hand = record { place = Linked at tail; own = without at a.hand.own };
+  done = record a.done { published = a.done.published ++ published_as (own_at a.hand.own at) at };
+  answers = record a.answers { owed = a.answers.owed ++ owed_for (own_at a.hand.own at) at };
 }
-after_link false a tail at found = record a { place = Beaten tail found; beaten = a.beaten + 1 }
+after_link false a tail at found = record a { hand = record a.hand { place = Beaten tail found }; done = record a.done { beaten = a.done.beaten + 1 } }
 
 abbrev pub next : Actor → PublishingEvent → ℕ → Actor
-next a (store_own_next at) found = record a { own = change_own at (λ own. record own { next = QUEUE }) a.own }
-next a load_tail found = record a { place = TailLoaded found; seen = record a.seen { tails = a.seen.tails ++ found ∷ [] } }
+next a (store_own_next at) found = record a { hand = record a.hand { own = change_own at (λ own. record own { next = QUEUE }) a.hand.own } }
+next a load_tail found = record a { hand = record a.hand { place = TailLoaded found }; seen = record a.seen { tails = a.seen.tails ++ found ∷ [] } }
 next a (link tail at) found = after_link (found == QUEUE) a tail at found
 next a (move_tail old new) found =
-    record a { place = Idle; seen = record a.seen { tails = a.seen.tails ++ (if found == old then new else found) ∷ [] } }
+    record a { hand = record a.hand { place = Idle }; seen = record a.seen { tails = a.seen.tails ++ (if found == old then new else found) ∷ [] } }
 
 -- ---- what it learns
 
 -- a link that comes too late is one more of few: for each there is a record of five words on the list
 abbrev pub Learned : Actor → PublishingEvent → ℕ → Type 0
 Learned a load_tail found = IsReference a found
-Learned a (link tail at) found = IsReference a found × (found ≢ QUEUE → BLOCK_LEAST * (a.beaten + 1) + HEADER_WORDS ≤ a.shape.size)
+Learned a (link tail at) found = IsReference a found × (found ≢ QUEUE → BLOCK_LEAST * (a.done.beaten + 1) + HEADER_WORDS ≤ a.segment.shape.size)
 Learned a (move_tail old new) found = IsReference a found
 Learned a _ found = ⊤

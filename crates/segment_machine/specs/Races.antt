@@ -1,6 +1,6 @@
 -- Worked runs in which two recorders meet: one stops in transit, one stalls while another takes, both mount counts, and both make a
--- sample of one value.
-use Rattle.std.specs.Prelude.{◌≡◌, ℕ, pos, negsuc, List, [], ◌∷◌, ◌++◌, map, replicate}
+-- sample of one value. In both versions, but for the lost block.
+use Rattle.std.specs.Prelude.{◌≡◌, ℕ, pos, negsuc, List, [], ◌∷◌, ◌++◌, map, replicate, slice_set}
 use Rattle.bucket_ranges.specs.declared.spec.Spec.TheVariants as spec
 use Rattle.segment_machine.specs.declared.actor.Known.{Known}
 use Rattle.segment_machine.specs.declared.actor.Made.TheVariants as made
@@ -16,12 +16,12 @@ use Rattle.segment_machine.specs.Taking.{raise_single_mark, load_sum, swap_sum_m
 use Rattle.segment_machine.specs.Note.{begins, asks, takes, has_taken, ends}
 use Rattle.segment_machine.specs.State.{State}
 use Rattle.segment_machine.specs.Reached.{new_state, IsState}
-use Rattle.segment_machine.specs.Examples.{shape, letter_a, letter_s, one, known_a, head_words, boolean_words, counts_words, mounted_segment, in_transit}
-use Rattle.segment_machine.specs.Worked.{Deed, acts, played, actor_of, by, claims, fills, meets, hist, hist_found, two_recorders, two_packed, delta}
+use Rattle.segment_machine.specs.Examples.{shape, letter_a, letter_s, one, known_a, head_words, boolean_words, counts_words, in_transit, stopped_frozen, taken_once, taken_once_frozen}
+use Rattle.segment_machine.specs.Worked.{Deed, acts, played, actor_of, by, claims, fills, meets, moves, hist, hist_found, two_recorders, two_packed, delta}
 
--- the state after deeds, from a new segment of version 1
-abbrev pub after : List Deed → State
-after deeds = played 1 (new_state shape 1 7 0) deeds
+-- the state after deeds, from a new segment
+abbrev pub after : ℕ → List Deed → State
+after version deeds = played version (new_state shape version 7 0) deeds
 
 -- ---- stopped in transit
 
@@ -41,18 +41,23 @@ counts_zero id = by id (counting_event (add_count 36 1) ∷ []) ++ acts id [] (c
 abbrev pub stopping : List Deed
 stopping = two_packed ++ hist_found 2 12 known_a ++ finds_packed 2 0 ++ by 2 (claims 32 10 2 ++ disables)
 
+-- it stops with these words, and so many units of each bucket in transit
+abbrev pub IsStopped : ℕ → List ℕ → List ℕ → Type 0
+IsStopped version words transit =
+    IsState shape version 7 0 (after version stopping) × ((after version stopping).words ≡ words)
+    × (map (transit_of (after version stopping).actors 16) (0 ∷ 1 ∷ 2 ∷ []) ≡ transit)
+
+-- in version 1 two units are in transit, in version 2 none
 abbrev pub StoppedRun : Type 0
-StoppedRun =
-    IsState shape 1 7 0 (after stopping) × ((after stopping).words ≡ in_transit)
-    × (map (transit_of (after stopping).actors 16) (0 ∷ 1 ∷ 2 ∷ []) ≡ 0 ∷ 2 ∷ 0 ∷ [])
+StoppedRun = IsStopped 1 in_transit (0 ∷ 2 ∷ 0 ∷ []) × IsStopped 2 stopped_frozen (0 ∷ 0 ∷ 0 ∷ [])
 
 -- ---- two takers of a packed word
 
 -- The second recorder begins a delta and stalls. The first counts 0, which mounts the counts, then 1, and takes all; then the other goes on.
-abbrev pub stalling : List Deed
-stalling =
+abbrev pub stalling : ℕ → List Deed
+stalling version =
     two_packed ++ hist_found 2 12 known_a ++ acts 2 (takes letter_a ∷ []) (packing_event (load_single 16)) []
-    ∷ finds_packed 1 0 ++ by 1 (claims 32 10 2 ++ disables ++ packing_event (add_moved 32 1 2) ∷ []) ++ counts_zero 1
+    ∷ finds_packed 1 0 ++ by 1 (claims 32 10 2 ++ disables ++ moves version) ++ counts_zero 1
     ++ acts 1 (begins letter_a 1 (one 1 ∷ []) ∷ []) (packing_event (load_single 16)) []
     ∷ by 1 (map counting_event (load_counts 16 ∷ add_count 37 1 ∷ add_sum 16 (pos 1) ∷ []))
     ++ acts 1 [] (counting_event (add_redundant 16 1)) (ends ∷ [])
@@ -60,13 +65,16 @@ stalling =
     ++ by 2 (map taking_event (raise_single_mark 16 2 ∷ load_sum 16 ∷ []))
     ++ acts 2 [] (taking_event (swap_sum_mark 16 (pos 3))) (has_taken ∷ []) ∷ []
 
+-- its words; the first took all, the other nothing
+abbrev pub IsStalled : ℕ → List ℕ → Type 0
+IsStalled version words =
+    let state = after version (stalling version) in
+    IsState shape version 7 0 state × (state.words ≡ words)
+    × (map (λ t. t.counts) (actor_of state 1).deltas.taken ≡ ((pos 0, 1) ∷ (pos 1, 3) ∷ []) ∷ []) × (map (λ t. t.sum) (actor_of state 1).deltas.taken ≡ pos 3 ∷ [])
+    × (map (λ t. t.counts) (actor_of state 2).deltas.taken ≡ [] ∷ []) × (map (λ t. t.sum) (actor_of state 2).deltas.taken ≡ pos 0 ∷ [])
+
 abbrev pub StalledRun : Type 0
-StalledRun =
-    IsState shape 1 7 0 (after stalling)
-    × ((after stalling).words ≡ mounted_segment 9223372036854775809 3 3 3 4 (1 ∷ 3 ∷ 0 ∷ 1 ∷ 0 ∷ 0 ∷ []))
-    × (map (λ t. t.counts) (actor_of (after stalling) 1).taken ≡ ((pos 0, 1) ∷ (pos 1, 3) ∷ []) ∷ [])
-    × (map (λ t. t.sum) (actor_of (after stalling) 1).taken ≡ pos 3 ∷ [])
-    × (map (λ t. t.counts) (actor_of (after stalling) 2).taken ≡ [] ∷ []) × (map (λ t. t.sum) (actor_of (after stalling) 2).taken ≡ pos 0 ∷ [])
+StalledRun = IsStalled 1 taken_once × IsStalled 2 taken_once_frozen
 
 -- ---- a lost counts block
 
@@ -81,8 +89,8 @@ losing =
 
 abbrev pub LostRun : Type 0
 LostRun =
-    IsState shape 1 7 0 (after losing)
-    × ((after losing).words
+    IsState shape 1 7 0 (after 1 losing)
+    × ((after 1 losing).words
     ≡ head_words 52 16 16 ++ boolean_words 32 9223372036854775809 0 2 0 4 ++ counts_words (2 ∷ 2 ∷ 0 ∷ 0 ∷ 0 ∷ 0 ∷ [])
     ++ 10 ∷ 0xC8799269 ∷ replicate 84 0)
 
@@ -118,10 +126,16 @@ racing =
     ++ by 1 (map publishing_event (link 16 32 ∷ move_tail 16 40 ∷ load_tail ∷ link 40 32 ∷ move_tail 40 32 ∷ []))
     ++ by 2 (map publishing_event (move_tail 16 40 ∷ [])) ++ counts_first 1 2 ++ counts_first 2 1
 
-abbrev pub RaceRun : Type 0
-RaceRun =
-    IsState shape 1 7 0 (after racing)
-    × ((after racing).words
-    ≡ head_words 48 32 16 ++ 16 ∷ 0xC8799269 ∷ 1 ∷ 40 ∷ 4 ∷ 0 ∷ 0 ∷ 0 ∷ 0 ∷ 0 ∷ 0 ∷ 18446744073709551601 ∷ 0 ∷ 3 ∷ 1 ∷ 83
+-- its words: `S` at 16, the sample of the first at 32, which counts nothing, and that of the second at 40, which comes before it on the list
+abbrev pub race_words : ℕ → List ℕ
+race_words version =
+    slice_set (head_words 48 32 16) 1 version
+    ++ 16 ∷ 0xC8799269 ∷ 1 ∷ 40 ∷ 4 ∷ 0 ∷ 0 ∷ 0 ∷ 0 ∷ 0 ∷ 0 ∷ 18446744073709551601 ∷ 0 ∷ 3 ∷ 1 ∷ 83
     ∷ 8 ∷ 0xC8799269 ∷ 3 ∷ 12 ∷ 16 ∷ 18446744073709551611 ∷ 0 ∷ 0
-    ∷ 8 ∷ 0xC8799269 ∷ 3 ∷ 32 ∷ 16 ∷ 18446744073709551611 ∷ 3 ∷ 0 ∷ replicate 80 0)
+    ∷ 8 ∷ 0xC8799269 ∷ 3 ∷ 32 ∷ 16 ∷ 18446744073709551611 ∷ 3 ∷ 0 ∷ replicate 80 0
+
+abbrev pub IsRaced : ℕ → Type 0
+IsRaced version = IsState shape version 7 0 (after version racing) × ((after version racing).words ≡ race_words version)
+
+abbrev pub RaceRun : Type 0
+RaceRun = IsRaced 1 × IsRaced 2

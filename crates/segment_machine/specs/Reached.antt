@@ -1,6 +1,6 @@
 -- The states that are reached: a new segment, and from there steps, announcements, recorders that are made and joined, and units that
 -- are lent and given back, in whatever order.
-use Rattle.std.specs.Prelude.{◌≡◌, ◌≢◌, ◌⊎◌, ℕ, ◌≤◌, List, [], ◌∷◌, ◌++◌, slice_set, replicate}
+use Rattle.std.specs.Prelude.{◌≡◌, ◌≢◌, ◌⊎◌, ℕ, ◌≤◌, List, [], ◌∷◌, ◌++◌, slice_set, replicate, false}
 use mathlib.Core.Option.{some}
 use lib.ListN.{get_elem?}
 use Rattle.segment_image.specs.declared.layout.TheConstants.{QUEUE}
@@ -11,6 +11,7 @@ use Rattle.segment_machine.specs.Event.{Event}
 use Rattle.segment_machine.specs.Note.{Note, Notes}
 use Rattle.segment_machine.specs.State.{State, IsStep}
 use Rattle.segment_machine.specs.Seats.{opener_of, MayOffer, offering, MaySplit, parent, newcomer, MayLend, MayReturn, giver, getter, MayJoin, joined, spent}
+use Rattle.segment_machine.specs.Actor.{is_opener, outstanding_of}
 
 -- ---- the states that are reached
 
@@ -26,7 +27,7 @@ new_state shape version id cursors = record {
 -- recorder is to have.
 abbrev pub IsAnnounced : State → ℕ → State → Type 0
 IsAnnounced old id new =
-    (a b : Actor) × (notes : List Note) × (get_elem? old.actors id ≡ some a) × (a.opener ≡ 0) × Notes a notes b
+    (a b : Actor) × (notes : List Note) × (get_elem? old.actors id ≡ some a) × (is_opener a.role ≡ false) × Notes a notes b
     × (new ≡ record old { actors = slice_set old.actors id b })
 
 abbrev pub IsOffered : State → ℕ → ℕ → State → Type 0
@@ -77,4 +78,4 @@ IsState shape version id cursors state =
 
 -- the opener has joined all recorders that it has made
 abbrev pub IsJoined : State → Actor → Type 0
-IsJoined state a = (get_elem? state.actors 0 ≡ some a) × (a.outstanding ≡ 0)
+IsJoined state a = (get_elem? state.actors 0 ≡ some a) × (outstanding_of a.role ≡ 0)

@@ -18,25 +18,26 @@ use Rattle.segment_machine.specs.Cursors.{load_cursor}
 use Rattle.segment_machine.specs.Made.{IsPayload}
 use Rattle.segment_machine.specs.Seats.{nothing_seen, opener_of, newcomer, joined, MayJoin, MayLend, MayReturn}
 use Rattle.segment_machine.specs.Actor.{accepted_by, accepted_since}
-use Rattle.segment_machine.specs.Examples.{shape, letter_a, one, whole, maker, AreReady, run, sampler, takes_all, letter_s, known_a}
+use Rattle.segment_machine.specs.Examples.{at_place, shape, letter_a, one, whole, maker, AreReady, run, sampler, takes_all, letter_s, known_a}
+use Rattle.segment_machine.specs.declared.actor.Role.TheVariants.{Opener, Recorder}
 
 -- ---- who does it
 
 -- a recorder that knows `A` at 16 and the sparse `S` at 40, and met the sample of -5 at 56; there is one shared cursor
 abbrev pub recorder : Actor
 recorder = record (opener_of shape 1 1) {
-  opener = 0;
+  role = Recorder 0 0;
   seen = record nothing_seen {
     chain = 16 ∷ 40 ∷ 56 ∷ [];
     words =
         record { at = 58; word = 3 } ∷ record { at = 60; word = 40 } ∷ record { at = 61; word = 18446744073709551611 } ∷ [];
   };
-  names = known_a ∷ record { name = letter_s; spec = spec.Sparse; reference = 40 } ∷ [];
+  answers = record { names = known_a ∷ record { name = letter_s; spec = spec.Sparse; reference = 40 } ∷ []; owed = [] };
 }
 
 -- the same in a call that counts a unit of this value in `S`
 abbrev pub counting : ℤ → Actor
-counting value = record recorder { running = fresh (record { name = letter_s; key = value; units = 1; amount = pos 0 }) ∷ [] }
+counting value = record recorder { entries = record recorder.entries { running = fresh (record { name = letter_s; key = value; units = 1; amount = pos 0 }) ∷ [] } }
 
 abbrev pub look : ℕ → ℕ → Look
 look single counts = record { histogram = 16; single = Some single; counts = counts }
@@ -49,7 +50,7 @@ ValuesApart = Ready (counting (negsuc 4)) (counting_event (add_count 62 1)) × (
 
 -- nothing is counted while units are moving
 abbrev pub MovesFirst : Type 0
-MovesFirst = ¬ (Ready (record (counting (negsuc 4)) { place = Moving (look 9223372036854775809 32) 1 2 }) (counting_event (add_count 62 1)))
+MovesFirst = ¬ (Ready (at_place (counting (negsuc 4)) (Moving (look 9223372036854775809 32) 1 2)) (counting_event (add_count 62 1)))
 
 -- a cursor that is not there is not loaded
 abbrev pub CursorsThere : Type 0
@@ -63,10 +64,10 @@ SamplesMet = Ready recorder (taking_event (load_count 62)) × (¬ (Ready recorde
 abbrev pub WordsSince : Type 0
 WordsSince = ¬ (Ready
     (record recorder {
-      place = Looking (look 4294967303 0);
+      hand = record recorder.hand { place = Looking (look 4294967303 0) };
       seen = record recorder.seen { singles = record { at = 25; word = 4294967303 } ∷ [] };
-      since_singles = 1;
-      taking = true;
+      since = record recorder.since { singles = 1 };
+      deltas = record recorder.deltas { taking = true };
     })
     (taking_event (raise_single_mark 16 7)))
 
@@ -75,7 +76,7 @@ abbrev pub swapping : List (Event × ℕ)
 swapping = (taking_event (load_sum 16), 2) ∷ (taking_event (swap_sum_mark 16 (pos 2)), 0) ∷ (taking_event (load_sum 16), 5) ∷ (taking_event (swap_sum_mark 16 (pos 5)), 2) ∷ []
 
 abbrev pub SwapsAdd : Type 0
-SwapsAdd = map (λ t. t.sum) (run takes_all swapping).taken ≡ pos 5 ∷ []
+SwapsAdd = map (λ t. t.sum) (run takes_all swapping).deltas.taken ≡ pos 5 ∷ []
 
 -- a record is published without counts
 abbrev pub RecordsAlone : Type 0
@@ -90,12 +91,12 @@ EntriesEndFirst = (¬ (MayNote (counting (negsuc 4)) (goes_on (one 1) 1))) × (�
 -- units that are offered to the next recorder are not lent, and a recorder gives none back that it does not have
 abbrev pub OffersStay : Type 0
 OffersStay =
-    let opener = record (opener_of shape 1 1) { share = 5; offered = 3 } in
-    MayLend opener recorder 2 × (¬ (MayLend opener recorder 3)) × (¬ (MayReturn opener (record recorder { share = 1 }) 2))
+    let opener = record (opener_of shape 1 1) { units = record { share = 5; costs = []; held = [] }; role = Opener 0 0 3 } in
+    MayLend opener recorder 2 × (¬ (MayLend opener recorder 3)) × (¬ (MayReturn opener (record recorder { units = record recorder.units { share = 1 } }) 2))
 
 -- who owes an answer is not joined
 abbrev pub DebtsStay : Type 0
-DebtsStay = ¬ (MayJoin (record (opener_of shape 1 1) { outstanding = 1 }) (record recorder { owed = known_a ∷ [] }))
+DebtsStay = ¬ (MayJoin (record (opener_of shape 1 1) { role = Opener 0 1 0 }) (record recorder { answers = record recorder.answers { owed = known_a ∷ [] } }))
 
 -- ---- what is kept of two
 
@@ -108,26 +109,26 @@ TailsStay =
 -- the first entries of an opener were accepted, and stand in no redundant count that is kept
 abbrev pub FirstEntriesApart : Type 0
 FirstEntriesApart =
-    let opener = record (opener_of shape 1 1) { first = one 1 ∷ one 0 ∷ []; log = whole (one 1) ∷ [] } in
+    let opener = record (opener_of shape 1 1) { entries = record { first = one 1 ∷ one 0 ∷ []; first_noted = []; inherited = []; log = whole (one 1) ∷ []; running = [] } } in
     (tally_noted (accepted_by (newcomer opener)) letter_a ≡ 3) × (tally_noted (accepted_since opener (newcomer opener)) letter_a ≡ 1)
 
 -- ---- what is counted
 
 -- units are not moved before the word is disabled
 abbrev pub WordsOffFirst : Type 0
-WordsOffFirst = ¬ (Ready (record recorder { place = Looking (look 4294967298 32) }) (packing_event (add_moved 32 1 2)))
+WordsOffFirst = ¬ (Ready (record recorder { hand = record recorder.hand { place = Looking (look 4294967298 32) } }) (packing_event (add_moved 32 1 2)))
 
 -- Who disabled a word in version 1 has its two units and moves these, of their bucket. Before that it neither counts nor looks
 -- elsewhere, its call does not end, accepted or refused, and it is not joined.
 abbrev pub mover : Actor
-mover = next (record (counting (negsuc 4)) { place = Looking (look 4294967298 32) }) (packing_event (disable 16 4294967298)) 4294967298
+mover = next (at_place (counting (negsuc 4)) (Looking (look 4294967298 32))) (packing_event (disable 16 4294967298)) 4294967298
 
 abbrev pub UnitsRemembered : Type 0
 UnitsRemembered =
     Ready mover (packing_event (add_moved 32 1 2)) × (¬ (Ready mover (packing_event (add_moved 32 1 1))))
     × (¬ (Ready mover (packing_event (add_moved 32 0 2)))) × (¬ (Ready mover (counting_event (add_count 62 1))))
     × (¬ (Ready mover (packing_event (load_single 16)))) × (¬ (MayNote mover ends)) × (¬ (MayNote mover (refused 0)))
-    × (¬ (MayJoin (record (opener_of shape 1 1) { outstanding = 1 }) mover))
+    × (¬ (MayJoin (record (opener_of shape 1 1) { role = Opener 0 1 0 }) mover))
 
 -- a packed sample is not noted, and its call does not end, before its amount is in the sum
 abbrev pub packed_sample : Actor
@@ -156,7 +157,7 @@ FirstSamplesCount = Ready met_twice (counting_event (add_count 62 1)) × (¬ (Re
 
 -- a delta of `A`, whose word is disabled and names bucket 1, has loaded three units of bucket 0, or two of bucket 1
 abbrev pub loaded : ℕ → ℕ → Actor
-loaded bucket count = record (noted recorder (takes letter_a)) { place = CountLoaded (look 9223372036854775809 32) bucket count }
+loaded bucket count = at_place (noted recorder (takes letter_a)) (CountLoaded (look 9223372036854775809 32) bucket count)
 
 -- a mark is raised to the count that was loaded, and not past it
 abbrev pub CountsBound : Type 0

@@ -1,6 +1,6 @@
 -- How recorders are made and joined, and how units are offered, lent and given back. These change no word of a segment, and the
 -- records of two actors at most: an opener and a recorder. In the running segment they load a word beside it that never changes.
-use Rattle.std.specs.Prelude.{◌≡◌, ◌≢◌, ℕ, ◌+◌, ◌-◌, ◌<◌, ◌≤◌, max, false, ◌||◌, nat_lt, if◌then◌else◌, List, [], ◌++◌, map, length, replicate}
+use Rattle.std.specs.Prelude.{◌≡◌, ◌≢◌, ℕ, ◌+◌, ◌-◌, ◌<◌, ◌≤◌, max, false, ◌||◌, nat_lt, if◌then◌else◌, List, [], ◌++◌, map, length, replicate, true}
 use Rattle.segment_image.specs.declared.layout.TheConstants.{HEADER_WORDS}
 use Rattle.segment_image.specs.Shape.{Dimensions}
 use Rattle.segment_machine.specs.declared.place.Place.TheVariants.{Spent, Idle}
@@ -9,7 +9,8 @@ use Rattle.segment_machine.specs.declared.seen.Seen.{Seen}
 use Rattle.segment_machine.specs.declared.actor.Answered.{Answered}
 use Rattle.segment_machine.specs.declared.actor.Moment.{Moment}
 use Rattle.segment_machine.specs.declared.actor.Taken.{Taken}
-use Rattle.segment_machine.specs.Actor.{log_of, is_bound, looking}
+use Rattle.segment_machine.specs.Actor.{log_of, is_bound, looking, is_opener, made_of, offered_of, outstanding_of}
+use Rattle.segment_machine.specs.declared.actor.Role.TheVariants.{Opener, Recorder}
 
 -- nothing that was seen
 abbrev pub nothing_seen : Seen
@@ -18,67 +19,52 @@ nothing_seen = record { free = 0; chain = []; tails = []; singles = []; counts =
 -- an actor that has done nothing, and has seen this free pointer
 abbrev pub idle : Dimensions → ℕ → ℕ → ℕ → ℕ → Actor
 idle shape version cursors free share = record {
-  shape = shape;
-  version = version;
-  cursors = cursors;
-  share = share;
-  costs = [];
-  held = [];
-  first = [];
-  first_noted = [];
-  inherited = [];
-  log = [];
-  running = [];
-  place = Idle;
-  own = [];
-  claimed = [];
-  published = [];
-  spoiled = false;
-  filled = false;
-  beaten = 0;
-  lost = replicate cursors 0;
+  segment = record { shape = shape; version = version; cursors = cursors };
+  units = record { share = share; costs = []; held = [] };
+  entries = record { first = []; first_noted = []; inherited = []; log = []; running = [] };
+  hand = record { place = Idle; own = [] };
+  done = record {
+    claimed = [];
+    published = [];
+    spoiled = false;
+    filled = false;
+    beaten = 0;
+    lost = replicate cursors 0;
+    given = [];
+  };
   seen = record nothing_seen { free = free };
-  names = [];
-  owed = [];
-  taken = [];
-  taking = false;
-  since_singles = 0;
-  since_counts = 0;
-  snapshots = [];
-  given = [];
-  opener = 0;
-  made = 0;
-  outstanding = 0;
-  offered = 0;
+  since = record { singles = 0; counts = 0 };
+  answers = record { names = []; owed = [] };
+  deltas = record { first_taken = []; taken = []; taking = false; snapshots = [] };
+  role = Recorder 0 0;
 }
 
 -- the opener of a new segment with so many shared cursors, with all its units
 abbrev pub opener_of : Dimensions → ℕ → ℕ → Actor
-opener_of shape version cursors = record (idle shape version cursors HEADER_WORDS 4294967295) { opener = 1 }
+opener_of shape version cursors = record (idle shape version cursors HEADER_WORDS 4294967295) { role = Opener 0 0 0 }
 
 -- ---- a recorder is made
 
 -- before, its opener says how many of its units it is to have
 abbrev pub MayOffer : Actor → ℕ → Type 0
-MayOffer a units = (a.place ≡ Idle) × (a.opener ≡ 1) × (units ≤ a.share) × (a.outstanding < 256)
+MayOffer a units = (a.hand.place ≡ Idle) × (is_opener a.role ≡ true) × (units ≤ a.units.share) × (outstanding_of a.role < 256)
 
 abbrev pub offering : Actor → ℕ → Actor
-offering a units = record a { offered = units }
+offering a units = record a { role = Opener (made_of a.role) (outstanding_of a.role) units }
 
 abbrev pub MaySplit : Actor → Type 0
-MaySplit a = (a.place ≡ Idle) × (a.opener ≡ 1) × (a.offered ≤ a.share) × (a.outstanding < 256)
+MaySplit a = (a.hand.place ≡ Idle) × (is_opener a.role ≡ true) × (offered_of a.role ≤ a.units.share) × (outstanding_of a.role < 256)
 
 -- what the opener is then: it has handed out the units
 abbrev pub parent : Actor → Actor
-parent a = record a { share = a.share - a.offered; offered = 0; made = a.made + 1; outstanding = a.outstanding + 1 }
+parent a = record a { units = record a.units { share = a.units.share - offered_of a.role }; role = Opener (made_of a.role + 1) (outstanding_of a.role + 1) 0 }
 
 -- and the recorder: it has seen what its opener has, done nothing, and knows no histogram
 abbrev pub newcomer : Actor → Actor
-newcomer a = looking (record (idle a.shape a.version a.cursors a.seen.free a.offered) {
-  inherited = log_of a;
+newcomer a = looking (record (idle a.segment.shape a.segment.version a.segment.cursors a.seen.free (offered_of a.role)) {
+  entries = record { first = []; first_noted = []; inherited = log_of a; log = []; running = [] };
   seen = a.seen;
-  made = a.made;
-  outstanding = a.outstanding;
+  role = Recorder (made_of a.role) (outstanding_of a.role);
 })
 
 -- ---- units are lent and given back
@@ -86,24 +72,24 @@ newcomer a = looking (record (idle a.shape a.version a.cursors a.seen.free a.off
 -- An opener may hand more of its units to a recorder, but for those that it offers: in the stepped world, where all actors draw on
 -- one pool, those that a call costs, when it begins.
 abbrev pub MayLend : Actor → Actor → ℕ → Type 0
-MayLend a b units = (a.opener ≡ 1) × (b.opener ≡ 0) × (b.place ≢ Spent) × (units + a.offered ≤ a.share)
+MayLend a b units = (is_opener a.role ≡ true) × (is_opener b.role ≡ false) × (b.hand.place ≢ Spent) × (units + offered_of a.role ≤ a.units.share)
 
 -- And it may take units of a recorder back: those that a call did not spend.
 abbrev pub MayReturn : Actor → Actor → ℕ → Type 0
-MayReturn a b units = (a.opener ≡ 1) × (b.opener ≡ 0) × (b.place ≢ Spent) × (units ≤ b.share)
+MayReturn a b units = (is_opener a.role ≡ true) × (is_opener b.role ≡ false) × (b.hand.place ≢ Spent) × (units ≤ b.units.share)
 
 -- who gives units, and who gets them
 abbrev pub giver : Actor → ℕ → Actor
-giver a units = record a { share = a.share - units }
+giver a units = record a { units = record a.units { share = a.units.share - units } }
 
 abbrev pub getter : Actor → ℕ → Actor
-getter a units = record a { share = a.share + units }
+getter a units = record a { units = record a.units { share = a.units.share + units } }
 
 -- ---- a recorder is joined
 
 abbrev pub MayJoin : Actor → Actor → Type 0
-MayJoin a b = (a.place ≡ Idle) × (a.opener ≡ 1) × (1 ≤ a.outstanding) × (is_bound b.place ≡ false)
-    × (b.opener ≡ 0) × (b.held ≡ []) × (b.running ≡ []) × (b.taking ≡ false) × (b.owed ≡ [])
+MayJoin a b = (a.hand.place ≡ Idle) × (is_opener a.role ≡ true) × (1 ≤ outstanding_of a.role) × (is_bound b.hand.place ≡ false)
+    × (is_opener b.role ≡ false) × (b.units.held ≡ []) × (b.entries.running ≡ []) × (b.deltas.taking ≡ false) × (b.answers.owed ≡ [])
 
 -- a moment of a recorder whose log comes behind another
 abbrev pub shifted : ℕ → Moment → Moment
@@ -135,22 +121,25 @@ both_seen a b = record {
 -- rest of the recorder's share.
 abbrev pub joined : Actor → Actor → Actor
 joined a b = record a {
-  share = a.share + b.share;
-  costs = a.costs ++ b.costs;
-  log = a.log ++ b.log;
-  own = a.own ++ b.own;
-  claimed = a.claimed ++ b.claimed;
-  published = a.published ++ b.published;
-  spoiled = a.spoiled || b.spoiled;
-  filled = a.filled || b.filled;
+  units = record a.units { share = a.units.share + b.units.share; costs = a.units.costs ++ b.units.costs };
+  entries = record a.entries { log = a.entries.log ++ b.entries.log };
+  hand = record a.hand { own = a.hand.own ++ b.hand.own };
+  done = record a.done {
+    claimed = a.done.claimed ++ b.done.claimed;
+    published = a.done.published ++ b.done.published;
+    spoiled = a.done.spoiled || b.done.spoiled;
+    filled = a.done.filled || b.done.filled;
+    given = a.done.given ++ b.done.given;
+  };
   seen = both_seen a.seen b.seen;
-  names = a.names ++ b.names;
-  taken = a.taken ++ shifted_taken (length (log_of a)) b.taken;
-  snapshots = a.snapshots ++ shifted_answers (length (log_of a)) b.snapshots;
-  given = a.given ++ b.given;
-  outstanding = a.outstanding - 1;
+  answers = record a.answers { names = a.answers.names ++ b.answers.names };
+  deltas = record a.deltas {
+    taken = a.deltas.taken ++ shifted_taken (length (log_of a)) b.deltas.taken;
+    snapshots = a.deltas.snapshots ++ shifted_answers (length (log_of a)) b.deltas.snapshots;
+  };
+  role = Opener (made_of a.role) (outstanding_of a.role - 1) (offered_of a.role);
 }
 
 -- what the recorder is then
 abbrev pub spent : Actor
-spent = record (idle (record { size = 0; page = 0 }) 0 0 0 0) { place = Spent }
+spent = record (idle (record { size = 0; page = 0 }) 0 0 0 0) { hand = record { place = Spent; own = [] } }

@@ -47,21 +47,21 @@ allocates allocation Corrupt = None
 -- has set the full flag
 abbrev pub StandsAt : Actor → Allocation → AllocStage → Type 0
 StandsAt a allocation LoadFlags = MayTurn a
-StandsAt a allocation LoadFree = a.place ≡ FlagsLoaded
+StandsAt a allocation LoadFree = a.hand.place ≡ FlagsLoaded
 StandsAt a allocation (ExchangeFree next purpose) =
-    (a.place ≡ FreeLoaded allocation.seen) × (is_pointer a.shape allocation.seen ≡ true)
-StandsAt a allocation (StoreSize at size purpose) = a.place ≡ Raised at size
-StandsAt a allocation (StoreCookie at size purpose) = a.place ≡ Sized at size
-StandsAt a allocation (StoreType at size) = a.place ≡ Marked at size
-StandsAt a allocation SetFull = a.place ≡ FreeLoaded allocation.seen
-StandsAt a allocation (Claimed at size) = (a.place ≡ Idle) × Contains a.own (new_own at size allocation.tag)
-StandsAt a allocation Full = (a.place ≡ Idle) × (a.filled ≡ true)
-StandsAt a allocation Corrupt = a.place ≡ Idle
+    (a.hand.place ≡ FreeLoaded allocation.seen) × (is_pointer a.segment.shape allocation.seen ≡ true)
+StandsAt a allocation (StoreSize at size purpose) = a.hand.place ≡ Raised at size
+StandsAt a allocation (StoreCookie at size purpose) = a.hand.place ≡ Sized at size
+StandsAt a allocation (StoreType at size) = a.hand.place ≡ Marked at size
+StandsAt a allocation SetFull = a.hand.place ≡ FreeLoaded allocation.seen
+StandsAt a allocation (Claimed at size) = (a.hand.place ≡ Idle) × Contains a.hand.own (new_own at size allocation.tag)
+StandsAt a allocation Full = (a.hand.place ≡ Idle) × (a.done.filled ≡ true)
+StandsAt a allocation Corrupt = a.hand.place ≡ Idle
 
 -- an actor goes along with an allocation of a block that it may have
 pub record Allocates (a : Actor) (allocation : Allocation) : Type 0 where
   pub lawful : IsLawful allocation
-  pub shape : allocation.shape ≡ a.shape
+  pub shape : allocation.shape ≡ a.segment.shape
   pub least : TYPE_HISTOGRAM ≤ allocation.tag
   pub most : allocation.tag ≤ TYPE_SAMPLE
   pub stands : StandsAt a allocation allocation.stage
@@ -87,7 +87,7 @@ publishes reference Strayed = None
 -- the actor's own block at a reference holds this, and may be published so; its next is this
 abbrev pub Offers : Actor → ℕ → Made → ℕ → Type 0
 Offers a reference made next =
-    (own : Own) × (own_at a.own reference ≡ Some own) × (own.next ≡ next) × (own.made ≡ Some made) × IsPayload made own.payload
+    (own : Own) × (own_at a.hand.own reference ≡ Some own) × (own.next ≡ next) × (own.made ≡ Some made) × IsPayload made own.payload
     × MayPublish a own made
 
 -- Where the actor stands at a stage: its block waits until it is linked, and the tail that it loaded, or the record that beat it, is
@@ -95,11 +95,11 @@ Offers a reference made next =
 abbrev pub PublishesAt : Actor → ℕ → Made → PublishStage → Type 0
 PublishesAt a reference made StoreOwnNext = MayTurn a × Offers a reference made 0
 PublishesAt a reference made LoadTail = MayTurn a × Offers a reference made QUEUE
-PublishesAt a reference made (Link tail) = (a.place ≡ TailLoaded tail) × Offers a reference made QUEUE
+PublishesAt a reference made (Link tail) = (a.hand.place ≡ TailLoaded tail) × Offers a reference made QUEUE
 PublishesAt a reference made (MoveTail old new true) =
-    (a.place ≡ Linked new old) × Contains a.published (record { reference = reference; made = made })
-PublishesAt a reference made (MoveTail old new false) = (a.place ≡ Beaten old new) × Offers a reference made QUEUE
-PublishesAt a reference made Published = (a.place ≡ Idle) × Contains a.published (record { reference = reference; made = made })
+    (a.hand.place ≡ Linked new old) × Contains a.done.published (record { reference = reference; made = made })
+PublishesAt a reference made (MoveTail old new false) = (a.hand.place ≡ Beaten old new) × Offers a reference made QUEUE
+PublishesAt a reference made Published = (a.hand.place ≡ Idle) × Contains a.done.published (record { reference = reference; made = made })
 PublishesAt a reference made Strayed = ⊥
 
 abbrev pub PublishesAgree : Type 0
@@ -108,7 +108,7 @@ PublishesAgree = (size version : ℕ) (a : Actor) (made : Made) (p : Publishing)
     → (act : PublishingEvent) × (publishes p.reference p.stage ≡ Some act) × (publishing.operation size version act ≡ single event)
     × publishing.Ready a act
     × ((found : ℕ) → publishing.Learned a act found
-    → let then_is = publish.moved a.shape.size p found in PublishesAt (publishing.next a act found) then_is.reference made then_is.stage)
+    → let then_is = publish.moved a.segment.shape.size p found in PublishesAt (publishing.next a act found) then_is.reference made then_is.stage)
 
 -- ---- a walk
 
@@ -121,4 +121,4 @@ WalksAgree = (size version : ℕ) (a : Actor) (given : List ℕ) → Walks a giv
     → let act = load_next (stands_behind given) in
     (walking.operation size version act ≡ single (atomic.load (stands_behind given + BLOCK_NEXT))) × walking.Ready a act
     × ((found : ℕ) → walking.Learned a act found
-    → Walks (walking.next a act found) (given_after given (said_of a.shape.size found)))
+    → Walks (walking.next a act found) (given_after given (said_of a.segment.shape.size found)))

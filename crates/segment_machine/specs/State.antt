@@ -1,11 +1,12 @@
 -- A state: the words, the shared cursors and the actors; and what a step makes of it.
-use Rattle.std.specs.Prelude.{◌≡◌, ℕ, List, ◌++◌, length, slice_set}
+use Rattle.std.specs.Prelude.{◌≡◌, ℕ, List, ◌++◌, length, slice_set, false}
 use mathlib.Core.Option.{some}
 use lib.ListN.{get_elem?}
 use Rattle.segment_image.specs.Words.{word_at}
 use Rattle.segment_machine.specs.declared.actor.Actor.{Actor}
 use Rattle.segment_machine.specs.Event.{Event, spot, after, Ready, next}
 use Rattle.segment_machine.specs.Note.{Note, Notes}
+use Rattle.segment_machine.specs.Actor.{is_opener}
 
 -- the words of a segment, those of its shared cursors, and one record for each actor
 pub record State : Type 0 where
@@ -23,7 +24,7 @@ memory state = state.words ++ state.cursors
 pub record IsStep (version : ℕ) (old : State) (id : ℕ) (event : Event) (new : State) : Type 0 where
   pub actor : Actor
   pub there : get_elem? old.actors id ≡ some actor
-  pub is_recorder : actor.opener ≡ 0
+  pub is_recorder : is_opener actor.role ≡ false
   pub before : List Note
   pub at : Actor
   pub notes_before : Notes actor before at

@@ -49,27 +49,27 @@ is_looking _ = false
 abbrev pub MayLoadCount : Actor → ℕ → Type 0
 MayLoadCount a at =
     ((look : Look) × (known : Known) × (bucket : ℕ)
-    × (LooksOff a look known ⊎ ((b count : ℕ) × (a.place ≡ CountLoaded look b count) × Buckets a look.histogram known))
+    × (LooksOff a look known ⊎ ((b count : ℕ) × (a.hand.place ≡ CountLoaded look b count) × Buckets a look.histogram known))
     × (bucket < buckets_of known.spec) × (at ≡ look.counts + BLOCK_HEADER + bucket))
     ⊎ ((known : Known) × (sample : ℕ) × (value : ℤ) × Sparse a known.reference known
     × Contains a.seen.chain sample × SawSample a.seen known.reference value sample × (at ≡ sample + SAMPLE_COUNT)
-    × MayTurn a × (is_looking a.place ≡ false))
+    × MayTurn a × (is_looking a.hand.place ≡ false))
 
 -- the delta that is going on is of this histogram
 abbrev pub Takes : Actor → ℕ → Known → Type 0
 Takes a histogram known =
-    (a.taking ≡ true) × Contains a.names known × (known.reference ≡ histogram)
-    × ((before : List Taken) × (last : Taken) × (a.taken ≡ before ++ last ∷ []) × (last.name ≡ known.name))
+    (a.deltas.taking ≡ true) × Contains a.answers.names known × (known.reference ≡ histogram)
+    × ((before : List Taken) × (last : Taken) × (a.deltas.taken ≡ before ++ last ∷ []) × (last.name ≡ known.name))
 
 -- a mark is raised to the count that was loaded: of a bucket other than the packed one, or of a sample
 abbrev pub MayRaise : Actor → ℕ → ℕ → Type 0
 MayRaise a at least =
     (1 ≤ least)
-    × (((look : Look) × (known : Known) × (bucket word : ℕ) × (a.place ≡ CountLoaded look bucket least)
+    × (((look : Look) × (known : Known) × (bucket word : ℕ) × (a.hand.place ≡ CountLoaded look bucket least)
     × Takes a look.histogram known × (look.single ≡ Some word)
     × (packed_bucket (form_seen a look.histogram word) ≢ Some bucket)
     × (at ≡ look.counts + BLOCK_HEADER + buckets_of known.spec + bucket))
-    ⊎ ((sample histogram : ℕ) × (known : Known) × (a.place ≡ SampleLoaded sample least)
+    ⊎ ((sample histogram : ℕ) × (known : Known) × (a.hand.place ≡ SampleLoaded sample least)
     × (word_seen a.seen.words (sample + SAMPLE_HISTOGRAM) ≡ Some histogram) × Takes a histogram known × (at ≡ sample + SAMPLE_MARK)))
 
 -- the single mark is raised: to the packed units that were seen since the delta began; or, where the word is off, to the count that was loaded of the packed
@@ -79,7 +79,7 @@ MayRaiseSingle a histogram least =
     (1 ≤ least) × ((known : Known) × Takes a histogram known)
     × (((look : Look) × (known : Known) × (word : ℕ) × LooksOpen a histogram word look known
     × SawSingle a (histogram + HISTOGRAM_SINGLE) word × (least ≡ units_in (form_seen a histogram word)))
-    ⊎ ((look : Look) × (bucket count word : ℕ) × (a.place ≡ CountLoaded look bucket count) × (look.histogram ≡ histogram)
+    ⊎ ((look : Look) × (bucket count word : ℕ) × (a.hand.place ≡ CountLoaded look bucket count) × (look.histogram ≡ histogram)
     × (look.single ≡ Some word) × (packed_bucket (form_seen a histogram word) ≡ Some bucket)
     × (least ≡ count + units_in (form_seen a histogram word))))
 
@@ -87,9 +87,9 @@ abbrev pub Ready : Actor → TakingEvent → Type 0
 Ready a (load_count at) = MayLoadCount a at
 Ready a (raise_mark at least) = MayRaise a at least
 Ready a (raise_single_mark histogram least) = MayRaiseSingle a histogram least
-Ready a (load_sum histogram) = MayTurn a × ((known : Known) × Contains a.names known × (known.reference ≡ histogram))
-Ready a (swap_sum_mark histogram sum) = (known : Known) × Takes a histogram known × (a.place ≡ SumLoaded histogram sum)
-Ready a (load_redundant histogram) = MayTurn a × ((known : Known) × Contains a.names known × (known.reference ≡ histogram))
+Ready a (load_sum histogram) = MayTurn a × ((known : Known) × Contains a.answers.names known × (known.reference ≡ histogram))
+Ready a (swap_sum_mark histogram sum) = (known : Known) × Takes a histogram known × (a.hand.place ≡ SumLoaded histogram sum)
+Ready a (load_redundant histogram) = MayTurn a × ((known : Known) × Contains a.answers.names known × (known.reference ≡ histogram))
 
 -- ---- what becomes of the actor
 
@@ -101,13 +101,13 @@ at_count _ at count = SampleLoaded (at - SAMPLE_COUNT) count
 
 -- the key whose units are taken at a place
 abbrev pub taken_key : Actor → Place → ℤ
-taken_key a (CountLoaded look bucket count) = bucket_key (known_at a.names look.histogram) bucket
+taken_key a (CountLoaded look bucket count) = bucket_key (known_at a.answers.names look.histogram) bucket
 taken_key a (SampleLoaded sample count) = cast_signed w64 (unwrap_or (word_seen a.seen.words (sample + SAMPLE_VALUE)) 0)
 taken_key a _ = pos 0
 
 abbrev pub packed_key : Actor → Look → ℤ
 packed_key a look =
-    bucket_key (known_at a.names look.histogram)
+    bucket_key (known_at a.answers.names look.histogram)
     (unwrap_or (packed_bucket (form_seen a look.histogram (unwrap_or look.single 0))) 0)
 
 abbrev pub single_key : Actor → Place → ℤ
@@ -126,20 +126,20 @@ swap_sum sum mark taken = record taken { sum = taken.sum +ℤ (sum -ℤ mark); s
 
 abbrev pub next : Actor → TakingEvent → ℕ → Actor
 next a (load_count at) found =
-    record a { place = at_count a.place at found; seen = record a.seen { counts = a.seen.counts ++ sight at found } }
+    record a { hand = record a.hand { place = at_count a.hand.place at found }; seen = record a.seen { counts = a.seen.counts ++ sight at found } }
 next a (raise_mark at least) found = record a {
-  place = back a.place;
-  taken = change_last (take_units (taken_key a a.place) least found) a.taken;
+  hand = record a.hand { place = back a.hand.place };
+  deltas = record a.deltas { taken = change_last (take_units (taken_key a a.hand.place) least found) a.deltas.taken };
   seen = record a.seen { counts = a.seen.counts ++ sight at (max found least) };
 }
 next a (raise_single_mark histogram least) found = record a {
-  place = back a.place;
-  taken = change_last (take_units (single_key a a.place) least found) a.taken;
+  hand = record a.hand { place = back a.hand.place };
+  deltas = record a.deltas { taken = change_last (take_units (single_key a a.hand.place) least found) a.deltas.taken };
   seen = record a.seen { counts = a.seen.counts ++ sight (histogram + HISTOGRAM_SINGLE_MARK) (max found least) };
 }
-next a (load_sum histogram) found = record a { place = SumLoaded histogram (cast_signed w64 found) }
+next a (load_sum histogram) found = record a { hand = record a.hand { place = SumLoaded histogram (cast_signed w64 found) } }
 next a (swap_sum_mark histogram sum) found =
-    record a { place = Idle; taken = change_last (swap_sum sum (cast_signed w64 found)) a.taken }
+    record a { hand = record a.hand { place = Idle }; deltas = record a.deltas { taken = change_last (swap_sum sum (cast_signed w64 found)) a.deltas.taken } }
 next a (load_redundant histogram) found = record a { seen = record a.seen { counts = a.seen.counts ++ sight (histogram + HISTOGRAM_REDUNDANT) found } }
 
 -- ---- what it learns

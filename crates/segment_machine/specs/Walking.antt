@@ -44,7 +44,7 @@ IsFixed a at index =
 
 -- it has met a record, or the queue block; or a shared cursor that it loaded stands there
 abbrev pub MayFollow : Actor → ℕ → Type 0
-MayFollow a at = (at ≡ QUEUE) ⊎ Contains a.seen.chain at ⊎ ((cursor : ℕ) × (a.place ≡ CursorLoaded cursor at))
+MayFollow a at = (at ≡ QUEUE) ⊎ Contains a.seen.chain at ⊎ ((cursor : ℕ) × (a.hand.place ≡ CursorLoaded cursor at))
 
 abbrev pub Ready : Actor → WalkingEvent → Type 0
 Ready a (load_next at) = MayTurn a × MayFollow a at
@@ -64,7 +64,7 @@ behind (CursorLoaded cursor at) from found =
 behind place from found = place
 
 abbrev pub next : Actor → WalkingEvent → ℕ → Actor
-next a (load_next at) found = record a { place = behind a.place at found; seen = record a.seen { chain = extended a.seen.chain at found } }
+next a (load_next at) found = record a { hand = record a.hand { place = behind a.hand.place at found }; seen = record a.seen { chain = extended a.seen.chain at found } }
 next a (load_published at index) found = record a { seen = record a.seen { words = a.seen.words ++ sight (at + index) found } }
 
 -- ---- what it learns
@@ -73,16 +73,16 @@ next a (load_published at index) found = record a { seen = record a.seen { words
 -- lie behind them, a sample's has 8 words
 abbrev pub EndsWithin : Actor → ℕ → ℕ → ℕ → Type 0
 EndsWithin a at index found =
-    (index ≡ BLOCK_TYPE → found ≡ TYPE_HISTOGRAM → at + HISTOGRAM_NAME ≤ a.shape.size)
-    × (index ≡ BLOCK_TYPE → found ≡ TYPE_SAMPLE → at + SAMPLE_LEAST ≤ a.shape.size)
-    × (index ≡ HISTOGRAM_NAME_LENGTH → at + HISTOGRAM_NAME + name_words found ≤ a.shape.size)
+    (index ≡ BLOCK_TYPE → found ≡ TYPE_HISTOGRAM → at + HISTOGRAM_NAME ≤ a.segment.shape.size)
+    × (index ≡ BLOCK_TYPE → found ≡ TYPE_SAMPLE → at + SAMPLE_LEAST ≤ a.segment.shape.size)
+    × (index ≡ HISTOGRAM_NAME_LENGTH → at + HISTOGRAM_NAME + name_words found ≤ a.segment.shape.size)
     × ((len : ℕ) → index ≡ HISTOGRAM_BUCKETS → word_seen a.seen.words (at + HISTOGRAM_KIND) ≡ Some KIND_CUSTOM → word_seen a.seen.words (at + HISTOGRAM_NAME_LENGTH) ≡ Some len
-    → at + HISTOGRAM_NAME + name_words len + (found - 1) ≤ a.shape.size)
+    → at + HISTOGRAM_NAME + name_words len + (found - 1) ≤ a.segment.shape.size)
 
 -- the records that it made, was given, or saw as tail or cursor
 abbrev pub records_met : Actor → List ℕ
 records_met a =
-    map (λ p. p.reference) a.published ++ map (λ g. g.reference) a.given
+    map (λ p. p.reference) a.done.published ++ map (λ g. g.reference) a.done.given
     ++ filter (λ at. not (at == QUEUE)) (a.seen.tails ++ map (λ s. s.word) a.seen.cursors)
 
 -- A next: what was found there before; on a list that fits in the segment. At the end of the chain that it saw, all records that it met
@@ -90,9 +90,9 @@ records_met a =
 pub record IsNextOf (a : Actor) (at found : ℕ) : Type 0 where
   pub reference : IsReference a found
   pub again : (i : ℕ) → i < length a.seen.chain → slice_index (stops a.seen.chain) i ≡ at → found ≡ slice_index a.seen.chain i
-  pub few : BLOCK_LEAST * length (extended a.seen.chain at found) + HEADER_WORDS ≤ a.shape.size
+  pub few : BLOCK_LEAST * length (extended a.seen.chain at found) + HEADER_WORDS ≤ a.segment.shape.size
   pub all : stands_behind a.seen.chain ≡ at → found ≡ QUEUE → All (Contains a.seen.chain) (records_met a)
-  pub given : (cursor : ℕ) → a.place ≡ CursorLoaded cursor at → found ≡ QUEUE
+  pub given : (cursor : ℕ) → a.hand.place ≡ CursorLoaded cursor at → found ≡ QUEUE
       → (chain : List ℕ) × IsPrefix a.seen.chain chain × (stands_behind chain ≡ at) × All (Contains chain) (records_met a)
 
 -- a word that it saw stays

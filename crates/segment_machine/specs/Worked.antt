@@ -11,7 +11,7 @@ use Rattle.segment_machine.specs.declared.actor.Made.TheVariants as made
 use Rattle.segment_machine.specs.declared.entry.Entry.{Entry}
 use Rattle.segment_machine.specs.Entry.{sample_entry, item_entry, sum_entry, tally_units, tally_sum, tally_noted}
 use Rattle.segment_machine.specs.declared.actor.Taken.{Taken}
-use Rattle.segment_machine.specs.Actor.{log_of, units_of, taken_units, taken_sum, IsFinal}
+use Rattle.segment_machine.specs.Actor.{log_of, units_of, taken_of, taken_units, taken_sum, IsFinal, made_of}
 use Rattle.segment_machine.specs.Event.{Event, allocating_event, publishing_event, walking_event, counting_event, packing_event, taking_event, spot, after, next}
 use Rattle.segment_machine.specs.Allocating.{load_flags, load_free, exchange_free, store_size, store_cookie, store_type, store_payload}
 use Rattle.segment_machine.specs.Publishing.{store_own_next, load_tail, link, move_tail}
@@ -215,11 +215,11 @@ pub record IsWorked (version : ℕ) (a : Actor) : Type 0 where
   pub sparse : tally_units (log_of a) letter_s (negsuc 4) ≡ 2
   pub summed : (tally_sum (log_of a) letter_a ≡ pos 5) × (tally_sum (log_of a) letter_s ≡ negsuc 9)
   pub noted : (tally_noted (log_of a) letter_a ≡ 8) × (tally_noted (log_of a) letter_s ≡ 2)
-  pub taken : (map (λ key. taken_units a.taken letter_a (pos key)) (0 ∷ 1 ∷ 2 ∷ []) ≡ 3 ∷ 5 ∷ 0 ∷ []) × (taken_units a.taken letter_s (negsuc 4) ≡ 2)
-  pub taken_sums : (taken_sum a.taken letter_a ≡ pos 5) × (taken_sum a.taken letter_s ≡ negsuc 9)
-  pub last : (before : List Taken) × (delta : Taken) × (a.taken ≡ before ++ delta ∷ []) × (delta.counts ≡ (pos 0, 2) ∷ (pos 1, 3) ∷ []) × (delta.sum ≡ pos 3)
-      × IsFinal a.made (log_of a) letter_a delta.moment
-  pub units : (units_of a ≡ 4294967295) × (a.share ≡ 4294967285)
+  pub taken : (map (λ key. taken_units (taken_of a) letter_a (pos key)) (0 ∷ 1 ∷ 2 ∷ []) ≡ 3 ∷ 5 ∷ 0 ∷ []) × (taken_units (taken_of a) letter_s (negsuc 4) ≡ 2)
+  pub taken_sums : (taken_sum (taken_of a) letter_a ≡ pos 5) × (taken_sum (taken_of a) letter_s ≡ negsuc 9)
+  pub last : (before : List Taken) × (delta : Taken) × (a.deltas.taken ≡ before ++ delta ∷ []) × (delta.counts ≡ (pos 0, 2) ∷ (pos 1, 3) ∷ []) × (delta.sum ≡ pos 3)
+      × IsFinal (made_of a.role) (log_of a) letter_a delta.moment
+  pub units : (units_of a ≡ 4294967295) × (a.units.share ≡ 4294967285)
 
 -- in version 1 the units of the disabled word stand in the counts
 abbrev pub WorkedRun : Type 0

@@ -66,6 +66,15 @@ pub struct Moment {
     pub outstanding: u64,
 }
 
+/// What was taken of a histogram.
+pub struct Portion {
+    pub name: LinkedList<u8>,
+    /// Keys, each with the units that were taken of it. A key may stand more than once.
+    pub counts: LinkedList<(i32, u64)>,
+    /// What was taken of the sum.
+    pub sum: i64,
+}
+
 /// What a delta took, so far as it went.
 pub struct Taken {
     pub name: LinkedList<u8>,
@@ -93,29 +102,28 @@ pub struct Given {
     pub reference: u64,
 }
 
-/// What an actor has done and seen: a recorder, or an opener, whose record gathers those of the recorders that it joined.
-/// It is a view alone, and no value of it is made: its numbers have no bound.
-pub struct Actor {
-    // ---- the segment
-
+/// What an actor knows of its segment. It never changes.
+pub struct Segment {
     /// The words of the segment and of each page.
     pub shape: Shape,
     /// The version of its format, 1 or 2.
     pub version: u64,
     /// How many shared cursors stand beside it.
     pub cursors: u64,
+}
 
-    // ---- units
-
+/// The units of an actor: those that it may spend, has spent and holds.
+pub struct Units {
     /// The units that it may still spend. An opener's are the pool, those that it has not handed out.
     pub share: u64,
     /// What ended calls have spent, by histogram.
     pub costs: LinkedList<Cost>,
     /// What the running call holds, by histogram. It is spent or comes back when the call ends.
     pub held: LinkedList<Cost>,
+}
 
-    // ---- entries
-
+/// The entries of an actor: what was accepted before it, what it has accepted, and those of its running call.
+pub struct Entries {
     /// The entries that an adopted image stands for, which are counted and summed. An opener's alone.
     pub first: LinkedList<Entry>,
     /// The units that the redundant counts of an adopted image had, by histogram: its entries stand in no redundant count that
@@ -127,16 +135,18 @@ pub struct Actor {
     pub log: LinkedList<Counting>,
     /// The entries of the running call.
     pub running: LinkedList<Counting>,
+}
 
-    // ---- the running call
-
+/// What an actor has in hand: where its running call stands, and its own blocks.
+pub struct Hand {
     /// Where it stands, with what it has loaded and stored.
     pub place: Place,
     /// Blocks that it has claimed and that are neither published nor mounted. A call that is refused leaves them here.
     pub own: LinkedList<Own>,
+}
 
-    // ---- what it has made and set
-
+/// What an actor has done to the segment, and how often it came too late.
+pub struct Done {
     /// All blocks that it has claimed.
     pub claimed: LinkedList<Claim>,
     /// The records whose link it has done, in this order.
@@ -145,46 +155,80 @@ pub struct Actor {
     pub spoiled: bool,
     /// Whether an allocation of it has set the full flag.
     pub filled: bool,
-
-    // ---- how often it came too late
-
+    /// The records that shared cursors gave it, in order.
+    pub given: LinkedList<Given>,
     /// How often its link found another record behind the tail.
     pub beaten: u64,
     /// Of each shared cursor, how often its exchange found that another had moved it on.
     pub lost: LinkedList<u64>,
+}
 
-    // ---- what it has seen
+/// How much an actor had seen when its last delta or snapshot began, its last call that counts ended, or its last `hist` was
+/// answered Ok, whichever came last.
+pub struct Since {
+    /// How many single words it had seen.
+    pub singles: u64,
+    /// How many counts, marks and redundant counts it had seen.
+    pub counts: u64,
+}
 
-    /// What it has seen of the segment.
-    pub seen: Seen,
-
-    // ---- what its calls answered
-
+/// The histograms of an actor: those that it was answered with, and those whose answer is owed.
+pub struct Answers {
     /// The histograms that its `hist` was answered Ok with.
     pub names: LinkedList<Known>,
     /// The histograms whose records it linked and whose `hist` is not answered yet.
     pub owed: LinkedList<Known>,
+}
+
+/// What the deltas and snapshots of an actor took and answered.
+pub struct Deltas {
+    /// What deltas had taken of an adopted image. An opener's alone.
+    pub first_taken: LinkedList<Portion>,
     /// What its deltas took, in order.
     pub taken: LinkedList<Taken>,
     /// Whether the last of these is still going on.
     pub taking: bool,
-    /// How many single words, and how many counts, it had seen when its last delta or snapshot began, its last call that counts
-    /// ended, or its last `hist` was answered Ok, whichever came last.
-    pub since_singles: u64,
-    pub since_counts: u64,
     /// Its snapshots.
     pub snapshots: LinkedList<Answered>,
-    /// The records that shared cursors gave it, in order.
-    pub given: LinkedList<Given>,
+}
 
-    // ---- recorders
+/// What an actor is.
+pub enum Role {
+    /// An opener: how many recorders it has made, how many of these are not joined, and how many units of its share it said its
+    /// next one is to have.
+    Opener {
+        made: u64,
+        outstanding: u64,
+        offered: u64,
+    },
+    /// A recorder: how many were made before it, and how many of these were not joined when it was made.
+    Recorder {
+        before: u64,
+        outstanding: u64,
+    },
+}
 
-    /// 1 for an opener, 0 for a recorder.
-    pub opener: u64,
-    /// How many recorders the opener has made; for a recorder, how many were made before it.
-    pub made: u64,
-    /// How many of these are not joined; for a recorder, how many were not when it was made.
-    pub outstanding: u64,
-    /// Of its share, the units that it said its next recorder is to have. An opener's alone.
-    pub offered: u64,
+/// What an actor has done and seen: a recorder, or an opener, whose record gathers those of the recorders that it joined.
+/// It is a view alone, and no value of it is made: its numbers have no bound.
+pub struct Actor {
+    /// What it knows of the segment.
+    pub segment: Segment,
+    /// Its units.
+    pub units: Units,
+    /// Its entries.
+    pub entries: Entries,
+    /// What it has in hand.
+    pub hand: Hand,
+    /// What it has done.
+    pub done: Done,
+    /// What it has seen.
+    pub seen: Seen,
+    /// How much of that it had seen before it began to look anew.
+    pub since: Since,
+    /// What its `hist` answered.
+    pub answers: Answers,
+    /// What its deltas took and its snapshots answered.
+    pub deltas: Deltas,
+    /// Whether it is an opener or a recorder.
+    pub role: Role,
 }

@@ -183,12 +183,13 @@ pub fn frozen_run()
     ensures { FrozenRun }
 {}
 
-/// Where all stop between a disabling exchange and the addition, two units are in transit, and the words have none of them.
+/// Where all stop between a disabling exchange and the addition, in version 1 two units are in transit, and the words have none
+/// of them; in version 2 the frozen word has them.
 pub fn stopped_run()
     ensures { StoppedRun }
 {}
 
-/// A taker that stalls with a packed word, while another takes all, takes nothing.
+/// A taker that stalls with a packed word, while another takes all, takes nothing. In both versions.
 pub fn stalled_run()
     ensures { StalledRun }
 {}
@@ -198,7 +199,7 @@ pub fn lost_run()
     ensures { LostRun }
 {}
 
-/// Of two samples of one value that are made at once the first on the list has all units.
+/// Of two samples of one value that are made at once the first on the list has all units. In both versions.
 pub fn race_run()
     ensures { RaceRun }
 {}

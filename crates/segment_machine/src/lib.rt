@@ -20,7 +20,10 @@ pub mod laws;
 mod place;
 mod seen;
 
-pub use actor::{Actor, Answered, Claim, Cost, Given, Known, Made, Moment, Own, Published, Taken};
+pub use actor::{
+    Actor, Answered, Answers, Claim, Cost, Deltas, Done, Entries, Given, Hand, Known, Made, Moment,
+    Own, Portion, Published, Role, Segment, Since, Taken, Units,
+};
 pub use entry::{Counting, Entry};
 pub use place::{Look, Place};
 pub use seen::{Seen, Sighting};

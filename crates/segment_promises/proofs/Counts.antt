@@ -31,7 +31,7 @@ use Rattle.segment_promises.proofs.Parts.{total, total_same, total_both, total_n
 abbrev add_up : {X : Type 0} → (X → ℕ) → List X → ℕ
 add_up f xs = total 0 ◌+◌ numbers zero_left f xs
 
-sum_of_map : {X Y : Type 0} (f : Y → ℕ) (g : X → Y) (xs : List X) → sum_by f (map g xs) ≡ sum_by (λ x. f (g x)) xs
+pub sum_of_map : {X Y : Type 0} (f : Y → ℕ) (g : X → Y) (xs : List X) → sum_by f (map g xs) ≡ sum_by (λ x. f (g x)) xs
 sum_of_map f g [] = refl
 sum_of_map f g (x ∷ xs) = sum_by-cons f (g x) (map g xs) ∙ (ap (λ (n : ℕ). f (g x) + n) (sum_of_map f g xs) ∙ sym (sum_by-cons (λ x. f (g x)) x xs))
 
@@ -185,7 +185,7 @@ turned x y true e = e ∙ sym ((Decides-int_eq y x).1 (sym ((Decides-int_eq x y)
 turned x y false e = e ∙ sym (differ y x (λ same. absurd (true≢false (sym ((Decides-int_eq x y).1 (sym same)) ∙ e))) (int_eq y x) refl)
 
 -- a number that is below another is not the same
-less_differs : (x y : ℤ) → int_cmp x y ≡ Less → x ≢ y
+pub less_differs : (x y : ℤ) → int_cmp x y ≡ Less → x ≢ y
 less_differs x y less same = true≢false (sym ((Decides-int_eq x y).1 same) ∙ ap is_eq less)
 
 -- a key that none has has no units

@@ -1,5 +1,5 @@
 -- What all deltas took, once one of them has taken all that it saw, is at least what its recorder had accepted and seen.
-use Rattle.std.proofs.Common.{◌≡◌, ◌≢◌, ℕ, ◌<◌, ℤ, ⊎_elim, arith}
+use Rattle.std.proofs.Common.{◌≡◌, ◌≢◌, ℕ, ◌<◌, ℤ, ⊎_elim, arith, false}
 use mathlib.Core.Option.{some}
 use lib.ListN.{get_elem?}
 use Rattle.std.specs.Prelude.{true}
@@ -10,7 +10,7 @@ use Rattle.bucket_ranges.specs.Spec.{buckets_of}
 use Rattle.segment_machine.specs.declared.place.Place.TheVariants.{Spent}
 use Rattle.segment_machine.specs.declared.actor.Actor.{Actor}
 use Rattle.segment_machine.specs.declared.actor.Known.{Known}
-use Rattle.segment_machine.specs.Actor.{has_buckets}
+use Rattle.segment_machine.specs.Actor.{has_buckets, is_opener}
 use Rattle.segment_machine.specs.Note.{TookAll}
 use Rattle.segment_machine.specs.State.{State}
 use Rattle.segment_invariant.specs.Consistent.{units_taken}
@@ -21,8 +21,8 @@ use Rattle.segment_promises.specs.Deltas.{DeltasTakeAccepted}
 use Rattle.segment_promises.proofs.Enough.{CoversBucket, CoversValue, knower_lives, buckets_enough, values_enough}
 
 module _ (shape : Dimensions) (opened : Anatomy) (state : State) (kept : Invariant shape opened state) (id : ℕ) (a : Actor)
-    (mine : get_elem? state.actors id ≡ some a) (records : a.opener ≡ 0) (known : Known) (has : Contains a.names known) (took : TookAll a known) where
-  lives : a.place ≢ Spent
+    (mine : get_elem? state.actors id ≡ some a) (records : is_opener a.role ≡ false) (known : Known) (has : Contains a.answers.names known) (took : TookAll a known) where
+  lives : a.hand.place ≢ Spent
   lives = knower_lives shape opened state kept id a mine known has
 
   abbrev taken : ℤ → ℕ

@@ -1,6 +1,6 @@
 -- Units of each key are enough for a recorder where they are at least what it has seen of each bucket, or of the first sample of each
 -- value that it met.
-use Rattle.std.proofs.Common.{◌≡◌, ◌≢◌, ℕ, ◌+◌, ◌<◌, ◌≤◌, ℤ, true, List, ◌++◌, Some, inl, ⊎_elim, sym, ap, subst, refl, arith}
+use Rattle.std.proofs.Common.{◌≡◌, ◌≢◌, ℕ, ◌+◌, ◌<◌, ◌≤◌, ℤ, true, List, ◌++◌, Some, inl, ⊎_elim, sym, ap, subst, refl, arith, false}
 use mathlib.Core.Option.{some}
 use mathlib.Core.Logic.{dite}
 use native.Mathlib.Decide.{dec_le}
@@ -20,7 +20,7 @@ use Rattle.segment_machine.specs.declared.actor.Actor.{Actor}
 use Rattle.segment_machine.specs.declared.actor.Known.{Known}
 use Rattle.segment_machine.specs.declared.seen.Sighting.{Sighting}
 use Rattle.segment_machine.specs.Entry.{is_counted, has_ended, tally_units}
-use Rattle.segment_machine.specs.Actor.{accepted_by, counted_of, bucket_key, SawCount}
+use Rattle.segment_machine.specs.Actor.{accepted_by, counted_of, bucket_key, SawCount, is_opener}
 use Rattle.segment_machine.specs.Made.{SawSample}
 use Rattle.segment_machine.specs.Note.{SawBucket}
 use Rattle.segment_machine.specs.Seats.{spent}
@@ -43,33 +43,33 @@ sparse_alone (spec.Custom values) same = let e = ap (λ (l : List ℕ). slice_in
 sparse_alone spec.Sparse same = refl
 
 module _ (shape : Dimensions) (opened : Anatomy) (state : State) (kept : Invariant shape opened state) (id : ℕ) (a : Actor)
-    (mine : get_elem? state.actors id ≡ some a) (known : Known) (has : Contains a.names known) where
+    (mine : get_elem? state.actors id ≡ some a) (known : Known) (has : Contains a.answers.names known) where
   -- who knows a histogram is not spent
-  pub knower_lives : a.place ≢ Spent
+  pub knower_lives : a.hand.place ≢ Spent
   knower_lives is =
       let nobody : a ≡ spent = subst (StandsRight shape kept.anatomy id a) is (kept.standing id a mine) in
-      none_in known (subst (λ (names : List Known). Contains names known) (ap (λ (a : Actor). a.names) nobody) has)
+      none_in known (subst (λ (names : List Known). Contains names known) (ap (λ (a : Actor). a.answers.names) nobody) has)
 
   fits : Fits shape kept.anatomy state.cursors state.actors kept.roles.opener id a
   fits = kept.each id a mine knower_lives
 
   -- what was accepted is counted
-  is_counted_too : (entry : Entry) → Contains (accepted_by a) entry → Contains (a.inherited ++ counted_of a) entry
+  is_counted_too : (entry : Entry) → Contains (accepted_by a) entry → Contains (a.entries.inherited ++ counted_of a) entry
   is_counted_too entry among = ⊎_elim
-      (λ before. Contains-append_left a.inherited (counted_of a) entry before)
-      (λ own. Contains-append_right a.inherited (counted_of a) entry (⊎_elim
-      (λ first. Contains-append_left a.first _ entry first)
+      (λ before. Contains-append_left a.entries.inherited (counted_of a) entry before)
+      (λ own. Contains-append_right a.entries.inherited (counted_of a) entry (⊎_elim
+      (λ first. Contains-append_left a.entries.first _ entry first)
       (λ logged.
-      let (c, there, is) = contains_mapped (λ (c : Counting). c.entry) a.log entry logged in
-      let ended = All-contains (λ (c : Counting). has_ended c ≡ true) a.log c fits.calls.ended there in
+      let (c, there, is) = contains_mapped (λ (c : Counting). c.entry) a.entries.log entry logged in
+      let ended = All-contains (λ (c : Counting). has_ended c ≡ true) a.entries.log c fits.calls.ended there in
       let counts : is_counted c ≡ true = (and_parts (is_counted c) _ (and_parts _ _ ended).0).0 in
-      Contains-append_right a.first _ entry (subst (Contains _) is
-      (contains_map (λ (c : Counting). c.entry) (filter is_counted (a.log ++ a.running)) c
-      (contains_filter is_counted (a.log ++ a.running) c (Contains-append_left a.log a.running c there) counts))))
-      (Contains-append_cases a.first _ entry own)))
-      (Contains-append_cases a.inherited _ entry among)
+      Contains-append_right a.entries.first _ entry (subst (Contains _) is
+      (contains_map (λ (c : Counting). c.entry) (filter is_counted (a.entries.log ++ a.entries.running)) c
+      (contains_filter is_counted (a.entries.log ++ a.entries.running) c (Contains-append_left a.entries.log a.entries.running c there) counts))))
+      (Contains-append_cases a.entries.first _ entry own)))
+      (Contains-append_cases a.entries.inherited _ entry among)
 
-  module _ (records : a.opener ≡ 0) (units : ℤ → ℕ) where
+  module _ (records : is_opener a.role ≡ false) (units : ℤ → ℕ) where
     looks : LooksBack kept.anatomy state.actors kept.roles.opener a
     looks = fits.looks records
 
@@ -108,7 +108,7 @@ module _ (shape : Dimensions) (opened : Anatomy) (state : State) (kept : Invaria
       value_accepted value = dite (dec_le 1 (tally_units (accepted_by a) known.name value))
           (λ some.
           let (entry, among, named, keyed, has_units) = tally_at (accepted_by a) known.name value (omega (arith, some)) in
-          let knows = All-contains (Knows kept.anatomy) a.names known fits.names has in
+          let knows = All-contains (Knows kept.anatomy) a.answers.names known fits.names has in
           let kind = sparse_alone knows.first_spec (subst (SameSpec knows.first_spec) sparse knows.same) in
           let first : IsFirst kept.anatomy.records entry.name spec.Sparse known.reference =
           subst (λ (n : List ℕ). IsFirst kept.anatomy.records n spec.Sparse known.reference) (sym named)
@@ -124,7 +124,7 @@ module _ (shape : Dimensions) (opened : Anatomy) (state : State) (kept : Invaria
       value_seen value n (at, first, had) =
           let (x, (stands, of_it, valued)) = sample_of_first shape opened state kept known.reference value at first in
           let sighting : Sighting = record { at = at + 6; word = n } in
-          let there : Contains a.seen.counts sighting = contains_take a.since_counts a.seen.counts sighting had in
+          let there : Contains a.seen.counts sighting = contains_take a.since.counts a.seen.counts sighting had in
           let met = All-contains (WasMet kept.anatomy.pieces a.seen) a.seen.counts sighting fits.sees.met there at x stands (inl refl) in
           covers value at n first
           (met.0, subst (λ (of : ℕ). SawSample a.seen of value at) of_it (subst (λ (v : ℤ). SawSample a.seen x.of v at) valued met.1))

@@ -1,17 +1,17 @@
 -- Where all recorders are joined, the opener alone has done what was done.
-use Rattle.std.proofs.Common.{◌≡◌, ◌≢◌, ℕ, suc, Bool, true, false, cond, ℤ, ◌⊎◌, ◌≤◌, ◌-◌, List, [], ◌∷◌, ◌++◌, map, take, drop, length, refl, sym, ap, subst, ◌∙◌, append-nil, ⊎_elim, arith}
+use Rattle.std.proofs.Common.{◌≡◌, ◌≢◌, ℕ, suc, Bool, true, false, ℤ, ◌⊎◌, ◌≤◌, ◌-◌, List, [], ◌∷◌, ◌++◌, map, take, drop, length, refl, sym, ap, subst, ◌∙◌, append-nil, ⊎_elim, arith}
 use Rattle.std.specs.Prelude.{if◌then◌else◌}
 use Rattle.std.specs.List.{filter, flat_map, All, Contains}
 use mathlib.Core.Option.{some, some-injective, some-ne-none}
 use lib.ListN.{get_elem?}
 use Rattle.std.proofs.lemmas.Bool.{and_parts}
-use Rattle.std.proofs.lemmas.List.Elements.{All-contains, All-nil, Contains-append_right}
+use Rattle.std.proofs.lemmas.List.Elements.{All-contains, All-nil}
 use Rattle.segment_image.specs.Shape.{Dimensions}
 use Rattle.segment_machine.specs.declared.entry.Entry.{Entry}
 use Rattle.segment_machine.specs.declared.entry.Counting.{Counting}
 use Rattle.segment_machine.specs.declared.actor.Actor.{Actor}
 use Rattle.segment_machine.specs.Entry.{is_counted, is_summed, is_noted, has_ended, is_of, tally_units, tally_sum, tally_noted}
-use Rattle.segment_machine.specs.Actor.{log_of, counted_of, summed_of, noted_of, all_counted, all_summed, all_noted, all_taken, taken_units, taken_sum}
+use Rattle.segment_machine.specs.Actor.{log_of, counted_of, summed_of, noted_of, all_counted, all_summed, all_noted, all_taken, taken_of, taken_units, taken_sum, made_of, outstanding_of}
 use Rattle.segment_machine.specs.Note.{is_untouched}
 use Rattle.segment_machine.specs.Seats.{spent}
 use Rattle.segment_machine.specs.State.{State}
@@ -19,10 +19,11 @@ use Rattle.segment_machine.specs.Reached.{IsJoined}
 use Rattle.segment_invariant.specs.Body.{Anatomy}
 use Rattle.segment_invariant.specs.Consistent.{IsWithinCounts}
 use Rattle.segment_invariant.specs.Invariant.{Invariant, is_living, Fits, StandsRight, IsQuiet}
-use Rattle.segment_invariant.proofs.Lists.Elements.{sum_at_least}
+use Rattle.segment_invariant.proofs.Lists.Elements.{all_of, sum_at_least}
 use Rattle.segment_invariant.proofs.Lists.Maps.{one_at}
 use Rattle.segment_invariant.proofs.Frames.OneActor.{lives_on}
 use Rattle.segment_invariant.proofs.Frames.Spending.{spent_or_not}
+use Rattle.segment_promises.proofs.Filters.{all_kept}
 use Rattle.segment_promises.specs.Deltas.{FinalDeltasTakeAll, FinalSnapshotsAreExact, SnapshotsStayBelow}
 
 -- ---- entries that have ended
@@ -30,47 +31,64 @@ use Rattle.segment_promises.specs.Deltas.{FinalDeltasTakeAll, FinalSnapshotsAreE
 -- those that pass a test which ended entries pass are all of a list of ended entries
 pub all_pass : (test : Counting → Bool) → ((c : Counting) → has_ended c ≡ true → test c ≡ true) → (list : List Counting)
     → ((c : Counting) → Contains list c → has_ended c ≡ true) → filter test list ≡ list
-all_pass test passes [] ended = refl
-all_pass test passes (c ∷ rest) ended =
-    ap (λ (b : Bool). cond b (c ∷ filter test rest) (filter test rest)) (passes c (ended c (0, omega arith, refl)))
-    ∙ ap (λ (list : List Counting). c ∷ list) (all_pass test passes rest (λ d among. ended d (Contains-append_right (c ∷ []) rest d among)))
+all_pass test passes list ended = all_kept test list (all_of (λ c. test c ≡ true) list (λ c among. passes c (ended c among)))
 
-module _ (a : Actor) (ended : All (λ c. has_ended c ≡ true) a.log) (rests : a.running ≡ []) where
+module _ (a : Actor) (ended : All (λ c. has_ended c ≡ true) a.entries.log) (rests : a.entries.running ≡ []) where
   -- of an actor that runs nothing, the entries that pass are those of its log
   passed : (test : Counting → Bool) → ((c : Counting) → has_ended c ≡ true → test c ≡ true)
-      → map (λ c. c.entry) (filter test (a.log ++ a.running)) ≡ map (λ c. c.entry) a.log
+      → map (λ c. c.entry) (filter test (a.entries.log ++ a.entries.running)) ≡ map (λ c. c.entry) a.entries.log
   passed test passes =
-      ap (λ (running : List Counting). map (λ (c : Counting). c.entry) (filter test (a.log ++ running))) rests
-      ∙ ap (λ (list : List Counting). map (λ (c : Counting). c.entry) (filter test list)) (append-nil a.log)
-      ∙ ap (map (λ (c : Counting). c.entry)) (all_pass test passes a.log (λ c among. All-contains (λ (c : Counting). has_ended c ≡ true) a.log c ended among))
+      ap (λ (running : List Counting). map (λ (c : Counting). c.entry) (filter test (a.entries.log ++ running))) rests
+      ∙ ap (λ (list : List Counting). map (λ (c : Counting). c.entry) (filter test list)) (append-nil a.entries.log)
+      ∙ ap (map (λ (c : Counting). c.entry)) (all_pass test passes a.entries.log (λ c among. All-contains (λ (c : Counting). has_ended c ≡ true) a.entries.log c ended among))
 
   pub counted_is_log : counted_of a ≡ log_of a
-  counted_is_log = ap (λ (list : List Entry). a.first ++ list) (passed is_counted (λ c e. (and_parts (is_counted c) _ (and_parts _ _ e).0).0))
+  counted_is_log = ap (λ (list : List Entry). a.entries.first ++ list) (passed is_counted (λ c e. (and_parts (is_counted c) _ (and_parts _ _ e).0).0))
 
   pub summed_is_log : summed_of a ≡ log_of a
-  summed_is_log = ap (λ (list : List Entry). a.first ++ list) (passed is_summed (λ c e. (and_parts (is_counted c) _ (and_parts _ _ e).0).1))
+  summed_is_log = ap (λ (list : List Entry). a.entries.first ++ list) (passed is_summed (λ c e. (and_parts (is_counted c) _ (and_parts _ _ e).0).1))
 
-  pub noted_is_log : noted_of a ≡ map (λ c. c.entry) a.log
+  pub noted_is_log : noted_of a ≡ map (λ c. c.entry) a.entries.log
   noted_is_log = passed is_noted (λ c e. (and_parts _ (is_noted c) e).1)
+
+-- ---- the opener
+
+-- whatever is outstanding, it is at rest
+module _ (shape : Dimensions) (opened : Anatomy) (state : State) (a : Actor) (kept : Invariant shape opened state) (first : get_elem? state.actors 0 ≡ some a) where
+  pub opener_is : kept.roles.opener ≡ a
+  opener_is = one_at state.actors 0 kept.roles.opener a kept.roles.stands first
+
+  pub fits : Fits shape kept.anatomy state.cursors state.actors kept.roles.opener 0 a
+  fits = kept.each 0 a first (λ is. cc (sym kept.roles.idle ∙ (ap (λ (a : Actor). a.hand.place) opener_is ∙ is)))
+
+  pub rests : (a.entries.running ≡ []) × (a.deltas.taking ≡ false)
+  rests = (sym (ap (λ (a : Actor). a.entries.running) opener_is) ∙ kept.roles.rests.0, sym (ap (λ (a : Actor). a.deltas.taking) opener_is) ∙ kept.roles.rests.2)
+
+  -- so what it has counted is its log
+  pub own_log : counted_of a ≡ log_of a
+  own_log = counted_is_log a fits.calls.ended rests.0
 
 -- ---- all actors
 
 module _ (shape : Dimensions) (opened : Anatomy) (state : State) (a : Actor) (kept : Invariant shape opened state) (joins : IsJoined state a) where
-  pub opener_is : kept.roles.opener ≡ a
-  opener_is = one_at state.actors 0 kept.roles.opener a kept.roles.stands joins.0
+  abbrev its : Fits shape kept.anatomy state.cursors state.actors kept.roles.opener 0 a
+  its = fits shape opened state a kept joins.0
+
+  at_rest : (a.entries.running ≡ []) × (a.deltas.taking ≡ false)
+  at_rest = rests shape opened state a kept joins.0
 
   -- the others are spent
-  others_spent : (k : ℕ) (c : Actor) → get_elem? state.actors k ≡ some c → k ≢ 0 → c ≡ spent
+  pub others_spent : (k : ℕ) (c : Actor) → get_elem? state.actors k ≡ some c → k ≢ 0 → c ≡ spent
   others_spent k c there ne = ⊎_elim
       (λ is_spent. subst (StandsRight shape kept.anatomy k c) is_spent (kept.standing k c there))
       (λ lives.
       let one : Actor → ℕ = λ (c : Actor). if is_living c then 1 else 0 in
       let living = kept.roles.living in
-      let none = ap (λ (a : Actor). a.outstanding) opener_is ∙ joins.1 in
+      let none = ap (λ (a : Actor). outstanding_of a.role) (opener_is shape opened state a kept joins.0) ∙ joins.1 in
       let least = sum_at_least one state.actors k c there in
       let this : one c ≡ 1 = ap (λ (b : Bool). if b then 1 else 0) (lives_on c (kept.roles.only k c there ne).0 lives) in
       absurd (omega (arith, living, none, least, this)))
-      (spent_or_not c.place)
+      (spent_or_not c.hand.place)
 
   -- so what all have is what the opener has
   pub gathered : {B : Type 0} (f : Actor → List B) → f spent ≡ [] → flat_map f state.actors ≡ f a
@@ -88,27 +106,21 @@ module _ (shape : Dimensions) (opened : Anatomy) (state : State) (a : Actor) (ke
           ap (λ (xs : List _). f c ++ xs) (of_others rest (λ k d there. all (suc k) d there (λ e. omega (arith, e))))
           ∙ (append-nil (f c) ∙ ap f (some-injective c a first))
 
-  pub fits : Fits shape kept.anatomy state.cursors state.actors kept.roles.opener 0 a
-  fits = kept.each 0 a joins.0 (λ is. cc (sym kept.roles.idle ∙ (ap (λ (a : Actor). a.place) opener_is ∙ is)))
-
-  pub rests : (a.running ≡ []) × (a.taking ≡ false)
-  rests = (sym (ap (λ (a : Actor). a.running) opener_is) ∙ kept.roles.rests.0, sym (ap (λ (a : Actor). a.taking) opener_is) ∙ kept.roles.rests.2)
-
-  pub all_is_log : (all_counted state.actors ≡ log_of a) × (all_summed state.actors ≡ log_of a) × (all_noted state.actors ≡ map (λ c. c.entry) a.log)
+  pub all_is_log : (all_counted state.actors ≡ log_of a) × (all_summed state.actors ≡ log_of a) × (all_noted state.actors ≡ map (λ c. c.entry) a.entries.log)
   all_is_log = (
-    gathered counted_of refl ∙ counted_is_log a fits.calls.ended rests.0,
-    gathered summed_of refl ∙ summed_is_log a fits.calls.ended rests.0,
-    gathered noted_of refl ∙ noted_is_log a fits.calls.ended rests.0,
+    gathered counted_of refl ∙ own_log shape opened state a kept joins.0,
+    gathered summed_of refl ∙ summed_is_log a its.calls.ended at_rest.0,
+    gathered noted_of refl ∙ noted_is_log a its.calls.ended at_rest.0,
   )
 
-  pub all_is_taken : all_taken state.actors ≡ a.taken
-  all_is_taken = gathered (λ a. a.taken) refl
+  pub all_is_taken : all_taken state.actors ≡ taken_of a
+  all_is_taken = gathered taken_of refl
 
   -- where nothing of a name was counted behind a moment, nothing is
   quiet : (name : List ℕ) (n : ℕ) → All (λ entry. is_of name entry ≡ false) (drop n (log_of a)) → IsQuiet a name n
   quiet name n behind = (
     behind,
-    subst (All (λ (c : Counting). (is_of name c.entry ≡ false) ⊎ (is_untouched c ≡ true))) (sym rests.0)
+    subst (All (λ (c : Counting). (is_of name c.entry ≡ false) ⊎ (is_untouched c ≡ true))) (sym at_rest.0)
         (All-nil (λ (c : Counting). (is_of name c.entry ≡ false) ⊎ (is_untouched c ≡ true))),
   )
 
@@ -116,12 +128,12 @@ module _ (shape : Dimensions) (opened : Anatomy) (state : State) (a : Actor) (ke
 
 pub final_deltas_take_all : FinalDeltasTakeAll
 final_deltas_take_all shape opened state a t kept joins among final =
-    let fit = fits shape opened state a kept joins in
+    let fit = fits shape opened state a kept joins.0 in
     let log = all_is_log shape opened state a kept joins in
     let taken = all_is_taken shape opened state a kept joins in
-    let ended : Contains (if a.taking then take (length a.taken - 1) a.taken else a.taken) t =
-    subst (λ (b : Bool). Contains (if b then take (length a.taken - 1) a.taken else a.taken) t) (sym (rests shape opened state a kept joins).1) among in
-    let did = fit.finals.deltas t ended final.alone (final.youngest ∙ ap (λ (a : Actor). a.made) (sym (opener_is shape opened state a kept joins)))
+    let ended : Contains (if a.deltas.taking then take (length a.deltas.taken - 1) a.deltas.taken else a.deltas.taken) t =
+    subst (λ (b : Bool). Contains (if b then take (length a.deltas.taken - 1) a.deltas.taken else a.deltas.taken) t) (sym (rests shape opened state a kept joins.0).1) among in
+    let did = fit.finals.deltas t ended final.alone (final.youngest ∙ ap (λ (a : Actor). made_of a.role) (sym (opener_is shape opened state a kept joins.0)))
     (quiet shape opened state a kept joins t.name t.moment.log final.quiet) in (
       λ key. ap (λ list. taken_units list t.name key) (sym taken) ∙ (did.0 key ∙ ap (λ list. tally_units list t.name key) log.0),
       ap (λ list. taken_sum list t.name) (sym taken) ∙ (did.1 ∙ ap (λ list. tally_sum list t.name) log.1),
@@ -129,12 +141,12 @@ final_deltas_take_all shape opened state a t kept joins among final =
 
 pub final_snapshots_are_exact : FinalSnapshotsAreExact
 final_snapshots_are_exact shape opened state a s kept joins among final =
-    let fit = fits shape opened state a kept joins in
+    let fit = fits shape opened state a kept joins.0 in
     let log = all_is_log shape opened state a kept joins in
-    let did = fit.finals.snapshots s among final.alone (final.youngest ∙ ap (λ (a : Actor). a.made) (sym (opener_is shape opened state a kept joins)))
+    let did = fit.finals.snapshots s among final.alone (final.youngest ∙ ap (λ (a : Actor). made_of a.role) (sym (opener_is shape opened state a kept joins.0)))
     (quiet shape opened state a kept joins s.name s.moment.log final.quiet) in
     let opening = kept.first_noted s.name in
-    let noted : tally_noted (all_noted state.actors) s.name ≡ tally_noted (map (λ (c : Counting). c.entry) a.log) s.name =
+    let noted : tally_noted (all_noted state.actors) s.name ≡ tally_noted (map (λ (c : Counting). c.entry) a.entries.log) s.name =
     ap (λ list. tally_noted list s.name) log.2 in
     let redundant = did.2 in (
       λ key. did.0 key ∙ ap (λ list. tally_units list s.name key) log.0,
@@ -145,4 +157,4 @@ final_snapshots_are_exact shape opened state a s kept joins among final =
 pub snapshots_stay_below : SnapshotsStayBelow
 snapshots_stay_below shape opened state a s kept joins among =
     subst (λ (list : List Entry). All (λ (count : ℤ × ℕ). count.1 ≤ tally_units list s.name count.0) s.counts) (all_is_log shape opened state a kept joins).0
-    (All-contains (IsWithinCounts state.actors) a.snapshots s (fits shape opened state a kept joins).snapshots among)
+    (All-contains (IsWithinCounts state.actors) a.deltas.snapshots s (fits shape opened state a kept joins.0).snapshots among)

@@ -66,7 +66,7 @@ module _ (shape : Dimensions) (opened : Anatomy) (state : State) (kept : Invaria
   pub chain_is : (chain : List ℕ) → IsChain state.words (head_of state.words) chain → order ≡ chain
   chain_is chain is = one_chain state.words order chain kept.list.linked (linked_of state.words chain (head_of state.words) is)
 
-  module _ (id : ℕ) (a : Actor) (mine : get_elem? state.actors id ≡ some a) (lives : a.place ≢ Spent) where
+  module _ (id : ℕ) (a : Actor) (mine : get_elem? state.actors id ≡ some a) (lives : a.hand.place ≢ Spent) where
     walked : IsPrefix a.seen.chain order
     walked = (kept.each id a mine lives).sees.walked
 
@@ -91,7 +91,7 @@ module _ (shape : Dimensions) (opened : Anatomy) (state : State) (kept : Invaria
 
     -- ---- cursors
 
-    all_was_given : (cursor at : ℕ) → a.place ≡ CursorLoaded cursor at → word_at state.words (at + 3) ≡ 12 → (reference : ℕ) → HasMet a reference
+    all_was_given : (cursor at : ℕ) → a.hand.place ≡ CursorLoaded cursor at → word_at state.words (at + 3) ≡ 12 → (reference : ℕ) → HasMet a reference
         → Contains (all_given state.actors cursor) reference
     all_was_given cursor at loaded last reference met =
         let (stop, sighted) = subst (StandsRight shape kept.anatomy id a) loaded (kept.standing id a mine) in
@@ -162,9 +162,9 @@ module _ {X : Type 0} (test : X → Bool) where
 pub cursors_keep_order : CursorsKeepOrder
 cursors_keep_order shape opened state chain kept is id a mine lives cursor i j k l x y records less here there first second =
     let ours = λ (g : Given). g.cursor == cursor in
-    let (g, at_i, g_is) = from_map (λ (g : Given). g.reference) (filter ours a.given) i x here in
-    let (h, at_j, h_is) = from_map (λ (g : Given). g.reference) (filter ours a.given) j y there in
-    let (m, n, before, stood, stands, mine_is, also) = filter_order ours a.given i j g h less at_i at_j in
+    let (g, at_i, g_is) = from_map (λ (g : Given). g.reference) (filter ours a.done.given) i x here in
+    let (h, at_j, h_is) = from_map (λ (g : Given). g.reference) (filter ours a.done.given) j y there in
+    let (m, n, before, stood, stands, mine_is, also) = filter_order ours a.done.given i j g h less at_i at_j in
     let same = chain_is shape opened state kept chain is in
     kept.cursors.ordered id a mine records m n k l g h before stood stands
     (eqb-true g.cursor cursor mine_is ∙ sym (eqb-true h.cursor cursor also))

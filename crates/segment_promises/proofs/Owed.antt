@@ -16,7 +16,7 @@ use Rattle.segment_machine.specs.declared.place.Place.TheVariants.{Spent}
 use Rattle.segment_machine.specs.Entry.{tally_units}
 use Rattle.segment_machine.specs.Form.{is_off, units_in, Leads}
 use Rattle.segment_image.specs.Blocks.{field_at}
-use Rattle.segment_machine.specs.Actor.{word_seen, accepted_by, bucket_key, SawSingle, SawCount}
+use Rattle.segment_machine.specs.Actor.{word_seen, accepted_by, bucket_key, SawSingle, SawCount, is_opener}
 use Rattle.segment_machine.specs.Note.{SawBucket}
 use Rattle.segment_machine.specs.State.{State}
 use Rattle.segment_invariant.specs.Body.{Record, Body, Anatomy, histogram}
@@ -84,7 +84,7 @@ leads_more version n old new i (inr (inr (on, packs, inr (one, off)))) nor =
 -- ---- a bucket
 
 module _ (shape : Dimensions) (opened : Anatomy) (state : State) (kept : Invariant shape opened state) (id : ℕ) (a : Actor)
-    (mine : get_elem? state.actors id ≡ some a) (records : a.opener ≡ 0) (lives : a.place ≢ Spent) (known : Known) (has : Contains a.names known)
+    (mine : get_elem? state.actors id ≡ some a) (records : is_opener a.role ≡ false) (lives : a.hand.place ≢ Spent) (known : Known) (has : Contains a.answers.names known)
     (i : ℕ) (below : i < buckets_of known.spec) where
   fits : Fits shape kept.anatomy state.cursors state.actors kept.roles.opener id a
   fits = kept.each id a mine lives
@@ -97,12 +97,12 @@ module _ (shape : Dimensions) (opened : Anatomy) (state : State) (kept : Invaria
 
   its : (r : Record) × HasRecord kept.anatomy.pieces known.reference r × (buckets_of r.spec ≡ buckets_of known.spec)
   its =
-      let (r, first, stands, named, many, keys) = known_first shape opened state kept known (All-contains (Knows kept.anatomy) a.names known fits.names has) in
+      let (r, first, stands, named, many, keys) = known_first shape opened state kept known (All-contains (Knows kept.anatomy) a.answers.names known fits.names has) in
       (r, stands, many)
 
   -- a word that it saw since leads on from those that it saw before
-  before_leads : (old word : ℕ) → Contains (take a.since_singles a.seen.singles) (record { at = known.reference + 9; word = old })
-      → SawSingle a (known.reference + 9) word → Leads a.version (buckets_of known.spec) old word
+  before_leads : (old word : ℕ) → Contains (take a.since.singles a.seen.singles) (record { at = known.reference + 9; word = old })
+      → SawSingle a (known.reference + 9) word → Leads a.segment.version (buckets_of known.spec) old word
   before_leads old word had saw =
       let (r, stands, many) = its in
       subst (λ (v : ℕ). Leads v (buckets_of known.spec) old word) (sym fits.versioned)
@@ -118,17 +118,17 @@ module _ (shape : Dimensions) (opened : Anatomy) (state : State) (kept : Invaria
 
   module _ (word : ℕ) (saw : SawSingle a (known.reference + 9) word) where
     abbrev form : Option SingleWord
-    form = single_of a.version (buckets_of known.spec) word
+    form = single_of a.segment.version (buckets_of known.spec) word
 
     -- where nothing can be in transit, the word is not off with this bucket packed in version 1
-    apart : IsWhole a known i → a.version ≡ 1 → is_off word ≡ true → packed_bucket form ≢ Some i
+    apart : IsWhole a known i → a.segment.version ≡ 1 → is_off word ≡ true → packed_bucket form ≢ Some i
     apart (inl two) one off e = omega (arith, one, two)
     apart (inr (inl on)) one off e = true≢false (sym off ∙ on word saw)
     apart (inr (inr other)) one off e = other word saw e
 
-    packed_more : (n : ℕ) → (a.version ≡ 1 → is_off word ≡ true → packed_bucket form ≢ Some i) → HadPacked a known i n → n ≤ units_packed form i
+    packed_more : (n : ℕ) → (a.segment.version ≡ 1 → is_off word ≡ true → packed_bucket form ≢ Some i) → HadPacked a known i n → n ≤ units_packed form i
     packed_more n nor (old, had, is) =
-        let more = leads_more a.version (buckets_of known.spec) old word i (before_leads old word had saw) nor in
+        let more = leads_more a.segment.version (buckets_of known.spec) old word i (before_leads old word had saw) nor in
         omega (arith, more, is)
 
     -- counts that were seen before are in use now
@@ -191,7 +191,7 @@ module _ (shape : Dimensions) (opened : Anatomy) (state : State) (kept : Invaria
   pub enough : (total : ℕ) → SawBucket a known i total
       → (IsWhole a known i → accepted ≤ total) × ((n : ℕ) → IsWhole a known i → HadPacked a known i n → n ≤ total)
       × ((n : ℕ) → HadCount state.words a known i n → n ≤ total)
-      × (a.version ≡ 2 → (m n : ℕ) → HadCount state.words a known i m → HadPacked a known i n → m + n ≤ total)
+      × (a.segment.version ≡ 2 → (m n : ℕ) → HadCount state.words a known i m → HadPacked a known i n → m + n ≤ total)
   enough total (word, saw, inl (on, is)) = (
     λ whole. let least = open_accepted word saw on in omega (arith, least, is),
     λ n whole had. let more = packed_more word saw n (apart word saw whole) had in omega (arith, more, is),

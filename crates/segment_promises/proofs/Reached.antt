@@ -1,24 +1,35 @@
--- Every state that is reached from a kept one is kept, where each event and each note keeps what holds.
+-- Every state that is reached from a kept one is kept; one that is reached from a new segment is consistent.
 use Rattle.segment_machine.specs.State.{State}
-use Rattle.segment_machine.specs.Reached.{IsReached, started, stepped, announced, offered, split, lent, returned, joined_in}
+use Rattle.segment_machine.specs.Reached.{new_state, IsReached, started, stepped, announced, offered, split, lent, returned, joined_in}
+use Rattle.segment_invariant.specs.Body.{blank}
 use Rattle.segment_invariant.specs.Invariant.{Invariant}
+use Rattle.segment_invariant.proofs.Openings.Segments.{opening_is_kept}
+use Rattle.segment_invariant.proofs.Consistency.Whole.{is_consistent}
 use Rattle.segment_invariant.proofs.Notes.Announcements.{announcements_keep}
 use Rattle.segment_invariant.proofs.Recorders.Splits.{splits_keep}
 use Rattle.segment_invariant.proofs.Recorders.Joins.{joins_keep}
 use Rattle.segment_invariant.proofs.Recorders.Lends.{offers_keep, lends_keep, returns_keep}
-use Rattle.segment_promises.specs.States.{ReachedStatesFollow}
+use Rattle.segment_promises.specs.States.{ReachedStatesFollow, StatesAreKept, StatesAreConsistent}
 use Rattle.segment_promises.proofs.Steps.{steps_follow}
 
 pub reached_states_follow : ReachedStatesFollow
-reached_states_follow shape opened start state events kept reached = go state reached
+reached_states_follow shape opened start state kept reached = go state reached
   where
     go : (state : State) → IsReached opened.version start state → Invariant shape opened state
     go state started = kept
     go state (stepped old new id event before step) =
-        (steps_follow shape opened old new id event step (events event) (go old before)).0
+        (steps_follow shape opened old new id event step (go old before)).0
     go state (announced old new id before told) = announcements_keep shape opened old new id (go old before) told
     go state (offered old new id units before made) = offers_keep shape opened old new id units (go old before) made
     go state (split old new id before made) = splits_keep shape opened old new id (go old before) made
     go state (lent old new id other units before made) = lends_keep shape opened old new id other units (go old before) made
     go state (returned old new id other units before made) = returns_keep shape opened old new id other units (go old before) made
     go state (joined_in old new id other before made) = joins_keep shape opened old new id other (go old before) made
+
+pub states_are_kept : StatesAreKept
+states_are_kept shape version id cursors state (lawful, versions, few, reached) =
+    reached_states_follow shape (blank version id shape.size) (new_state shape version id cursors) state (opening_is_kept shape version id cursors lawful versions) reached
+
+pub states_are_consistent : StatesAreConsistent
+states_are_consistent shape version id cursors state reached =
+    is_consistent shape version id state reached.0 (states_are_kept shape version id cursors state reached)

@@ -24,22 +24,22 @@ nothing_moves (Moving look bucket units) free histogram i = cc free
 nothing_moves place free histogram i = refl
 
 -- and was not joined
-lives : (a : Actor) → is_bound a.place ≡ false → a.place ≢ Spent
+lives : (a : Actor) → is_bound a.hand.place ≡ false → a.hand.place ≢ Spent
 lives a free is = cc (free, ap is_bound is)
 
-module _ (a : Actor) (added : ℕ) (logged : All (λ c. has_ended c ≡ true) a.log) (ended : All (λ c. has_ended c ≡ true) (take added a.running))
-    (untouched : All (λ c. is_untouched c ≡ true) (drop added a.running)) (unsummed : All (λ c. c.summed ≡ false) (take added a.running)) where
+module _ (a : Actor) (added : ℕ) (logged : All (λ c. has_ended c ≡ true) a.entries.log) (ended : All (λ c. has_ended c ≡ true) (take added a.entries.running))
+    (untouched : All (λ c. is_untouched c ≡ true) (drop added a.entries.running)) (unsummed : All (λ c. c.summed ≡ false) (take added a.entries.running)) where
   abbrev done : List Counting
-  done = take added a.running
+  done = take added a.entries.running
 
   abbrev left : List Counting
-  left = drop added a.running
+  left = drop added a.entries.running
 
   abbrev entries : List Counting → List Entry
   entries list = map (λ (c : Counting). c.entry) list
 
-  ran : a.log ++ a.running ≡ (a.log ++ done) ++ left
-  ran = ap (λ (list : List Counting). a.log ++ list) (sym (take-append-drop added a.running)) ∙ sym (append_assoc a.log done left)
+  ran : a.entries.log ++ a.entries.running ≡ (a.entries.log ++ done) ++ left
+  ran = ap (λ (list : List Counting). a.entries.log ++ list) (sym (take-append-drop added a.entries.running)) ∙ sym (append_assoc a.entries.log done left)
 
   each_left : (c : Counting) → Contains left c → is_untouched c ≡ true
   each_left c has = All-contains (λ (c : Counting). is_untouched c ≡ true) left c untouched has
@@ -51,23 +51,23 @@ module _ (a : Actor) (added : ℕ) (logged : All (λ c. has_ended c ≡ true) a.
       ap (λ (list : List Counting). entries (filter test list)) (append-nil list)
       ∙ ap entries (all_pass test passes list (λ c has. All-contains (λ (c : Counting). has_ended c ≡ true) list c all has))
 
-  both : All (λ c. has_ended c ≡ true) (a.log ++ done)
-  both = All-append (λ (c : Counting). has_ended c ≡ true) a.log done logged ended
+  both : All (λ c. has_ended c ≡ true) (a.entries.log ++ done)
+  both = All-append (λ (c : Counting). has_ended c ≡ true) a.entries.log done logged ended
 
   counts : (name : List ℕ) (key : ℤ) → tally_units (counted_of a) name key ≡ tally_units (log_of a ++ entries done) name key
   counts name key =
-      ap (λ list. tally_units (a.first ++ counted_among list) name key) ran
-      ∙ untouched_counts a.first (a.log ++ done) left each_left name key
+      ap (λ list. tally_units (a.entries.first ++ counted_among list) name key) ran
+      ∙ untouched_counts a.entries.first (a.entries.log ++ done) left each_left name key
       ∙ ap (λ list. tally_units list name key)
-      (ap (λ list. a.first ++ list) (among is_counted (λ c e. (and_parts (is_counted c) _ (and_parts _ _ e).0).0) (a.log ++ done) both ∙ map-append (λ (c : Counting). c.entry) a.log done)
-      ∙ sym (append_assoc a.first (entries a.log) (entries done)))
+      (ap (λ list. a.entries.first ++ list) (among is_counted (λ c e. (and_parts (is_counted c) _ (and_parts _ _ e).0).0) (a.entries.log ++ done) both ∙ map-append (λ (c : Counting). c.entry) a.entries.log done)
+      ∙ sym (append_assoc a.entries.first (entries a.entries.log) (entries done)))
 
-  notes : (name : List ℕ) → tally_noted (noted_of a) name ≡ tally_noted (entries a.log ++ entries done) name
+  notes : (name : List ℕ) → tally_noted (noted_of a) name ≡ tally_noted (entries a.entries.log ++ entries done) name
   notes name =
       ap (λ list. tally_noted (noted_among list) name) ran
-      ∙ untouched_notes [] (a.log ++ done) left each_left name
+      ∙ untouched_notes [] (a.entries.log ++ done) left each_left name
       ∙ ap (λ list. tally_noted list name)
-      (among is_noted (λ c e. (and_parts _ (is_noted c) e).1) (a.log ++ done) both ∙ map-append (λ (c : Counting). c.entry) a.log done)
+      (among is_noted (λ c e. (and_parts _ (is_noted c) e).1) (a.entries.log ++ done) both ∙ map-append (λ (c : Counting). c.entry) a.entries.log done)
 
   -- the first entries have no amount
   no_amounts : (name : List ℕ) → tally_sum (summed_among done) name ≡ tally_sum [] name
@@ -78,11 +78,11 @@ module _ (a : Actor) (added : ℕ) (logged : All (λ c. has_ended c ≡ true) a.
 
   sums : (name : List ℕ) → tally_sum (summed_of a) name ≡ tally_sum (log_of a) name
   sums name =
-      ap (λ list. tally_sum (a.first ++ summed_among list) name) ran
-      ∙ untouched_sums a.first (a.log ++ done) left each_left name
-      ∙ ap (λ list. tally_sum (a.first ++ summed_among list) name) (append-nil (a.log ++ done))
-      ∙ beside_same ◌+ℤ◌ (λ list. tally_sum list name) (sum_total name) is_summed a.first a.log done [] (no_amounts name)
-      ∙ ap (λ list. tally_sum (a.first ++ list) name) (among is_summed (λ c e. (and_parts (is_counted c) _ (and_parts _ _ e).0).1) a.log logged)
+      ap (λ list. tally_sum (a.entries.first ++ summed_among list) name) ran
+      ∙ untouched_sums a.entries.first (a.entries.log ++ done) left each_left name
+      ∙ ap (λ list. tally_sum (a.entries.first ++ summed_among list) name) (append-nil (a.entries.log ++ done))
+      ∙ beside_same ◌+ℤ◌ (λ list. tally_sum list name) (sum_total name) is_summed a.entries.first a.entries.log done [] (no_amounts name)
+      ∙ ap (λ list. tally_sum (a.entries.first ++ list) name) (among is_summed (λ c e. (and_parts (is_counted c) _ (and_parts _ _ e).0).1) a.entries.log logged)
 
 not_so : (b : Bool) → (b ≡ true → ⊥) → b ≡ false
 not_so true nor = absurd (nor refl)
@@ -94,6 +94,6 @@ refused_adds_few shape opened state who a added kept mine runs (unbound, ended, 
       counted = counts a added calls.ended ended untouched unsummed;
       noted = notes a added calls.ended ended untouched unsummed;
       summed = sums a added calls.ended ended untouched unsummed;
-      moved = nothing_moves a.place unbound;
-      took = not_so a.taking (λ is. runs (calls.taking is).0);
+      moved = nothing_moves a.hand.place unbound;
+      took = not_so a.deltas.taking (λ is. runs (calls.taking is).0);
     }

@@ -1,5 +1,5 @@
 -- What a snapshot answers is at least what its recorder had accepted and seen.
-use Rattle.std.proofs.Common.{◌≡◌, ◌≢◌, ℕ, zero, suc, ◌+◌, ◌<◌, ◌≤◌, ℤ, true, List, length, ⊎_elim, refl, sym, ap, subst, ◌∙◌, arith}
+use Rattle.std.proofs.Common.{◌≡◌, ◌≢◌, ℕ, zero, suc, ◌+◌, ◌<◌, ◌≤◌, ℤ, true, List, length, ⊎_elim, refl, sym, ap, subst, ◌∙◌, arith, false}
 use mathlib.Core.Option.{some, some-injective}
 use lib.ListN.{get_elem?}
 use Rattle.std.specs.Prelude.{if◌then◌else◌, Some}
@@ -20,7 +20,7 @@ use Rattle.segment_machine.specs.declared.actor.Known.{Known}
 use Rattle.segment_machine.specs.declared.actor.Made.TheVariants as made
 use Rattle.segment_machine.specs.declared.seen.Sighting.{Sighting}
 use Rattle.segment_machine.specs.Entry.{tally_noted}
-use Rattle.segment_machine.specs.Actor.{has_buckets, accepted_since, bucket_key, units_listed, SawCount}
+use Rattle.segment_machine.specs.Actor.{has_buckets, accepted_since, bucket_key, units_listed, SawCount, is_opener}
 use Rattle.segment_machine.specs.Made.{IsFirstSample}
 use Rattle.segment_machine.specs.Note.{SawAll}
 use Rattle.segment_machine.specs.State.{State}
@@ -47,9 +47,9 @@ range_there a (suc n) zero lt = let e : a ≡ a + 0 = omega arith in ap some e
 range_there a (suc n) (suc j) lt = let e : a + 1 + j ≡ a + suc j = omega arith in range_there (a + 1) n j (omega (arith, lt)) ∙ ap some e
 
 module _ (shape : Dimensions) (opened : Anatomy) (state : State) (kept : Invariant shape opened state) (id : ℕ) (a : Actor)
-    (mine : get_elem? state.actors id ≡ some a) (known : Known) (has : Contains a.names known) (records : a.opener ≡ 0)
+    (mine : get_elem? state.actors id ≡ some a) (known : Known) (has : Contains a.answers.names known) (records : is_opener a.role ≡ false)
     (answered : Answered) (saw : SawAll a known answered) where
-  lives : a.place ≢ Spent
+  lives : a.hand.place ≢ Spent
   lives = knower_lives shape opened state kept id a mine known has
 
   -- the first sample of a value is one

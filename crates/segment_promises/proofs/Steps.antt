@@ -22,44 +22,45 @@ use Rattle.segment_machine.specs.State.{State, memory}
 use Rattle.segment_invariant.specs.Body.{Anatomy}
 use Rattle.segment_invariant.specs.Invariant.{Invariant}
 use Rattle.segment_invariant.specs.Keeps.{found_at}
-use Rattle.segment_invariant.specs.Keeps.{EventKeeps}
+use Rattle.segment_invariant.proofs.Events.{events_keep}
 use Rattle.segment_invariant.proofs.Notes.Announcements.{with_actor, notes_follow}
 use Rattle.segment_promises.specs.Follows.{StepsFollow}
+use Rattle.segment_machine.specs.Actor.{is_opener}
 
 -- ---- steps
 
 -- nor does what becomes of an actor whose exchange went through or not
 module _ (a : Actor) where
-  freed : (b : Bool) (old new found : ℕ) → (after_free b a old new found).opener ≡ a.opener
+  freed : (b : Bool) (old new found : ℕ) → is_opener (after_free b a old new found).role ≡ is_opener a.role
   freed true old new found = refl
   freed false old new found = refl
 
-  flagged : (b : Bool) → (if b then record a { place = Idle; spoiled = true } else record a { place = Idle; filled = true }).opener ≡ a.opener
+  flagged : (b : Bool) → is_opener (if b then record a { hand = record a.hand { place = Idle }; done = record a.done { spoiled = true } } else record a { hand = record a.hand { place = Idle }; done = record a.done { filled = true } }).role ≡ is_opener a.role
   flagged true = refl
   flagged false = refl
 
-  linked : (b : Bool) (tail at found : ℕ) → (after_link b a tail at found).opener ≡ a.opener
+  linked : (b : Bool) (tail at found : ℕ) → is_opener (after_link b a tail at found).role ≡ is_opener a.role
   linked true tail at found = refl
   linked false tail at found = refl
 
-  packed : (b : Bool) (histogram new found : ℕ) → (after_pack b a histogram new found).opener ≡ a.opener
+  packed : (b : Bool) (histogram new found : ℕ) → is_opener (after_pack b a histogram new found).role ≡ is_opener a.role
   packed true histogram new found = refl
   packed false histogram new found = refl
 
-  mounted : (b : Bool) (histogram at found : ℕ) → (after_mount b a histogram at found).opener ≡ a.opener
+  mounted : (b : Bool) (histogram at found : ℕ) → is_opener (after_mount b a histogram at found).role ≡ is_opener a.role
   mounted true histogram at found = refl
   mounted false histogram at found = refl
 
-  disabled : (b : Bool) (histogram old found : ℕ) → (after_disable b a histogram old found).opener ≡ a.opener
+  disabled : (b : Bool) (histogram old found : ℕ) → is_opener (after_disable b a histogram old found).role ≡ is_opener a.role
   disabled true histogram old found = refl
   disabled false histogram old found = refl
 
-  gave : (b : Bool) (cursor new found : ℕ) → (after_cursor b a cursor new found).opener ≡ a.opener
+  gave : (b : Bool) (cursor new found : ℕ) → is_opener (after_cursor b a cursor new found).role ≡ is_opener a.role
   gave true cursor new found = refl
   gave false cursor new found = refl
 
 -- nor does an event
-acts_on : (a : Actor) (event : Event) (found : ℕ) → (next a event found).opener ≡ a.opener
+acts_on : (a : Actor) (event : Event) (found : ℕ) → is_opener (next a event found).role ≡ is_opener a.role
 acts_on a (allocating_event load_flags) found = refl
 acts_on a (allocating_event load_free) found = refl
 acts_on a (allocating_event (exchange_free old new)) found = freed a (eqb found old) old new found
@@ -94,13 +95,13 @@ acts_on a (cursor_event (load_cursor cursor)) found = refl
 acts_on a (cursor_event (move_cursor cursor old new)) found = gave a (eqb found old) cursor new found
 
 -- the words and cursors of a state are the front and the back of its memory
-words_of_memory : (s : State) (n : ℕ) (m : List ℕ) → length s.words ≡ n → memory s ≡ m → take n m ≡ s.words
+pub words_of_memory : (s : State) (n : ℕ) (m : List ℕ) → length s.words ≡ n → memory s ≡ m → take n m ≡ s.words
 words_of_memory s n m size is = sym (ap (λ (p : ℕ). take p m) size) ∙ (ap (take (length s.words)) (sym is) ∙ take-append_seam s.words s.cursors)
 
 cursors_of_memory : (s : State) (n : ℕ) (m : List ℕ) → length s.words ≡ n → memory s ≡ m → drop n m ≡ s.cursors
 cursors_of_memory s n m size is = sym (ap (λ (p : ℕ). drop p m) size) ∙ (ap (drop (length s.words)) (sym is) ∙ drop-append_seam s.words s.cursors)
 
--- An event that keeps what holds keeps it with notes before and behind it, and its actor learns of the number that was found.
+-- An event keeps what holds with notes before and behind it, and its actor learns of the number that was found.
 module _ (shape : Dimensions) (opened : Anatomy) (old : State) (id : ℕ) (a at : Actor) (before : List Note) (event : Event) where
   -- the number that the event finds, the words behind it, and its actor
   abbrev found : ℕ
@@ -113,13 +114,13 @@ module _ (shape : Dimensions) (opened : Anatomy) (old : State) (id : ℕ) (a at 
   abbrev then_with : Actor → State
   then_with b = record { words = take (length old.words) all; cursors = drop (length old.words) all; actors = set old.actors id b }
 
-  pub happens : Invariant shape opened old → get_elem? old.actors id ≡ some a → a.opener ≡ 0 → Notes a before at
-      → EventKeeps event → Ready at event → (behind : List Note) (then_is : Actor)
+  pub happens : Invariant shape opened old → get_elem? old.actors id ≡ some a → is_opener a.role ≡ false → Notes a before at
+      → Ready at event → (behind : List Note) (then_is : Actor)
       → (Learned at event found → Notes (next at event found) behind then_is)
       → Invariant shape opened (then_with then_is) × Learned at event found
-  happens kept there records notes_before event_keeps ready behind then_is goes =
+  happens kept there records notes_before ready behind then_is goes =
       let first = notes_follow shape opened before old id a at kept there records notes_before in
-      let did = event_keeps shape opened (with_actor old id at) id at first.0 (set_at old.actors id a at there) first.1 ready in
+      let did = events_keep event shape opened (with_actor old id at) id at first.0 (set_at old.actors id a at there) first.1 ready in
       let acted : Actor = next at event found in
       let mid : State = record { words = take (length old.words) all; cursors = drop (length old.words) all; actors = set (set old.actors id at) id acted } in
       let stands = set_at (set old.actors id at) id at acted (set_at old.actors id a at there) in
@@ -130,9 +131,9 @@ module _ (shape : Dimensions) (opened : Anatomy) (old : State) (id : ℕ) (a at 
       )
 
 pub steps_follow : StepsFollow
-steps_follow shape opened old new id event step event_keeps kept =
+steps_follow shape opened old new id event step kept =
     let did = happens shape opened old id step.actor step.at step.before event kept step.there step.is_recorder step.notes_before
-    event_keeps step.ready step.behind step.then_is (λ learned. step.notes_behind) in
+    step.ready step.behind step.then_is (λ learned. step.notes_behind) in
     let size = length old.words in
     let all = after size opened.version event (memory old) in
     let actors : set old.actors id step.then_is ≡ new.actors = sym step.actors_are in (

@@ -35,7 +35,7 @@ tables_close S shape opened words xs opener final =
 -- ---- steps
 
 pub tables_follow : (S : Type 0) → TablesFollow S
-tables_follow S shape opened before event behind slots id me word event_keeps word_is records may ready goes s run wide mine small =
+tables_follow S shape opened before event behind slots id me word word_is records may ready goes s run wide mine small =
     let seg : State = run.segment in
     let size : length seg.words ≡ shape.size = length_shown shape seg.words (layout_of run.kept.anatomy) run.kept.shown in
     let at : word ≡ suc (spot (length seg.words) event) = word_is ∙ (ap (λ (n : ℕ). spot n event + 1) (sym size) ∙ omega arith) in
@@ -44,7 +44,7 @@ tables_follow S shape opened before event behind slots id me word event_keeps wo
     let first : Actor = noted_by me.0 before in
     let n : ℕ = found_at seg event in
     let last : Actor = noted_by (next first event n) (behind n) in
-    let did = happens shape opened seg id me.0 first before event run.kept there records may event_keeps ready (behind n) last (goes n) in
+    let did = happens shape opened seg id me.0 first before event run.kept there records may ready (behind n) last (goes n) in
     let all = after (length seg.words) opened.version event (memory seg) in (
       last,
       table.keeps,

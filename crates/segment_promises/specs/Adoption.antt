@@ -2,7 +2,7 @@
 -- stands for all that they count.
 use Rattle.std.specs.Prelude.{◌≡◌, ◌≢◌, true, false, not, ◌&&◌, ◌==◌, max, ℕ, ◌+◌, ◌*◌, ◌/◌, ◌^◌, ◌<◌, ◌≤◌, ℤ, pos, ◌-ℤ◌, unsigned_abs, List, [], ◌∷◌, ◌++◌, map, replicate, length, sum_by, slice_range, if◌then◌else◌, Some, Ok, ◌-◌}
 use Rattle.std.specs.Ordering.{int_eq}
-use Rattle.std.specs.List.{filter, flat_map, Contains, All}
+use Rattle.std.specs.List.{filter, flat_map, zip, Contains, All}
 use mathlib.Core.Option.{some}
 use lib.ListN.{get_elem?}
 use Rattle.segment_image.specs.declared.layout.TheConstants.{BLOCK_SIZE, BLOCK_TYPE, HISTOGRAM_COUNTS, HISTOGRAM_NAME, HISTOGRAM_SINGLE, QUEUE, SAMPLE_COUNT, SAMPLE_HISTOGRAM, SAMPLE_MARK, SAMPLE_VALUE, TYPE_HISTOGRAM, TYPE_SAMPLE, VERSION_FROZEN}
@@ -18,6 +18,7 @@ use Rattle.alloc_core.specs.Layout.{IsShown}
 use Rattle.list_core.specs.Laws.{IsStop}
 use Rattle.segment_machine.specs.declared.entry.Entry.{Entry}
 use Rattle.segment_machine.specs.declared.actor.Actor.{Actor}
+use Rattle.segment_machine.specs.declared.actor.Portion.{Portion}
 use Rattle.segment_machine.specs.declared.seen.Sighting.{Sighting}
 use Rattle.segment_machine.specs.Entry.{sum_entry}
 use Rattle.segment_machine.specs.Form.{is_off}
@@ -25,9 +26,10 @@ use Rattle.segment_machine.specs.Made.{AreNameWords}
 use Rattle.segment_machine.specs.Seats.{idle, nothing_seen}
 use Rattle.segment_machine.specs.State.{State}
 use Rattle.segment_invariant.specs.Body.{Anatomy, layout_of, order_of}
-use Rattle.segment_invariant.specs.Consistent.{IsHistogram, IsSample, HoldsNothing, counts_word}
+use Rattle.segment_invariant.specs.Consistent.{IsSample, counts_word}
 use Rattle.segment_invariant.specs.Invariant.{Invariant}
 use Rattle.segment_promises.specs.Reads.{HasNoFault}
+use Rattle.segment_machine.specs.declared.actor.Role.TheVariants.{Opener}
 
 -- ---- what an image has used
 
@@ -59,8 +61,8 @@ run_at words at = (at, field_at words at BLOCK_SIZE)
 
 -- Words with such a list are not damaged. They read without a fault, no two blocks overlap, behind the free pointer all is 0 and in its
 -- page there is room for a smallest block, and the tail is on the list. A sample that is not the first of its value counts nothing;
--- names are padded with zeros. Of a histogram with buckets the counts are 0 until its single word is frozen, and the mark of the packed
--- bucket stands in the record alone.
+-- names are padded with zeros. Of each record of a histogram with buckets, a later one of a name too, the counts are 0 until its single word
+-- is frozen, and the mark of the packed bucket stands in the record alone.
 pub record IsUndamaged (words references : List ℕ) (reading : Reading) : Type 0 where
   pub lawful : HasNoFault reading
   pub apart : (i j a b : ℕ) → i < j → get_elem? (blocks_of words references) i ≡ some a → get_elem? (blocks_of words references) j ≡ some b
@@ -73,10 +75,10 @@ pub record IsUndamaged (words references : List ℕ) (reading : Reading) : Type 
       → (field_at words at SAMPLE_COUNT ≡ 0) × (field_at words at SAMPLE_MARK ≡ 0)
   pub padded : (at : ℕ) → Contains references at → field_at words at BLOCK_TYPE ≡ TYPE_HISTOGRAM
       → AreNameWords (name_of words at) (slice_range words (at + HISTOGRAM_NAME) (at + HISTOGRAM_NAME + name_words (length (name_of words at))))
-  pub unused : (h : Histogram) (i : ℕ) → Contains reading.hists h → is_sparse words h.reference ≡ false → field_at words h.reference HISTOGRAM_COUNTS ≢ 0
-      → is_off (field_at words h.reference HISTOGRAM_SINGLE) ≡ false → i < 2 * record_buckets words h.reference → counts_word words h.reference i ≡ 0
-  pub packed : (h : Histogram) (i : ℕ) → Contains reading.hists h → is_sparse words h.reference ≡ false → field_at words h.reference HISTOGRAM_COUNTS ≢ 0
-      → packed_bucket (record_single VERSION_FROZEN words h.reference) ≡ Some i → counts_word words h.reference (record_buckets words h.reference + i) ≡ 0
+  pub unused : (at i : ℕ) → Contains references at → field_at words at BLOCK_TYPE ≡ TYPE_HISTOGRAM → is_sparse words at ≡ false → field_at words at HISTOGRAM_COUNTS ≢ 0
+      → is_off (field_at words at HISTOGRAM_SINGLE) ≡ false → i < 2 * record_buckets words at → counts_word words at i ≡ 0
+  pub packed : (at i : ℕ) → Contains references at → field_at words at BLOCK_TYPE ≡ TYPE_HISTOGRAM → is_sparse words at ≡ false → field_at words at HISTOGRAM_COUNTS ≢ 0
+      → packed_bucket (record_single VERSION_FROZEN words at) ≡ Some i → counts_word words at (record_buckets words at + i) ≡ 0
 
 -- An image may be adopted: its header is lawful, it is of version 2 and not corrupt, it is not damaged, and it has used no more units than
 -- a segment has.
@@ -95,20 +97,33 @@ first_entries h =
     map (λ count. record { name = h.name; key = count.0; units = count.1; amount = pos 0 }) (filter (λ count. not (count.1 == 0)) h.counts)
     ++ (if int_eq h.sum (pos 0) then [] else sum_entry h.name h.sum ∷ [])
 
+-- what deltas had taken of it: the mark of each key, and the sum mark
+abbrev pub first_portion : Histogram → Portion
+first_portion h = record { name = h.name; counts = zip (map (λ count. count.0) h.counts) h.marks; sum = h.sum_mark }
+
 -- what was seen of a sample: its type, its histogram and its value
 abbrev pub seen_sample : List ℕ → ℕ → List Sighting
 seen_sample words at =
     map (λ i. record { at = at + i; word = field_at words at i }) (BLOCK_TYPE ∷ SAMPLE_HISTOGRAM ∷ SAMPLE_VALUE ∷ [])
 
--- The opener of an adopted image has accepted its entries and spent the units that it used, knows its histograms and their redundant
--- counts, and has seen its free pointer, its list and its samples.
+-- one that has done nothing yet: it has the units that the image has not used, and has seen its free pointer
+abbrev pub beginner : List ℕ → Reading → ℕ → Actor
+beginner words reading cursors = idle (head_of words).shape VERSION_FROZEN cursors (head_of words).free (4294967295 - used_of reading)
+
+-- The opener of an adopted image has accepted its entries and spent the units that it used, knows its histograms, their redundant counts
+-- and what deltas had taken of them, and has seen its free pointer, its list and its samples.
 abbrev pub adopter : List ℕ → List ℕ → Reading → ℕ → Actor
-adopter words references reading cursors = record (idle (head_of words).shape VERSION_FROZEN cursors (head_of words).free (4294967295 - used_of reading)) {
-  opener = 1;
-  first = flat_map first_entries reading.hists;
-  first_noted = map (λ (h : Histogram). record { name = h.name; units = h.redundant }) reading.hists;
-  costs = map (λ (h : Histogram). record { name = h.name; units = used_by h }) reading.hists;
-  names = map (λ (h : Histogram). record { name = h.name; spec = h.spec; reference = h.reference }) reading.hists;
+adopter words references reading cursors = record (beginner words reading cursors) {
+  role = Opener 0 0 0;
+  units = record (beginner words reading cursors).units { costs = map (λ (h : Histogram). record { name = h.name; units = used_by h }) reading.hists };
+  entries = record (beginner words reading cursors).entries {
+    first = flat_map first_entries reading.hists;
+    first_noted = map (λ (h : Histogram). record { name = h.name; units = h.redundant }) reading.hists;
+  };
+  deltas = record (beginner words reading cursors).deltas { first_taken = map first_portion reading.hists };
+  answers = record (beginner words reading cursors).answers {
+    names = map (λ (h : Histogram). record { name = h.name; spec = h.spec; reference = h.reference }) reading.hists;
+  };
   seen = record nothing_seen {
     free = (head_of words).free;
     chain = references;
@@ -123,17 +138,12 @@ adopted words references reading cursors =
 
 -- ---- both ways
 
--- What the invariant has no room for yet: no delta took anything of an image, and a record that is not the first of its name counts nothing.
-pub record IsPlain (words references : List ℕ) (reading : Reading) : Type 0 where
-  pub untaken : (h : Histogram) → Contains reading.hists h → All (λ mark. mark ≡ 0) h.marks × (h.sum_mark ≡ pos 0)
-  pub later : (at first : ℕ) → Contains references at → field_at words at BLOCK_TYPE ≡ TYPE_HISTOGRAM
-      → IsHistogram words references (name_of words at) first → first ≢ at → HoldsNothing words at
-
--- An image that may be adopted opens a kept segment, whose blocks are the image's and whose records are those on its list.
+-- An image that may be adopted opens a kept segment, with any number of shared cursors; its blocks are the image's, and its records those
+-- on its list.
 abbrev pub AdoptionOpens : Type 0
 AdoptionOpens = (words references : List ℕ) (reading : Reading) (cursors : ℕ) → All (λ word. word < 2 ^ 64) words
     → IsListed words (head_of words) references → reading ≡ reading_along words (head_of words) references
-    → IsAdoptable words references reading → IsPlain words references reading → cursors ≤ 8
+    → IsAdoptable words references reading
     → (opened : Anatomy) × IsShown (head_of words).shape words (layout_of opened) × (order_of opened ≡ references)
     × Invariant (head_of words).shape opened (adopted words references reading cursors)
 

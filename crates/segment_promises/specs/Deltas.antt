@@ -15,7 +15,7 @@ use Rattle.segment_machine.specs.declared.actor.Known.{Known}
 use Rattle.segment_machine.specs.declared.actor.Taken.{Taken}
 use Rattle.segment_machine.specs.Entry.{tally_units, tally_sum, tally_noted}
 use Rattle.segment_machine.specs.Form.{is_off}
-use Rattle.segment_machine.specs.Actor.{has_buckets, bucket_key, log_of, units_listed, taken_units, taken_sum, IsFinal, SawSingle, accepted_by, accepted_since}
+use Rattle.segment_machine.specs.Actor.{has_buckets, bucket_key, log_of, units_listed, taken_of, taken_units, taken_sum, IsFinal, SawSingle, accepted_by, accepted_since, is_opener, made_of}
 use Rattle.segment_machine.specs.Note.{TookAll, SawAll}
 use Rattle.segment_machine.specs.State.{State}
 use Rattle.segment_machine.specs.Reached.{IsJoined}
@@ -31,19 +31,19 @@ use Rattle.segment_promises.specs.Reads.{noted_at_opening}
 abbrev pub HadCount : List ℕ → Actor → Known → ℕ → ℕ → Type 0
 HadCount words a known bucket count =
     let counts = field_at words known.reference HISTOGRAM_COUNTS in
-    (counts ≢ 0) × Contains (take a.since_counts a.seen.counts) (record { at = counts + BLOCK_HEADER + bucket; word = count })
+    (counts ≢ 0) × Contains (take a.since.counts a.seen.counts) (record { at = counts + BLOCK_HEADER + bucket; word = count })
 
 -- the units of a bucket that a single word had
 abbrev pub HadPacked : Actor → Known → ℕ → ℕ → Type 0
 HadPacked a known bucket units =
-    (word : ℕ) × Contains (take a.since_singles a.seen.singles) (record { at = known.reference + HISTOGRAM_SINGLE; word = word })
-    × (units ≡ units_packed (single_of a.version (buckets_of known.spec) word) bucket)
+    (word : ℕ) × Contains (take a.since.singles a.seen.singles) (record { at = known.reference + HISTOGRAM_SINGLE; word = word })
+    × (units ≡ units_packed (single_of a.segment.version (buckets_of known.spec) word) bucket)
 
 -- a count of the sample of a value, which is the first of it on the list
 abbrev pub HadSample : List Listed → Actor → Known → ℤ → ℕ → Type 0
 HadSample records a known value count =
     (at : ℕ) × IsFirstOf records known.reference value at
-    × Contains (take a.since_counts a.seen.counts) (record { at = at + SAMPLE_COUNT; word = count })
+    × Contains (take a.since.counts a.seen.counts) (record { at = at + SAMPLE_COUNT; word = count })
 
 -- ---- which buckets are whole
 
@@ -55,8 +55,8 @@ SawOpen a known = (word : ℕ) → SawSingle a (known.reference + HISTOGRAM_SING
 -- where the actor saw the word off
 abbrev pub IsWhole : Actor → Known → ℕ → Type 0
 IsWhole a known bucket =
-    (a.version ≡ 2) ⊎ SawOpen a known
-    ⊎ ((word : ℕ) → SawSingle a (known.reference + HISTOGRAM_SINGLE) word → packed_bucket (single_of a.version (buckets_of known.spec) word) ≢ Some bucket)
+    (a.segment.version ≡ 2) ⊎ SawOpen a known
+    ⊎ ((word : ℕ) → SawSingle a (known.reference + HISTOGRAM_SINGLE) word → packed_bucket (single_of a.segment.version (buckets_of known.spec) word) ≢ Some bucket)
 
 -- ---- what is owed
 
@@ -67,7 +67,7 @@ pub record HasBuckets (words : List ℕ) (a : Actor) (known : Known) (units : �
   pub accepted : (i : ℕ) → i < buckets_of known.spec → IsWhole a known i → tally_units (accepted_by a) known.name (bucket_key (Some known) i) ≤ units i
   pub packed : (i n : ℕ) → i < buckets_of known.spec → IsWhole a known i → HadPacked a known i n → n ≤ units i
   pub counted : (i n : ℕ) → i < buckets_of known.spec → HadCount words a known i n → n ≤ units i
-  pub both : a.version ≡ 2 → (i m n : ℕ) → i < buckets_of known.spec → HadCount words a known i m → HadPacked a known i n → m + n ≤ units i
+  pub both : a.segment.version ≡ 2 → (i m n : ℕ) → i < buckets_of known.spec → HadCount words a known i m → HadPacked a known i n → m + n ≤ units i
 
 -- Of each value of a sparse histogram they are at least what was accepted, and each count of it that the recorder had seen.
 pub record HasValues (records : List Listed) (a : Actor) (known : Known) (units : ℤ → ℕ) : Type 0 where
@@ -83,38 +83,38 @@ IsEnough words records a known units =
 -- once a delta has taken all that it saw, all deltas together took enough for its recorder
 abbrev pub DeltasTakeAccepted : Type 0
 DeltasTakeAccepted = (shape : Dimensions) (opened : Anatomy) (state : State) (who : ℕ) (a : Actor) (known : Known)
-    → (kept : Invariant shape opened state) → get_elem? state.actors who ≡ some a → a.opener ≡ 0 → Contains a.names known → TookAll a known
+    → (kept : Invariant shape opened state) → get_elem? state.actors who ≡ some a → is_opener a.role ≡ false → Contains a.answers.names known → TookAll a known
     → IsEnough state.words kept.anatomy.records a known (units_taken state.actors known.name)
 
 -- so has a snapshot when it is answered; and its redundant count is at least that of the opening and the units that were accepted since,
 -- and at least each that its recorder had seen
 abbrev pub SnapshotsSeeAccepted : Type 0
 SnapshotsSeeAccepted = (shape : Dimensions) (opened : Anatomy) (state : State) (who : ℕ) (opener a : Actor) (known : Known) (answered : Answered)
-    → (kept : Invariant shape opened state) → get_elem? state.actors 0 ≡ some opener → get_elem? state.actors who ≡ some a → a.opener ≡ 0
-    → Contains a.names known → SawAll a known answered
+    → (kept : Invariant shape opened state) → get_elem? state.actors 0 ≡ some opener → get_elem? state.actors who ≡ some a → is_opener a.role ≡ false
+    → Contains a.answers.names known → SawAll a known answered
     → IsEnough state.words kept.anatomy.records a known (units_listed answered.counts)
     × (noted_at_opening opened known.name + tally_noted (accepted_since opener a) known.name ≤ answered.redundant)
-    × ((count : ℕ) → Contains (take a.since_counts a.seen.counts) (record { at = known.reference + HISTOGRAM_REDUNDANT; word = count }) → count ≤ answered.redundant)
+    × ((count : ℕ) → Contains (take a.since.counts a.seen.counts) (record { at = known.reference + HISTOGRAM_REDUNDANT; word = count }) → count ≤ answered.redundant)
 
 -- ---- after the joins
 
 -- where a final delta of a name was taken, all deltas together took its totals and its sum
 abbrev pub FinalDeltasTakeAll : Type 0
 FinalDeltasTakeAll = (shape : Dimensions) (opened : Anatomy) (state : State) (a : Actor) (t : Taken)
-    → Invariant shape opened state → IsJoined state a → Contains a.taken t → IsFinal a.made (log_of a) t.name t.moment
-    → ((key : ℤ) → taken_units a.taken t.name key ≡ tally_units (log_of a) t.name key)
-    × (taken_sum a.taken t.name ≡ tally_sum (log_of a) t.name)
+    → Invariant shape opened state → IsJoined state a → Contains a.deltas.taken t → IsFinal (made_of a.role) (log_of a) t.name t.moment
+    → ((key : ℤ) → taken_units (taken_of a) t.name key ≡ tally_units (log_of a) t.name key)
+    × (taken_sum (taken_of a) t.name ≡ tally_sum (log_of a) t.name)
 
 -- a final snapshot has the totals, the sum and the redundant count
 abbrev pub FinalSnapshotsAreExact : Type 0
 FinalSnapshotsAreExact = (shape : Dimensions) (opened : Anatomy) (state : State) (a : Actor) (s : Answered)
-    → Invariant shape opened state → IsJoined state a → Contains a.snapshots s → IsFinal a.made (log_of a) s.name s.moment
+    → Invariant shape opened state → IsJoined state a → Contains a.deltas.snapshots s → IsFinal (made_of a.role) (log_of a) s.name s.moment
     → ((key : ℤ) → units_listed s.counts key ≡ tally_units (log_of a) s.name key)
     × (s.sum ≡ tally_sum (log_of a) s.name)
-    × (s.redundant ≡ noted_at_opening opened s.name + tally_noted (map (λ c. c.entry) a.log) s.name)
+    × (s.redundant ≡ noted_at_opening opened s.name + tally_noted (map (λ c. c.entry) a.entries.log) s.name)
 
 -- and no bucket and no value of any snapshot is above the final total
 abbrev pub SnapshotsStayBelow : Type 0
 SnapshotsStayBelow = (shape : Dimensions) (opened : Anatomy) (state : State) (a : Actor) (s : Answered)
-    → Invariant shape opened state → IsJoined state a → Contains a.snapshots s
+    → Invariant shape opened state → IsJoined state a → Contains a.deltas.snapshots s
     → All (λ count. count.1 ≤ tally_units (log_of a) s.name count.0) s.counts

@@ -3,7 +3,7 @@ use Rattle.std.specs.Prelude.{◌≡◌, ℕ, pos, List, [], ◌∷◌}
 use Rattle.segment_machine.specs.declared.actor.Actor.{Actor}
 use Rattle.segment_machine.specs.declared.actor.Answered.{Answered}
 use Rattle.segment_machine.specs.Entry.{tally_units, tally_noted}
-use Rattle.segment_machine.specs.Actor.{units_listed, taken_units, accepted_by}
+use Rattle.segment_machine.specs.Actor.{units_listed, taken_of, taken_units, accepted_by}
 use Rattle.segment_machine.specs.Event.{Event, allocating_event, publishing_event, packing_event, taking_event}
 use Rattle.segment_machine.specs.Allocating.{load_flags}
 use Rattle.segment_machine.specs.Publishing.{link}
@@ -13,6 +13,7 @@ use Rattle.segment_machine.specs.Note.{MayNote, looks, answers, noted, TookAll}
 use Rattle.segment_promises.specs.Lists.{chain_behind}
 use Rattle.segment_promises.specs.Deltas.{IsWhole}
 use Rattle.segment_machine.specs.Examples.{letter_a, maker, AreReady, run, takes_all, taking, known_a}
+use Rattle.segment_machine.specs.declared.actor.Role.TheVariants.{Recorder}
 
 -- ---- what a link makes of the chain
 
@@ -27,14 +28,14 @@ abbrev pub DeltaOwes : Type 0
 DeltaOwes =
     TookAll (run takes_all taking) known_a × IsWhole (run takes_all taking) known_a 1
     × (tally_units (accepted_by (run takes_all taking)) letter_a (pos 1) ≡ 2)
-    × (taken_units (run takes_all taking).taken letter_a (pos 1) ≡ 2)
+    × (taken_units (taken_of (run takes_all taking)) letter_a (pos 1) ≡ 2)
 
 -- a snapshot of the same word: it loads the single word, the sum and the redundant count, and may answer what it saw
 abbrev pub snapping : List (Event × ℕ)
 snapping = (packing_event (load_single 16), 4294967298) ∷ (taking_event (load_sum 16), 2) ∷ (taking_event (load_redundant 16), 2) ∷ []
 
 abbrev pub snaps : Actor
-snaps = noted (record (maker (1 ∷ 1 ∷ [])) { opener = 0 }) looks
+snaps = noted (record (maker (1 ∷ 1 ∷ [])) { role = Recorder 0 0 }) looks
 
 abbrev pub snapshot : Answered
 snapshot = record {

@@ -1,6 +1,5 @@
--- What follows at once for those who step a segment, where its events keep what holds: for one event a call over plain words, and for
--- threads over a table of shared words.
-use Rattle.std.specs.Prelude.{◌≡◌, ℕ, ◌+◌, List, [], ◌∷◌}
+-- What follows at once for those who step a segment: for one event a call over plain words, and for threads over a table of shared words.
+use Rattle.std.specs.Prelude.{◌≡◌, ℕ, ◌+◌, List, [], ◌∷◌, false}
 use mathlib.Core.Option.{some}
 use lib.ListN.{get_elem?}
 use Rattle.atomic_table.specs.Table as table
@@ -12,14 +11,15 @@ use Rattle.segment_machine.specs.Seats.{MayOffer, offering, MaySplit, parent, ne
 use Rattle.segment_machine.specs.State.{State, memory, IsStep}
 use Rattle.segment_invariant.specs.Body.{Anatomy}
 use Rattle.segment_invariant.specs.Invariant.{Invariant}
-use Rattle.segment_invariant.specs.Keeps.{EventKeeps, found_at}
+use Rattle.segment_invariant.specs.Keeps.{found_at}
+use Rattle.segment_machine.specs.Actor.{is_opener}
 
 -- ---- a step
 
--- a step whose event keeps what holds keeps it, and its actor learns of the number that was found
+-- a step keeps what holds, and its actor learns of the number that was found
 abbrev pub StepsFollow : Type 0
 StepsFollow = (shape : Dimensions) (opened : Anatomy) (old new : State) (id : ℕ) (event : Event)
-    → (step : IsStep opened.version old id event new) → EventKeeps event
+    → (step : IsStep opened.version old id event new)
     → Invariant shape opened old → Invariant shape opened new × Learned step.at event (found_at old event)
 
 -- ---- a table's words and views
@@ -63,20 +63,20 @@ Told before event behind me found me' =
 abbrev pub MayTell : Actor → List Note → Type 0
 MayTell a notes = Notes a notes (noted_by a notes)
 
--- A table whose slots have values of a type may do a step on a segment that is an event of a recorder, with notes before and behind it,
--- where the event keeps what holds: the step's word is the event's, behind the one that never changes, and what becomes of it is what the
--- event makes of it. What was learned of the number that was found may be used to make the notes behind it.
+-- A table whose slots have values of a type may do a step on a segment that is an event of a recorder, with notes before and behind it: the
+-- step's word is the event's, behind the one that never changes, and what becomes of it is what the event makes of it. What was learned of
+-- the number that was found may be used to make the notes behind it.
 abbrev pub TablesFollow : Type 0 → Type 0
 TablesFollow S = (shape : Dimensions) (opened : Anatomy) (before : List Note) (event : Event) (behind : ℕ → List Note) (slots id : ℕ)
     (me : table.Me S Actor) (word : ℕ)
-    → EventKeeps event → word ≡ spot shape.size event + 1 → me.0.opener ≡ 0 → MayTell me.0 before → Ready (noted_by me.0 before) event
+    → word ≡ spot shape.size event + 1 → is_opener me.0.role ≡ false → MayTell me.0 before → Ready (noted_by me.0 before) event
     → ((found : ℕ) → Learned (noted_by me.0 before) event found → MayTell (next (noted_by me.0 before) event found) (behind found))
     → table.Allows (Running S shape opened) slots id me word (change opened.version event) (Told before event behind me)
 
 -- an announcement: notes at a step on the word that never changes
 abbrev pub TablesAnnounce : Type 0 → Type 0
 TablesAnnounce S = (shape : Dimensions) (opened : Anatomy) (notes : List Note) (slots id : ℕ) (me : table.Me S Actor) (becomes : ℕ → ℕ)
-    → ((n : ℕ) → becomes n ≡ n) → me.0.opener ≡ 0 → MayTell me.0 notes
+    → ((n : ℕ) → becomes n ≡ n) → is_opener me.0.role ≡ false → MayTell me.0 notes
     → table.Allows (Running S shape opened) slots id me 0 becomes (λ found me'. (me'.0 ≡ noted_by me.0 notes) × (me'.1 ≡ me.1))
 
 -- an opener says so how many units its next recorder is to have

@@ -7,3 +7,4 @@ pub mod Tallies
 pub mod Adoption
 pub mod Follows
 pub mod Examples
+pub mod WorkedReadings

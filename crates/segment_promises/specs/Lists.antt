@@ -1,5 +1,5 @@
 -- The list: how it grows, what `hist` answers, and what walks and shared cursors give.
-use Rattle.std.specs.Prelude.{◌≡◌, ℕ, ◌+◌, ◌<◌, ◌≤◌, List, [], ◌∷◌, ◌++◌, take, length, slice_index, ◌==◌, if◌then◌else◌, IsPermutation}
+use Rattle.std.specs.Prelude.{◌≡◌, ℕ, ◌+◌, ◌<◌, ◌≤◌, List, [], ◌∷◌, ◌++◌, take, length, slice_index, ◌==◌, if◌then◌else◌, IsPermutation, false}
 use Rattle.std.specs.List.{Contains}
 use mathlib.Core.Option.{some}
 use lib.ListN.{get_elem?}
@@ -15,12 +15,13 @@ use Rattle.list_core.specs.Walk.{IsPrefix, stands_behind}
 use Rattle.segment_machine.specs.declared.place.Place.TheVariants.{CursorLoaded}
 use Rattle.segment_machine.specs.declared.actor.Actor.{Actor}
 use Rattle.segment_machine.specs.declared.actor.Known.{Known}
-use Rattle.segment_machine.specs.Actor.{Each, all_given, given_by}
+use Rattle.segment_machine.specs.Actor.{Each, all_given, given_by, is_opener}
 use Rattle.segment_machine.specs.Made.{AreNameWords, IsFirstNamed, SawOtherSpec}
 use Rattle.segment_machine.specs.Event.{Event, publishing_event}
 use Rattle.segment_machine.specs.Publishing.{link}
 use Rattle.segment_machine.specs.Walking.{records_met}
 use Rattle.segment_machine.specs.State.{State, IsStep}
+use Rattle.segment_machine.specs.Reached.{IsReached, started, stepped, announced, offered, split, lent, returned, joined_in}
 use Rattle.segment_invariant.specs.Body.{Anatomy}
 use Rattle.segment_invariant.specs.Consistent.{IsHistogram}
 use Rattle.segment_invariant.specs.Seen.{IsFirst}
@@ -40,13 +41,33 @@ LinksAppend = (shape : Dimensions) (opened : Anatomy) (old new : State) (id : �
     → Invariant shape opened old → IsStep opened.version old id event new → IsChain old.words (head_of old.words) chain
     → IsChain new.words (head_of new.words) (chain_behind event (found_at old event) chain)
 
+-- ---- any steps
+
+-- the records whose link was done on the way from one state to another, in the order of these links
+abbrev pub links_of : (version : ℕ) (start state : State) → IsReached version start state → List ℕ
+links_of version start state started = []
+links_of version start state (stepped old new id event before step) = chain_behind event (found_at old event) (links_of version start old before)
+links_of version start state (announced old new id before told) = links_of version start old before
+links_of version start state (offered old new id units before made) = links_of version start old before
+links_of version start state (split old new id before made) = links_of version start old before
+links_of version start state (lent old new id other units before made) = links_of version start old before
+links_of version start state (returned old new id other units before made) = links_of version start old before
+links_of version start state (joined_in old new id other before made) = links_of version start old before
+
+-- so the chain of a state that is reached is that of the state from which it is reached, and behind it the records whose link was done
+-- since, in the order of these links
+abbrev pub ChainsAreLinks : Type 0
+ChainsAreLinks = (shape : Dimensions) (opened : Anatomy) (start state : State) (chain : List ℕ) → Invariant shape opened start
+    → (reached : IsReached opened.version start state) → IsChain start.words (head_of start.words) chain
+    → IsChain state.words (head_of state.words) (chain ++ links_of opened.version start state reached)
+
 -- ---- names
 
 -- a histogram that a `hist` was answered Ok with is the first of its name on the chain, and has the same spec
 abbrev pub NamesAreFirst : Type 0
 NamesAreFirst = (shape : Dimensions) (opened : Anatomy) (state : State) (chain : List ℕ) → Invariant shape opened state
     → IsChain state.words (head_of state.words) chain
-    → Each state.actors (λ a. (known : Known) → Contains a.names known
+    → Each state.actors (λ a. (known : Known) → Contains a.answers.names known
     → IsHistogram state.words chain known.name known.reference × SameSpec (spec_of state.words known.reference) known.spec)
 
 -- a `hist` is refused OtherSpec only where the first record of its name has another spec: what its caller saw of that record says so
@@ -74,8 +95,8 @@ WalksGiveAll = (shape : Dimensions) (opened : Anatomy) (state : State) (chain : 
 abbrev pub CursorsKeepOrder : Type 0
 CursorsKeepOrder = (shape : Dimensions) (opened : Anatomy) (state : State) (chain : List ℕ) → Invariant shape opened state
     → IsChain state.words (head_of state.words) chain
-    → Each state.actors (λ a. (cursor i j k l x y : ℕ) → a.opener ≡ 0 → i < j
-    → get_elem? (given_by cursor a.given) i ≡ some x → get_elem? (given_by cursor a.given) j ≡ some y
+    → Each state.actors (λ a. (cursor i j k l x y : ℕ) → is_opener a.role ≡ false → i < j
+    → get_elem? (given_by cursor a.done.given) i ≡ some x → get_elem? (given_by cursor a.done.given) j ≡ some y
     → get_elem? chain k ≡ some x → get_elem? chain l ≡ some y → k < l)
 
 -- what it gave all is the front of the chain, each record once
@@ -88,5 +109,5 @@ CursorsGiveFronts = (shape : Dimensions) (opened : Anatomy) (state : State) (cha
 -- it answers None only where it found the end of the list behind the place that it loaded; then all that its caller had met was given
 abbrev pub CursorsGiveAll : Type 0
 CursorsGiveAll = (shape : Dimensions) (opened : Anatomy) (state : State) → Invariant shape opened state
-    → Each state.actors (λ a. (cursor at : ℕ) → a.place ≡ CursorLoaded cursor at → word_at state.words (at + BLOCK_NEXT) ≡ QUEUE
+    → Each state.actors (λ a. (cursor at : ℕ) → a.hand.place ≡ CursorLoaded cursor at → word_at state.words (at + BLOCK_NEXT) ≡ QUEUE
     → (reference : ℕ) → HasMet a reference → Contains (all_given state.actors cursor) reference)

@@ -14,7 +14,7 @@ use Rattle.segment_machine.specs.declared.entry.Entry.{Entry}
 use Rattle.segment_machine.specs.declared.actor.Actor.{Actor}
 use Rattle.segment_machine.specs.declared.actor.Known.{Known}
 use Rattle.segment_machine.specs.Entry.{tally_units, tally_sum, tally_noted}
-use Rattle.segment_machine.specs.Actor.{log_of, all_counted, all_summed, all_noted, all_taken, units_listed, taken_units, taken_sum}
+use Rattle.segment_machine.specs.Actor.{log_of, all_counted, all_summed, all_noted, all_taken, units_listed, taken_of, taken_units, taken_sum}
 use Rattle.segment_machine.specs.State.{State}
 use Rattle.segment_machine.specs.Reached.{IsJoined}
 use Rattle.segment_invariant.specs.Body.{Listed, Anatomy}
@@ -37,7 +37,7 @@ noted_at_opening opened name = all_held (noted_held name) opened.pieces
 
 -- the entries that actors have begun: those of ended calls, and those of running ones
 abbrev pub begun_of : Actor → List Entry
-begun_of a = log_of a ++ map (λ c. c.entry) a.running
+begun_of a = log_of a ++ map (λ c. c.entry) a.entries.running
 
 -- ---- whenever everything stops
 
@@ -72,8 +72,8 @@ pub record ReadsAmounts (opened : Anatomy) (state : State) (h : Histogram) : Typ
 -- the id is the opening's, and each flag is read where it was set at the opening or an actor has set it
 pub record ReadsHead (opened : Anatomy) (state : State) (reading : Reading) : Type 0 where
   pub id : reading.id ≡ opened.id
-  pub corrupt : IsSetBy reading.corrupt opened.corrupt (map (λ a. a.spoiled) state.actors)
-  pub full : IsSetBy reading.full opened.full (map (λ a. a.filled) state.actors)
+  pub corrupt : IsSetBy reading.corrupt opened.corrupt (map (λ a. a.done.spoiled) state.actors)
+  pub full : IsSetBy reading.full opened.full (map (λ a. a.done.filled) state.actors)
 
 -- Stopped after any step, the words read back as exactly the histograms that were published, each once, every bucket holding no unit
 -- that was not begun and all ended ones but those in transit.
@@ -96,14 +96,14 @@ pub record ReadsAnswers (answers : List Known) (reading : Reading) : Type 0 wher
 pub record ReadsLog (opened : Anatomy) (a : Actor) (h : Histogram) : Type 0 where
   pub units : (key : ℤ) → units_read h key ≡ tally_units (log_of a) h.name key
   pub sum : h.sum ≡ tally_sum (log_of a) h.name
-  pub redundant : h.redundant ≡ noted_at_opening opened h.name + tally_noted (map (λ c. c.entry) a.log) h.name
-  pub marks : (key : ℤ) → mark_read h key ≡ taken_units a.taken h.name key
-  pub sum_mark : h.sum_mark ≡ taken_sum a.taken h.name
+  pub redundant : h.redundant ≡ noted_at_opening opened h.name + tally_noted (map (λ c. c.entry) a.entries.log) h.name
+  pub marks : (key : ℤ) → mark_read h key ≡ taken_units (taken_of a) h.name key
+  pub sum_mark : h.sum_mark ≡ taken_sum (taken_of a) h.name
 
 -- Once all recorders are joined, the words read as exactly the histograms that were answered, with the counts and the sum that one
 -- thread records of the accepted samples; and each flag is read where it was set at the opening or a call set it.
 abbrev pub JoinedReads : Type 0
 JoinedReads = (shape : Dimensions) (opened : Anatomy) (state : State) (a : Actor) (reading : Reading) → Invariant shape opened state
     → IsJoined state a → IsReading state.words (head_of state.words) reading
-    → HasNoFault reading × ReadsAnswers a.names reading × ((h : Histogram) → Contains reading.hists h → ReadsLog opened a h)
-    × (reading.id ≡ opened.id) × (reading.corrupt ≡ (opened.corrupt || a.spoiled)) × (reading.full ≡ (opened.full || a.filled))
+    → HasNoFault reading × ReadsAnswers a.answers.names reading × ((h : Histogram) → Contains reading.hists h → ReadsLog opened a h)
+    × (reading.id ≡ opened.id) × (reading.corrupt ≡ (opened.corrupt || a.done.spoiled)) × (reading.full ≡ (opened.full || a.done.filled))

@@ -16,14 +16,14 @@ use Rattle.segment_invariant.specs.Invariant.{Invariant}
 -- nothing of it is in transit, and it takes nothing.
 pub record HasDone (a : Actor) (entries : List Entry) : Type 0 where
   pub counted : (name : List ℕ) (key : ℤ) → tally_units (counted_of a) name key ≡ tally_units (log_of a ++ entries) name key
-  pub noted : (name : List ℕ) → tally_noted (noted_of a) name ≡ tally_noted (map (λ c. c.entry) a.log ++ entries) name
+  pub noted : (name : List ℕ) → tally_noted (noted_of a) name ≡ tally_noted (map (λ c. c.entry) a.entries.log ++ entries) name
   pub summed : (name : List ℕ) → tally_sum (summed_of a) name ≡ tally_sum (log_of a) name
-  pub moved : (histogram bucket : ℕ) → transit_at a.place histogram bucket ≡ 0
-  pub took : a.taking ≡ false
+  pub moved : (histogram bucket : ℕ) → transit_at a.hand.place histogram bucket ≡ 0
+  pub took : a.deltas.taking ≡ false
 
 -- A batch that is refused has done its first `added` items, an `add` that is refused, of whose entry nothing is added, nothing. While
 -- such a call runs, its log does not change: so this is what the call has done in all.
 abbrev pub RefusedAddsFew : Type 0
 RefusedAddsFew = (shape : Dimensions) (opened : Anatomy) (state : State) (who : ℕ) (a : Actor) (added : ℕ) → Invariant shape opened state
-    → get_elem? state.actors who ≡ some a → a.running ≢ [] → MayNote a (refused added)
-    → HasDone a (map (λ c. c.entry) (take added a.running))
+    → get_elem? state.actors who ≡ some a → a.entries.running ≢ [] → MayNote a (refused added)
+    → HasDone a (map (λ c. c.entry) (take added a.entries.running))

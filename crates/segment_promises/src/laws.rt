@@ -2,20 +2,32 @@
 //!
 //! The functions do nothing. What each promises is a law of the definitions in `specs/`.
 
-ghost use Rattle.segment_promises.specs.States.{ReachedStatesFollow};
+ghost use Rattle.segment_promises.specs.States.{ReachedStatesFollow, StatesAreKept, StatesAreConsistent};
 ghost use Rattle.segment_promises.specs.Follows.{StepsFollow, TablesOpen, TablesClose, TablesFollow, TablesAnnounce, TablesOffer, TablesSplit, TablesJoin};
 ghost use Rattle.segment_promises.specs.Tallies.{PartsAddUp, TalliesAreCounts};
 ghost use Rattle.segment_promises.specs.Deltas.{FinalDeltasTakeAll, FinalSnapshotsAreExact, SnapshotsStayBelow, DeltasTakeAccepted, SnapshotsSeeAccepted};
+ghost use Rattle.segment_promises.specs.Reads.{StoppedReads, JoinedReads};
 ghost use Rattle.segment_promises.specs.Refusals.{RefusedAddsFew};
-ghost use Rattle.segment_promises.specs.Lists.{WalksGiveAll, CursorsKeepOrder, CursorsGiveFronts, CursorsGiveAll, NamesAreFirst, OthersDiffer};
+ghost use Rattle.segment_promises.specs.Lists.{LinksAppend, ChainsAreLinks, WalksGiveAll, CursorsKeepOrder, CursorsGiveFronts, CursorsGiveAll, NamesAreFirst, OthersDiffer};
+ghost use Rattle.segment_promises.specs.Adoption.{AdoptionOpens, KeptAreAdoptable};
 ghost use Rattle.segment_promises.specs.Examples.{LinksLengthen, DeltaOwes, SnapshotOwes};
 
-/// Where each event keeps what holds, every state that is reached from a kept one is kept.
+/// Every state that is reached from a kept one is kept, in whatever order actors step.
 pub fn reached_states_follow()
     ensures { ReachedStatesFollow }
 {}
 
-/// A step whose event keeps what holds keeps it, and its actor learns of the number that was found.
+/// Every state that is reached from a new segment of version 1 or 2 is kept.
+pub fn states_are_kept()
+    ensures { StatesAreKept }
+{}
+
+/// Every state that is reached from a new segment of version 1 or 2 is consistent, in all eight parts.
+pub fn states_are_consistent()
+    ensures { StatesAreConsistent }
+{}
+
+/// A step keeps what holds, and its actor learns of the number that was found.
 pub fn steps_follow()
     ensures { StepsFollow }
 {}
@@ -30,12 +42,12 @@ pub fn tables_close<S>()
     ensures { TablesClose S }
 {}
 
-/// A table may do a step on a segment's words that is an event, with notes before and behind it, where these keep what holds.
+/// A table may do a step on a segment's words that is an event, with notes before and behind it.
 pub fn tables_follow<S>()
     ensures { TablesFollow S }
 {}
 
-/// A table may do a step on the word that never changes that makes notes, where these keep what holds.
+/// A table may do a step on the word that never changes that makes notes.
 pub fn tables_announce<S>()
     ensures { TablesAnnounce S }
 {}
@@ -60,6 +72,16 @@ pub fn parts_add_up()
     ensures { PartsAddUp }
 {}
 
+/// Stopped after any event, the words read as exactly the published histograms, with all units but those in transit.
+pub fn stopped_reads()
+    ensures { StoppedReads }
+{}
+
+/// Once all recorders are joined, they read as the answered histograms, with the tally of all that was accepted.
+pub fn joined_reads()
+    ensures { JoinedReads }
+{}
+
 /// Where a final delta was taken, all deltas together took the totals and the sum.
 pub fn final_deltas_take_all()
     ensures { FinalDeltasTakeAll }
@@ -78,6 +100,16 @@ pub fn snapshots_stay_below()
 /// A call that counts and is refused has counted and noted its first entries, and otherwise nothing.
 pub fn refused_adds_few()
     ensures { RefusedAddsFew }
+{}
+
+/// A link puts its record at the end of the chain, and nothing else changes the chain.
+pub fn links_append()
+    ensures { LinksAppend }
+{}
+
+/// The chain of a state that is reached is what it was, and behind it the records that were linked since, in the order of their links.
+pub fn chains_are_links()
+    ensures { ChainsAreLinks }
 {}
 
 /// A walk along the list gives the front of the chain; where it ends, it gave all that its caller had met.
@@ -123,6 +155,16 @@ pub fn deltas_take_accepted()
 /// A snapshot that is answered has of each bucket and value at least what its recorder had accepted and seen.
 pub fn snapshots_see_accepted()
     ensures { SnapshotsSeeAccepted }
+{}
+
+/// The words of a kept state of version 2 that is not corrupt may be adopted.
+pub fn kept_are_adoptable()
+    ensures { KeptAreAdoptable }
+{}
+
+/// An image that may be adopted opens a kept segment.
+pub fn adoption_opens()
+    ensures { AdoptionOpens }
 {}
 
 /// A link that finds the end of the list makes the chain longer by its record.

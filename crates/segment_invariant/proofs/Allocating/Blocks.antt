@@ -25,6 +25,7 @@ use Rattle.segment_invariant.proofs.Blocks.Pieces.{stands_beside, stands_longer,
 use Rattle.segment_invariant.proofs.Blocks.Stops.{linked_beside_head}
 use Rattle.segment_invariant.proofs.Frames.OneActor.{Doing, doing, doing_of, TurnsTo}
 use Rattle.segment_invariant.proofs.Allocating.Claimers.{IsMaking, stays_same, stays_put, others_put, stays_longer, still_same, still_put, still_longer, right_put, right_longer, unlisted, acts_on}
+use Rattle.segment_machine.specs.Actor.{is_opener}
 
 -- A block in the making, or one's own, becomes another of the same place, extent and owner, and the words are those with it.
 pub record IsStore (shape : Dimensions) (anatomy : Anatomy) (id k : ℕ) (p q : Piece) (words : List ℕ) : Type 0 where
@@ -45,7 +46,7 @@ behind_on seen old new five (inl same) = inr (omega (arith, same, five))
 behind_on seen old new five (inr less) = inr (omega (arith, less, five))
 
 module _ (shape : Dimensions) (opened : Anatomy) (state : State) (kept : Invariant shape opened state) (id : ℕ) (a : Actor)
-    (mine : get_elem? state.actors id ≡ some a) (records : a.opener ≡ 0) where
+    (mine : get_elem? state.actors id ≡ some a) (records : is_opener a.role ≡ false) where
   abbrev anatomy : Anatomy
   anatomy = kept.anatomy
 
@@ -55,40 +56,40 @@ module _ (shape : Dimensions) (opened : Anatomy) (state : State) (kept : Invaria
 
   abbrev Claims : List Piece → Doing → Type 0
   Claims pieces d =
-      IsPermutation (claims_of pieces) (claims_of opened.pieces ++ flat_map (λ (a : Actor). a.claimed) (set state.actors id (doing a (unlisted a d))))
+      IsPermutation (claims_of pieces) (claims_of opened.pieces ++ flat_map (λ (a : Actor). a.done.claimed) (set state.actors id (doing a (unlisted a d))))
 
   -- the claims are those that they were
-  pub claims_kept : (pieces : List Piece) (d : Doing) → claims_of pieces ≡ claims_of anatomy.pieces → d.claimed ≡ a.claimed → Claims pieces d
+  pub claims_kept : (pieces : List Piece) (d : Doing) → claims_of pieces ≡ claims_of anatomy.pieces → d.claimed ≡ a.done.claimed → Claims pieces d
   claims_kept pieces d same claimed =
       subst (λ (c : List Claim × List Claim). IsPermutation c.0 (claims_of opened.pieces ++ c.1))
-      (λ i. (sym same i, sym (rows (λ (a : Actor). a.claimed) state.actors id a (doing a (unlisted a d)) mine claimed) i)) kept.claims
+      (λ i. (sym same i, sym (rows (λ (a : Actor). a.done.claimed) state.actors id a (doing a (unlisted a d)) mine claimed) i)) kept.claims
 
   -- or one more
   pub claims_longer : (pieces : List Piece) (d : Doing) (claim : Claim) → IsPermutation (claims_of pieces) (claims_of anatomy.pieces ++ claim ∷ [])
-      → d.claimed ≡ a.claimed ++ claim ∷ [] → Claims pieces d
+      → d.claimed ≡ a.done.claimed ++ claim ∷ [] → Claims pieces d
   claims_longer pieces d claim more claimed =
-      let all : List Claim = flat_map (λ (a : Actor). a.claimed) state.actors in
+      let all : List Claim = flat_map (λ (a : Actor). a.done.claimed) state.actors in
       let opening : List Claim = claims_of opened.pieces in
       IsPermutation-trans _ _ _ more
       (IsPermutation-trans _ _ _ (IsPermutation-append _ _ (claim ∷ []) (claim ∷ []) kept.claims (IsPermutation-refl (claim ∷ [])))
-      (subst (λ l. IsPermutation l (opening ++ flat_map (λ (a : Actor). a.claimed) (set state.actors id (doing a (unlisted a d)))))
+      (subst (λ l. IsPermutation l (opening ++ flat_map (λ (a : Actor). a.done.claimed) (set state.actors id (doing a (unlisted a d)))))
       (sym (append_assoc opening all (claim ∷ [])))
       (IsPermutation-append opening opening _ _ (IsPermutation-refl opening)
-      (IsPermutation-sym _ _ (rows_more (λ (a : Actor). a.claimed) state.actors id a (doing a (unlisted a d)) (claim ∷ []) mine claimed)))))
+      (IsPermutation-sym _ _ (rows_more (λ (a : Actor). a.done.claimed) state.actors id a (doing a (unlisted a d)) (claim ∷ []) mine claimed)))))
 
   -- the flags are those that they were
-  corrupt_kept : (d : Doing) → d.spoiled ≡ a.spoiled → IsSetBy anatomy.corrupt opened.corrupt (map (λ a. a.spoiled) (set state.actors id (doing a (unlisted a d))))
+  corrupt_kept : (d : Doing) → d.spoiled ≡ a.done.spoiled → IsSetBy anatomy.corrupt opened.corrupt (map (λ a. a.done.spoiled) (set state.actors id (doing a (unlisted a d))))
   corrupt_kept d same =
-      kept.corrupt ∙ ap (λ set. opened.corrupt || fold ◌||◌ false set) (sym (column (λ (a : Actor). a.spoiled) state.actors id a (doing a (unlisted a d)) mine same))
+      kept.corrupt ∙ ap (λ set. opened.corrupt || fold ◌||◌ false set) (sym (column (λ (a : Actor). a.done.spoiled) state.actors id a (doing a (unlisted a d)) mine same))
 
-  full_kept : (d : Doing) → d.filled ≡ a.filled → IsSetBy anatomy.full opened.full (map (λ a. a.filled) (set state.actors id (doing a (unlisted a d))))
+  full_kept : (d : Doing) → d.filled ≡ a.done.filled → IsSetBy anatomy.full opened.full (map (λ a. a.done.filled) (set state.actors id (doing a (unlisted a d))))
   full_kept d same =
-      kept.full ∙ ap (λ set. opened.full || fold ◌||◌ false set) (sym (column (λ (a : Actor). a.filled) state.actors id a (doing a (unlisted a d)) mine same))
+      kept.full ∙ ap (λ set. opened.full || fold ◌||◌ false set) (sym (column (λ (a : Actor). a.done.filled) state.actors id a (doing a (unlisted a d)) mine same))
 
   -- ---- nothing changes but where it stands, and what it saw of the free pointer
 
-  pub waits : (p : Place) (seen : ℕ) → TurnsTo a p → KeepsUp a.place p → Behind seen (free_of anatomy)
-      → StandsRight shape anatomy id (record a { place = p; seen = record a.seen { free = seen } }) p
+  pub waits : (p : Place) (seen : ℕ) → TurnsTo a p → KeepsUp a.hand.place p → Behind seen (free_of anatomy)
+      → StandsRight shape anatomy id (record a { hand = record a.hand { place = p }; seen = record a.seen { free = seen } }) p
       → GoesTo state.words (record (doing_of a) { place = p; seen_free = seen })
   waits p seen turns up behind stands =
       let d : Doing = record (doing_of a) { place = p; seen_free = seen } in
@@ -121,7 +122,7 @@ module _ (shape : Dimensions) (opened : Anatomy) (state : State) (kept : Invaria
     free_stays seen = subst (Behind seen) (sym (free_with anatomy k p q store.there store.long))
 
     -- with what it has of blocks then
-    pub stores : (d : Doing) → TurnsTo a d.place → KeepsUp a.place d.place → Claims after.pieces d → d.spoiled ≡ a.spoiled → d.filled ≡ a.filled → d.seen_free ≡ a.seen.free
+    pub stores : (d : Doing) → TurnsTo a d.place → KeepsUp a.hand.place d.place → Claims after.pieces d → d.spoiled ≡ a.done.spoiled → d.filled ≡ a.done.filled → d.seen_free ≡ a.seen.free
         → StandsRight shape after id (doing a (unlisted a d)) d.place → All (HoldsOwn shape after.pieces id) d.own
         → ((i j : ℕ) (x y : Own) → get_elem? d.own i ≡ some x → get_elem? d.own j ≡ some y → x.at ≡ y.at → i ≡ j)
         → GoesTo words d
@@ -146,7 +147,7 @@ module _ (shape : Dimensions) (opened : Anatomy) (state : State) (kept : Invaria
         })
 
     -- what it has of other blocks
-    pub own_beside : is_claimed p.body ≡ false → All (HoldsOwn shape anatomy.pieces id) a.own → All (HoldsOwn shape after.pieces id) a.own
+    pub own_beside : is_claimed p.body ≡ false → All (HoldsOwn shape anatomy.pieces id) a.hand.own → All (HoldsOwn shape after.pieces id) a.hand.own
     own_beside unclaimed own =
         All-weaker (HoldsOwn shape anatomy.pieces id) (HoldsOwn shape after.pieces id)
         (λ block is. record {
@@ -157,11 +158,11 @@ module _ (shape : Dimensions) (opened : Anatomy) (state : State) (kept : Invaria
           tagged = is.tagged;
           ends = is.ends;
         })
-        a.own own
+        a.hand.own own
 
     -- words that nobody has claimed become others, and the actor stands elsewhere
-    pub makes : is_claimed p.body ≡ false → is_claimed q.body ≡ false → (place : Place) → TurnsTo a place → KeepsUp a.place place
-        → StandsRight shape after id (record a { place = place }) place → GoesTo words (record (doing_of a) { place = place })
+    pub makes : is_claimed p.body ≡ false → is_claimed q.body ≡ false → (place : Place) → TurnsTo a place → KeepsUp a.hand.place place
+        → StandsRight shape after id (record a { hand = record a.hand { place = place } }) place → GoesTo words (record (doing_of a) { place = place })
     makes was is place turns up stands =
         let d : Doing = record (doing_of a) { place = place } in
         let fits = kept.each id a mine turns.lived in
@@ -174,8 +175,8 @@ module _ (shape : Dimensions) (opened : Anatomy) (state : State) (kept : Invaria
   abbrev Taken : ℕ → Anatomy
   Taken new = grown_by anatomy id (new - free_of anatomy)
 
-  pub takes : (new : ℕ) (place : Place) → TurnsTo a place → KeepsUp a.place place → IsRise shape (free_of anatomy) new
-      → StandsRight shape (Taken new) id (record a { place = place; seen = record a.seen { free = new } }) place
+  pub takes : (new : ℕ) (place : Place) → TurnsTo a place → KeepsUp a.hand.place place → IsRise shape (free_of anatomy) new
+      → StandsRight shape (Taken new) id (record a { hand = record a.hand { place = place }; seen = record a.seen { free = new } }) place
       → GoesTo (set state.words 7 new) (record (doing_of a) { place = place; seen_free = new })
   takes new place turns up rise stands =
       let d : Doing = record (doing_of a) { place = place; seen_free = new } in
@@ -207,17 +208,17 @@ module _ (shape : Dimensions) (opened : Anatomy) (state : State) (kept : Invaria
               tagged = is.tagged;
               ends = is.ends;
             })
-            a.own fits.own;
+            a.hand.own fits.own;
         apart = fits.apart;
       })
 
   -- ---- a flag is set
 
-  pub flags_set : (corrupt full : Bool) (v : ℕ) (place : Place) (spoiled filled : Bool) → TurnsTo a place → KeepsUp a.place place
+  pub flags_set : (corrupt full : Bool) (v : ℕ) (place : Place) (spoiled filled : Bool) → TurnsTo a place → KeepsUp a.hand.place place
       → IsShown shape (set state.words 6 v) (layout_of (record anatomy { corrupt = corrupt; full = full }))
-      → IsSetBy corrupt opened.corrupt (map (λ a. a.spoiled) (set state.actors id (record a { place = place; spoiled = spoiled; filled = filled })))
-      → IsSetBy full opened.full (map (λ a. a.filled) (set state.actors id (record a { place = place; spoiled = spoiled; filled = filled })))
-      → StandsRight shape (record anatomy { corrupt = corrupt; full = full }) id (record a { place = place; spoiled = spoiled; filled = filled }) place
+      → IsSetBy corrupt opened.corrupt (map (λ a. a.done.spoiled) (set state.actors id (record a { hand = record a.hand { place = place }; done = record a.done { spoiled = spoiled; filled = filled } })))
+      → IsSetBy full opened.full (map (λ a. a.done.filled) (set state.actors id (record a { hand = record a.hand { place = place }; done = record a.done { spoiled = spoiled; filled = filled } })))
+      → StandsRight shape (record anatomy { corrupt = corrupt; full = full }) id (record a { hand = record a.hand { place = place }; done = record a.done { spoiled = spoiled; filled = filled } }) place
       → GoesTo (set state.words 6 v) (record (doing_of a) { place = place; spoiled = spoiled; filled = filled })
   flags_set corrupt full v place spoiled filled turns up shown is_corrupt is_full stands =
       let d : Doing = record (doing_of a) { place = place; spoiled = spoiled; filled = filled } in

@@ -1,5 +1,5 @@
 -- A state is kept where one actor goes on that allocates: it sees nothing but the free pointer, and publishes nothing.
-use Rattle.std.proofs.Common.{◌≡◌, ◌≢◌, ℕ, pos, Bool, List, [], ◌∷◌, ◌++◌, map, set, All, inl, inr, refl, sym, ap, ◌∙◌, subst}
+use Rattle.std.proofs.Common.{◌≡◌, ◌≢◌, ℕ, pos, Bool, List, [], ◌∷◌, ◌++◌, map, set, All, inl, inr, refl, sym, ap, ◌∙◌, subst, false}
 use Rattle.std.specs.Prelude.{IsPermutation, ⊤}
 use Rattle.std.specs.List.{flat_map}
 use mathlib.Core.Logic.{dite}
@@ -21,9 +21,10 @@ use Rattle.segment_invariant.specs.Seen.{Stands}
 use Rattle.segment_invariant.specs.Invariant.{StandsRight, HoldsOwn, IsSetBy, ClaimedRight, StandStill, Invariant}
 use Rattle.segment_invariant.proofs.Blocks.Pieces.{stands_beside, stood_beside, stands_longer, stood_longer, held_same, amounts_same, held_grown, amounts_grown}
 use Rattle.segment_invariant.proofs.Frames.OneActor.{Doing, doing, TurnsTo}
-use Rattle.segment_invariant.proofs.Frames.Anatomies.{sees_along, calls_along, looks_along, sees_no_more, sees_doing, calls_doing, looks_doing}
+use Rattle.segment_invariant.proofs.Frames.Anatomies.{sees_along, calls_along, looks_along, sees_no_more, sees_doing, looks_doing}
 use Rattle.segment_invariant.proofs.Frames.GoesOn.{goes_on}
 use Rattle.segment_invariant.proofs.Frames.Growth.{reshaped, IsSilent, Stays}
+use Rattle.segment_machine.specs.Actor.{is_opener}
 
 -- ---- blocks in the making
 
@@ -121,10 +122,10 @@ pub record Acts (shape : Dimensions) (opened : Anatomy) (state : State) (old new
   pub still : StandStill old.pieces new.pieces
   pub blocks : AllClaimedRight new.pieces
   pub linked : IsLinked words (order_of old)
-  pub claims : IsPermutation (claims_of new.pieces) (claims_of opened.pieces ++ flat_map (λ a. a.claimed) (set state.actors id (doing a d)))
+  pub claims : IsPermutation (claims_of new.pieces) (claims_of opened.pieces ++ flat_map (λ a. a.done.claimed) (set state.actors id (doing a d)))
   pub free : (seen : ℕ) → Behind seen (free_of old) → Behind seen (free_of new)
-  pub corrupt : IsSetBy new.corrupt opened.corrupt (map (λ a. a.spoiled) (set state.actors id (doing a d)))
-  pub full : IsSetBy new.full opened.full (map (λ a. a.filled) (set state.actors id (doing a d)))
+  pub corrupt : IsSetBy new.corrupt opened.corrupt (map (λ a. a.done.spoiled) (set state.actors id (doing a d)))
+  pub full : IsSetBy new.full opened.full (map (λ a. a.done.filled) (set state.actors id (doing a d)))
   pub stands : StandsRight shape new id (doing a d) d.place
   pub seen : Behind d.seen_free (free_of new)
   pub own : All (HoldsOwn shape new.pieces id) d.own
@@ -132,14 +133,14 @@ pub record Acts (shape : Dimensions) (opened : Anatomy) (state : State) (old new
 
 -- such a doing: it sees nothing of the list, and publishes nothing
 abbrev pub unlisted : Actor → Doing → Doing
-unlisted a d = sees_no_more a (record d { published = a.published; owed = a.owed; beaten = a.beaten })
+unlisted a d = sees_no_more a (record d { published = a.done.published; owed = a.answers.owed; beaten = a.done.beaten })
 
 module _ (shape : Dimensions) (opened : Anatomy) (state : State) (kept : Invariant shape opened state) (id : ℕ) (a : Actor)
-    (mine : get_elem? state.actors id ≡ some a) (records : a.opener ≡ 0) where
+    (mine : get_elem? state.actors id ≡ some a) (records : is_opener a.role ≡ false) where
   abbrev before : Anatomy
   before = kept.anatomy
 
-  module _ (d : Doing) (turns : TurnsTo a d.place) (up : KeepsUp a.place d.place) (pieces : List Piece) (spare : ℕ) (corrupt full : Bool) (words : List ℕ)
+  module _ (d : Doing) (turns : TurnsTo a d.place) (up : KeepsUp a.hand.place d.place) (pieces : List Piece) (spare : ℕ) (corrupt full : Bool) (words : List ℕ)
       (acts : Acts shape opened state before (reshaped before pieces spare corrupt full before.tail) id a (unlisted a d) words) where
     -- it goes on, and the state is kept
     pub acts_on : Invariant shape opened (record { words = words; cursors = state.cursors; actors = set state.actors id (doing a (unlisted a d)) })
@@ -166,10 +167,10 @@ module _ (shape : Dimensions) (opened : Anatomy) (state : State) (kept : Invaria
           sees = sees_doing new a (unlisted a d) state.cursors acts.seen
               (sees_along before pieces spare corrupt full before.tail acts.stays state.cursors a.seen (acts.free a.seen.free fits.sees.free)
               fits.sees.tails fits.sees);
-          ahead = ahead_at (order_of before) before.tail state.cursors a.place a.beaten a.lost fits.ahead d.place up;
+          ahead = ahead_at (order_of before) before.tail state.cursors a.hand.place a.done.beaten a.done.lost fits.ahead d.place up;
           own = acts.own;
           apart = acts.apart;
-          calls = calls_doing new a (unlisted a d) (calls_along before pieces spare corrupt full before.tail acts.stays a fits.calls);
+          calls = (calls_along before pieces spare corrupt full before.tail acts.stays a fits.calls);
           looks = looks_doing new a (unlisted a d) state.actors kept.roles.opener turns
               (looks_along before pieces spare corrupt full before.tail acts.stays state.actors kept.roles.opener a (fits.looks records));
         })

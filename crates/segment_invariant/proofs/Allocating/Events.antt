@@ -18,7 +18,7 @@ use Rattle.alloc_core.proofs.Layouts.{free_word, shown_corrupt, shown_full, leng
 use Rattle.alloc_core.proofs.Owners.{set_at}
 use Rattle.segment_machine.specs.declared.actor.Actor.{Actor}
 use Rattle.segment_machine.specs.declared.place.Place.TheVariants.{Spent, Idle, FlagsLoaded, FreeLoaded, Raised}
-use Rattle.segment_machine.specs.Actor.{is_bound}
+use Rattle.segment_machine.specs.Actor.{is_bound, is_opener}
 use Rattle.segment_machine.specs.State.{State}
 use Rattle.segment_machine.specs.Event.{Event, allocating_event, spot, Ready, Learned}
 use Rattle.segment_machine.specs.Allocating.{load_flags, load_free, exchange_free, set_flag, after_free}
@@ -45,7 +45,7 @@ set_now : (opened : Bool) (actors : List Actor) (id : ℕ) (a b : Actor) (flag :
 set_now opened actors id a b flag there is = set_there opened (set actors id b) id b flag (set_at actors id a b there) is
 
 module _ (shape : Dimensions) (opened : Anatomy) (state : State) (kept : Invariant shape opened state) (id : ℕ) (a : Actor)
-    (mine : get_elem? state.actors id ≡ some a) (records : a.opener ≡ 0) where
+    (mine : get_elem? state.actors id ≡ some a) (records : is_opener a.role ≡ false) where
   abbrev anatomy : Anatomy
   anatomy = kept.anatomy
 
@@ -67,20 +67,20 @@ module _ (shape : Dimensions) (opened : Anatomy) (state : State) (kept : Invaria
       (sym (ap (set state.words at) same ∙ set-get_or state.words at 0))
 
   -- the flags are loaded
-  flags_at : (clear : Bool) → is_bound a.place ≡ false
-      → Invariant shape opened (record { words = state.words; cursors = state.cursors; actors = set state.actors id (record a { place = if clear then FlagsLoaded else Idle }) })
+  flags_at : (clear : Bool) → is_bound a.hand.place ≡ false
+      → Invariant shape opened (record { words = state.words; cursors = state.cursors; actors = set state.actors id (record a { hand = record a.hand { place = if clear then FlagsLoaded else Idle } }) })
   flags_at true turn =
       let turns = turns_unbound a FlagsLoaded turn refl in
-      waits shape opened state kept id a mine records FlagsLoaded a.seen.free turns (λ no. unbound_unbeaten a.place turn) (kept.each id a mine turns.lived).sees.free tt
+      waits shape opened state kept id a mine records FlagsLoaded a.seen.free turns (λ no. unbound_unbeaten a.hand.place turn) (kept.each id a mine turns.lived).sees.free tt
   flags_at false turn =
       let turns = turns_unbound a Idle turn refl in
-      waits shape opened state kept id a mine records Idle a.seen.free turns (λ no. unbound_unbeaten a.place turn) (kept.each id a mine turns.lived).sees.free tt
+      waits shape opened state kept id a mine records Idle a.seen.free turns (λ no. unbound_unbeaten a.hand.place turn) (kept.each id a mine turns.lived).sees.free tt
 
   -- an actor that has set the corrupt flag finds it
-  corrupt_learned : a.spoiled ≡ true → bit_and (word_at state.words 6) 1 ≡ 1
+  corrupt_learned : a.done.spoiled ≡ true → bit_and (word_at state.words 6) 1 ≡ 1
   corrupt_learned is = subst (λ (n : ℕ). bit_and n 1 ≡ 1) (sym (flags_word shape state.words (layout_of anatomy) kept.shown))
       ((corrupt_bit anatomy.corrupt anatomy.full anatomy.other_flags).1
-      (kept.corrupt ∙ sym (set_there opened.corrupt state.actors id a (λ (x : Actor). x.spoiled) mine is)))
+      (kept.corrupt ∙ sym (set_there opened.corrupt state.actors id a (λ (x : Actor). x.done.spoiled) mine is)))
 
   pub flags_loaded : Ready a (allocating_event load_flags) → Keeps (allocating_event load_flags)
   flags_loaded ready = (leaves 6 (word_at state.words 6) _ refl (flags_at (bit_and (word_at state.words 6) 1 == 0) ready), corrupt_learned)
@@ -100,7 +100,7 @@ module _ (shape : Dimensions) (opened : Anatomy) (state : State) (kept : Invaria
       (le-leb 5 (room_at shape free) (omega (arith, room)))
 
   -- what an actor that lives learns of it
-  pointer_learned : a.place ≢ Spent → Behind a.seen.free (word_at state.words 7) × (is_pointer a.shape (word_at state.words 7) ≡ true)
+  pointer_learned : a.hand.place ≢ Spent → Behind a.seen.free (word_at state.words 7) × (is_pointer a.segment.shape (word_at state.words 7) ≡ true)
   pointer_learned lives =
       let fits = kept.each id a mine lives in (
         subst (Behind a.seen.free) (sym free_is) fits.sees.free,
@@ -125,7 +125,7 @@ module _ (shape : Dimensions) (opened : Anatomy) (state : State) (kept : Invaria
         actors = set state.actors id (after_free through a old new found);
       })
 
-  exchanged : (new : ℕ) → a.place ≡ FreeLoaded (free_of anatomy) → IsRise shape (free_of anatomy) new → Exchanged (free_of anatomy) new true
+  exchanged : (new : ℕ) → a.hand.place ≡ FreeLoaded (free_of anatomy) → IsRise shape (free_of anatomy) new → Exchanged (free_of anatomy) new true
   exchanged new ready rise =
       let old : ℕ = free_of anatomy in
       let size : ℕ = new - old in
@@ -156,23 +156,23 @@ module _ (shape : Dimensions) (opened : Anatomy) (state : State) (kept : Invaria
       )
 
   -- a flag is set: the corrupt one, and the full one
-  pub corrupt_set : is_bound a.place ≡ false → Keeps (allocating_event (set_flag 1))
+  pub corrupt_set : is_bound a.hand.place ≡ false → Keeps (allocating_event (set_flag 1))
   corrupt_set turn =
-      let b : Actor = record a { place = Idle; spoiled = true } in (
-        flags_set shape opened state kept id a mine records true anatomy.full (bit_or (word_at state.words 6) 1) Idle true a.filled
-            (turns_unbound a Idle turn refl) (λ no. unbound_unbeaten a.place turn) (shown_corrupt shape state.words (layout_of anatomy) kept.shown)
-            (set_now opened.corrupt state.actors id a b (λ (x : Actor). x.spoiled) mine refl)
-            (kept.full ∙ ap (λ set. opened.full || fold ◌||◌ false set) (sym (column (λ (x : Actor). x.filled) state.actors id a b mine refl))) tt,
+      let b : Actor = record a { hand = record a.hand { place = Idle }; done = record a.done { spoiled = true } } in (
+        flags_set shape opened state kept id a mine records true anatomy.full (bit_or (word_at state.words 6) 1) Idle true a.done.filled
+            (turns_unbound a Idle turn refl) (λ no. unbound_unbeaten a.hand.place turn) (shown_corrupt shape state.words (layout_of anatomy) kept.shown)
+            (set_now opened.corrupt state.actors id a b (λ (x : Actor). x.done.spoiled) mine refl)
+            (kept.full ∙ ap (λ set. opened.full || fold ◌||◌ false set) (sym (column (λ (x : Actor). x.done.filled) state.actors id a b mine refl))) tt,
         tt,
       )
 
-  pub full_set : is_bound a.place ≡ false → Keeps (allocating_event (set_flag 2))
+  pub full_set : is_bound a.hand.place ≡ false → Keeps (allocating_event (set_flag 2))
   full_set turn =
-      let b : Actor = record a { place = Idle; filled = true } in (
-        flags_set shape opened state kept id a mine records anatomy.corrupt true (bit_or (word_at state.words 6) 2) Idle a.spoiled true
-            (turns_unbound a Idle turn refl) (λ no. unbound_unbeaten a.place turn) (shown_full shape state.words (layout_of anatomy) kept.shown)
-            (kept.corrupt ∙ ap (λ set. opened.corrupt || fold ◌||◌ false set) (sym (column (λ (x : Actor). x.spoiled) state.actors id a b mine refl)))
-            (set_now opened.full state.actors id a b (λ (x : Actor). x.filled) mine refl) tt,
+      let b : Actor = record a { hand = record a.hand { place = Idle }; done = record a.done { filled = true } } in (
+        flags_set shape opened state kept id a mine records anatomy.corrupt true (bit_or (word_at state.words 6) 2) Idle a.done.spoiled true
+            (turns_unbound a Idle turn refl) (λ no. unbound_unbeaten a.hand.place turn) (shown_full shape state.words (layout_of anatomy) kept.shown)
+            (kept.corrupt ∙ ap (λ set. opened.corrupt || fold ◌||◌ false set) (sym (column (λ (x : Actor). x.done.spoiled) state.actors id a b mine refl)))
+            (set_now opened.full state.actors id a b (λ (x : Actor). x.done.filled) mine refl) tt,
         tt,
       )
 

@@ -28,6 +28,7 @@ use Rattle.segment_invariant.proofs.Blocks.Stops.{linked_beside_own}
 use Rattle.segment_invariant.proofs.Frames.OneActor.{Doing, doing_of, is_plain, turns_plain}
 use Rattle.segment_invariant.proofs.Allocating.Blocks.{IsStore, makes, stores, own_beside, claims_longer}
 use Rattle.segment_invariant.proofs.Allocating.Events.{Keeps}
+use Rattle.segment_machine.specs.Actor.{is_opener}
 
 -- blocks at places of their own, and one more at another place
 apart_longer : (own : List Own) (block : Own)
@@ -46,7 +47,7 @@ apart_longer own block apart others i j x y one two same = elim (at_snoc_index o
 ]
 
 module _ (shape : Dimensions) (opened : Anatomy) (state : State) (kept : Invariant shape opened state) (id : ℕ) (a : Actor)
-    (mine : get_elem? state.actors id ≡ some a) (records : a.opener ≡ 0) where
+    (mine : get_elem? state.actors id ≡ some a) (records : is_opener a.role ≡ false) where
   abbrev anatomy : Anatomy
   anatomy = kept.anatomy
 
@@ -75,9 +76,9 @@ module _ (shape : Dimensions) (opened : Anatomy) (state : State) (kept : Invaria
     }
 
     -- and the actor stands behind that
-    made : (place : Place) → is_plain a.place ≡ true → is_beaten a.place ≡ false → is_plain place ≡ true
-        → (HasPlain (set anatomy.pieces there.0 (raw at new)) id at new → StandsRight shape (record anatomy { pieces = set anatomy.pieces there.0 (raw at new) }) id (record a { place = place }) place)
-        → Goes (at + j) v (record a { place = place })
+    made : (place : Place) → is_plain a.hand.place ≡ true → is_beaten a.hand.place ≡ false → is_plain place ≡ true
+        → (HasPlain (set anatomy.pieces there.0 (raw at new)) id at new → StandsRight shape (record anatomy { pieces = set anatomy.pieces there.0 (raw at new) }) id (record a { hand = record a.hand { place = place } }) place)
+        → Goes (at + j) v (record a { hand = record a.hand { place = place } })
     made place was unbeaten is stands =
         makes shape opened state kept id a mine records there.0 (raw at old) (raw at new) (set state.words (at + j) v) raw_store refl refl place
         (turns_plain a place was is) (λ no. unbeaten) (stands (stands_here anatomy.pieces there.0 (raw at old) (raw at new) there.1))
@@ -90,7 +91,7 @@ module _ (shape : Dimensions) (opened : Anatomy) (state : State) (kept : Invaria
       let long : length (replicate {A = ℕ} size 0) ≡ size = length-replicate {A = ℕ} size 0 in
       let none_on : at + 0 ≡ at = omega arith in
       let shown = size_stored shape state.words (layout_of anatomy) id at size k kept.shown (at_map block_of anatomy.pieces k (raw at (replicate size 0)) there) five in (
-        subst (λ n. Goes n size (record a { place = Sized at size })) none_on
+        subst (λ n. Goes n size (record a { hand = record a.hand { place = Sized at size } })) none_on
             (made at 0 size (replicate size 0) (sized size) (k, there) (omega (arith, long, five)) (omega (arith, long, length-sized size five))
             (subst (λ n. IsShown shape (set state.words n size) (put (layout_of anatomy) k (own id at (sized size)))) (sym none_on) shown)
             (Sized at size) (ap is_plain ready) (ap is_beaten ready) refl (λ has. (placed, has))),
@@ -98,10 +99,10 @@ module _ (shape : Dimensions) (opened : Anatomy) (state : State) (kept : Invaria
       )
 
   -- its cookie
-  cookie_put : (at size cookie : ℕ) (place : Place) → a.place ≡ Sized at size → is_plain place ≡ true
+  cookie_put : (at size cookie : ℕ) (place : Place) → a.hand.place ≡ Sized at size → is_plain place ≡ true
       → ((pieces : List Piece) → IsPlace shape at size → HasPlain pieces id at (marked size cookie)
-      → StandsRight shape (record anatomy { pieces = pieces }) id (record a { place = place }) place)
-      → Goes (at + 1) cookie (record a { place = place })
+      → StandsRight shape (record anatomy { pieces = pieces }) id (record a { hand = record a.hand { place = place } }) place)
+      → Goes (at + 1) cookie (record a { hand = record a.hand { place = place } })
   cookie_put at size cookie place ready plain_place stands =
       let (placed, (k, there)) = subst (StandsRight shape anatomy id a) ready (kept.standing id a mine) in
       let five = placed.five in
@@ -113,15 +114,15 @@ module _ (shape : Dimensions) (opened : Anatomy) (state : State) (kept : Invaria
   -- that of a block, or that of a wasted rest of a page
   pub cookie_kept : (at cookie : ℕ) → Ready a (allocating_event (store_cookie at cookie)) → Keeps shape opened state kept id a mine records (allocating_event (store_cookie at cookie))
   cookie_kept at cookie ((size, ready), inl block) =
-      let here : Goes (at + 1) 0xC8799269 (record a { place = Marked at size }) =
+      let here : Goes (at + 1) 0xC8799269 (record a { hand = record a.hand { place = Marked at size } }) =
       cookie_put at size 0xC8799269 (Marked at size) ready refl (λ pieces placed has. (placed, has)) in
-      let same : size ≡ size_at a.place = sym (ap size_at ready) in (
-        subst (λ n. Goes (at + 1) n (record a { place = if n == 0xC8799269 then Marked at (size_at a.place) else Idle })) (sym block)
-            (subst (λ n. Goes (at + 1) 0xC8799269 (record a { place = Marked at n })) same here),
+      let same : size ≡ size_at a.hand.place = sym (ap size_at ready) in (
+        subst (λ n. Goes (at + 1) n (record a { hand = record a.hand { place = if n == 0xC8799269 then Marked at (size_at a.hand.place) else Idle } })) (sym block)
+            (subst (λ n. Goes (at + 1) 0xC8799269 (record a { hand = record a.hand { place = Marked at n } })) same here),
         tt,
       )
   cookie_kept at cookie ((size, ready), inr waste) = (
-    subst (λ n. Goes (at + 1) n (record a { place = if n == 0xC8799269 then Marked at (size_at a.place) else Idle })) (sym waste)
+    subst (λ n. Goes (at + 1) n (record a { hand = record a.hand { place = if n == 0xC8799269 then Marked at (size_at a.hand.place) else Idle } })) (sym waste)
         (cookie_put at size 0xFFFFFFFFFFFFFFFF Idle ready refl (λ pieces placed has. tt)),
     tt,
   )
@@ -133,7 +134,7 @@ module _ (shape : Dimensions) (opened : Anatomy) (state : State) (kept : Invaria
   claimed_are at size tag five =
       let e : size - 3 ≡ suc (size - 4 - 0) = omega arith in ap (λ (n : ℕ). size ∷ 0xC8799269 ∷ tag ∷ replicate {A = ℕ} n 0) e
 
-  module _ (at size tag : ℕ) (ready : a.place ≡ Marked at size) (some_tag : tag ≤ 3) where
+  module _ (at size tag : ℕ) (ready : a.hand.place ≡ Marked at size) (some_tag : tag ≤ 3) where
     abbrev block : Own
     block = new_own at size tag
 
@@ -180,10 +181,10 @@ module _ (shape : Dimensions) (opened : Anatomy) (state : State) (kept : Invaria
           }
 
       -- none of its own blocks stands there yet
-      none_there : All (HoldsOwn shape anatomy.pieces id) a.own → (i : ℕ) (x : Own) → get_elem? a.own i ≡ some x → x.at ≢ at
+      none_there : All (HoldsOwn shape anatomy.pieces id) a.hand.own → (i : ℕ) (x : Own) → get_elem? a.hand.own i ≡ some x → x.at ≢ at
       none_there holds i x is same =
           true≢false (ap is_claimed (one_stands shape state.words anatomy kept.shown at (some id) (some id) (held x) p.body
-          (subst (λ n. Stands anatomy.pieces n (some id) (held x)) same (all_at (HoldsOwn shape anatomy.pieces id) a.own i x holds is).stands)
+          (subst (λ n. Stands anatomy.pieces n (some id) (held x)) same (all_at (HoldsOwn shape anatomy.pieces id) a.hand.own i x holds is).stands)
           (k, there)).1)
 
       new_holds : HoldsOwn shape pieces id block
@@ -201,27 +202,26 @@ module _ (shape : Dimensions) (opened : Anatomy) (state : State) (kept : Invaria
           subst (λ n. IsPermutation (claims_of pieces) (claims_of anatomy.pieces ++ record { at = at; size = n } ∷ [])) long
           (claims_more anatomy.pieces k p q there refl refl)
 
-    claimed : Goes (at + 2) tag (record a { place = Idle; own = a.own ++ block ∷ []; claimed = a.claimed ++ claim ∷ [] })
+    claimed : Goes (at + 2) tag (record a { hand = record { place = Idle; own = a.hand.own ++ block ∷ [] }; done = record a.done { claimed = a.done.claimed ++ claim ∷ [] } })
     claimed =
         let (placed, (k, there)) = subst (StandsRight shape anatomy id a) ready (kept.standing id a mine) in
         let turns = turns_plain a Idle (ap is_plain ready) refl in
         let fits = kept.each id a mine turns.lived in
-        let d : Doing = record (doing_of a) { place = Idle; own = a.own ++ block ∷ []; claimed = a.claimed ++ claim ∷ [] } in
+        let d : Doing = record (doing_of a) { place = Idle; own = a.hand.own ++ block ∷ []; claimed = a.done.claimed ++ claim ∷ [] } in
         let store = claim_store placed k there in
         stores shape opened state kept id a mine records k (p placed k there) (q placed k there) words store d turns (λ no. ap is_beaten ready)
         (claims_longer shape opened state kept id a mine records (pieces placed k there) d claim (claim_more placed k there) refl)
         refl refl refl tt
-        (All-push (HoldsOwn shape (pieces placed k there) id) a.own block
+        (All-push (HoldsOwn shape (pieces placed k there) id) a.hand.own block
         (own_beside shape opened state kept id a mine records k (p placed k there) (q placed k there) words store refl fits.own) (new_holds placed k there))
-        (apart_longer a.own block fits.apart (none_there placed k there fits.own))
+        (apart_longer a.hand.own block fits.apart (none_there placed k there fits.own))
 
   pub type_kept : (at tag : ℕ) → Ready a (allocating_event (store_type at tag)) → Keeps shape opened state kept id a mine records (allocating_event (store_type at tag))
   type_kept at tag ((size, ready), least, most) =
-      let same : size ≡ size_at a.place = sym (ap size_at ready) in (
+      let same : size ≡ size_at a.hand.place = sym (ap size_at ready) in (
         subst (λ n. Goes (at + 2) tag (record a {
-          place = Idle;
-          own = a.own ++ new_own at n tag ∷ [];
-          claimed = a.claimed ++ record { at = at; size = n } ∷ [];
+          hand = record { place = Idle; own = a.hand.own ++ new_own at n tag ∷ [] };
+          done = record a.done { claimed = a.done.claimed ++ record { at = at; size = n } ∷ [] };
         })) same (claimed at size tag ready most),
         tt,
       )

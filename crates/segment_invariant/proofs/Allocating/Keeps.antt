@@ -1,5 +1,5 @@
 -- Each event that allocates keeps what holds: it acts on a word of the segment, and what it leaves is kept.
-use Rattle.std.proofs.Common.{◌≡◌, ℕ, ◌+◌, ◌<◌, ◌≤◌, length, arith}
+use Rattle.std.proofs.Common.{◌≡◌, ℕ, ◌+◌, ◌<◌, ◌≤◌, length, arith, false}
 use mathlib.Core.Option.{some}
 use lib.ListN.{get_elem?}
 use Rattle.std.proofs.Common.{subst}
@@ -17,9 +17,10 @@ use Rattle.segment_invariant.proofs.Frames.GoesOn.{happens}
 use Rattle.segment_invariant.proofs.Allocating.Events.{Keeps, words_long, flags_loaded, free_loaded, free_exchanged, flag_set}
 use Rattle.segment_invariant.proofs.Allocating.Headers.{size_kept, cookie_kept, type_kept}
 use Rattle.segment_invariant.proofs.Allocating.Payloads.{has_lived, payload_kept}
+use Rattle.segment_machine.specs.Actor.{is_opener}
 
 module _ (shape : Dimensions) (opened : Anatomy) (state : State) (id : ℕ) (a : Actor) (kept : Invariant shape opened state)
-    (mine : get_elem? state.actors id ≡ some a) (records : a.opener ≡ 0) where
+    (mine : get_elem? state.actors id ≡ some a) (records : is_opener a.role ≡ false) where
   -- what an event does to a word of the segment is what happens
   at_word : (event : Event) → spot (length state.words) event < length state.words → Keeps shape opened state kept id a mine records event
       → Invariant shape opened (happened opened.version state id a event) × Learned a event (found_at state event)
@@ -39,9 +40,9 @@ module _ (shape : Dimensions) (opened : Anatomy) (state : State) (id : ℕ) (a :
 
   payload_within : (at index value : ℕ) → Ready a (allocating_event (store_payload at index value)) → at + (4 + index) < length state.words
   payload_within at index value (x, (has, unended), place, from, to) =
-      let (i, there) = at_from a.own x has in
+      let (i, there) = at_from a.hand.own x has in
       let fits = kept.each id a mine (has_lived shape opened state kept id a mine records i x there) in
-      let within = (all_at (HoldsOwn shape kept.anatomy.pieces id) a.own i x fits.own there).placed.within in
+      let within = (all_at (HoldsOwn shape kept.anatomy.pieces id) a.hand.own i x fits.own there).placed.within in
       block_within at (4 + index) x.size (omega (arith, place, within)) to
 
 pub allocating_keeps : AllocatingKeeps

@@ -32,6 +32,7 @@ use Rattle.segment_invariant.proofs.Allocating.Claimers.{stays_put}
 use Rattle.segment_invariant.proofs.Allocating.Blocks.{IsStore, stores, claims_kept}
 use Rattle.segment_invariant.proofs.Allocating.Events.{Keeps}
 use Rattle.segment_invariant.proofs.Frames.Growth.{Stays}
+use Rattle.segment_machine.specs.Actor.{is_opener}
 
 -- ---- lists
 
@@ -78,24 +79,24 @@ payload_stored payload n index v from to =
 -- ---- a word of a block of its own
 
 module _ (shape : Dimensions) (opened : Anatomy) (state : State) (kept : Invariant shape opened state) (id : ℕ) (a : Actor)
-    (mine : get_elem? state.actors id ≡ some a) (records : a.opener ≡ 0) where
+    (mine : get_elem? state.actors id ≡ some a) (records : is_opener a.role ≡ false) where
   abbrev anatomy : Anatomy
   anatomy = kept.anatomy
 
   -- an actor with a block lives
-  pub has_lived : (i : ℕ) (x : Own) → get_elem? a.own i ≡ some x → a.place ≢ Spent
+  pub has_lived : (i : ℕ) (x : Own) → get_elem? a.hand.own i ≡ some x → a.hand.place ≢ Spent
   has_lived i x there is_spent =
       let nobody : a ≡ spent = subst (StandsRight shape anatomy id a) is_spent (kept.standing id a mine) in
-      some-ne-none x (sym there ∙ ap (λ (b : Actor). get_elem? b.own i) nobody)
+      some-ne-none x (sym there ∙ ap (λ (b : Actor). get_elem? b.hand.own i) nobody)
 
-  module _ (i : ℕ) (x y : Own) (j v : ℕ) (there : get_elem? a.own i ≡ some x) (same_at : y.at ≡ x.at) (same_size : y.size ≡ x.size) (tagged : y.tag ≤ 3)
+  module _ (i : ℕ) (x y : Own) (j v : ℕ) (there : get_elem? a.hand.own i ≡ some x) (same_at : y.at ≡ x.at) (same_size : y.size ≡ x.size) (tagged : y.tag ≤ 3)
       (words_are : own_words y ≡ set (own_words x) j v) (within : j < length (own_words x)) (room : length y.payload + 4 ≤ y.size)
       (ends : (y.next ≡ 0) ⊎ (y.next ≡ 12)) where
-    lived : a.place ≢ Spent
+    lived : a.hand.place ≢ Spent
     lived = has_lived i x there
 
     pub holds : HoldsOwn shape anatomy.pieces id x
-    holds = all_at (HoldsOwn shape anatomy.pieces id) a.own i x (kept.each id a mine lived).own there
+    holds = all_at (HoldsOwn shape anatomy.pieces id) a.hand.own i x (kept.each id a mine lived).own there
 
     abbrev k : ℕ
     k = holds.stands.0
@@ -136,11 +137,11 @@ module _ (shape : Dimensions) (opened : Anatomy) (state : State) (kept : Invaria
         }
 
     -- its other blocks
-    another : (m : ℕ) (z : Own) → m ≢ i → get_elem? a.own m ≡ some z → z.at ≢ x.at
+    another : (m : ℕ) (z : Own) → m ≢ i → get_elem? a.hand.own m ≡ some z → z.at ≢ x.at
     another m z ne is same = ne ((kept.each id a mine lived).apart m i z x is there same)
 
-    own_holds : All (HoldsOwn shape pieces id) (set a.own i y)
-    own_holds = all_from (HoldsOwn shape pieces id) (set a.own i y) (λ m z is. elim (at_set a.own i m y z is) [
+    own_holds : All (HoldsOwn shape pieces id) (set a.hand.own i y)
+    own_holds = all_from (HoldsOwn shape pieces id) (set a.hand.own i y) (λ m z is. elim (at_set a.hand.own i m y z is) [
       | inl t ↦ subst (HoldsOwn shape pieces id) t.1 (record {
         stands = stands_here anatomy.pieces k p q at_k;
         placed = subst (λ (n : ℕ × ℕ). IsPlace shape n.0 n.1) (λ e. (sym same_at e, sym same_size e)) holds.placed;
@@ -149,7 +150,7 @@ module _ (shape : Dimensions) (opened : Anatomy) (state : State) (kept : Invaria
         ends = ends;
       })
       | inr t ↦
-          let old = all_at (HoldsOwn shape anatomy.pieces id) a.own m z (kept.each id a mine lived).own t.1 in record {
+          let old = all_at (HoldsOwn shape anatomy.pieces id) a.hand.own m z (kept.each id a mine lived).own t.1 in record {
             stands = stands_beside anatomy.pieces k p q at_k z.at (some id) (held z)
                 (λ same. another m z t.0 t.1 (ap (λ (piece : Piece). piece.at) same)) old.stands;
             placed = old.placed;
@@ -159,47 +160,47 @@ module _ (shape : Dimensions) (opened : Anatomy) (state : State) (kept : Invaria
           }
     ])
 
-    own_apart : (m n : ℕ) (z w : Own) → get_elem? (set a.own i y) m ≡ some z → get_elem? (set a.own i y) n ≡ some w → z.at ≡ w.at → m ≡ n
-    own_apart m n z w one two same = elim (at_set a.own i m y z one) [
-      | inl s ↦ elim (at_set a.own i n y w two) [
+    own_apart : (m n : ℕ) (z w : Own) → get_elem? (set a.hand.own i y) m ≡ some z → get_elem? (set a.hand.own i y) n ≡ some w → z.at ≡ w.at → m ≡ n
+    own_apart m n z w one two same = elim (at_set a.hand.own i m y z one) [
+      | inl s ↦ elim (at_set a.hand.own i n y w two) [
         | inl t ↦ s.0 ∙ sym t.0
         | inr t ↦ absurd (another n w t.0 t.1 (sym same ∙ (ap (λ (o : Own). o.at) (sym s.1) ∙ same_at)))
       ]
-      | inr s ↦ elim (at_set a.own i n y w two) [
+      | inr s ↦ elim (at_set a.hand.own i n y w two) [
         | inl t ↦ absurd (another m z s.0 s.1 (same ∙ (ap (λ (o : Own). o.at) (sym t.1) ∙ same_at)))
         | inr t ↦ (kept.each id a mine lived).apart m n z w s.1 t.1 same
       ]
     ]
 
-    own_others : y.tag ≡ x.tag → (z : Own) → Contains a.own z → (w : Own) × Contains (set a.own i y) w × (w.at ≡ z.at) × (w.tag ≡ z.tag)
+    own_others : y.tag ≡ x.tag → (z : Own) → Contains a.hand.own z → (w : Own) × Contains (set a.hand.own i y) w × (w.at ≡ z.at) × (w.tag ≡ z.tag)
     own_others same_tag z has =
-        let (m, is) = at_from a.own z has in
+        let (m, is) = at_from a.hand.own z has in
         dite (ℕ_discrete m i)
         (λ same.
-        let one : x ≡ z = some-injective x z (sym there ∙ (ap (get_elem? a.own) (sym same) ∙ is)) in
-        (y, contains_at (set a.own i y) i y (set_at a.own i x y there), same_at ∙ ap (λ (o : Own). o.at) one, same_tag ∙ ap (λ (o : Own). o.tag) one))
-        (λ ne. (z, contains_at (set a.own i y) m z (set_else a.own i m y ne ∙ is), refl, refl))
+        let one : x ≡ z = some-injective x z (sym there ∙ (ap (get_elem? a.hand.own) (sym same) ∙ is)) in
+        (y, contains_at (set a.hand.own i y) i y (set_at a.hand.own i x y there), same_at ∙ ap (λ (o : Own). o.at) one, same_tag ∙ ap (λ (o : Own). o.tag) one))
+        (λ ne. (z, contains_at (set a.hand.own i y) m z (set_else a.hand.own i m y ne ∙ is), refl, refl))
 
     abbrev after : Anatomy
     after = with_piece anatomy k q
 
     abbrev pub filling : Place → Doing
-    filling place = record (doing_of a) { place = place; own = set a.own i y }
+    filling place = record (doing_of a) { place = place; own = set a.hand.own i y }
 
     -- the state is kept with that block, wherever the actor stands then
-    pub fills_at : (place : Place) → TurnsTo a place → KeepsUp a.place place → StandsRight shape after id (doing a (filling place)) place
-        → Invariant shape opened (record { words = words; cursors = state.cursors; actors = set state.actors id (record a { place = place; own = set a.own i y }) })
+    pub fills_at : (place : Place) → TurnsTo a place → KeepsUp a.hand.place place → StandsRight shape after id (doing a (filling place)) place
+        → Invariant shape opened (record { words = words; cursors = state.cursors; actors = set state.actors id (record a { hand = record { place = place; own = set a.hand.own i y } }) })
     fills_at place turns up stands =
         stores shape opened state kept id a mine records k p q words store (filling place) turns up
         (claims_kept shape opened state kept id a mine records pieces (filling place) (claims_same anatomy.pieces k p q at_k refl same_at long) refl)
         refl refl refl stands own_holds own_apart
 
     -- where it stood, while the block is of the type that it was
-    pub fills : y.tag ≡ x.tag → Invariant shape opened (record { words = words; cursors = state.cursors; actors = set state.actors id (record a { own = set a.own i y }) })
+    pub fills : y.tag ≡ x.tag → Invariant shape opened (record { words = words; cursors = state.cursors; actors = set state.actors id (record a { hand = record a.hand { own = set a.hand.own i y } }) })
     fills same_tag =
         let stays : Stays anatomy.pieces pieces = stays_put anatomy.pieces k id p q at_k refl refl tt tt in
-        fills_at a.place (turns_not a lived) (λ no. no)
-        (stands_on shape anatomy after id a (doing a (filling a.place))
+        fills_at a.hand.place (turns_not a lived) (λ no. no)
+        (stands_on shape anatomy after id a (doing a (filling a.hand.place))
         (grounds_along anatomy pieces anatomy.spare anatomy.corrupt anatomy.full anatomy.tail stays id (λ at ws.
         stands_beside anatomy.pieces k p q at_k at (some id) (plain ws) (λ same. true≢false (sym (ap (λ (piece : Piece). is_claimed piece.body) same)))))
         (record {
@@ -210,9 +211,9 @@ module _ (shape : Dimensions) (opened : Anatomy) (state : State) (kept : Invaria
           seen = λ at word has. has;
           chain = λ at has. has;
           own = own_others same_tag;
-          spent = λ is. absurd (lived (ap (λ (b : Actor). b.place) is));
+          spent = λ is. absurd (lived (ap (λ (b : Actor). b.hand.place) is));
         })
-        a.place (kept.standing id a mine))
+        a.hand.place (kept.standing id a mine))
 
   -- ---- a word of a payload
 
@@ -226,22 +227,22 @@ module _ (shape : Dimensions) (opened : Anatomy) (state : State) (kept : Invaria
 
   pub payload_kept : (at index value : ℕ) → Ready a (allocating_event (store_payload at index value)) → Keeps shape opened state kept id a mine records (allocating_event (store_payload at index value))
   payload_kept at index value (x, (has, unended), place, from, to) =
-      let (i, there) = at_from a.own x has in
+      let (i, there) = at_from a.hand.own x has in
       let fits = kept.each id a mine (has_lived i x there) in
-      let is = all_at (HoldsOwn shape anatomy.pieces id) a.own i x fits.own there in
+      let is = all_at (HoldsOwn shape anatomy.pieces id) a.hand.own i x fits.own there in
       let y : Own = record x { payload = stored x.payload index value } in
       let zeros = length-replicate {A = ℕ} (x.size - 4 - length x.payload) 0 in
       let all = length-append x.payload (replicate (x.size - 4 - length x.payload) 0) in
       let made = length-replicate {A = ℕ} (index - length x.payload) 0 in
       let inner = length-append x.payload (replicate (index - length x.payload) 0) in
       let outer = length-append (x.payload ++ replicate (index - length x.payload) 0) (value ∷ []) in
-      let changed : change_own at (λ own. record own { payload = stored own.payload index value }) a.own ≡ set a.own i y =
-      change_one (λ (own : Own). own.at == at) (λ (own : Own). record own { payload = stored own.payload index value }) a.own i x there
+      let changed : change_own at (λ own. record own { payload = stored own.payload index value }) a.hand.own ≡ set a.hand.own i y =
+      change_one (λ (own : Own). own.at == at) (λ (own : Own). record own { payload = stored own.payload index value }) a.hand.own i x there
       (eq-eqb x.at at place) (λ j z here passes. fits.apart j i z x here there (eqb-true z.at at passes ∙ sym place)) in (
         subst (λ (s : ℕ × List Own). Invariant shape opened (record {
           words = set state.words (s.0 + (4 + index)) value;
           cursors = state.cursors;
-          actors = set state.actors id (record a { own = s.1 });
+          actors = set state.actors id (record a { hand = record a.hand { own = s.1 } });
         })) (λ e. (place e, sym changed e))
             (fills i x y (4 + index) value there refl refl is.tagged (filled_words x index value from to)
             (let room = is.room in omega (arith, zeros, all, from, to, room)) (omega (arith, made, inner, outer, from, to)) is.ends refl),

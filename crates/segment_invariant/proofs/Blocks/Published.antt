@@ -168,7 +168,7 @@ pub record Publishes (shape : Dimensions) (id : ℕ) (old : Anatomy) (pieces : L
   pub holdings : SameHoldings old.version old.pieces pieces
 
 -- a block with the same words in the place of another
-relabelled : (shape : Dimensions) (words : List ℕ) (anatomy : Anatomy) (k : ℕ) (p q : Piece) → IsShown shape words (layout_of anatomy)
+pub relabelled : (shape : Dimensions) (words : List ℕ) (anatomy : Anatomy) (k : ℕ) (p q : Piece) → IsShown shape words (layout_of anatomy)
     → get_elem? anatomy.pieces k ≡ some p → k ≢ 0 → 0 < extent_of p → words_of q.body ≡ words_of p.body → q.at ≡ p.at
     → IsShown shape words (layout_of (with_piece anatomy k q))
 relabelled shape words anatomy k p q shown there behind_first some_words same place =

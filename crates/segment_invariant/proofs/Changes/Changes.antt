@@ -1,5 +1,5 @@
 -- A state is kept where a recorder counts, packs or takes: it changes a word of a published block, and itself.
-use Rattle.std.proofs.Common.{◌≡◌, ◌≢◌, ℕ, ◌<◌, ◌≤◌, ℤ, true, List, ◌++◌, set, All, Contains, IsPermutation, inl, inr, ⊎_elim, refl, sym, ap, ◌∙◌, subst, arith}
+use Rattle.std.proofs.Common.{◌≡◌, ◌≢◌, ℕ, ◌<◌, ◌≤◌, ℤ, true, List, ◌++◌, set, All, Contains, IsPermutation, inl, inr, ⊎_elim, refl, sym, ap, ◌∙◌, subst, arith, false}
 use Rattle.std.proofs.lemmas.List.Elements.{All-weaker}
 use mathlib.Core.Option.{some}
 use lib.ListN.{get_elem?}
@@ -10,20 +10,19 @@ use Rattle.alloc_core.specs.Laws.{Behind}
 use Rattle.list_core.specs.Chain.{IsLinked}
 use Rattle.segment_machine.specs.declared.entry.Entry.{Entry}
 use Rattle.segment_machine.specs.declared.actor.Actor.{Actor}
+use Rattle.segment_machine.specs.declared.actor.Portion.{Portion}
 use Rattle.segment_machine.specs.declared.actor.Answered.{Answered}
 use Rattle.segment_machine.specs.declared.actor.Claim.{Claim}
-use Rattle.segment_machine.specs.declared.actor.Known.{Known}
 use Rattle.segment_machine.specs.declared.actor.Own.{Own}
-use Rattle.segment_machine.specs.declared.actor.Taken.{Taken}
 use Rattle.segment_machine.specs.declared.place.Place.TheVariants.{Spent}
 use Rattle.segment_machine.specs.Entry.{tally_units}
-use Rattle.segment_machine.specs.Actor.{counted_of, all_counted, units_of}
+use Rattle.segment_machine.specs.Actor.{counted_of, all_counted, units_of, taken_of, is_opener}
 use Rattle.segment_machine.specs.State.{State}
 use Rattle.segment_invariant.proofs.Frames.Ahead.{KeepsUp, ahead_at}
 use Rattle.segment_invariant.specs.Consistent.{IsWithinCounts}
 use Rattle.segment_invariant.specs.Body.{Record, Body, plain, held, histogram, Piece, Anatomy, layout_of, order_of, free_of, claims_of}
 use Rattle.segment_invariant.specs.Ledger.{IsBalanced}
-use Rattle.segment_invariant.specs.Seen.{Stands, Knows, Sees}
+use Rattle.segment_invariant.specs.Seen.{Stands, Sees}
 use Rattle.segment_invariant.specs.Invariant.{StandsAs, IsListed, RecordsAreKept, StandsRight, HoldsOwn, CallsRight, HasKey, SumsAreNear, LooksBack, FinalsAreExact, Fits, IsSetBy, ClaimedRight, StandStill, is_living, Invariant}
 use Rattle.segment_invariant.proofs.Lists.Elements.{rows, column, row_from, sum_same}
 use Rattle.segment_invariant.proofs.Lists.Countings.{units_total}
@@ -39,6 +38,7 @@ use Rattle.segment_invariant.proofs.Counting.Seen.{known_stands}
 use Rattle.segment_invariant.proofs.Publishing.Links.{listed_claimed}
 use Rattle.segment_invariant.proofs.Changes.Ledgers.{rows_beside}
 use Rattle.segment_invariant.proofs.Changes.Others.{Deed, deed_of, changed, alone_was, none_alone, finals_else, looks_on}
+use Rattle.segment_invariant.proofs.Frames.PassedOver.{passed_on, still_onward}
 
 -- What has to be shown where a recorder changes what is published, and goes on to a deed: of the blocks and the words that are then there; of
 -- the ledger, the keys and the sums; and of the recorder itself. Published blocks go on, and those that come beside them are `added`.
@@ -58,12 +58,12 @@ pub record Changes (shape : Dimensions) (opened : Anatomy) (state : State) (old 
   pub balanced : IsBalanced old.version opened.pieces new.pieces (set state.actors id (changed a d))
   pub counted : (name : List ℕ) (key : ℤ) → tally_units (counted_of a) name key ≤ tally_units (counted_of (changed a d)) name key
   pub keys : (entry : Entry) → Contains (counted_of (changed a d)) entry → 0 < entry.units → HasKey old.records entry.name entry.key
-  pub taken_keys : (t : Taken) (count : ℤ × ℕ) → Contains d.taken t → Contains t.counts count → HasKey old.records t.name count.0
+  pub taken_keys : (t : Portion) (count : ℤ × ℕ) → Contains (taken_of (changed a d)) t → Contains t.counts count → HasKey old.records t.name count.0
   pub sums : SumsAreNear new.pieces (set state.actors id (changed a d))
   pub lives : d.place ≢ Spent
   pub stands : StandsRight shape new id (changed a d) d.place
   pub sees : Sees new state.cursors d.seen
-  pub up : KeepsUp a.place d.place
+  pub up : KeepsUp a.hand.place d.place
   pub own : All (HoldsOwn shape new.pieces id) d.own
   pub apart : (i j : ℕ) (x y : Own) → get_elem? d.own i ≡ some x → get_elem? d.own j ≡ some y → x.at ≡ y.at → i ≡ j
   pub calls : CallsRight new (changed a d)
@@ -71,7 +71,7 @@ pub record Changes (shape : Dimensions) (opened : Anatomy) (state : State) (old 
   pub finals : FinalsAreExact (set state.actors id (changed a d)) opener id (changed a d)
 
 module _ (shape : Dimensions) (opened : Anatomy) (state : State) (kept : Invariant shape opened state) (id : ℕ) (a : Actor)
-    (mine : get_elem? state.actors id ≡ some a) (records : a.opener ≡ 0) (lived : a.place ≢ Spent) (d : Deed) (pieces : List Piece) (words : List ℕ)
+    (mine : get_elem? state.actors id ≡ some a) (records : is_opener a.role ≡ false) (lived : a.hand.place ≢ Spent) (d : Deed) (pieces : List Piece) (words : List ℕ)
     (added : ℕ → Body → Type 0)
     (changes : Changes shape opened state kept.anatomy (record kept.anatomy { pieces = pieces }) kept.roles.opener id a d words added) where
   abbrev old : Anatomy
@@ -95,6 +95,7 @@ module _ (shape : Dimensions) (opened : Anatomy) (state : State) (kept : Invaria
     opener = refl;
     first = refl;
     first_noted = refl;
+    first_taken = refl;
     made = refl;
     outstanding = refl;
     inherited = refl;
@@ -122,9 +123,6 @@ module _ (shape : Dimensions) (opened : Anatomy) (state : State) (kept : Invaria
       (λ (count : ℤ × ℕ). count.1 ≤ tally_units (all_counted actors) s.name count.0)
       (λ count below. let up = more s.name count.0 in omega (arith, below, up)) s.counts) list
 
-  names : (list : List Known) → All (Knows old) list → All (Knows new) list
-  names list = All-weaker (Knows old) (Knows new) (λ known knows. record { first_spec = knows.first_spec; first = knows.first; same = knows.same }) list
-
   grounds : (other : ℕ) → other ≢ id → Grounds old new other
   grounds other ne = record {
     version = refl;
@@ -137,7 +135,7 @@ module _ (shape : Dimensions) (opened : Anatomy) (state : State) (kept : Invaria
   }
 
   -- another actor
-  fits_else : (other : ℕ) (c : Actor) → other ≢ id → get_elem? state.actors other ≡ some c → c.place ≢ Spent → Fits shape new state.cursors actors kept.roles.opener other c
+  fits_else : (other : ℕ) (c : Actor) → other ≢ id → get_elem? state.actors other ≡ some c → c.hand.place ≢ Spent → Fits shape new state.cursors actors kept.roles.opener other c
   fits_else other c ne there lives =
       let fits = kept.each other c there lives in record {
         shaped = fits.shaped;
@@ -146,8 +144,8 @@ module _ (shape : Dimensions) (opened : Anatomy) (state : State) (kept : Invaria
         sees = sees_on old new added changes.onward state.cursors c.seen (subst (Behind c.seen.free) (sym changes.free) fits.sees.free) fits.sees.walked fits.sees.tails
             fits.sees.shared fits.sees;
         ahead = fits.ahead;
-        names = names c.names fits.names;
-        own = own_stays shape old new other (λ own. changes.others other own.at (held own) ne) c.own fits.own;
+        names = fits.names;
+        own = own_stays shape old new other (λ own. changes.others other own.at (held own) ne) c.hand.own fits.own;
         apart = fits.apart;
         owes = fits.owes;
         calls = calls_same old new c refl fits.calls;
@@ -159,7 +157,7 @@ module _ (shape : Dimensions) (opened : Anatomy) (state : State) (kept : Invaria
             (lives_on c recorder lives) (alone_was state.actors actors kept.roles stood first c c refl refl alone)))
             changes.bare;
         finals = finals_else state.actors actors kept.roles stood first id a mine living other c ne there lives fits.finals;
-        snapshots = within c.snapshots fits.snapshots;
+        snapshots = within c.deltas.snapshots fits.snapshots;
       }
 
   -- the recorder itself
@@ -170,15 +168,15 @@ module _ (shape : Dimensions) (opened : Anatomy) (state : State) (kept : Invaria
         versioned = fits.versioned;
         numbered = fits.numbered;
         sees = changes.sees;
-        ahead = ahead_at (order_of old) old.tail state.cursors a.place a.beaten a.lost fits.ahead d.place changes.up;
-        names = names a.names fits.names;
+        ahead = ahead_at (order_of old) old.tail state.cursors a.hand.place a.done.beaten a.done.lost fits.ahead d.place changes.up;
+        names = fits.names;
         own = changes.own;
         apart = changes.apart;
         owes = fits.owes;
         calls = changes.calls;
         looks = λ recorder. changes.looks;
         finals = changes.finals;
-        snapshots = within a.snapshots fits.snapshots;
+        snapshots = within a.deltas.snapshots fits.snapshots;
       }
 
   -- the state that is left is kept
@@ -205,24 +203,25 @@ module _ (shape : Dimensions) (opened : Anatomy) (state : State) (kept : Invaria
       tail = kept.list.tail;
     });
     claims = subst (λ (p : List Claim × List Claim). IsPermutation p.0 (claims_of opened.pieces ++ p.1))
-        (λ i. (sym changes.claims i, sym (rows (λ (c : Actor). c.claimed) state.actors id a b mine refl) i)) kept.claims;
+        (λ i. (sym changes.claims i, sym (rows (λ (c : Actor). c.done.claimed) state.actors id a b mine refl) i)) kept.claims;
     records = changes.records;
+    passed_over = passed_on shape.page opened old.pieces pieces (still_onward old new added changes.onward) kept.passed_over;
     balanced = changes.balanced;
     keys = λ entry there units. ⊎_elim (λ was. kept.keys entry was units) (λ own. changes.keys entry own units)
         (row_from counted_of state.actors id b entry there);
     taken_keys = λ t count there has. ⊎_elim (λ was. kept.taken_keys t count was has) (λ own. changes.taken_keys t count own has)
-        (row_from (λ (c : Actor). c.taken) state.actors id b t there);
+        (row_from taken_of state.actors id b t there);
     sums = changes.sums;
     pool = sum_same units_of state.actors id a b mine refl ∙ kept.pool;
-    corrupt = subst (IsSetBy old.corrupt opened.corrupt) (sym (column (λ (c : Actor). c.spoiled) state.actors id a b mine refl)) kept.corrupt;
-    full = subst (IsSetBy old.full opened.full) (sym (column (λ (c : Actor). c.filled) state.actors id a b mine refl)) kept.full;
+    corrupt = subst (IsSetBy old.corrupt opened.corrupt) (sym (column (λ (c : Actor). c.done.spoiled) state.actors id a b mine refl)) kept.corrupt;
+    full = subst (IsSetBy old.full opened.full) (sym (column (λ (c : Actor). c.done.filled) state.actors id a b mine refl)) kept.full;
     roles = roles_set state.actors id a b mine role not_first kept.roles;
     first_noted = kept.first_noted;
     answered = answered_set old.records state.actors id a b mine refl refl kept.answered;
     cursors = cursors_set (order_of old) state.cursors state.actors id a b mine records refl kept.cursors;
     standing = λ other c there. elim (at_set state.actors id other b c there) [
-      | inl t ↦ subst (λ (p : ℕ × Actor). StandsRight shape new p.0 p.1 p.1.place) (λ i. (sym t.0 i, t.1 i)) changes.stands
-      | inr t ↦ stands_on shape old new other c c (grounds other t.0) (follows_itself c) c.place (kept.standing other c t.1)
+      | inl t ↦ subst (λ (p : ℕ × Actor). StandsRight shape new p.0 p.1 p.1.hand.place) (λ i. (sym t.0 i, t.1 i)) changes.stands
+      | inr t ↦ stands_on shape old new other c c (grounds other t.0) (follows_itself c) c.hand.place (kept.standing other c t.1)
     ];
     each = λ other c there lives. elim (at_set state.actors id other b c there) [
       | inl t ↦ subst (λ (p : ℕ × Actor). Fits shape new state.cursors actors kept.roles.opener p.0 p.1) (λ i. (sym t.0 i, t.1 i)) fits_mine

@@ -1,23 +1,20 @@
 -- The ledger, where one block and one actor change: it is kept where one equation for each column holds between the two.
-use Rattle.std.proofs.Common.{◌≡◌, ℕ, zero, suc, ◌+◌, ◌≤◌, ℤ, pos, ◌+ℤ◌, List, [], ◌∷◌, ◌++◌, set, sym, ap, ◌∙◌, arith, append-nil}
-use Rattle.std.specs.Prelude.{if◌then◌else◌}
-use Rattle.std.specs.Str.{bytes_eq}
+use Rattle.std.proofs.Common.{◌≡◌, ℕ, zero, suc, ◌+◌, ◌≤◌, ℤ, ◌+ℤ◌, List, [], ◌∷◌, ◌++◌, set, sym, ap, ◌∙◌, arith, append-nil}
 use Rattle.std.specs.List.{flat_map}
 use Rattle.std.proofs.Math.IntN.{+ℤ_assoc, +ℤ_comm, +ℤ_idl}
 use Rattle.std.proofs.lemmas.Grind.{flat_map-append}
-use Rattle.std.proofs.lemmas.List.Sums.{sum_by-append}
 use mathlib.Core.Option.{some, some-injective, some-ne-none}
 use lib.ListN.{get_elem?}
 use Rattle.segment_machine.specs.declared.actor.Actor.{Actor}
-use Rattle.segment_machine.specs.declared.actor.Taken.{Taken}
 use Rattle.segment_machine.specs.Entry.{tally_units, tally_sum, tally_noted}
-use Rattle.segment_machine.specs.Actor.{counted_of, summed_of, noted_of, units_listed, taken_units, taken_sum, all_counted, all_taken}
+use Rattle.segment_machine.specs.Actor.{counted_of, summed_of, noted_of, taken_units, taken_sum, all_counted, all_taken, taken_of}
 use Rattle.segment_invariant.specs.Body.{Body, Piece}
 use Rattle.segment_invariant.specs.Ledger.{units_held, marks_held, sum_held, sum_mark_held, noted_held, all_amounts, moving_at, IsBalanced}
 use Rattle.segment_invariant.proofs.Lists.Countings.{units_total, sum_total, noted_total}
 use Rattle.segment_invariant.proofs.Lists.Elements.{split_at, sum_beside, rows}
 use Rattle.segment_invariant.proofs.Lists.Sums.{IsTotal, amounts_total}
 use Rattle.segment_invariant.proofs.Blocks.Pieces.{held_beside}
+use Rattle.segment_invariant.proofs.Lists.Portions.{taken_total, taken_sum_total}
 
 -- ---- one among others
 
@@ -59,11 +56,11 @@ amounts_moved total sums l i x y d e more =
 -- What a block holds, and has with the actor on its way, changes by what the actor did.
 pub record Balances (version : ℕ) (p q : Body) (a b : Actor) : Type 0 where
   pub units : (name : List ℕ) (key : ℤ)
-      → units_held version name key q + moving_at b name key b.place + tally_units (counted_of a) name key
-      ≡ units_held version name key p + moving_at a name key a.place + tally_units (counted_of b) name key
-  pub marks : (name : List ℕ) (key : ℤ) → marks_held version name key q + taken_units a.taken name key ≡ marks_held version name key p + taken_units b.taken name key
+      → units_held version name key q + moving_at b name key b.hand.place + tally_units (counted_of a) name key
+      ≡ units_held version name key p + moving_at a name key a.hand.place + tally_units (counted_of b) name key
+  pub marks : (name : List ℕ) (key : ℤ) → marks_held version name key q + taken_units (taken_of a) name key ≡ marks_held version name key p + taken_units (taken_of b) name key
   pub sums : (name : List ℕ) → (d : ℤ) × (sum_held name q ≡ sum_held name p +ℤ d) × (tally_sum (summed_of b) name ≡ tally_sum (summed_of a) name +ℤ d)
-  pub sum_marks : (name : List ℕ) → (d : ℤ) × (sum_mark_held name q ≡ sum_mark_held name p +ℤ d) × (taken_sum b.taken name ≡ taken_sum a.taken name +ℤ d)
+  pub sum_marks : (name : List ℕ) → (d : ℤ) × (sum_mark_held name q ≡ sum_mark_held name p +ℤ d) × (taken_sum (taken_of b) name ≡ taken_sum (taken_of a) name +ℤ d)
   pub noted : (name : List ℕ) → noted_held name q + tally_noted (noted_of a) name ≡ noted_held name p + tally_noted (noted_of b) name
 
 module _ (pieces : List Piece) (k : ℕ) (p q : Piece) (there : get_elem? pieces k ≡ some p) (actors : List Actor) (id : ℕ) (a b : Actor)
@@ -86,7 +83,7 @@ module _ (pieces : List Piece) (k : ℕ) (p q : Piece) (there : get_elem? pieces
     units = λ name key.
         let was = books.units name key in
         let held = held_beside (units_held version name key) pieces k p q there in
-        let moves = sum_beside (λ (a : Actor). moving_at a name key a.place) actors id a b mine in
+        let moves = sum_beside (λ (a : Actor). moving_at a name key a.hand.place) actors id a b mine in
         let counted = rows_beside (λ entries. tally_units entries name key) (units_total name key) counted_of actors id a b mine in
         let one = local.units name key in
         omega (arith, was, held, moves, counted, one);
@@ -94,7 +91,7 @@ module _ (pieces : List Piece) (k : ℕ) (p q : Piece) (there : get_elem? pieces
         let was = books.marks name key in
         let held = held_beside (marks_held version name key) pieces k p q there in
         let took = rows_beside (λ list. taken_units list name key)
-        (sum_by-append (λ (t : Taken). if bytes_eq t.name name then units_listed t.counts key else 0)) (λ (a : Actor). a.taken) actors id a b mine in
+        (taken_total name key) taken_of actors id a b mine in
         let one = local.marks name key in
         omega (arith, was, held, took, one);
     sums = λ name.
@@ -105,7 +102,7 @@ module _ (pieces : List Piece) (k : ℕ) (p q : Piece) (there : get_elem? pieces
         let (d, held, took) = local.sum_marks name in
         amounts_of (sum_mark_held name) d held
         ∙ (ap (λ n. n +ℤ d) (books.sum_marks name)
-        ∙ sym (deeds_of (λ list. taken_sum list name) (amounts_total (λ (t : Taken). if bytes_eq t.name name then t.sum else pos 0)) (λ (a : Actor). a.taken) d took));
+        ∙ sym (deeds_of (λ list. taken_sum list name) (taken_sum_total name) taken_of d took));
     noted = λ name.
         let was = books.noted name in
         let held = held_beside (noted_held name) pieces k p q there in
@@ -116,12 +113,12 @@ module _ (pieces : List Piece) (k : ℕ) (p q : Piece) (there : get_elem? pieces
   }
 
   -- so it is where nothing was taken, and no less was counted
-  pub taken_on : b.taken ≡ a.taken → ((name : List ℕ) (key : ℤ) → tally_units (counted_of a) name key ≤ tally_units (counted_of b) name key)
+  pub taken_on : taken_of b ≡ taken_of a → ((name : List ℕ) (key : ℤ) → tally_units (counted_of a) name key ≤ tally_units (counted_of b) name key)
       → ((name : List ℕ) (key : ℤ) → taken_units (all_taken actors) name key ≤ tally_units (all_counted actors) name key)
       → (name : List ℕ) (key : ℤ) → taken_units (all_taken (set actors id b)) name key ≤ tally_units (all_counted (set actors id b)) name key
   taken_on same more was name key =
       let before = was name key in
-      let took = ap (λ list. taken_units list name key) (rows (λ (a : Actor). a.taken) actors id a b mine same) in
+      let took = ap (λ list. taken_units list name key) (rows taken_of actors id a b mine same) in
       let counted = rows_beside (λ entries. tally_units entries name key) (units_total name key) counted_of actors id a b mine in
       let up = more name key in
       omega (arith, before, took, counted, up)

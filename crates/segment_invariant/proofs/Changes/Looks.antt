@@ -39,17 +39,17 @@ sees_count anatomy cursors seen s counter in_use met sees = record {
 
 -- What has to be shown of the counter, for whatever it may be.
 pub record Counter (anatomy : Anatomy) (actors : List Actor) (opener a : Actor) (s : Sighting) : Type 0 where
-  pub most : (known : Known) (bucket single place : ℕ) → Contains a.names known → bucket < buckets_of known.spec
+  pub most : (known : Known) (bucket single place : ℕ) → Contains a.answers.names known → bucket < buckets_of known.spec
       → SawSingle a (known.reference + 9) single → is_off single ≡ true → word_seen a.seen.words (known.reference + 8) ≡ Some place → s.at ≡ place + 4 + bucket
-      → s.word + units_packed (single_of a.version (buckets_of known.spec) single) bucket ≤ tally_units (all_counted actors) known.name (bucket_key (Some known) bucket)
-  pub counted : (known : Known) (bucket : ℕ) (r : Record) → Contains a.names known → bucket < buckets_of known.spec
+      → s.word + units_packed (single_of a.segment.version (buckets_of known.spec) single) bucket ≤ tally_units (all_counted actors) known.name (bucket_key (Some known) bucket)
+  pub counted : (known : Known) (bucket : ℕ) (r : Record) → Contains a.answers.names known → bucket < buckets_of known.spec
       → HasRecord anatomy.pieces known.reference r → r.counts ≢ 0 → s.at ≡ r.counts + 4 + bucket → IsSettled anatomy actors a known bucket
       → tally_units (accepted_by a) known.name (bucket_key (Some known) bucket) ≤ s.word + units_packed (form_at anatomy.version r) bucket
-  pub samples : (known : Known) (value : ℤ) (at : ℕ) → Contains a.names known → IsFirstOf anatomy.records known.reference value at → s.at ≡ at + 6
+  pub samples : (known : Known) (value : ℤ) (at : ℕ) → Contains a.answers.names known → IsFirstOf anatomy.records known.reference value at → s.at ≡ at + 6
       → tally_units (accepted_by a) known.name value ≤ s.word
-  pub rising : (t : Sighting) → Contains (take a.since_counts a.seen.counts) t → t.at ≡ s.at → t.word ≤ s.word
-  pub noted : (known : Known) → Contains a.names known → s.at ≡ known.reference + 13
-      → cost_of opener.first_noted known.name + tally_noted (accepted_since opener a) known.name ≤ s.word
+  pub rising : (t : Sighting) → Contains (take a.since.counts a.seen.counts) t → t.at ≡ s.at → t.word ≤ s.word
+  pub noted : (known : Known) → Contains a.answers.names known → s.at ≡ known.reference + 13
+      → cost_of opener.entries.first_noted known.name + tally_noted (accepted_since opener a) known.name ≤ s.word
 
 -- so it looks back
 pub looks_count : (anatomy : Anatomy) (actors : List Actor) (opener a : Actor) (s : Sighting) (d : Deed) → Counter anatomy actors opener a s
@@ -99,11 +99,11 @@ looks_count anatomy actors opener a s d shows looks = record {
 }
   where
     -- what it saw before it began to look is what it was
-    old : take a.since_counts (a.seen.counts ++ s ∷ []) ≡ take a.since_counts a.seen.counts
-    old = take-append-le a.since_counts a.seen.counts (s ∷ []) looks.begun.1
+    old : take a.since.counts (a.seen.counts ++ s ∷ []) ≡ take a.since.counts a.seen.counts
+    old = take-append-le a.since.counts a.seen.counts (s ∷ []) looks.begun.1
 
     -- and since then it saw that one more
-    since : (t : Sighting) → Contains (drop a.since_counts (a.seen.counts ++ s ∷ [])) t → Contains (drop a.since_counts a.seen.counts) t ⊎ (s ≡ t)
+    since : (t : Sighting) → Contains (drop a.since.counts (a.seen.counts ++ s ∷ [])) t → Contains (drop a.since.counts a.seen.counts) t ⊎ (s ≡ t)
     since t has = ⊎_elim (λ was. inl was) (λ one. inr (one_in s t one))
-        (Contains-append_cases (drop a.since_counts a.seen.counts) (s ∷ []) t
-        (subst (λ (l : List Sighting). Contains l t) (drop-append-le a.since_counts a.seen.counts (s ∷ []) looks.begun.1) has))
+        (Contains-append_cases (drop a.since.counts a.seen.counts) (s ∷ []) t
+        (subst (λ (l : List Sighting). Contains l t) (drop-append-le a.since.counts a.seen.counts (s ∷ []) looks.begun.1) has))

@@ -25,7 +25,7 @@ use Rattle.segment_machine.specs.declared.seen.Seen.{Seen}
 use Rattle.segment_machine.specs.declared.seen.Sighting.{Sighting}
 use Rattle.segment_machine.specs.Form.{is_off, Leads}
 use Rattle.segment_machine.specs.Entry.{tally_units}
-use Rattle.segment_machine.specs.Actor.{accepted_by, all_counted, bucket_key, SawCount}
+use Rattle.segment_machine.specs.Actor.{accepted_by, all_counted, bucket_key, SawCount, made_of, outstanding_of}
 use Rattle.segment_invariant.specs.Body.{Record, Counts, Body, histogram, counts, Listed, Anatomy, layout_of}
 use Rattle.segment_invariant.specs.Ledger.{form_at}
 use Rattle.segment_invariant.specs.Seen.{HasRecord, HasCounts, IsFirstOf, WasCounter, WasInUse}
@@ -50,11 +50,11 @@ pub record Deed : Type 0 where
 
 -- the actor with that
 abbrev pub changed : Actor → Deed → Actor
-changed a d = record a { place = d.place; running = d.running; own = d.own; taken = d.taken; seen = d.seen }
+changed a d = record a { hand = record { place = d.place; own = d.own }; entries = record a.entries { running = d.running }; deltas = record a.deltas { taken = d.taken }; seen = d.seen }
 
 -- what it has of that
 abbrev pub deed_of : Actor → Deed
-deed_of a = record { place = a.place; running = a.running; own = a.own; taken = a.taken; seen = a.seen }
+deed_of a = record { place = a.hand.place; running = a.entries.running; own = a.hand.own; taken = a.deltas.taken; seen = a.seen }
 
 -- ---- who is alone
 
@@ -64,7 +64,7 @@ module _ (old new : List Actor) (roles : RolesAreKept old) (stood : AllStood old
   opener = roles.opener
 
   -- who is alone was alone
-  pub alone_was : (b c : Actor) → b.outstanding ≡ c.outstanding → b.made ≡ c.made → IsAlone new b → IsAlone old c
+  pub alone_was : (b c : Actor) → outstanding_of b.role ≡ outstanding_of c.role → made_of b.role ≡ made_of c.role → IsAlone new b → IsAlone old c
   alone_was b c outstanding made (one, at, eldest, youngest) =
       (one, sym first ∙ at, sym outstanding ∙ eldest, ap (λ (n : ℕ). n + 1) (sym made) ∙ youngest)
 
@@ -81,20 +81,20 @@ module _ (old new : List Actor) (roles : RolesAreKept old) (stood : AllStood old
     -- no other is alone
     pub none_alone : (other : ℕ) (b : Actor) → other ≢ id → get_elem? old other ≡ some b → is_living b ≡ true → IsAlone old b → ⊥
     none_alone other b ne there live (one, at, eldest, youngest) =
-        let same = ap (λ (c : Actor). c.made) (one_at old 0 roles.opener one roles.stands at) in
+        let same = ap (λ (c : Actor). made_of c.role) (one_at old 0 roles.opener one roles.stands at) in
         let below = roles.eldest other id b a there mine live lives ne eldest in
         let young = roles.younger id a mine lives in
         omega (arith, below, young, youngest, same)
 
     -- and no moment of another is final
-    not_final : (other : ℕ) (b : Actor) (m : Moment) → other ≢ id → IsMoment old opener other b m → m.outstanding ≡ 0 → m.before + 1 ≡ opener.made → ⊥
+    not_final : (other : ℕ) (b : Actor) (m : Moment) → other ≢ id → IsMoment old opener other b m → m.outstanding ≡ 0 → m.before + 1 ≡ made_of opener.role → ⊥
     not_final other b m ne is eldest youngest =
         let later = is.eldest eldest id a mine lives (λ e. ne (sym e)) in
         let young = roles.younger id a mine lives in
         omega (arith, later, young, youngest)
 
     -- so what it took and answered stays
-    pub finals_else : (other : ℕ) (b : Actor) → other ≢ id → get_elem? old other ≡ some b → b.place ≢ Spent → FinalsAreExact old opener other b
+    pub finals_else : (other : ℕ) (b : Actor) → other ≢ id → get_elem? old other ≡ some b → b.hand.place ≢ Spent → FinalsAreExact old opener other b
         → FinalsAreExact new opener other b
     finals_else other b ne there live exact = record {
       deltas = λ t has eldest youngest quiet. absurd (not_final other b t.moment ne (exact.moments t.moment (ended_began b t has)) eldest youngest);
@@ -103,7 +103,7 @@ module _ (old new : List Actor) (roles : RolesAreKept old) (stood : AllStood old
       swapped = λ before last taking is swapped alone. absurd (dite (ℕ_discrete other 0)
           (λ zero_is.
           let same = one_at old 0 roles.opener b roles.stands (sym (ap (get_elem? old) zero_is) ∙ there) in
-          cc (taking, ap (λ (c : Actor). c.taking) same, roles.rests.2))
+          cc (taking, ap (λ (c : Actor). c.deltas.taking) same, roles.rests.2))
           (λ some_other. none_alone other b ne there (lives_on b (roles.only other b there some_other).0 live)
           (alone_was b b refl refl alone)));
     }
@@ -153,14 +153,14 @@ module _ (shape : Dimensions) (words : List ℕ) (old new : Anatomy) (shown : Is
   module _ (before after : List Actor) (opener : Actor) (d : Deed)
       (more : (name : List ℕ) (key : ℤ) → tally_units (all_counted before) name key ≤ tally_units (all_counted after) name key)
       (alone : IsAlone after x → IsAlone before x)
-      (knows : (known : Known) → Contains x.names known → (r : Record) × HasRecord old.pieces known.reference r × (buckets_of r.spec ≡ buckets_of known.spec))
+      (knows : (known : Known) → Contains x.answers.names known → (r : Record) × HasRecord old.pieces known.reference r × (buckets_of r.spec ≡ buckets_of known.spec))
       (looks : LooksBack old before opener x) where
     -- what it saw, also since it began to look
-    seen_since : (sighting : Sighting) → Contains (drop x.since_counts x.seen.counts) sighting → Contains x.seen.counts sighting
-    seen_since sighting saw = All-contains (Contains x.seen.counts) (drop x.since_counts x.seen.counts) sighting
-        (All-drop (Contains x.seen.counts) x.since_counts x.seen.counts (All-contains_itself x.seen.counts)) saw
+    seen_since : (sighting : Sighting) → Contains (drop x.since.counts x.seen.counts) sighting → Contains x.seen.counts sighting
+    seen_since sighting saw = All-contains (Contains x.seen.counts) (drop x.since.counts x.seen.counts) sighting
+        (All-drop (Contains x.seen.counts) x.since.counts x.seen.counts (All-contains_itself x.seen.counts)) saw
 
-    counted_on : (known : Known) (bucket count : ℕ) (s : Record) → Contains x.names known → bucket < buckets_of known.spec
+    counted_on : (known : Known) (bucket count : ℕ) (s : Record) → Contains x.answers.names known → bucket < buckets_of known.spec
         → HasRecord new.pieces known.reference s → s.counts ≢ 0 → SawCount x (s.counts + 4 + bucket) count
         → IsSettled new after x known bucket
         → ((r : Record) × HasRecord old.pieces known.reference r × RecordGoes old.version r s)
@@ -223,7 +223,7 @@ module _ (shape : Dimensions) (words : List ℕ) (old new : Anatomy) (shown : Is
       closed = λ s t r c at i before now spot there mounted place from below. ⊎_elim
           (λ z.
           let (q, was, goes) = z in
-          let seen = contains_take x.since_counts x.seen.counts s before in
+          let seen = contains_take x.since.counts x.seen.counts s before in
           let (named, refers) = named_was at i q r c s was there goes mounted from below seen place in
           ⊎_elim
           (λ u.

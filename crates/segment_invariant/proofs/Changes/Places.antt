@@ -1,5 +1,5 @@
 -- A recorder turns to another place while one word of a published block becomes another, and has counted, taken and seen what it had.
-use Rattle.std.proofs.Common.{◌≡◌, ◌≢◌, ℕ, ◌+◌, ℤ, List, set, refl, sym, ap, ◌∙◌, arith}
+use Rattle.std.proofs.Common.{◌≡◌, ◌≢◌, ℕ, ◌+◌, ℤ, List, set, refl, sym, ap, ◌∙◌, arith, false}
 use mathlib.Core.Option.{some, none}
 use lib.ListN.{get_elem?}
 use Rattle.atomic_table.proofs.Lists.{set_else}
@@ -8,7 +8,7 @@ use Rattle.segment_machine.specs.declared.actor.Actor.{Actor}
 use Rattle.segment_machine.specs.declared.place.Place.{Place}
 use Rattle.segment_machine.specs.declared.place.Place.TheVariants.{Spent, SumLoaded}
 use Rattle.segment_machine.specs.Entry.{tally_units, tally_sum, tally_noted}
-use Rattle.segment_machine.specs.Actor.{counted_of, summed_of, noted_of, all_counted, all_summed, all_noted, all_taken, taken_units, taken_sum}
+use Rattle.segment_machine.specs.Actor.{counted_of, summed_of, noted_of, all_counted, all_summed, all_noted, all_taken, taken_units, taken_sum, taken_of, is_opener}
 use Rattle.segment_machine.specs.State.{State}
 use Rattle.segment_invariant.specs.Body.{Body, Anatomy}
 use Rattle.segment_invariant.specs.Seen.{Stands}
@@ -29,7 +29,7 @@ use Rattle.segment_invariant.proofs.Changes.Words.{Turns, behind, turned_onward,
 
 module _ (shape : Dimensions) (opened : Anatomy) (state : State) (kept : Invariant shape opened state) (at : ℕ) (body then_is : Body) (j v : ℕ)
     (stands : Stands kept.anatomy.pieces at none body) (turns : Turns kept.anatomy.version body then_is j v) (id : ℕ) (a : Actor)
-    (mine : get_elem? state.actors id ≡ some a) (recorder : a.opener ≡ 0) (lived : a.place ≢ Spent) (place : Place) where
+    (mine : get_elem? state.actors id ≡ some a) (recorder : is_opener a.role ≡ false) (lived : a.hand.place ≢ Spent) (place : Place) where
   abbrev pub deed : Deed
   deed = record (deed_of a) { place = place }
 
@@ -50,7 +50,7 @@ module _ (shape : Dimensions) (opened : Anatomy) (state : State) (kept : Invaria
     pub lives : place ≢ Spent
     pub no_sum : (reference : ℕ) (sum : ℤ) → place ≢ SumLoaded reference sum
     pub stood : StandsRight shape new id b place
-    pub up : KeepsUp a.place place
+    pub up : KeepsUp a.hand.place place
 
   module _ (shows : Placed) where
     role : SameRole b a
@@ -59,6 +59,7 @@ module _ (shape : Dimensions) (opened : Anatomy) (state : State) (kept : Invaria
       opener = refl;
       first = refl;
       first_noted = refl;
+      first_taken = refl;
       made = refl;
       outstanding = refl;
       inherited = refl;
@@ -81,7 +82,7 @@ module _ (shape : Dimensions) (opened : Anatomy) (state : State) (kept : Invaria
     noted name = ap (λ entries. tally_noted entries name) (rows noted_of state.actors id a b mine refl)
 
     took : all_taken actors ≡ all_taken state.actors
-    took = rows (λ (c : Actor). c.taken) state.actors id a b mine refl
+    took = rows taken_of state.actors id a b mine refl
 
     -- what it took and answered is as exact as it was
     finals_on : FinalsAreExact state.actors kept.roles.opener id a → FinalsAreExact actors kept.roles.opener id b
@@ -98,8 +99,7 @@ module _ (shape : Dimensions) (opened : Anatomy) (state : State) (kept : Invaria
             (let redundant = was.2 in let same = noted s.name in omega (arith, redundant, same)),
           );
       moments = λ m of.
-          let is = moment state.actors actors kept.roles.opener kept.roles.opener id a m (is_later state.actors actors kept.roles stood first) (exact.moments m of) in
-          record { logged = is.logged; before = is.before; mine = is.mine; eldest = is.eldest };
+          moment state.actors actors kept.roles.opener kept.roles.opener id a m (is_later state.actors actors kept.roles stood first) (exact.moments m of);
       swapped = λ before last taking is swapped alone.
           ap (λ list. taken_sum list last.name) took
           ∙ (exact.swapped before last taking is swapped (alone_was state.actors actors kept.roles stood first b a refl refl alone) ∙ sym (summed last.name));
@@ -116,7 +116,7 @@ module _ (shape : Dimensions) (opened : Anatomy) (state : State) (kept : Invaria
               kept.balanced.taken;
           counted = λ name key. omega arith;
           keys = λ entry has. kept.keys entry (row_in counted_of state.actors id a entry mine has);
-          taken_keys = λ t count has. kept.taken_keys t count (row_in (λ (c : Actor). c.taken) state.actors id a t mine has);
+          taken_keys = λ t count has. kept.taken_keys t count (row_in taken_of state.actors id a t mine has);
           sums = sums_on kept.anatomy.pieces new.pieces state.actors actors shows.sums
               (loaded_set state.actors id a b mine (λ reference sum loaded. absurd (shows.no_sum reference sum loaded)))
               (λ name. let same = sum_same (summed_cost name) state.actors id a b mine refl in omega (arith, same)) kept.sums;
@@ -125,7 +125,7 @@ module _ (shape : Dimensions) (opened : Anatomy) (state : State) (kept : Invaria
           sees = sees_turned shape opened state kept at body then_is j v stands turns a.seen fits.sees;
           up = shows.up;
           own = refl;
-          calls = calls_same kept.anatomy new b refl (calls_more kept.anatomy a place a.seen a.given a.lost (λ place has. has) (λ place word saw. saw) fits.calls);
+          calls = calls_same kept.anatomy new b refl (calls_more kept.anatomy a place a.seen a.done.given a.done.lost (λ place has. has) (λ place word saw. saw) fits.calls);
           looks = looks_on shape state.words kept.anatomy new kept.shown (λ at body. ⊥) (turned_onward shape opened state kept at body then_is j v stands turns) refl
               shape.page kept.records shows.records a fits.sees.counters fits.sees.in_use state.actors actors kept.roles.opener deed
               (λ name key. let same = counted name key in omega (arith, same)) (alone_was state.actors actors kept.roles stood first a a refl refl)

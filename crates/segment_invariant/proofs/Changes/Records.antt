@@ -130,7 +130,7 @@ module _ (shape : Dimensions) (opened : Anatomy) (state : State) (kept : Invaria
           dite (ℕ_discrete z.counts at)
           (λ same.
           let e = one_there (counts c) (counts d) j v stands turns z.counts (counts b) stood same in
-          (d, there_now (counts c) (counts d) j v stands turns z.counts same, its place z before same (subst (IsCountsOf version place z) (cc e) of_it)))
+          (d, there_now (counts c) (counts d) j v stands turns z.counts same, its place z before same (let was : b ≡ c = cc e in subst (IsCountsOf version place z) was of_it)))
           (λ ne. (b, still_there (counts c) (counts d) j v stands turns z.counts (counts b) stood ne, of_it));
       named = λ place b there. is_or_was (counts c) (counts d) j v stands turns
           (OfCounts (λ n w. (z : Record) × HasRecord after w.of z × (z.counts ≡ n))) place (counts b) there

@@ -1,5 +1,5 @@
 -- One word of a published block becomes another, and the block goes on: what has then to be shown of the blocks.
-use Rattle.std.proofs.Common.{◌≡◌, ◌≢◌, ◌⊎◌, ℕ, ◌+◌, ◌<◌, ◌≤◌, ℤ, true, List, length, set, All, Contains, inl, inr, ⊎_elim, refl, sym, ap, ◌∙◌, subst, arith, length-set}
+use Rattle.std.proofs.Common.{◌≡◌, ◌≢◌, ◌⊎◌, ℕ, ◌+◌, ◌<◌, ◌≤◌, ℤ, true, List, length, set, All, Contains, inl, inr, ⊎_elim, refl, sym, ap, ◌∙◌, subst, arith, length-set, false}
 use Rattle.std.proofs.lemmas.List.{get_or-set_other}
 use Rattle.std.specs.Prelude.{slice_index}
 use mathlib.Core.Logic.{dite}
@@ -13,13 +13,13 @@ use Rattle.list_core.specs.Chain.{stops, IsLinked}
 use Rattle.list_core.proofs.Chains.{linked_beside}
 use Rattle.segment_machine.specs.declared.entry.Entry.{Entry}
 use Rattle.segment_machine.specs.declared.actor.Actor.{Actor}
+use Rattle.segment_machine.specs.declared.actor.Portion.{Portion}
 use Rattle.segment_machine.specs.declared.actor.Own.{Own}
-use Rattle.segment_machine.specs.declared.actor.Taken.{Taken}
 use Rattle.segment_machine.specs.declared.place.Place.TheVariants.{Spent}
 use Rattle.segment_machine.specs.declared.seen.Seen.{Seen}
 use Rattle.alloc_core.specs.Laws.{Behind}
 use Rattle.segment_machine.specs.Entry.{tally_units}
-use Rattle.segment_machine.specs.Actor.{counted_of, all_counted, all_taken, taken_units}
+use Rattle.segment_machine.specs.Actor.{counted_of, all_counted, all_taken, taken_units, taken_of, is_opener}
 use Rattle.segment_machine.specs.State.{State}
 use Rattle.segment_invariant.specs.Body.{Body, held, words_of, is_claimed, Piece, extent_of, Anatomy, layout_of, order_of, claims_of, free_of}
 use Rattle.segment_invariant.specs.Seen.{Stands, Sees}
@@ -158,19 +158,19 @@ module _ (shape : Dimensions) (opened : Anatomy) (state : State) (kept : Invaria
         → taken_units (all_taken (set state.actors id (changed a d))) name key ≤ tally_units (all_counted (set state.actors id (changed a d))) name key
     pub counted : (name : List ℕ) (key : ℤ) → tally_units (counted_of a) name key ≤ tally_units (counted_of (changed a d)) name key
     pub keys : (entry : Entry) → Contains (counted_of (changed a d)) entry → 0 < entry.units → HasKey kept.anatomy.records entry.name entry.key
-    pub taken_keys : (t : Taken) (count : ℤ × ℕ) → Contains d.taken t → Contains t.counts count → HasKey kept.anatomy.records t.name count.0
+    pub taken_keys : (t : Portion) (count : ℤ × ℕ) → Contains (taken_of (changed a d)) t → Contains t.counts count → HasKey kept.anatomy.records t.name count.0
     pub sums : SumsAreNear turned (set state.actors id (changed a d))
     pub lives : d.place ≢ Spent
     pub stood : StandsRight shape behind id (changed a d) d.place
     pub sees : Sees behind state.cursors d.seen
-    pub up : KeepsUp a.place d.place
-    pub own : d.own ≡ a.own
+    pub up : KeepsUp a.hand.place d.place
+    pub own : d.own ≡ a.hand.own
     pub calls : CallsRight behind (changed a d)
     pub looks : LooksBack behind (set state.actors id (changed a d)) opener (changed a d)
     pub finals : FinalsAreExact (set state.actors id (changed a d)) opener id (changed a d)
 
   -- so the state that is left is kept
-  pub turned_on : (id : ℕ) (a : Actor) → get_elem? state.actors id ≡ some a → a.opener ≡ 0 → a.place ≢ Spent → (d : Deed) → Turned kept.roles.opener id a d
+  pub turned_on : (id : ℕ) (a : Actor) → get_elem? state.actors id ≡ some a → is_opener a.role ≡ false → a.hand.place ≢ Spent → (d : Deed) → Turned kept.roles.opener id a d
       → Invariant shape opened (record { words = set state.words (at + j) v; cursors = state.cursors; actors = set state.actors id (changed a d) })
   turned_on id a mine recorder lived d shows =
       let fits = kept.each id a mine lived in
@@ -197,7 +197,7 @@ module _ (shape : Dimensions) (opened : Anatomy) (state : State) (kept : Invaria
         sees = shows.sees;
         up = shows.up;
         own = subst (All (HoldsOwn shape turned id)) (sym shows.own)
-            (own_stays shape kept.anatomy behind id (λ own. stands_owned id own.at (held own)) a.own fits.own);
+            (own_stays shape kept.anatomy behind id (λ own. stands_owned id own.at (held own)) a.hand.own fits.own);
         apart = subst (λ (list : List Own). (i j : ℕ) (x y : Own) → get_elem? list i ≡ some x → get_elem? list j ≡ some y → x.at ≡ y.at → i ≡ j)
             (sym shows.own) fits.apart;
         calls = shows.calls;

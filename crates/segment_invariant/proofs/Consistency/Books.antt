@@ -101,7 +101,7 @@ marks_book version name key = record {
 module _ (version : ℕ) (name : List ℕ) (key : ℤ) (holds : Body → ℕ) (packed : Record → ℕ) (buckets : Counts → List ℕ) (valued : Sample → ℕ)
     (book : IsBook version name key holds packed buckets valued) where
   -- a block holds nothing where its record, its counts or its sample, if they are of the name, do not
-  nothing_held : (body : Body)
+  pub nothing_held : (body : Body)
       → ((r : Record) → body ≡ histogram r → r.name ≡ name → at_bucket r.spec key (packed_bucket (form_at version r)) (packed r) ≡ 0)
       → ((c : Counts) → body ≡ counts c → c.name ≡ name → keyed c.spec key (buckets c) ≡ 0)
       → ((s : Sample) → body ≡ sample s → s.name ≡ name → s.value ≡ key → valued s ≡ 0) → holds body ≡ 0

@@ -153,7 +153,7 @@ module _ (shape : Dimensions) (version id : ℕ) (state : State) (lawful : IsSha
           → (k : ℕ) × (p : Piece) × (get_elem? anatomy.pieces k ≡ some p) × (is_claimed p.body ≡ true) × (p.at ≡ at)
       stands l (Some (made.Histogram name spec)) at (r, (k, there), named, specified) is = (k, _, there, refl, is)
       stands l (Some (made.Sample of value)) at (s, (k, there), mine, valued) is = (k, _, there, refl, is)
-      stands l None at (long, tag, next, payload, (k, there), other, neither, behind) is = (k, _, there, refl, is)
+      stands l None at (long, tag, next, payload, (k, there), neither, behind) is = (k, _, there, refl, is)
 
   lawful_record : (k : ℕ) → k < length chain → is_block words (head_of words) (slice_index chain k) ≡ true
   lawful_record k below =

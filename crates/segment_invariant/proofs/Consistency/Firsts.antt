@@ -1,5 +1,5 @@
 -- The first record of a name, and of a value, on the list of a kept segment: by the words as by what each record was given.
-use Rattle.std.proofs.Common.{◌≡◌, ◌≢◌, ℕ, ◌<◌, ℤ, List, ◌∷◌, ◌++◌, map, refl, sym, ap, subst, ◌∙◌, arith, Some, None}
+use Rattle.std.proofs.Common.{◌≡◌, ℕ, ◌<◌, ℤ, List, ◌∷◌, ◌++◌, map, refl, sym, ap, subst, ◌∙◌, arith, Some, None, ◌⊎◌, inl, inr, ⊎_elim, append_assoc, ◌≢◌}
 use Rattle.std.specs.Prelude as std
 use Rattle.std.specs.Int.{w64, cast_signed}
 use Rattle.std.specs.List.{All, Contains}
@@ -16,21 +16,30 @@ use Rattle.segment_machine.specs.declared.actor.Made.TheVariants as made
 use Rattle.segment_machine.specs.State.{State}
 use Rattle.segment_invariant.specs.Consistent.{IsHistogram, IsSample, IsSampleOf}
 use Rattle.segment_invariant.specs.Consistent as consistent
-use Rattle.segment_invariant.specs.Body.{Record, Sample, Listed, Anatomy, order_of, blank}
+use Rattle.segment_invariant.specs.Body.{Record, Sample, Listed, Anatomy, order_of}
 use Rattle.segment_invariant.specs.Seen.{HasRecord, HasSample, IsNamed, IsFirst, IsFirstOf}
 use Rattle.segment_invariant.specs.Invariant.{StandsAs, Invariant}
-use Rattle.segment_invariant.proofs.Lists.Elements.{all_from, all_at, contains_at, split_map}
+use Rattle.segment_invariant.proofs.Lists.Elements.{all_from, all_at, contains_at, split_map, split_at, at_from, from_map}
 use Rattle.segment_invariant.proofs.Blocks.Pieces.{piece_word}
-use Rattle.segment_invariant.proofs.Consistency.Records.{listed_there, each_given, record_word, sample_type, record_name}
+use Rattle.segment_invariant.proofs.Consistency.Records.{record_word, sample_type, record_name}
+use mathlib.Core.Option.{some}
+use lib.ListN.{get_elem?}
+use Rattle.segment_invariant.proofs.Frames.PassedOver.{none_given, all_given, PassedOver}
+use Rattle.segment_invariant.proofs.Consistency.PassedOver.{passed_named}
 
 -- ---- lists and what they map to
 
 unmapped : {X Y : Type 0} (f : X → Y) (P : Y → Type 0) (l : List X) → All P (map f l) → All (λ x. P (f x)) l
 unmapped f P l all = all_from (λ x. P (f x)) l (λ i x there. all_at P (map f l) i (f x) all (at_map f l i x there))
 
--- Of records and their references the same is told: so are the first ones of which it is told.
-module _ (records : List Listed) (P : Listed → Type 0) (Q : ℕ → Type 0)
-    (to : (l : Listed) → Contains records l → P l → Q l.reference) (from : (l : Listed) → Contains records l → Q l.reference → P l) where
+-- something is told of a record, or of one before it
+abbrev pub OrBefore : (Listed → Type 0) → List Listed → Listed → Type 0
+OrBefore P front l = P l ⊎ ((y : Listed) × Contains front y × P y)
+
+-- What is told of records is told of their references; and what is told of a reference is told of its record, or of one before that. So the
+-- first ones of which it is told are the same.
+module _ (records : List Listed) (P : Listed → Type 0) (Q : ℕ → Type 0) (to : (l : Listed) → Contains records l → P l → Q l.reference)
+    (from : (front behind : List Listed) (l : Listed) → records ≡ front ++ l ∷ behind → Q l.reference → OrBefore P front l) where
   abbrev references : List Listed → List ℕ
   references records = map (λ (l : Listed). l.reference) records
 
@@ -39,26 +48,33 @@ module _ (records : List Listed) (P : Listed → Type 0) (Q : ℕ → Type 0)
   first_listed front behind at is none this =
       let (xs, ys, l, split, before, here) = split_map (λ (l : Listed). l.reference) records front behind at is in
       let others = unmapped (λ (l : Listed). l.reference) (λ other. ¬ (Q other)) xs (subst (All (λ other. ¬ (Q other))) (sym before) none) in
-      let among = λ (m : Listed) (there : Contains (xs ++ l ∷ ys) m). subst (λ (records : List Listed). Contains records m) (sym split) there in (
+      let among = λ (m : Listed) (there : Contains (xs ++ l ∷ ys) m). subst (λ (records : List Listed). Contains records m) (sym split) there in
+      let absent : All (λ l. ¬ (P l)) xs = all_from (λ l. ¬ (P l)) xs (λ i x there holds.
+      all_at (λ l. ¬ (Q l.reference)) xs i x others there (to x (among x (Contains-append_left xs (l ∷ ys) x (contains_at xs i x there))) holds)) in (
         xs,
         ys,
         l,
         split,
-        all_from (λ l. ¬ (P l)) xs (λ i x there holds.
-            all_at (λ l. ¬ (Q l.reference)) xs i x others there (to x (among x (Contains-append_left xs (l ∷ ys) x (contains_at xs i x there))) holds)),
-        from l (among l (Contains-append_right xs (l ∷ ys) l (0, omega arith, refl))) (subst Q (sym here) this),
+        absent,
+        ⊎_elim (λ holds. holds) (λ (y, there, holds). absurd (All-contains (λ l. ¬ (P l)) xs y absent there holds)) (from xs ys l split (subst Q (sym here) this)),
         here,
       )
 
   pub first_reference : (xs ys : List Listed) (l : Listed) → records ≡ xs ++ l ∷ ys → All (λ l. ¬ (P l)) xs → P l
       → (references records ≡ references xs ++ l.reference ∷ references ys) × All (λ other. ¬ (Q other)) (references xs) × Q l.reference
-  first_reference xs ys l split none this =
-      let among = λ (m : Listed) (there : Contains (xs ++ l ∷ ys) m). subst (λ (records : List Listed). Contains records m) (sym split) there in (
-        ap references split ∙ map-append (λ (l : Listed). l.reference) xs (l ∷ ys),
-        All-map (λ other. ¬ (Q other)) (λ (l : Listed). l.reference) xs (all_from (λ l. ¬ (Q l.reference)) xs (λ i x there holds.
-            all_at (λ l. ¬ (P l)) xs i x none there (from x (among x (Contains-append_left xs (l ∷ ys) x (contains_at xs i x there))) holds))),
-        to l (among l (Contains-append_right xs (l ∷ ys) l (0, omega arith, refl))) this,
-      )
+  first_reference xs ys l split none this = (
+    ap references split ∙ map-append (λ (l : Listed). l.reference) xs (l ∷ ys),
+    All-map (λ other. ¬ (Q other)) (λ (l : Listed). l.reference) xs (all_from (λ l. ¬ (Q l.reference)) xs absent),
+    to l (subst (λ (records : List Listed). Contains records l) (sym split) (Contains-append_right xs (l ∷ ys) l (0, omega arith, refl))) this,
+  )
+    where
+      absent : (i : ℕ) (x : Listed) → get_elem? xs i ≡ some x → Q x.reference → ⊥
+      absent i x there holds =
+          let (f, b, is, others) = split_at xs i x there in
+          ⊎_elim
+          (λ told. all_at (λ l. ¬ (P l)) xs i x none there told)
+          (λ (y, before, told). All-contains (λ l. ¬ (P l)) xs y none (subst (λ (list : List Listed). Contains list y) (sym is) (Contains-append_left f (x ∷ b) y before)) told)
+          (from f (b ++ l ∷ ys) x (split ∙ (ap (λ (list : List Listed). list ++ l ∷ ys) is ∙ append_assoc f (x ∷ b) (l ∷ ys))) holds)
 
 -- ---- a kept state
 
@@ -115,91 +131,147 @@ module _ (shape : Dimensions) (opened : Anatomy) (state : State) (kept : Invaria
       let (s, has, mine, valued) = subst (StandsAs kept.anatomy.pieces l) is (standing_of l there) in
       subst (λ (p : ℕ × ℤ). IsSampleOf state.words p.0 p.1 l.reference) (λ i. (mine i, valued i)) (is_sample_of l.reference s has)
 
--- ---- a new segment
+-- ---- by the words
 
-module _ (shape : Dimensions) (version id : ℕ) (state : State) (kept : Invariant shape (blank version id shape.size) state) where
-  -- what was given to the maker of a record of a name
-  pub given_name : (l : Listed) (name : List ℕ) → Contains kept.anatomy.records l → consistent.HasName state.words name l.reference
-      → (spec : Spec) × (r : Record) × (l.made ≡ Some (made.Histogram name spec)) × Named shape (blank version id shape.size) state kept name spec l.reference r
-  given_name l name there named =
-      by_made l.made refl (standing_of shape (blank version id shape.size) state kept l there) (each_given state.words (blank version id shape.size) kept.anatomy state.actors l kept.list refl there)
+module _ (shape : Dimensions) (opened : Anatomy) (state : State) (kept : Invariant shape opened state) where
+  -- what was given to the maker of a record of a name; it may be passed over, behind another of that name
+  pub given_name : (front behind : List Listed) (l : Listed) (name : List ℕ) → kept.anatomy.records ≡ front ++ l ∷ behind → consistent.HasName state.words name l.reference
+      → ((spec : Spec) × (r : Record) × (l.made ≡ Some (made.Histogram name spec)) × Named shape opened state kept name spec l.reference r)
+      ⊎ ((r : Record) × (l.made ≡ None) × (r.name ≡ name) × PassedOver shape opened state kept front l.reference r)
+  given_name front behind l name split named =
+      by_made l.made refl (standing_of shape opened state kept l
+      (subst (λ (records : List Listed). Contains records l) (sym split) (Contains-append_right front (l ∷ behind) l (0, omega arith, refl))))
     where
-      by_made : (m : std.Option Made) → l.made ≡ m → StandsAs kept.anatomy.pieces l m → m ≢ None
-          → (spec : Spec) × (r : Record) × (l.made ≡ Some (made.Histogram name spec)) × Named shape (blank version id shape.size) state kept name spec l.reference r
-      by_made (Some (made.Histogram other spec)) is (r, has, mine, specified) given =
-          let same : other ≡ name = sym mine ∙ (sym (says_name shape (blank version id shape.size) state kept l.reference r has) ∙ named.1) in
-          (spec, r, is ∙ ap (λ (name : List ℕ). Some (made.Histogram name spec)) same, (has, mine ∙ same, specified))
-      by_made (Some (made.Sample of value)) is (s, has, mine, valued) given =
+      by_made : (m : std.Option Made) → l.made ≡ m → StandsAs kept.anatomy.pieces l m
+          → ((spec : Spec) × (r : Record) × (l.made ≡ Some (made.Histogram name spec)) × Named shape opened state kept name spec l.reference r)
+          ⊎ ((r : Record) × (l.made ≡ None) × (r.name ≡ name) × PassedOver shape opened state kept front l.reference r)
+      by_made (Some (made.Histogram other spec)) is (r, has, mine, specified) =
+          let same : other ≡ name = sym mine ∙ (sym (says_name shape opened state kept l.reference r has) ∙ named.1) in
+          inl (spec, r, is ∙ ap (λ (name : List ℕ). Some (made.Histogram name spec)) same, (has, mine ∙ same, specified))
+      by_made (Some (made.Sample of value)) is (s, has, mine, valued) =
           let three = sample_type shape state.words kept.anatomy kept.shown l.reference s has in
           let one = named.0 in
           absurd (omega (arith, three, one))
-      by_made None is standing given = absurd (given refl)
+      by_made None is stands =
+          elim (none_given shape opened state kept front behind l.reference
+          (split ∙ ap (λ (m : std.Option Made). front ++ record { reference = l.reference; made = m } ∷ behind) is)) [
+            | inl (size, tag, next, payload, (k, there), first) ↦
+                absurd (first (sym (piece_word shape state.words kept.anatomy kept.shown k _ 2 there (omega arith)) ∙ named.0))
+            | inr (r, over) ↦ inr (r, is, sym (passed_named shape opened state kept front l.reference r over.0).1 ∙ named.1, over)
+          ]
+
+  -- so a record that has a name was given it, or one before it was
+  pub name_or_before : (name : List ℕ) (front behind : List Listed) (l : Listed) → kept.anatomy.records ≡ front ++ l ∷ behind
+      → consistent.HasName state.words name l.reference → OrBefore (IsNamed name) front l
+  name_or_before name front behind l split named = elim (given_name front behind l name split named) [
+    | inl (spec, r, given, has) ↦ inl (spec, given)
+    | inr (r, nothing, same, over) ↦
+        let (kind, first, (xs, ys, is, absent)) = over.0.named in
+        let y : Listed = record { reference = first; made = Some (made.Histogram r.name kind) } in
+        inr (
+          y,
+          subst (λ (list : List Listed). Contains list y) (sym is) (Contains-append_right xs (y ∷ ys) y (0, omega arith, refl)),
+          (kind, ap (λ (name : List ℕ). Some (made.Histogram name kind)) same),
+        )
+  ]
 
   -- and of a sample of a value
   pub given_value : (l : Listed) (of : ℕ) (value : ℤ) → Contains kept.anatomy.records l → IsSampleOf state.words of value l.reference
-      → (s : Sample) × (l.made ≡ Some (made.Sample of value)) × Valued shape (blank version id shape.size) state kept of value l.reference s
+      → (s : Sample) × (l.made ≡ Some (made.Sample of value)) × Valued shape opened state kept of value l.reference s
   given_value l of value there valued =
-      by_made l.made refl (standing_of shape (blank version id shape.size) state kept l there) (each_given state.words (blank version id shape.size) kept.anatomy state.actors l kept.list refl there)
+      by_made l.made refl (standing_of shape opened state kept l there)
     where
-      by_made : (m : std.Option Made) → l.made ≡ m → StandsAs kept.anatomy.pieces l m → m ≢ None
-          → (s : Sample) × (l.made ≡ Some (made.Sample of value)) × Valued shape (blank version id shape.size) state kept of value l.reference s
-      by_made (Some (made.Sample other number)) is (s, has, mine, numbered) given =
-          let says = is_sample_of shape (blank version id shape.size) state kept l.reference s has in
+      by_made : (m : std.Option Made) → l.made ≡ m → StandsAs kept.anatomy.pieces l m
+          → (s : Sample) × (l.made ≡ Some (made.Sample of value)) × Valued shape opened state kept of value l.reference s
+      by_made (Some (made.Sample other number)) is (s, has, mine, numbered) =
+          let says = is_sample_of shape opened state kept l.reference s has in
           let same : other ≡ of = sym mine ∙ (sym says.1 ∙ valued.1) in
           let equal : number ≡ value = sym numbered ∙ (sym says.2 ∙ valued.2) in
           (s, is ∙ (λ i. Some (made.Sample (same i) (equal i))), (has, mine ∙ same, numbered ∙ equal))
-      by_made (Some (made.Histogram name spec)) is (r, has, mine, specified) given =
-          let one = (is_named shape (blank version id shape.size) state kept l.reference r has).0 in
+      by_made (Some (made.Histogram name spec)) is (r, has, mine, specified) =
+          let one = (is_named shape opened state kept l.reference r has).0 in
           let three = valued.0 in
           absurd (omega (arith, three, one))
-      by_made None is standing given = absurd (given refl)
+      by_made None is (size, tag, next, payload, (k, there), third, long) =
+          absurd (third (sym (piece_word shape state.words kept.anatomy kept.shown k _ 2 there (omega arith)) ∙ valued.0))
 
-  -- a histogram's record on the list
-  pub listed_record : (at : ℕ) → Contains (order_of kept.anatomy) at → field_at state.words at 2 ≡ 1
-      → (l : Listed) × (name : List ℕ) × (spec : Spec) × (r : Record) × Contains kept.anatomy.records l × (l.reference ≡ at)
-      × (l.made ≡ Some (made.Histogram name spec)) × Named shape (blank version id shape.size) state kept name spec at r
-  listed_record at there one =
-      let (l, among, place, standing) = listed_there state.words (blank version id shape.size) kept.anatomy state.actors at kept.list there in
+  -- where a record stands on the list
+  listed_at : (at : ℕ) → Contains (order_of kept.anatomy) at → (front behind : List Listed) × (l : Listed) × (kept.anatomy.records ≡ front ++ l ∷ behind) × (l.reference ≡ at)
+  listed_at at there =
+      let (k, place) = at_from (order_of kept.anatomy) at there in
+      let (l, found, is) = from_map (λ (l : Listed). l.reference) kept.anatomy.records k at place in
+      let (front, behind, split, others) = split_at kept.anatomy.records k l found in
+      (front, behind, l, split, is)
+
+  -- a histogram's record on the list: it was given so, or is passed over
+  pub record_on_list : (at : ℕ) → Contains (order_of kept.anatomy) at → field_at state.words at 2 ≡ 1
+      → ((l : Listed) × (name : List ℕ) × (spec : Spec) × (r : Record) × Contains kept.anatomy.records l × (l.reference ≡ at)
+      × (l.made ≡ Some (made.Histogram name spec)) × Named shape opened state kept name spec at r)
+      ⊎ ((l : Listed) × (front : List Listed) × (r : Record) × Contains kept.anatomy.records l × (l.made ≡ None)
+      × PassedOver shape opened state kept front at r)
+  record_on_list at there one =
+      let (front, behind, l, split, place) = listed_at at there in
       let name : List ℕ = name_of state.words l.reference in
-      let (spec, r, made, has) = given_name l name among (subst (λ (at : ℕ). field_at state.words at 2 ≡ 1) (sym place) one, refl) in
-      (l, name, spec, r, among, place, made, subst (λ (at : ℕ). Named shape (blank version id shape.size) state kept name spec at r) place has)
+      let among = subst (λ (records : List Listed). Contains records l) (sym split) (Contains-append_right front (l ∷ behind) l (0, omega arith, refl)) in
+      elim (given_name front behind l name split (subst (λ (at : ℕ). field_at state.words at 2 ≡ 1) (sym place) one, refl)) [
+        | inl (spec, r, made, has) ↦ inl (l, name, spec, r, among, place, made, subst (λ (at : ℕ). Named shape opened state kept name spec at r) place has)
+        | inr (r, nothing, same, over) ↦
+            inr (l, front, r, among, nothing, subst (λ (at : ℕ). PassedOver shape opened state kept front at r) place over)
+      ]
+
+  -- where all of the opening was given, it was given so
+  pub listed_record : All (λ l. l.made ≢ None) opened.records → (at : ℕ) → Contains (order_of kept.anatomy) at → field_at state.words at 2 ≡ 1
+      → (l : Listed) × (name : List ℕ) × (spec : Spec) × (r : Record) × Contains kept.anatomy.records l × (l.reference ≡ at)
+      × (l.made ≡ Some (made.Histogram name spec)) × Named shape opened state kept name spec at r
+  listed_record given at there one = elim (record_on_list at there one) [
+    | inl found ↦ found
+    | inr (l, front, r, among, nothing, over) ↦ absurd (all_given shape opened state kept given l among nothing)
+  ]
 
   -- ---- the first ones
 
   -- the histogram of a name is the first record of it
   pub first_of_name : (name : List ℕ) (at : ℕ) → IsHistogram state.words (order_of kept.anatomy) name at
-      → (spec : Spec) × (r : Record) × IsFirst kept.anatomy.records name spec at × Named shape (blank version id shape.size) state kept name spec at r
+      → (spec : Spec) × (r : Record) × IsFirst kept.anatomy.records name spec at × Named shape opened state kept name spec at r
   first_of_name name at is =
       let (xs, ys, l, split, none, this, here) = first_listed kept.anatomy.records (IsNamed name) (consistent.HasName state.words name)
-      (λ l there. name_given shape (blank version id shape.size) state kept l name there) (λ l there named. let (spec, r, made, has) = given_name l name there named in (spec, made))
+      (λ l there. name_given shape opened state kept l name there) (name_or_before name)
       is.front is.behind at is.stands is.first is.named in
-      let among = subst (λ (records : List Listed). Contains records l) (sym split) (Contains-append_right xs (l ∷ ys) l (0, omega arith, refl)) in
-      let (spec, r, made, has) = given_name l name among (name_given shape (blank version id shape.size) state kept l name among this) in
-      (spec, r, (xs, ys, split ∙ (λ i. xs ++ record { reference = here i; made = made i } ∷ ys), none), subst (λ (at : ℕ). Named shape (blank version id shape.size) state kept name spec at r) here has)
+      let (spec, made) = this in
+      let first : IsFirst kept.anatomy.records name spec at = (xs, ys, split ∙ (λ i. xs ++ record { reference = here i; made = made i } ∷ ys), none) in
+      let (r, has) = record_of_first shape opened state kept name spec at first in
+      (spec, r, first, has)
 
   pub name_of_first : (name : List ℕ) (spec : Spec) (at : ℕ) → IsFirst kept.anatomy.records name spec at → IsHistogram state.words (order_of kept.anatomy) name at
   name_of_first name spec at (xs, ys, split, none) =
       let l : Listed = record { reference = at; made = Some (made.Histogram name spec) } in
       let is = first_reference kept.anatomy.records (IsNamed name) (consistent.HasName state.words name)
-      (λ l there. name_given shape (blank version id shape.size) state kept l name there) (λ l there named. let (spec, r, made, has) = given_name l name there named in (spec, made))
+      (λ l there. name_given shape opened state kept l name there) (name_or_before name)
       xs ys l split none (spec, refl) in
       record { front = map (λ (l : Listed). l.reference) xs; behind = map (λ (l : Listed). l.reference) ys; stands = is.0; first = is.1; named = is.2 }
 
+  value_given_at : (of : ℕ) (value : ℤ) (front behind : List Listed) (l : Listed) → kept.anatomy.records ≡ front ++ l ∷ behind → IsSampleOf state.words of value l.reference
+      → OrBefore (λ l. l.made ≡ Some (made.Sample of value)) front l
+  value_given_at of value front behind l split valued =
+      let among = subst (λ (records : List Listed). Contains records l) (sym split) (Contains-append_right front (l ∷ behind) l (0, omega arith, refl)) in
+      let (s, made, has) = given_value l of value among valued in
+      inl made
+
   -- and the sample of a value the first record of it
   pub first_of_value : (of : ℕ) (value : ℤ) (at : ℕ) → IsSample state.words (order_of kept.anatomy) of value at
-      → (s : Sample) × IsFirstOf kept.anatomy.records of value at × Valued shape (blank version id shape.size) state kept of value at s
+      → (s : Sample) × IsFirstOf kept.anatomy.records of value at × Valued shape opened state kept of value at s
   first_of_value of value at is =
       let (xs, ys, l, split, none, this, here) = first_listed kept.anatomy.records (λ l. l.made ≡ Some (made.Sample of value)) (IsSampleOf state.words of value)
-      (λ l there. value_given shape (blank version id shape.size) state kept l of value there) (λ l there valued. let (s, made, has) = given_value l of value there valued in made)
+      (λ l there. value_given shape opened state kept l of value there) (value_given_at of value)
       is.front is.behind at is.stands is.first is.valued in
       let among = subst (λ (records : List Listed). Contains records l) (sym split) (Contains-append_right xs (l ∷ ys) l (0, omega arith, refl)) in
-      let (s, made, has) = given_value l of value among (value_given shape (blank version id shape.size) state kept l of value among this) in
-      (s, (xs, ys, split ∙ (λ i. xs ++ record { reference = here i; made = made i } ∷ ys), none), subst (λ (at : ℕ). Valued shape (blank version id shape.size) state kept of value at s) here has)
+      let (s, made, has) = given_value l of value among (value_given shape opened state kept l of value among this) in
+      (s, (xs, ys, split ∙ (λ i. xs ++ record { reference = here i; made = made i } ∷ ys), none), subst (λ (at : ℕ). Valued shape opened state kept of value at s) here has)
 
   pub value_of_first : (of : ℕ) (value : ℤ) (at : ℕ) → IsFirstOf kept.anatomy.records of value at → IsSample state.words (order_of kept.anatomy) of value at
   value_of_first of value at (xs, ys, split, none) =
       let l : Listed = record { reference = at; made = Some (made.Sample of value) } in
       let is = first_reference kept.anatomy.records (λ l. l.made ≡ Some (made.Sample of value)) (IsSampleOf state.words of value)
-      (λ l there. value_given shape (blank version id shape.size) state kept l of value there) (λ l there valued. let (s, made, has) = given_value l of value there valued in made)
+      (λ l there. value_given shape opened state kept l of value there) (value_given_at of value)
       xs ys l split none refl in
       record { front = map (λ (l : Listed). l.reference) xs; behind = map (λ (l : Listed). l.reference) ys; stands = is.0; first = is.1; valued = is.2 }

@@ -1,7 +1,7 @@
--- The records of a kept state have lawful forms.
-use Rattle.std.proofs.Common.{◌≡◌, ◌≢◌, Bool, true, false, ◌&&◌, nat_le, ℕ, ◌+◌, ◌-◌, ◌*◌, ◌<◌, length, refl, sym, ap, subst, ◌∙◌, arith}
-use Rattle.std.specs.Prelude.{◌==◌}
-use Rattle.std.proofs.lemmas.Bool.{eqb-true, eqb-false, eq-eqb, and_from, or_left, or_right, le-leb}
+-- The records of a kept state have lawful forms: those in which somebody counts or nobody has, and those that are passed over.
+use Rattle.std.proofs.Common.{◌≡◌, ◌≢◌, Bool, true, false, ◌&&◌, nat_le, ℕ, ◌+◌, ◌-◌, ◌*◌, ◌<◌, List, ◌++◌, length, All, inl, inr, refl, sym, ap, subst, ◌∙◌, arith, length-append}
+use Rattle.std.specs.Prelude.{◌==◌, slice_index}
+use Rattle.std.proofs.lemmas.Bool.{cases_lt, eqb-true, eqb-false, eq-eqb, and_from, or_left, or_right, le-leb}
 use Rattle.segment_image.specs.Shape.{Dimensions}
 use Rattle.segment_image.specs.Head.{head_of}
 use Rattle.segment_image.specs.Blocks.{field_at, is_block}
@@ -11,92 +11,182 @@ use Rattle.bucket_ranges.specs.Single.{packed_bucket}
 use Rattle.segment_machine.specs.State.{State}
 use Rattle.segment_machine.specs.Form.{is_off}
 use Rattle.segment_invariant.specs.Consistent.{HasForm}
-use Rattle.segment_invariant.specs.Body.{Record, Counts, Anatomy}
+use Rattle.segment_invariant.specs.Body.{Record, Counts, record_words, counts_words, histogram, counts, Listed, Anatomy}
 use Rattle.segment_invariant.specs.Ledger.{form_at}
-use Rattle.segment_invariant.specs.Seen.{HasRecord, HasCounts}
-use Rattle.segment_invariant.specs.Invariant.{IsLawfulRecord, IsCountsOf, Invariant}
+use Rattle.segment_invariant.specs.Seen.{HasRecord, HoldsAs}
+use Rattle.segment_invariant.specs.Invariant.{IsLawfulRecord, IsCountsOf, IsPassedOver, Invariant}
+use Rattle.segment_invariant.proofs.Lists.FewTerms.{zero_index}
 use Rattle.segment_invariant.proofs.Blocks.Pieces.{piece_word}
 use Rattle.segment_machine.proofs.SmallNumbers.{below_three}
+use Rattle.segment_invariant.proofs.Counting.Seen.{count_in, mark_in}
 use Rattle.segment_invariant.proofs.Consistency.Blocks.{lawful_piece}
 use Rattle.segment_invariant.proofs.Consistency.Records.{record_word}
 use Rattle.segment_invariant.proofs.Consistency.Specs.{buckets_are, form_is}
 use Rattle.segment_invariant.proofs.Consistency.Keys.{packed_within}
-use Rattle.segment_invariant.proofs.Consistency.Totals.{sparse_kind, kind_word, mark_word}
-use Rattle.segment_invariant.proofs.Consistency.Held.{counts_ref, counts_nothing}
+use Rattle.segment_invariant.proofs.Consistency.Totals.{sparse_kind}
+use Rattle.segment_invariant.proofs.Consistency.PassedOver.{told, told_shown, told_stands}
 
-module _ (shape : Dimensions) (opened : Anatomy) (state : State) (kept : Invariant shape opened state)
-    (at : ℕ) (r : Record) (has : HasRecord kept.anatomy.pieces at r) where
-  right : IsLawfulRecord kept.anatomy.version shape.page r
-  right = kept.records.lawful at r has
+-- ---- a record among the words
 
-  many : record_buckets state.words at ≡ buckets_of r.spec
-  many = buckets_are shape state.words kept.anatomy kept.shown kept.anatomy.version at r has right
+-- Words tell a counts block at a place: a lawful block with its words.
+pub record TellsCounts (words : List ℕ) (at : ℕ) (c : Counts) : Type 0 where
+  pub block : is_block words (head_of words) at ≡ true
+  pub word : (j : ℕ) → j < length (counts_words c) → field_at words at j ≡ slice_index (counts_words c) j
 
-  reference : field_at state.words at 8 ≡ r.counts
-  reference = counts_ref shape opened state kept at r has
+-- They tell a record: its own words up to its name, its buckets, its form, and its counts where it names some.
+pub record TellsRecord (words : List ℕ) (page version at : ℕ) (r : Record) : Type 0 where
+  pub lawful : IsLawfulRecord version page r
+  pub word : (j : ℕ) → j < 15 → field_at words at j ≡ slice_index (record_words r) j
+  pub many : record_buckets words at ≡ buckets_of r.spec
+  pub form : record_single version words at ≡ form_at version r
+  pub counts : r.counts ≢ 0 → (c : Counts) × TellsCounts words r.counts c × IsCountsOf version at r c
 
-  single : field_at state.words at 9 ≡ r.single
-  single = record_word shape state.words kept.anatomy kept.shown at r 9 has (omega arith)
+module _ (words : List ℕ) (version at : ℕ) (r : Record) (c : Counts) (tells : TellsCounts words r.counts c) (of_it : IsCountsOf version at r c) where
+  counts_long : length (counts_words c) ≡ 4 + (length c.units + (length c.marks + length c.rest))
+  counts_long =
+      let long = length-append c.units c.marks in
+      let all = length-append (c.units ++ c.marks) c.rest in
+      omega (arith, long, all)
 
-  form : record_single kept.anatomy.version state.words at ≡ form_at kept.anatomy.version r
-  form = form_is shape state.words kept.anatomy kept.shown kept.anatomy.version at r has right kept.anatomy.version
+  -- its counts and marks
+  pub told_count : (i : ℕ) → i < buckets_of r.spec → field_at words r.counts (4 + i) ≡ slice_index c.units i
+  told_count i below =
+      let long = counts_long in
+      let units = of_it.units in
+      tells.word (4 + i) (omega (arith, below, long, units)) ∙ count_in c i (omega (arith, below, units))
 
-  -- the counts that it names
-  named_counts : field_at state.words at 8 ≢ 0 → (c : Counts) × HasCounts kept.anatomy.pieces r.counts c × IsCountsOf kept.anatomy.version at r c
-  named_counts some_there = kept.records.mounted at r has (λ e. some_there (reference ∙ e))
+  pub told_mark : (i : ℕ) → i < buckets_of r.spec → field_at words r.counts (4 + buckets_of r.spec + i) ≡ slice_index c.marks i
+  told_mark i below =
+      let long = counts_long in
+      let units = of_it.units in
+      let marks = of_it.marks in
+      ap (λ (n : ℕ). field_at words r.counts (4 + n + i)) (sym units)
+      ∙ (tells.word (4 + length c.units + i) (omega (arith, below, long, units, marks)) ∙ mark_in c i (omega (arith, below, marks)))
 
-  -- are a lawful counts block
-  counts_lawful : (c : Counts) → HasCounts kept.anatomy.pieces r.counts c → IsCountsOf kept.anatomy.version at r c
-      → (is_block state.words (head_of state.words) r.counts && (field_at state.words r.counts 2 == 2)
-      && nat_le (4 + 2 * buckets_of r.spec) (field_at state.words r.counts 0)) ≡ true
-  counts_lawful c (k, there) of_it =
-      let block = lawful_piece shape state.words kept.anatomy kept.shown kept.blocks k _ there refl in
-      let tag = piece_word shape state.words kept.anatomy kept.shown k _ 2 there (omega arith) in
-      let size = piece_word shape state.words kept.anatomy kept.shown k _ 0 there (omega arith) in
-      let place : r.counts + 0 ≡ r.counts = omega arith in
+  -- all of them are 0 where they are all 0
+  told_nothing : (i : ℕ) → All (λ n. n ≡ 0) c.units → All (λ n. n ≡ 0) c.marks → i < 2 * buckets_of r.spec → field_at words r.counts (4 + i) ≡ 0
+  told_nothing i no_units no_marks below = elim (cases_lt i (buckets_of r.spec)) [
+    | inl low ↦ told_count i low ∙ zero_index c.units i no_units
+    | inr high ↦
+        let n : ℕ = buckets_of r.spec in
+        let place : 4 + i ≡ 4 + n + (i - n) = omega (arith, high) in
+        ap (field_at words r.counts) place ∙ (told_mark (i - n) (omega (arith, high, below)) ∙ zero_index c.marks (i - n) no_marks)
+  ]
+
+  -- they are a lawful counts block
+  counts_lawful : (is_block words (head_of words) r.counts && (field_at words r.counts 2 == 2) && nat_le (4 + 2 * buckets_of r.spec) (field_at words r.counts 0)) ≡ true
+  counts_lawful =
+      let long = counts_long in
+      let tag = tells.word 2 (omega (arith, long)) in
+      let size = tells.word 0 (omega (arith, long)) in
       let units = of_it.units in
       let marks = of_it.marks in
       let sized = of_it.sized in
-      and_from _ _ (and_from _ _ block (eq-eqb (field_at state.words r.counts 2) 2 tag))
-      (le-leb (4 + 2 * buckets_of r.spec) (field_at state.words r.counts 0) (omega (arith, size, units, marks, sized)))
+      and_from _ _ (and_from _ _ tells.block (eq-eqb (field_at words r.counts 2) 2 tag))
+      (le-leb (4 + 2 * buckets_of r.spec) (field_at words r.counts 0) (omega (arith, size, units, marks, sized)))
+
+module _ (words : List ℕ) (page version at : ℕ) (r : Record) (tells : TellsRecord words page version at r) where
+  reference : field_at words at 8 ≡ r.counts
+  reference = tells.word 8 (omega arith)
+
+  single : field_at words at 9 ≡ r.single
+  single = tells.word 9 (omega arith)
+
+  -- the counts that it names
+  named_counts : field_at words at 8 ≢ 0 → (c : Counts) × TellsCounts words r.counts c × IsCountsOf version at r c
+  named_counts some_there = tells.counts (λ e. some_there (reference ∙ e))
 
   -- its counts reference is 0 or leads to them
-  pub counts_are : has_counts state.words (head_of state.words) at ≡ true
-  counts_are = by_counts (r.counts == 0) (eqb-true r.counts 0) (eqb-false r.counts 0)
+  pub told_counts : has_counts words (head_of words) at ≡ true
+  told_counts = by_counts (r.counts == 0) (eqb-true r.counts 0) (eqb-false r.counts 0)
     where
-      by_counts : (b : Bool) → (b ≡ true → r.counts ≡ 0) → (b ≡ false → r.counts ≢ 0) → has_counts state.words (head_of state.words) at ≡ true
-      by_counts true none_there some_there = or_left _ _ (eq-eqb (field_at state.words at 8) 0 (reference ∙ none_there refl))
+      by_counts : (b : Bool) → (b ≡ true → r.counts ≡ 0) → (b ≡ false → r.counts ≢ 0) → has_counts words (head_of words) at ≡ true
+      by_counts true none_there some_there = or_left _ _ (eq-eqb (field_at words at 8) 0 (reference ∙ none_there refl))
       by_counts false none_there some_there =
-          let (c, mounted, of_it) = kept.records.mounted at r has (some_there refl) in
-          or_right _ _ (subst (λ (p : ℕ × ℕ). (is_block state.words (head_of state.words) p.0 && (field_at state.words p.0 2 == 2)
-          && nat_le (4 + 2 * p.1) (field_at state.words p.0 0)) ≡ true) (λ j. (sym reference j, sym many j)) (counts_lawful c mounted of_it))
+          let (c, there, of_it) = tells.counts (some_there refl) in
+          or_right _ _ (subst (λ (p : ℕ × ℕ). (is_block words (head_of words) p.0 && (field_at words p.0 2 == 2)
+          && nat_le (4 + 2 * p.1) (field_at words p.0 0)) ≡ true) (λ j. (sym reference j, sym tells.many j)) (counts_lawful words version at r c there of_it))
 
-  has_form : HasForm kept.anatomy.version state.words at
-  has_form = record {
+  pub told_form : HasForm version words at
+  told_form = record {
     sparse = λ is i from below.
-        let kind = sparse_kind r.spec (sym (kind_word shape opened state kept at r has) ∙ is) in
-        let empty = right.sparse kind in
+        let kind = sparse_kind r.spec (sym (ap (λ (n : ℕ). n == 4) (tells.word 4 (omega arith))) ∙ is) in
+        let empty = tells.lawful.sparse kind in
         let split : 8 + (i - 8) ≡ i = omega (arith, from) in
-        subst (λ (i : ℕ). field_at state.words at i ≡ 0) split
-        (below_three (λ k. field_at state.words at (8 + k) ≡ 0) (reference ∙ empty.0) (single ∙ empty.1)
-        (record_word shape state.words kept.anatomy kept.shown at r 10 has (omega arith) ∙ empty.2) (i - 8) (omega (arith, from, below)));
-    counts = λ is. counts_are;
-    lawful = λ is no_form. right.formed (sym form ∙ no_form);
-    off = λ is off empty. right.off (subst (λ (n : ℕ). is_off n ≡ true) single off) (sym reference ∙ empty);
+        subst (λ (i : ℕ). field_at words at i ≡ 0) split
+        (below_three (λ k. field_at words at (8 + k) ≡ 0) (reference ∙ empty.0) (single ∙ empty.1)
+        (tells.word 10 (omega arith) ∙ empty.2) (i - 8) (omega (arith, from, below)));
+    counts = λ is. told_counts;
+    lawful = λ is no_form. tells.lawful.formed (sym tells.form ∙ no_form);
+    off = λ is off empty. tells.lawful.off (subst (λ (n : ℕ). is_off n ≡ true) single off) (sym reference ∙ empty);
     unused = λ is on some_there i below.
-        let (c, mounted, of_it) = named_counts some_there in
+        let (c, there, of_it) = named_counts some_there in
         let zeros = of_it.unused (subst (λ (n : ℕ). is_off n ≡ false) single on) in
-        ap (λ (counts : ℕ). field_at state.words counts (4 + i)) reference
-        ∙ counts_nothing shape opened state kept r.counts c (buckets_of r.spec) i mounted of_it.units of_it.marks zeros.0 zeros.1
-        (subst (λ (n : ℕ). i < 2 * n) many below);
+        ap (λ (counts : ℕ). field_at words counts (4 + i)) reference
+        ∙ told_nothing words version at r c there of_it i zeros.0 zeros.1 (subst (λ (n : ℕ). i < 2 * n) tells.many below);
     packed = λ is some_there i first.
-        let (c, mounted, of_it) = named_counts some_there in
-        let here = sym (ap packed_bucket form) ∙ first in
-        let below = packed_within kept.anatomy.version (buckets_of r.spec) r.single i here in
-        let long : length c.marks ≡ buckets_of r.spec = of_it.marks in
-        (λ j. field_at state.words (reference j) (4 + many j + i))
-        ∙ (mark_word shape opened state kept r.counts c (buckets_of r.spec) i mounted of_it.units (omega (arith, below, long)) ∙ of_it.packed i here);
+        let (c, there, of_it) = named_counts some_there in
+        let here = sym (ap packed_bucket tells.form) ∙ first in
+        let below = packed_within version (buckets_of r.spec) r.single i here in
+        (λ j. field_at words (reference j) (4 + tells.many j + i)) ∙ (told_mark words version at r c there of_it i below ∙ of_it.packed i here);
   }
 
-  pub formed_as : HasForm opened.version state.words at
-  formed_as = subst (λ (v : ℕ). HasForm v state.words at) kept.same.0 has_form
+-- ---- a kept state
+
+module _ (shape : Dimensions) (opened : Anatomy) (state : State) (kept : Invariant shape opened state) where
+  -- its words tell each record
+  tells_record : (at : ℕ) (r : Record) → HasRecord kept.anatomy.pieces at r → TellsRecord state.words shape.page kept.anatomy.version at r
+  tells_record at r has =
+      let lawful = kept.records.lawful at r has in
+      record {
+        lawful = lawful;
+        word = λ j below. record_word shape state.words kept.anatomy kept.shown at r j has below;
+        many = buckets_are shape state.words kept.anatomy kept.shown kept.anatomy.version at r has lawful;
+        form = form_is shape state.words kept.anatomy kept.shown kept.anatomy.version at r has lawful kept.anatomy.version;
+        counts = λ some_there.
+            let (c, (k, there), of_it) = kept.records.mounted at r has some_there in (
+              c,
+              record {
+                block = lawful_piece shape state.words kept.anatomy kept.shown kept.blocks k _ there refl;
+                word = λ j below. piece_word shape state.words kept.anatomy kept.shown k _ j there below;
+              },
+              of_it,
+            );
+      }
+
+  -- a block that holds what counts would tells them
+  pub tells_counts : (at : ℕ) (c : Counts) → HoldsAs kept.anatomy.pieces at (counts c) → TellsCounts state.words at c
+  tells_counts at c holds =
+      let (k, there) = told_stands shape opened state kept at (counts c) holds in
+      record {
+        block = lawful_piece shape state.words kept.anatomy kept.shown kept.blocks holds.4.0 _ holds.4.1 refl;
+        word = λ j below.
+            piece_word shape state.words (told shape opened state kept at (counts c) holds) (told_shown shape opened state kept at (counts c) holds) k _ j there below;
+      }
+
+  -- and each record that is passed over
+  pub tells_passed : (front : List Listed) (at : ℕ) (r : Record) → IsPassedOver kept.anatomy.version shape.page kept.anatomy.pieces front at r
+      → TellsRecord state.words shape.page kept.anatomy.version at r
+  tells_passed front at r over =
+      let anatomy = told shape opened state kept at (histogram r) over.stands in
+      let shown = told_shown shape opened state kept at (histogram r) over.stands in
+      let has = told_stands shape opened state kept at (histogram r) over.stands in
+      record {
+        lawful = over.lawful;
+        word = λ j below. record_word shape state.words anatomy shown at r j has below;
+        many = buckets_are shape state.words anatomy shown kept.anatomy.version at r has over.lawful;
+        form = form_is shape state.words anatomy shown kept.anatomy.version at r has over.lawful kept.anatomy.version;
+        counts = λ some_there.
+            let (c, holds, of_it, bounded) = over.counted some_there in (c, tells_counts r.counts c holds, of_it);
+      }
+
+  pub counts_are : (at : ℕ) (r : Record) → HasRecord kept.anatomy.pieces at r → has_counts state.words (head_of state.words) at ≡ true
+  counts_are at r has = told_counts state.words shape.page kept.anatomy.version at r (tells_record at r has)
+
+  pub formed_as : (at : ℕ) (r : Record) → HasRecord kept.anatomy.pieces at r → HasForm opened.version state.words at
+  formed_as at r has = subst (λ (v : ℕ). HasForm v state.words at) kept.same.0 (told_form state.words shape.page kept.anatomy.version at r (tells_record at r has))
+
+  pub passed_as : (front : List Listed) (at : ℕ) (r : Record) → IsPassedOver kept.anatomy.version shape.page kept.anatomy.pieces front at r
+      → HasForm opened.version state.words at
+  passed_as front at r over =
+      subst (λ (v : ℕ). HasForm v state.words at) kept.same.0 (told_form state.words shape.page kept.anatomy.version at r (tells_passed front at r over))

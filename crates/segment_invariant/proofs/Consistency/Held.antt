@@ -1,5 +1,5 @@
 -- What the words of a kept state's records say beside their spec: which counts are theirs, and that nobody counts in later ones.
-use Rattle.std.proofs.Common.{◌≡◌, ◌≢◌, ℕ, ◌+◌, ◌-◌, ◌*◌, ◌<◌, ◌≤◌, ℤ, List, length, inl, inr, sym, ap, subst, ◌∙◌, arith, Option, Some, None}
+use Rattle.std.proofs.Common.{◌≡◌, ◌≢◌, ℕ, ◌+◌, ◌-◌, ◌*◌, ◌<◌, ◌≤◌, ℤ, List, length, inl, inr, sym, ap, subst, ◌∙◌, arith, Option, Some, None, true, refl}
 use Rattle.std.specs.Prelude as std
 use Rattle.std.specs.Prelude.{slice_index, ◌==◌}
 use Rattle.std.specs.List.{All, Contains}
@@ -19,16 +19,18 @@ use Rattle.segment_machine.specs.State.{State}
 use Rattle.segment_invariant.specs.Consistent.{new_opening}
 use Rattle.segment_machine.specs.Form.{Leads}
 use Rattle.segment_invariant.specs.Consistent.{IsHistogram, IsSample, HoldsNothing}
-use Rattle.segment_invariant.specs.Body.{Record, record_words, Counts, Body, histogram, counts, sample, other, Listed, Anatomy, order_of, blank}
-use Rattle.segment_invariant.specs.Seen.{Stands, HasRecord, HasCounts, IsFirst, IsFirstOf, WasSingle}
+use Rattle.segment_invariant.specs.Body.{Record, record_words, Counts, Body, histogram, counts, sample, other, Listed, Anatomy, order_of, blank, is_claimed}
+use Rattle.segment_invariant.specs.Seen.{Stands, HasRecord, HasCounts, IsFirst, IsFirstOf, WasSingle, HoldsAs}
 use Rattle.segment_invariant.specs.Invariant.{StandsAs, Invariant}
 use Rattle.segment_invariant.proofs.Blocks.Pieces.{piece_word, one_stands}
 use Rattle.segment_invariant.proofs.Consistency.Records.{record_word, listed_there}
 use Rattle.segment_invariant.proofs.Consistency.Specs.{buckets_are}
-use Rattle.segment_invariant.proofs.Consistency.Firsts.{listed_record, is_named, given_value, first_of_name, first_of_value}
+use Rattle.segment_invariant.proofs.Consistency.Firsts.{listed_record, is_named, given_value, first_of_name, first_of_value, record_on_list}
 use Rattle.segment_invariant.proofs.Lists.FewTerms.{zero_index}
 use Rattle.segment_machine.proofs.SmallNumbers.{below_three}
 use Rattle.segment_invariant.proofs.Consistency.Totals.{count_word, mark_word}
+use Rattle.segment_invariant.proofs.Consistency.PassedOver.{passed_word}
+use Rattle.segment_invariant.proofs.Frames.PassedOver.{PassedOver, in_opening}
 
 module _ (shape : Dimensions) (opened : Anatomy) (state : State) (kept : Invariant shape opened state) where
   -- a block stands at one place
@@ -51,27 +53,54 @@ module _ (shape : Dimensions) (opened : Anatomy) (state : State) (kept : Invaria
         ∙ (mark_word shape opened state kept at c n (i - n) has units (omega (arith, marks, high, below)) ∙ zero_index c.marks (i - n) no_marks)
   ]
 
--- ---- a new segment
+-- ---- on the list
 
-module _ (shape : Dimensions) (version id : ℕ) (state : State) (kept : Invariant shape (blank version id shape.size) state) where
+module _ (shape : Dimensions) (opened : Anatomy) (state : State) (kept : Invariant shape opened state) where
+  -- nobody's counts stand where a record that is passed over has its own
+  counts_apart : (at place : ℕ) (c : Counts) (body : Body) → HasCounts kept.anatomy.pieces at c → HoldsAs kept.anatomy.pieces place body → at ≢ place
+  counts_apart at place c body has (size, tag, next, payload, stands, same) is =
+      let one : counts c ≡ other size tag next payload =
+      (one_stands shape state.words kept.anatomy kept.shown place none none (counts c) (other size tag next payload)
+      (subst (λ (at : ℕ). HasCounts kept.anatomy.pieces at c) is has) stands).1 in
+      cc one
+
   -- no two records name one counts block
   pub own_counts : (a b : ℕ) → Contains (order_of kept.anatomy) a → Contains (order_of kept.anatomy) b → field_at state.words a 2 ≡ 1 → field_at state.words b 2 ≡ 1
       → field_at state.words a 8 ≢ 0 → field_at state.words a 8 ≡ field_at state.words b 8 → a ≡ b
-  own_counts a b there here one also some_there same =
-      let (l, name, kind, r, among, place, made, (has, named, specified)) = listed_record shape version id state kept a there one in
-      let (m, mine, sort, q, within, spot, given, (stands, called, sorted)) = listed_record shape version id state kept b here also in
-      let first = counts_ref shape (blank version id shape.size) state kept a r has in
-      let second = counts_ref shape (blank version id shape.size) state kept b q stands in
-      let (c, mounted, of_it) = kept.records.mounted a r has (λ e. some_there (first ∙ e)) in
-      let equal : q.counts ≡ r.counts = sym second ∙ (sym same ∙ first) in
-      let (d, also_mounted, of_other) = kept.records.mounted b q stands (λ e. some_there (first ∙ (sym equal ∙ e))) in
-      let one_block = counts_there shape (blank version id shape.size) state kept r.counts c d mounted (subst (λ (at : ℕ). HasCounts kept.anatomy.pieces at d) equal also_mounted) in
-      sym of_it.mine ∙ (ap (λ (c : Counts). c.of) one_block ∙ of_other.mine)
+  own_counts a b there here one also some_there same = elim (record_on_list shape opened state kept a there one) [
+    | inl (l, name, kind, r, among, place, made, (has, named, specified)) ↦
+        let first = counts_ref shape opened state kept a r has in
+        let (c, mounted, of_it) = kept.records.mounted a r has (λ e. some_there (first ∙ e)) in
+        elim (record_on_list shape opened state kept b here also) [
+          | inl (m, mine, sort, q, within, spot, given, (stands, called, sorted)) ↦
+              let second = counts_ref shape opened state kept b q stands in
+              let equal : q.counts ≡ r.counts = sym second ∙ (sym same ∙ first) in
+              let (d, also_mounted, of_other) = kept.records.mounted b q stands (λ e. some_there (first ∙ (sym equal ∙ e))) in
+              let one_block = counts_there shape opened state kept r.counts c d mounted (subst (λ (at : ℕ). HasCounts kept.anatomy.pieces at d) equal also_mounted) in
+              sym of_it.mine ∙ (ap (λ (c : Counts). c.of) one_block ∙ of_other.mine)
+          | inr (m, front, q, within, nothing, over) ↦
+              let second = passed_word shape opened state kept front b q over.0 8 (omega arith) in
+              let (d, holds, of_other, bounded) = over.0.counted (λ e. some_there (same ∙ (second ∙ e))) in
+              absurd (counts_apart r.counts q.counts c (counts d) mounted holds (sym first ∙ (same ∙ second)))
+        ]
+    | inr (l, front, r, among, none_there, over) ↦
+        let first = passed_word shape opened state kept front a r over.0 8 (omega arith) in
+        elim (record_on_list shape opened state kept b here also) [
+          | inl (m, mine, sort, q, within, spot, given, (stands, called, sorted)) ↦
+              let second = counts_ref shape opened state kept b q stands in
+              let (d, mounted, of_other) = kept.records.mounted b q stands (λ e. some_there (same ∙ (second ∙ e))) in
+              let (c, holds, of_it, bounded) = over.0.counted (λ e. some_there (first ∙ e)) in
+              absurd (counts_apart q.counts r.counts d (counts c) mounted holds (sym second ∙ (sym same ∙ first)))
+          | inr (m, before, q, within, nothing, others) ↦
+              let second = passed_word shape opened state kept before b q others.0 8 (omega arith) in
+              kept.passed_over.apart a b _ _ over.2 others.2 (λ e. some_there (first ∙ e)) (sym first ∙ (same ∙ second))
+        ]
+  ]
 
   -- a counts block is no record
   pub counts_unlisted : (at : ℕ) (c : Counts) → HasCounts kept.anatomy.pieces at c → ¬ (Contains (order_of kept.anatomy) at)
   counts_unlisted at c stands there =
-      let (l, among, place, standing) = listed_there state.words (blank version id shape.size) kept.anatomy state.actors at kept.list there in
+      let (l, among, place, standing) = listed_there state.words opened kept.anatomy state.actors at kept.list there in
       by_made l l.made standing place
     where
       differs : (body : Body) → (counts c ≢ body) → Stands kept.anatomy.pieces at none body → ⊥
@@ -82,12 +111,53 @@ module _ (shape : Dimensions) (version id : ℕ) (state : State) (kept : Invaria
           differs (histogram r) (λ e. cc e) (subst (λ (at : ℕ). Stands kept.anatomy.pieces at none (histogram r)) place here)
       by_made l (Some (made.Sample of value)) (s, here, mine, valued) place =
           differs (sample s) (λ e. cc e) (subst (λ (at : ℕ). Stands kept.anatomy.pieces at none (sample s)) place here)
-      by_made l None (size, tag, next, payload, here, not_one, not_three, behind) place =
+      by_made l None (size, tag, next, payload, here, not_three, behind) place =
           differs (other size tag next payload) (λ e. cc e) (subst (λ (at : ℕ). Stands kept.anatomy.pieces at none (other size tag next payload)) place here)
+
+  -- nor is that of a record that is passed over
+  passed_unlisted : (front : List Listed) (at : ℕ) (r : Record) (body : Body) → PassedOver shape opened state kept front at r
+      → HoldsAs kept.anatomy.pieces r.counts body → ¬ (Contains (order_of kept.anatomy) r.counts)
+  passed_unlisted front at r body over (size, tag, next, payload, here, same) there =
+      let (l, among, place, standing) = listed_there state.words opened kept.anatomy state.actors r.counts kept.list there in
+      by_made l l.made refl standing among place
+    where
+      differs : (body : Body) → (other size tag next payload ≢ body) → Stands kept.anatomy.pieces r.counts none body → ⊥
+      differs body apart stands =
+          apart (one_stands shape state.words kept.anatomy kept.shown r.counts none none (other size tag next payload) body here stands).1
+
+      by_made : (l : Listed) (m : std.Option Made) → l.made ≡ m → StandsAs kept.anatomy.pieces l m → Contains kept.anatomy.records l → l.reference ≡ r.counts → ⊥
+      by_made l (Some (made.Histogram name spec)) given (q, stands, named, specified) among place =
+          differs (histogram q) (λ e. cc e) (subst (λ (at : ℕ). Stands kept.anatomy.pieces at none (histogram q)) place stands)
+      by_made l (Some (made.Sample of value)) given (s, stands, mine, valued) among place =
+          differs (sample s) (λ e. cc e) (subst (λ (at : ℕ). Stands kept.anatomy.pieces at none (sample s)) place stands)
+      by_made l None given standing among place =
+          let is : l ≡ record { reference = r.counts; made = None } = λ i. record { reference = place i; made = given i } in
+          kept.passed_over.unlisted at (record r { next = over.1 }) over.2
+          (in_opening shape opened state kept r.counts (subst (Contains kept.anatomy.records) is among))
+
+  -- the counts that a record names are a claimed block, and no record
+  pub counts_named : (at : ℕ) → Contains (order_of kept.anatomy) at → field_at state.words at 2 ≡ 1 → field_at state.words at 8 ≢ 0
+      → ((body : Body) × Stands kept.anatomy.pieces (field_at state.words at 8) none body × (is_claimed body ≡ true))
+      × (¬ (Contains (order_of kept.anatomy) (field_at state.words at 8)))
+  counts_named at there one some_there = elim (record_on_list shape opened state kept at there one) [
+    | inl (l, name, kind, r, among, place, made, (has, named, specified)) ↦
+        let names_it = counts_ref shape opened state kept at r has in
+        let (c, here, of_it) = kept.records.mounted at r has (λ e. some_there (names_it ∙ e)) in (
+          (counts c, subst (λ (at : ℕ). HasCounts kept.anatomy.pieces at c) (sym names_it) here, refl),
+          subst (λ (at : ℕ). ¬ (Contains (order_of kept.anatomy) at)) (sym names_it) (counts_unlisted r.counts c here),
+        )
+    | inr (l, front, r, among, nothing, over) ↦
+        let names_it = passed_word shape opened state kept front at r over.0 8 (omega arith) in
+        let (c, holds, of_it, bounded) = over.0.counted (λ e. some_there (names_it ∙ e)) in
+        let (size, tag, next, payload, here, same) = holds in (
+          (other size tag next payload, subst (λ (at : ℕ). Stands kept.anatomy.pieces at none (other size tag next payload)) (sym names_it) here, refl),
+          subst (λ (at : ℕ). ¬ (Contains (order_of kept.anatomy) at)) (sym names_it) (passed_unlisted front at r (counts c) over holds),
+        )
+  ]
 
   -- single words lead on from those that were seen
   pub single_leads : (s : Sighting) (at : ℕ) → WasSingle kept.anatomy.version kept.anatomy.pieces s → s.at ≡ at + 9
-      → Leads version (record_buckets state.words at) s.word (word_at state.words s.at)
+      → Leads opened.version (record_buckets state.words at) s.word (word_at state.words s.at)
   single_leads s at (place, r, has, there, formed, leads) same =
       let spot : place ≡ at = omega (arith, there, same) in
       let here = subst (λ (at : ℕ). HasRecord kept.anatomy.pieces at r) spot has in
@@ -100,32 +170,24 @@ module _ (shape : Dimensions) (version id : ℕ) (state : State) (kept : Invaria
       → IsSample state.words (order_of kept.anatomy) (field_at state.words at 4) (sample_value state.words at) place → place ≢ at
       → (field_at state.words at 6 ≡ 0) × (field_at state.words at 7 ≡ 0)
   later_sample at place there three is apart =
-      let (l, among, spot, standing) = listed_there state.words (blank version id shape.size) kept.anatomy state.actors at kept.list there in
-      let (s, made, (stands, mine, valued)) = given_value shape version id state kept l (field_at state.words at 4) (sample_value state.words at) among
+      let (l, among, spot, standing) = listed_there state.words opened kept.anatomy state.actors at kept.list there in
+      let (s, made, (stands, mine, valued)) = given_value shape opened state kept l (field_at state.words at 4) (sample_value state.words at) among
       (subst (λ (p : ℕ). field_at state.words p 2 ≡ 3) (sym spot) three, ap (λ (p : ℕ). field_at state.words p 4) spot, ap (sample_value state.words) spot) in
       let here = subst (λ (at : ℕ). Stands kept.anatomy.pieces at none (sample s)) spot stands in
-      let (t, first, has) = first_of_value shape version id state kept (field_at state.words at 4) (sample_value state.words at) place is in
+      let (t, first, has) = first_of_value shape opened state kept (field_at state.words at 4) (sample_value state.words at) place is in
       let nothing = kept.records.later_samples at place s here
       (subst (λ (p : ℕ × ℤ). IsFirstOf kept.anatomy.records p.0 p.1 place) (λ j. (sym mine j, sym valued j)) first) apart in (
         piece_word shape state.words kept.anatomy kept.shown here.0 _ 6 here.1 (omega arith) ∙ nothing.0,
         piece_word shape state.words kept.anatomy kept.shown here.0 _ 7 here.1 (omega arith) ∙ nothing.1,
       )
 
-  -- the list of a new segment has no record
-  pub none_before : (front : List ℕ) (at : ℕ) → IsChain (new_opening shape version id).words (head_of (new_opening shape version id).words) front
-      → ¬ (Contains front at)
-  none_before front at chain (k, below, is) =
-      let opened : List ℕ = (new_opening shape version id).words in
-      let first = chain.walk.linked 0 (omega (arith, below)) in
-      no_queue opened front 0 (linked_of opened front (head_of opened) chain) (omega (arith, below)) (sym first)
-
   -- in a later record of a name nothing is counted
-  pub later_record : (at place : ℕ) → Contains (order_of kept.anatomy) at → field_at state.words at 2 ≡ 1
+  pub later_record : All (λ l. l.made ≢ None) opened.records → (at place : ℕ) → Contains (order_of kept.anatomy) at → field_at state.words at 2 ≡ 1
       → IsHistogram state.words (order_of kept.anatomy) (name_of state.words at) place → place ≢ at → HoldsNothing state.words at
-  later_record at place there one is apart =
-      let (l, name, kind, r, among, spot, made, (has, named, specified)) = listed_record shape version id state kept at there one in
-      let (first_kind, q, first, its) = first_of_name shape version id state kept (name_of state.words at) place is in
-      let mine : name_of state.words at ≡ r.name = (is_named shape (blank version id shape.size) state kept at r has).1 in
+  later_record given at place there one is apart =
+      let (l, name, kind, r, among, spot, made, (has, named, specified)) = listed_record shape opened state kept given at there one in
+      let (first_kind, q, first, its) = first_of_name shape opened state kept (name_of state.words at) place is in
+      let mine : name_of state.words at ≡ r.name = (is_named shape opened state kept at r has).1 in
       let nothing = kept.records.later at place r first_kind has (subst (λ (name : List ℕ). IsFirst kept.anatomy.records name first_kind place) mine first) apart in
       λ i from below. six (λ i. field_at state.words at i ≡ 0) (word at r has 8 (omega arith) ∙ nothing.0) (word at r has 9 (omega arith) ∙ nothing.1)
       (word at r has 10 (omega arith) ∙ nothing.2) (word at r has 11 (omega arith) ∙ nothing.3) (word at r has 12 (omega arith) ∙ nothing.4)
@@ -143,3 +205,14 @@ module _ (shape : Dimensions) (version id : ℕ) (state : State) (kept : Invaria
                 let further : 11 + (i - 8 - 3) ≡ 8 + (i - 8) = omega (arith, high) in
                 subst holds further (below_three (λ k. holds (11 + k)) d e f (i - 8 - 3) (omega (arith, high, from, below)))
           ])
+
+-- ---- a new segment
+
+module _ (shape : Dimensions) (version id : ℕ) (state : State) (kept : Invariant shape (blank version id shape.size) state) where
+  -- the list of a new segment has no record
+  pub none_before : (front : List ℕ) (at : ℕ) → IsChain (new_opening shape version id).words (head_of (new_opening shape version id).words) front
+      → ¬ (Contains front at)
+  none_before front at chain (k, below, is) =
+      let opened : List ℕ = (new_opening shape version id).words in
+      let first = chain.walk.linked 0 (omega (arith, below)) in
+      no_queue opened front 0 (linked_of opened front (head_of opened) chain) (omega (arith, below)) (sym first)

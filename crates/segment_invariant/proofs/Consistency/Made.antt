@@ -4,12 +4,12 @@ use Rattle.std.specs.Prelude.{slice_index, ◌==◌, is_none}
 use Rattle.std.specs.List.{Contains}
 use Rattle.std.proofs.lemmas.Bool.{and_from, eq-eqb, eqb-true, le-leb, le-ltb, lt-ltb}
 use Rattle.std.proofs.lemmas.List.{map-append}
-use Rattle.std.proofs.lemmas.List.Elements.{All-contains, Contains-append_right}
+use Rattle.std.proofs.lemmas.List.Elements.{All-contains, Contains-append_right, All-nil}
 use Rattle.std.proofs.lemmas.List.Sorted.{Contains-permutation, IsPermutation-sym}
 use Rattle.atomic_table.proofs.Lists.{at_map}
 use Rattle.segment_image.specs.Shape.{Dimensions}
 use Rattle.segment_image.specs.Blocks.{field_at}
-use Rattle.alloc_core.specs.Layout.{IsShape}
+use Rattle.alloc_core.specs.Layout.{IsShape, IsShown}
 use Rattle.bucket_ranges.specs.declared.spec.Spec.{Spec}
 use Rattle.bucket_ranges.specs.declared.spec.Spec.TheVariants as spec
 use Rattle.bucket_ranges.specs.Spec.{spec_fault, distinct_values, spec_fields, spec_ranges, SameSpec}
@@ -24,17 +24,17 @@ use Rattle.segment_machine.specs.State.{State}
 use Rattle.segment_machine.specs.Made.{AreNameWords}
 use Rattle.segment_machine.specs.Actor.{all_published}
 use Rattle.segment_invariant.specs.Consistent.{HoldsMade}
-use Rattle.segment_invariant.specs.Body.{Record, Listed, listed, Anatomy, order_of, blank}
+use Rattle.segment_invariant.specs.Body.{Record, Listed, listed, Anatomy, order_of, blank, layout_of}
 use Rattle.segment_invariant.specs.Seen.{HasRecord, IsFirst, WasSingle}
-use Rattle.segment_invariant.specs.Invariant.{StandsAs, Invariant}
+use Rattle.segment_invariant.specs.Invariant.{StandsAs, Invariant, IsLawfulRecord}
 use Rattle.segment_invariant.specs.Keeps.{KeptRecordsHold}
 use Rattle.segment_invariant.proofs.Lists.Elements.{at_from, contains_at, split_at}
 use Rattle.segment_invariant.proofs.Blocks.Pieces.{piece_word}
 use Rattle.segment_invariant.proofs.Consistency.Blocks.{claimed_piece}
 use Rattle.segment_invariant.proofs.Consistency.Chain.{claimed_at}
-use Rattle.segment_invariant.proofs.Consistency.Records.{record_word, name_long, letters_part}
+use Rattle.segment_invariant.proofs.Consistency.Records.{record_word, name_long, letters_part, record_name}
 use Rattle.segment_invariant.proofs.Consistency.Specs.{same_spelled, record_spec, ranges_part, ranges_fewer, buckets_are}
-use Rattle.segment_invariant.proofs.Consistency.Firsts.{standing_of, says_name, is_sample_of, listed_record, first_of_name, name_of_first}
+use Rattle.segment_invariant.proofs.Consistency.Firsts.{standing_of, is_sample_of, listed_record, first_of_name, name_of_first}
 use Rattle.segment_invariant.proofs.Consistency.Books.{one_first, sample_first}
 use Rattle.segment_invariant.proofs.Consistency.Totals.{kind_word}
 use Rattle.segment_invariant.proofs.Consistency.Held.{counts_ref, own_counts, counts_unlisted, single_leads, later_record, later_sample, none_before}
@@ -75,49 +75,54 @@ kind_named spec.Boolean = refl
 kind_named (spec.Custom values) = refl
 kind_named spec.Sparse = refl
 
--- ---- a kept state
+-- ---- a record among the words
 
-module _ (shape : Dimensions) (opened : Anatomy) (state : State) (kept : Invariant shape opened state) where
+module _ (shape : Dimensions) (words : List ℕ) (anatomy : Anatomy) (shown : IsShown shape words (layout_of anatomy)) (version : ℕ) (chain : List ℕ) where
   -- what a record of a histogram holds
-  pub holds_histogram : (at : ℕ) (r : Record) → HasRecord kept.anatomy.pieces at r
-      → HoldsMade state.words (order_of kept.anatomy) at (made.Histogram r.name r.spec)
-  holds_histogram at r has =
-      let right = kept.records.lawful at r has in
-      let word = λ (j : ℕ) (below : j < 15). record_word shape state.words kept.anatomy kept.shown at r j has below in
-      let named = says_name shape opened state kept at r has in
-      let letters = name_long shape state.words kept.anatomy kept.shown kept.anatomy.version r right in
+  pub record_holds : (at : ℕ) (r : Record) → HasRecord anatomy.pieces at r → IsLawfulRecord version shape.page r
+      → HoldsMade words chain at (made.Histogram r.name r.spec)
+  record_holds at r has right =
+      let word = λ (j : ℕ) (below : j < 15). record_word shape words anatomy shown at r j has below in
+      let named = record_name shape words anatomy shown version at r has right in
+      let letters = name_long shape words anatomy shown version r right in
       let len = word 14 (omega arith) in
       let long = ap name_words len in
       let sized = right.sized in
       let size = word 0 (omega arith) in
-      let ranges = ranges_part shape state.words kept.anatomy kept.shown kept.anatomy.version at r has right in
-      let spec_is = record_spec shape state.words kept.anatomy kept.shown kept.anatomy.version at r has right in
-      let many = buckets_are shape state.words kept.anatomy kept.shown kept.anatomy.version at r has right in
-      let page = ap (λ (ws : List ℕ). slice_index ws 3) kept.shown.shows in
+      let ranges = ranges_part shape words anatomy shown version at r has right in
+      let spec_is = record_spec shape words anatomy shown version at r has right in
+      let many = buckets_are shape words anatomy shown version at r has right in
+      let page = ap (λ (ws : List ℕ). slice_index ws 3) shown.shows in
       let fits = right.fits in (
         word 2 (omega arith),
-        and_from _ _ (le-leb (15 + name_words (field_at state.words at 14)) (field_at state.words at 0) (omega (arith, long, letters, size, sized)))
+        and_from _ _ (le-leb (15 + name_words (field_at words at 14)) (field_at words at 0) (omega (arith, long, letters, size, sized)))
             (ap is_name named ∙ right.named),
         named,
         ap is_kind (word 4 (omega arith)) ∙ kind_named r.spec,
-        and_from _ _ (le-leb (reading.record_words state.words at) (field_at state.words at 0)
-            (room at r has (field_at state.words at 4 == 3) (eqb-true (field_at state.words at 4) 3) (15 + name_words (field_at state.words at 14)) (field_at state.words at 7 - 1)
+        and_from _ _ (le-leb (reading.record_words words at) (field_at words at 0)
+            (room at r has (field_at words at 4 == 3) (eqb-true (field_at words at 4) 3) (15 + name_words (field_at words at 14)) (field_at words at 7 - 1)
             (omega (arith, long, letters))
             (λ custom. ap (λ (n : ℕ). n - 1) (word 7 (omega arith)) ∙ ranges_fewer r.spec (sym (word 4 (omega arith)) ∙ custom))
             (omega (arith, size, sized))))
-            ((λ j. is_spec_named (word 4 (omega arith) j) (word 5 (omega arith) j) (word 6 (omega arith) j) (word 7 (omega arith) j) (inner_ranges state.words at))
-            ∙ spec_is_named r.spec (inner_ranges state.words at) right.lawful ranges),
+            ((λ j. is_spec_named (word 4 (omega arith) j) (word 5 (omega arith) j) (word 6 (omega arith) j) (word 7 (omega arith) j) (inner_ranges words at))
+            ∙ spec_is_named r.spec (inner_ranges words at) right.lawful ranges),
         subst (λ (kind : Spec). SameSpec kind r.spec) (sym spec_is) (same_spelled r.spec),
         omega (arith, fits, many, page),
-        subst (AreNameWords r.name) (sym (letters_part shape state.words kept.anatomy kept.shown kept.anatomy.version at r has right)) right.lettered,
+        subst (AreNameWords r.name) (sym (letters_part shape words anatomy shown version at r has right)) right.lettered,
       )
     where
-      room : (at : ℕ) (r : Record) → HasRecord kept.anatomy.pieces at r → (b : Bool) → (b ≡ true → field_at state.words at 4 ≡ 3) → (fields ranges : ℕ)
-          → fields ≤ 15 + length r.letters → (field_at state.words at 4 ≡ 3 → ranges ≡ length (spec_ranges r.spec))
-          → 15 + length r.letters + length (spec_ranges r.spec) ≤ field_at state.words at 0
-          → fields + (if b then ranges else 0) ≤ field_at state.words at 0
+      room : (at : ℕ) (r : Record) → HasRecord anatomy.pieces at r → (b : Bool) → (b ≡ true → field_at words at 4 ≡ 3) → (fields ranges : ℕ)
+          → fields ≤ 15 + length r.letters → (field_at words at 4 ≡ 3 → ranges ≡ length (spec_ranges r.spec))
+          → 15 + length r.letters + length (spec_ranges r.spec) ≤ field_at words at 0
+          → fields + (if b then ranges else 0) ≤ field_at words at 0
       room at r has true custom fields ranges less are most = let e = are (custom refl) in omega (arith, e, less, most)
       room at r has false custom fields ranges less are most = omega (arith, less, most)
+
+-- so does a record of a kept state
+pub holds_histogram : (shape : Dimensions) (opened : Anatomy) (state : State) (kept : Invariant shape opened state) (at : ℕ) (r : Record)
+    → HasRecord kept.anatomy.pieces at r → HoldsMade state.words (order_of kept.anatomy) at (made.Histogram r.name r.spec)
+holds_histogram shape opened state kept at r has =
+    record_holds shape state.words kept.anatomy kept.shown kept.anatomy.version (order_of kept.anatomy) at r has (kept.records.lawful at r has)
 
 -- ---- a kept state of a new segment
 
@@ -140,8 +145,8 @@ module _ (shape : Dimensions) (version id : ℕ) (state : State) (lawful : IsSha
       let (name, (xs, ys, before, none_first), its_name) = kept.records.sampled front behind l.reference of value here in
       let first : IsFirst kept.anatomy.records s.name spec.Sparse of =
       subst (IsFirst kept.anatomy.records s.name spec.Sparse) mine (sample_first shape (blank version id shape.size) state kept l.reference s has) in
-      let histogram_is = name_of_first shape version id state kept s.name spec.Sparse of first in
-      let (kind, r, again, (stands, called, sorted)) = first_of_name shape version id state kept s.name of histogram_is in
+      let histogram_is = name_of_first shape (blank version id shape.size) state kept s.name spec.Sparse of first in
+      let (kind, r, again, (stands, called, sorted)) = first_of_name shape (blank version id shape.size) state kept s.name of histogram_is in
       let sparse : r.spec ≡ spec.Sparse = sorted ∙ (one_first shape (blank version id shape.size) state kept s.name kind spec.Sparse of of again first).1 in
       let references = λ (records : List Listed). map (λ (l : Listed). l.reference) records in
       let says = is_sample_of shape (blank version id shape.size) state kept l.reference s has in (
@@ -174,21 +179,21 @@ records_hold shape version id state lawful kept = record {
   made = λ p there. holds_given shape version id state lawful kept (listed p) (published_listed shape version id state lawful kept p there) p.made refl;
   still = λ front at is there. absurd (none_before shape version id state kept front at is there);
   formed = λ at there one.
-      let (l, name, kind, r, among, place, made, (has, named, specified)) = listed_record shape version id state kept at there one in
+      let (l, name, kind, r, among, place, made, (has, named, specified)) = listed_record shape (blank version id shape.size) state kept (All-nil _) at there one in
       formed_as shape (blank version id shape.size) state kept at r has;
-  own_counts = own_counts shape version id state kept;
+  own_counts = own_counts shape (blank version id shape.size) state kept;
   claimed_counts = λ at there one some_there.
-      let (l, name, kind, r, among, place, made, (has, named, specified)) = listed_record shape version id state kept at there one in
+      let (l, name, kind, r, among, place, made, (has, named, specified)) = listed_record shape (blank version id shape.size) state kept (All-nil _) at there one in
       let names_it = counts_ref shape (blank version id shape.size) state kept at r has in
       let (c, mounted, of_it) = kept.records.mounted at r has (λ e. some_there (names_it ∙ e)) in (
         subst (Contains _) (sym names_it) (claimed_at shape version id state lawful kept mounted.0 _ mounted.1 refl),
-        subst (λ (at : ℕ). ¬ (Contains (order_of kept.anatomy) at)) (sym names_it) (counts_unlisted shape version id state kept r.counts c mounted),
+        subst (λ (at : ℕ). ¬ (Contains (order_of kept.anatomy) at)) (sym names_it) (counts_unlisted shape (blank version id shape.size) state kept r.counts c mounted),
       );
-  singles = λ who a alive lives s at seen there same. single_leads shape version id state kept s at
+  singles = λ who a alive lives s at seen there same. single_leads shape (blank version id shape.size) state kept s at
       (All-contains (WasSingle kept.anatomy.version kept.anatomy.pieces) a.seen.singles s (kept.each who a alive lives).sees.singles seen) same;
   later = λ at other there one is apart.
-      let (l, name, kind, r, among, place, made, (has, named, specified)) = listed_record shape version id state kept at there one in
+      let (l, name, kind, r, among, place, made, (has, named, specified)) = listed_record shape (blank version id shape.size) state kept (All-nil _) at there one in
       let from = (claimed_piece shape state.words kept.anatomy kept.shown kept.blocks has.0 _ has.1 refl).from in
-      (λ below. cc (sym below ∙ le-ltb at 16 from), λ _. later_record shape version id state kept at other there one is apart);
-  later_samples = later_sample shape version id state kept;
+      (λ below. cc (sym below ∙ le-ltb at 16 from), λ _. later_record shape (blank version id shape.size) state kept (All-nil _) at other there one is apart);
+  later_samples = later_sample shape (blank version id shape.size) state kept;
 }

@@ -3,7 +3,7 @@ use Rattle.std.proofs.Common.{◌≡◌, ◌≢◌, Bool, true, false, if◌then
 use Rattle.std.specs.Prelude.{slice_index, ◌==◌}
 use Rattle.std.specs.Int.{w64, cast_signed}
 use Rattle.std.proofs.lemmas.Bool.{eqb-true, eqb-false, eq-eqb, ne_eqb}
-use Rattle.std.proofs.lemmas.List.Elements.{All-weaker}
+use Rattle.std.proofs.lemmas.List.Elements.{All-weaker, All-nil}
 use Rattle.segment_image.specs.Shape.{Dimensions}
 use Rattle.segment_image.specs.Words.{word_at}
 use Rattle.segment_image.specs.Blocks.{field_at}
@@ -47,7 +47,7 @@ packed_is form i = by_packed (packed_bucket form) refl
         is ∙ ap Some (eqb-true bucket i test)
 
 -- it has all units of the form
-packed_all : (form : Option SingleWord) (i : ℕ) → packed_bucket form ≡ Some i → units_in form ≡ units_packed form i
+pub packed_all : (form : Option SingleWord) (i : ℕ) → packed_bucket form ≡ Some i → units_in form ≡ units_packed form i
 packed_all (Some (Packed bucket units)) i is =
     let same : bucket ≡ i = cc is in
     sym (ap (λ (b : Bool). if b then units else 0) (eq-eqb bucket i same))
@@ -144,7 +144,7 @@ module _ (shape : Dimensions) (opened : Anatomy) (state : State) (kept : Invaria
 pub marks_are_taken : KeptMarksAreTaken
 marks_are_taken shape version id state lawful kept = record {
   buckets = λ name at i is plain below.
-      let (kind, r, first, (has, named, specified)) = first_of_name shape version id state kept name at is in
+      let (kind, r, first, (has, named, specified)) = first_of_name shape (blank version id shape.size) state kept name at is in
       let right = kept.records.lawful at r has in
       let bucketed = bucketed_kind r.spec (sym (kind_word shape (blank version id shape.size) state kept at r has) ∙ plain) in
       let within : i < buckets_of r.spec = subst (λ (n : ℕ). i < n) (buckets_are shape state.words kept.anatomy kept.shown kept.anatomy.version at r has right) below in
@@ -155,9 +155,9 @@ marks_are_taken shape version id state lawful kept = record {
       ∙ (held ∙ (kept.balanced.marks name (key_of_bucket r.spec i) ∙ ap (units_taken state.actors name) (sym key))) in
       (taken, subst (λ (n : ℕ). n ≤ tally_units (all_counted state.actors) name (key_at state.words at i)) (sym taken) (kept.balanced.taken name (key_at state.words at i)));
   values = λ name at place value is sparse first_value.
-      let (kind, r, first, (has, named, specified)) = first_of_name shape version id state kept name at is in
+      let (kind, r, first, (has, named, specified)) = first_of_name shape (blank version id shape.size) state kept name at is in
       let sparse_spec = sparse_kind r.spec (sym (kind_word shape (blank version id shape.size) state kept at r has) ∙ sparse) in
-      let (s, first_of, (stands, of_it, valued)) = first_of_value shape version id state kept at value place first_value in
+      let (s, first_of, (stands, of_it, valued)) = first_of_value shape (blank version id shape.size) state kept at value place first_value in
       let held = value_held shape (blank version id shape.size) state kept name kind at r first has named specified value _ _ _ _
       (marks_book kept.anatomy.version name value) sparse_spec place s first_of stands of_it valued in
       let mark = piece_word shape state.words kept.anatomy kept.shown stands.0 _ 7 stands.1 (omega arith) in
@@ -166,14 +166,14 @@ marks_are_taken shape version id state lawful kept = record {
       (mark ∙ (sym held ∙ kept.balanced.marks name value), omega (arith, mark, units, most));
   placed = λ t count among counted. placed shape version id state kept t.name count.0 (kept.taken_keys t count among counted);
   unpacked = λ at there one empty.
-      let (l, name, kind, r, among, place, made, (has, named, specified)) = listed_record shape version id state kept at there one in
+      let (l, name, kind, r, among, place, made, (has, named, specified)) = listed_record shape (blank version id shape.size) state kept (All-nil _) at there one in
       let right = kept.records.lawful at r has in
       let single = form_is shape state.words kept.anatomy kept.shown kept.anatomy.version at r has right version in
       let here : packed_bucket (form_at kept.anatomy.version r) ≡ None =
       ap (λ (v : ℕ). packed_bucket (form_at v r)) kept.same.0 ∙ (ap packed_bucket (sym single) ∙ empty) in
       record_word shape state.words kept.anatomy kept.shown at r 10 has (omega arith) ∙ right.unpacked here;
   packed = λ at i there one first packed.
-      let (l, name, kind, r, among, place, made, (has, named, specified)) = listed_record shape version id state kept at there one in
+      let (l, name, kind, r, among, place, made, (has, named, specified)) = listed_record shape (blank version id shape.size) state kept (All-nil _) at there one in
       let right = kept.records.lawful at r has in
       let single = form_is shape state.words kept.anatomy kept.shown kept.anatomy.version at r has right version in
       let here : packed_bucket (form_at kept.anatomy.version r) ≡ Some i =
@@ -182,7 +182,7 @@ marks_are_taken shape version id state lawful kept = record {
       subst (λ (p : ℕ × ℕ). p.0 ≤ max (total_of p.1 state.words at i) 65535)
       (λ j. (sym (record_word shape state.words kept.anatomy kept.shown at r 10 has (omega arith)) j, kept.same.0 j)) bound;
   sum = λ name at is.
-      let (kind, r, first, (has, named, specified)) = first_of_name shape version id state kept name at is in
+      let (kind, r, first, (has, named, specified)) = first_of_name shape (blank version id shape.size) state kept name at is in
       ap (cast_signed w64) (record_word shape state.words kept.anatomy kept.shown at r 12 has (omega arith))
       ∙ (sym (sum_mark_is shape (blank version id shape.size) state kept name kind at r first has named) ∙ kept.balanced.sum_marks name);
   seen = λ who a there lives. All-weaker (WasCounter kept.anatomy.pieces) (λ s. s.word ≤ word_at state.words s.at)

@@ -1,9 +1,8 @@
 -- The records of a kept segment among its words: which ones the list has, and what the words of a histogram's record say.
-use Rattle.std.proofs.Common.{◌≡◌, ◌≢◌, ℕ, ◌+◌, ◌-◌, ◌<◌, List, [], ◌++◌, map, length, replicate, take, drop, get_or, refl, ap, subst, ◌∙◌, arith, length-append, append_assoc, None}
+use Rattle.std.proofs.Common.{◌≡◌, ℕ, ◌+◌, ◌-◌, ◌<◌, List, ◌++◌, length, replicate, take, drop, get_or, refl, ap, ◌∙◌, arith, length-append, append_assoc}
 use Rattle.std.specs.Prelude.{slice_index}
 use Rattle.std.specs.List.{slice_range, Contains}
 use Rattle.std.proofs.lemmas.List.{ext_get_or, get_or-take, get_or-drop, get_or_append_left, get_or-append_right, length-take, length-drop, length-replicate}
-use Rattle.std.proofs.lemmas.List.Sorted.{Contains-permutation}
 use Rattle.std.proofs.Math.Seq.{take-append_seam}
 use mathlib.Core.Option.{some, none}
 use lib.ListN.{get_elem?}
@@ -16,8 +15,7 @@ use Rattle.bucket_ranges.specs.Reading.{name_words, name_of}
 use Rattle.alloc_core.specs.Layout.{IsShown}
 use Rattle.alloc_core.proofs.Layouts.{length_shown}
 use Rattle.segment_machine.specs.declared.actor.Actor.{Actor}
-use Rattle.segment_machine.specs.Actor.{all_published}
-use Rattle.segment_invariant.specs.Body.{Record, Sample, histogram, Piece, words_of, record_words, Listed, listed, Anatomy, layout_of, order_of}
+use Rattle.segment_invariant.specs.Body.{Record, Sample, histogram, Piece, words_of, record_words, Listed, Anatomy, layout_of, order_of}
 use Rattle.segment_invariant.specs.Seen.{HasRecord, HasSample}
 use Rattle.segment_invariant.specs.Invariant.{StandsAs, ListIsKept, IsLawfulRecord}
 use Rattle.segment_invariant.proofs.Lists.Elements.{from_map, at_from, contains_at, all_at}
@@ -37,18 +35,6 @@ listed_there words opened anatomy actors at list there =
       from.2,
       all_at (λ l. StandsAs anatomy.pieces l l.made) anatomy.records place.0 from.0 list.standing from.1,
     )
-
--- where no record was there at the opening, each was given something
-pub each_given : (words : List ℕ) (opened anatomy : Anatomy) (actors : List Actor) (l : Listed) → ListIsKept words opened anatomy actors
-    → opened.records ≡ [] → Contains anatomy.records l → l.made ≢ None
-each_given words opened anatomy actors l list none_before there nothing =
-    let (front, all, permuted) = list.once in
-    let all_new : anatomy.records ≡ front = all ∙ ap (λ (records : List Listed). records ++ front) none_before in
-    let among = Contains-permutation front (map listed (all_published actors)) l permuted
-    (subst (λ (records : List Listed). Contains records l) all_new there) in
-    let place = at_from (map listed (all_published actors)) l among in
-    let from = from_map listed (all_published actors) place.0 l place.1 in
-    cc (ap (λ (l : Listed). l.made) from.2 ∙ nothing)
 
 -- ---- what the words say
 

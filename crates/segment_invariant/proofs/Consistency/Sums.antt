@@ -55,7 +55,7 @@ abbrev pub OfRecord : List ℕ → Body → (Record → Type 0) → Type 0
 OfRecord name body is = (r : Record) → body ≡ histogram r → r.name ≡ name → is r
 
 -- a block holds no sum where its record of the name has empty
-no_sum : (name : List ℕ) (body : Body) → OfRecord name body (λ r. r.sum ≡ 0) → sum_held name body ≡ pos 0
+pub no_sum : (name : List ℕ) (body : Body) → OfRecord name body (λ r. r.sum ≡ 0) → sum_held name body ≡ pos 0
 no_sum name (histogram r) empty = no_amount_of r.name name _ (λ same. ap (cast_signed w64) (empty r refl same))
 no_sum name (queue next) empty = refl
 no_sum name (plain words) empty = refl
@@ -64,7 +64,7 @@ no_sum name (counts c) empty = refl
 no_sum name (sample s) empty = refl
 no_sum name (other size tag next payload) empty = refl
 
-no_sum_mark : (name : List ℕ) (body : Body) → OfRecord name body (λ r. r.sum_mark ≡ 0) → sum_mark_held name body ≡ pos 0
+pub no_sum_mark : (name : List ℕ) (body : Body) → OfRecord name body (λ r. r.sum_mark ≡ 0) → sum_mark_held name body ≡ pos 0
 no_sum_mark name (histogram r) empty = no_amount_of r.name name _ (λ same. ap (cast_signed w64) (empty r refl same))
 no_sum_mark name (queue next) empty = refl
 no_sum_mark name (plain words) empty = refl
@@ -73,7 +73,7 @@ no_sum_mark name (counts c) empty = refl
 no_sum_mark name (sample s) empty = refl
 no_sum_mark name (other size tag next payload) empty = refl
 
-no_noted : (name : List ℕ) (body : Body) → OfRecord name body (λ r. r.noted ≡ 0) → noted_held name body ≡ 0
+pub no_noted : (name : List ℕ) (body : Body) → OfRecord name body (λ r. r.noted ≡ 0) → noted_held name body ≡ 0
 no_noted name (histogram r) empty = nothing_of r.name name r.noted (λ same. empty r refl same)
 no_noted name (queue next) empty = refl
 no_noted name (plain words) empty = refl
@@ -138,11 +138,11 @@ module _ (shape : Dimensions) (version id : ℕ) (state : State) (kept : Invaria
 pub sums_are_amounts : KeptSumsAreAmounts
 sums_are_amounts shape version id state lawful kept = record {
   sum = λ name at is.
-      let (spec, r, first, (has, named, specified)) = first_of_name shape version id state kept name at is in
+      let (spec, r, first, (has, named, specified)) = first_of_name shape (blank version id shape.size) state kept name at is in
       ap (cast_signed w64) (record_word shape state.words kept.anatomy kept.shown at r 11 has (omega arith))
       ∙ (sym (sum_is shape (blank version id shape.size) state kept name spec at r first has named) ∙ kept.balanced.sums name);
   redundant = λ name at is.
-      let (spec, r, first, (has, named, specified)) = first_of_name shape version id state kept name at is in
+      let (spec, r, first, (has, named, specified)) = first_of_name shape (blank version id shape.size) state kept name at is in
       let word = record_word shape state.words kept.anatomy kept.shown at r 13 has (omega arith) in
       let held = noted_is shape (blank version id shape.size) state kept name spec at r first has named in
       let new = not_before shape version id state kept at r has in

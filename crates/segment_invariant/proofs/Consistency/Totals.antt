@@ -129,18 +129,18 @@ module _ (shape : Dimensions) (opened : Anatomy) (state : State) (kept : Invaria
         cc bodies
 
     -- what an actor that moves units knows
-    moving_known : (who : ℕ) (a : Actor) (look : Look) (bucket units : ℕ) → get_elem? state.actors who ≡ some a → a.place ≡ Moving look bucket units
-        → (found : Known) × (known_at a.names look.histogram ≡ Some found) × (found.reference ≡ look.histogram) × Knows kept.anatomy found
+    pub moving_known : (who : ℕ) (a : Actor) (look : Look) (bucket units : ℕ) → get_elem? state.actors who ≡ some a → a.hand.place ≡ Moving look bucket units
+        → (found : Known) × (known_at a.answers.names look.histogram ≡ Some found) × (found.reference ≡ look.histogram) × Knows kept.anatomy found
     moving_known who a look bucket units there place =
         let stands = subst (StandsRight shape kept.anatomy who a) place (kept.standing who a there) in
         let names = (kept.each who a there (λ spent. cc (sym place ∙ spent))).names in
-        let known = at_from a.names stands.0.known stands.0.knows.0 in
-        let (found, is, among, names_it) = find_known a.names look.histogram known.0 stands.0.known known.1 stands.0.knows.1 in
-        (found, is, names_it, All-contains (Knows kept.anatomy) a.names found names among)
+        let known = at_from a.answers.names stands.0.known stands.0.knows.0 in
+        let (found, is, among, names_it) = find_known a.answers.names look.histogram known.0 stands.0.known known.1 stands.0.knows.1 in
+        (found, is, names_it, All-contains (Knows kept.anatomy) a.answers.names found names among)
 
     module _ (bucketed : r.spec ≢ spec.Sparse) (i : ℕ) (below : i < buckets_of r.spec) where
       -- units in transit with an actor are those that the ledger has
-      moved : (who : ℕ) (a : Actor) → get_elem? state.actors who ≡ some a → moving_at a name (key_of_bucket r.spec i) a.place ≡ transit_at a.place at i
+      moved : (who : ℕ) (a : Actor) → get_elem? state.actors who ≡ some a → moving_at a name (key_of_bucket r.spec i) a.hand.place ≡ transit_at a.hand.place at i
       moved who a there = ⊎_elim
           (λ moves.
           let (look, bucket, units, place) = moves in
@@ -149,13 +149,13 @@ module _ (shape : Dimensions) (opened : Anatomy) (state : State) (kept : Invaria
           ∙ (by_record look bucket units (moving_known who a look bucket units there place) stands.5 (look.histogram == at) (eqb-true look.histogram at) (eqb-false look.histogram at)
           ∙ sym (ap (λ (place : Place). transit_at place at i) place)))
           (λ still. still.0 a name (key_of_bucket r.spec i) ∙ sym (still.1 at i))
-          (moves_or_not a.place)
+          (moves_or_not a.hand.place)
         where
           by_record : (look : Look) (bucket units : ℕ)
-              → (found : Known) × (known_at a.names look.histogram ≡ Some found) × (found.reference ≡ look.histogram) × Knows kept.anatomy found
+              → (found : Known) × (known_at a.answers.names look.histogram ≡ Some found) × (found.reference ≡ look.histogram) × Knows kept.anatomy found
               → (q : Record) × HasRecord kept.anatomy.pieces look.histogram q × (packed_bucket (form_at 1 q) ≡ Some bucket) × (is_off q.single ≡ true)
               → (b : Bool) → (b ≡ true → look.histogram ≡ at) → (b ≡ false → look.histogram ≢ at)
-              → moving_of name (key_of_bucket r.spec i) (known_at a.names look.histogram) bucket units ≡ (if b && (bucket == i) then units else 0)
+              → moving_of name (key_of_bucket r.spec i) (known_at a.answers.names look.histogram) bucket units ≡ (if b && (bucket == i) then units else 0)
           by_record look bucket units (found, is, names_it, knows) (q, stands, packs, off) true same apart =
               let here = subst (λ (at : ℕ). IsFirst kept.anatomy.records found.name knows.first_spec at) (names_it ∙ same refl) knows.first in
               let mine : found.name ≡ name = one_name shape opened state kept found.name name knows.first_spec kind at here first in
@@ -175,7 +175,7 @@ module _ (shape : Dimensions) (opened : Anatomy) (state : State) (kept : Invaria
               (subst (λ (name : List ℕ). IsFirst kept.anatomy.records name knows.first_spec found.reference) mine knows.first) first).0)))
 
       pub moved_all : all_moving name (key_of_bucket r.spec i) state.actors ≡ transit_of state.actors at i
-      moved_all = same_sums (λ a. moving_at a name (key_of_bucket r.spec i) a.place) (λ a. transit_at a.place at i) state.actors moved
+      moved_all = same_sums (λ a. moving_at a name (key_of_bucket r.spec i) a.hand.place) (λ a. transit_at a.hand.place at i) state.actors moved
 
       -- a bucket's total is what blocks hold of its key
       pub total_held : total_of kept.anatomy.version state.words at i ≡ all_held (units_held kept.anatomy.version name (key_of_bucket r.spec i)) kept.anatomy.pieces
@@ -209,7 +209,7 @@ module _ (shape : Dimensions) (opened : Anatomy) (state : State) (kept : Invaria
 
     -- of a sparse histogram nothing is in transit
     pub moved_none : r.spec ≡ spec.Sparse → (key : ℤ) → all_moving name key state.actors ≡ 0
-    moved_none sparse key = sum_none (λ a. moving_at a name key a.place) state.actors (λ who a there _. ⊎_elim
+    moved_none sparse key = sum_none (λ a. moving_at a name key a.hand.place) state.actors (λ who a there _. ⊎_elim
         (λ moves.
         let (look, bucket, units, place) = moves in
         let stands = subst (StandsRight shape kept.anatomy who a) place (kept.standing who a there) in
@@ -224,7 +224,7 @@ module _ (shape : Dimensions) (opened : Anatomy) (state : State) (kept : Invaria
         let same = moving_record look q its here in
         cc (sym empty ∙ subst (λ (q : Record). packed_bucket (form_at 1 q) ≡ Some bucket) same packs))))
         (λ still. still.0 a name key)
-        (moves_or_not a.place))
+        (moves_or_not a.hand.place))
 
 -- ---- a new segment
 
@@ -232,8 +232,8 @@ module _ (shape : Dimensions) (version id : ℕ) (state : State) (kept : Invaria
   -- what has the key of a bucket, or is the value of a sample, has a place by the words
   pub placed : (name : List ℕ) (key : ℤ) → HasKey kept.anatomy.records name key → HasPlace state.words (order_of kept.anatomy) name key
   placed name key (kind, at, first, keyed_by) =
-      let is = name_of_first shape version id state kept name kind at first in
-      let (other, r, again, (has, named, specified)) = first_of_name shape version id state kept name at is in
+      let is = name_of_first shape (blank version id shape.size) state kept name kind at first in
+      let (other, r, again, (has, named, specified)) = first_of_name shape (blank version id shape.size) state kept name at is in
       let same : r.spec ≡ kind = specified ∙ (one_first shape (blank version id shape.size) state kept name other kind at at again first).1 in
       let lawful = kept.records.lawful at r has in (
         at,
@@ -252,7 +252,7 @@ module _ (shape : Dimensions) (version id : ℕ) (state : State) (kept : Invaria
             inr (
               place,
               kind_word shape (blank version id shape.size) state kept at r has ∙ ap (λ (kind : Spec). slice_index (spec_fields kind) 0 == 4) (same ∙ sparse),
-              value_of_first shape version id state kept at key place first_value,
+              value_of_first shape (blank version id shape.size) state kept at key place first_value,
             ))
             keyed_by,
       )
@@ -260,7 +260,7 @@ module _ (shape : Dimensions) (version id : ℕ) (state : State) (kept : Invaria
 pub totals_are_counted : KeptTotalsAreCounted
 totals_are_counted shape version id state lawful kept = record {
   buckets = λ name at i is plain below.
-      let (kind, r, first, (has, named, specified)) = first_of_name shape version id state kept name at is in
+      let (kind, r, first, (has, named, specified)) = first_of_name shape (blank version id shape.size) state kept name at is in
       let right = kept.records.lawful at r has in
       let bucketed = bucketed_kind r.spec (sym (kind_word shape (blank version id shape.size) state kept at r has) ∙ plain) in
       let within : i < buckets_of r.spec = subst (λ (n : ℕ). i < n) (buckets_are shape state.words kept.anatomy kept.shown kept.anatomy.version at r has right) below in
@@ -272,9 +272,9 @@ totals_are_counted shape version id state lawful kept = record {
       ap (λ (v : ℕ). total_of v state.words at i + transit_of state.actors at i) (sym kept.same.0)
       ∙ (sum ∙ ap (tally_units (all_counted state.actors) name) (sym (key_is shape state.words kept.anatomy kept.shown kept.anatomy.version at r has right i)));
   values = λ name at place value is sparse first_value.
-      let (kind, r, first, (has, named, specified)) = first_of_name shape version id state kept name at is in
+      let (kind, r, first, (has, named, specified)) = first_of_name shape (blank version id shape.size) state kept name at is in
       let sparse_spec = sparse_kind r.spec (sym (kind_word shape (blank version id shape.size) state kept at r has) ∙ sparse) in
-      let (s, first_of, (stands, of_it, valued)) = first_of_value shape version id state kept at value place first_value in
+      let (s, first_of, (stands, of_it, valued)) = first_of_value shape (blank version id shape.size) state kept at value place first_value in
       let held = value_held shape (blank version id shape.size) state kept name kind at r first has named specified value _ _ _ _
       (units_book kept.anatomy.version name value kept.versions) sparse_spec place s first_of stands of_it valued in
       let moved = moved_none shape (blank version id shape.size) state kept name kind at r first has named specified sparse_spec value in

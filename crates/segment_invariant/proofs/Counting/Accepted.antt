@@ -1,5 +1,5 @@
 -- What an actor has accepted, and what had been accepted before it was made, is no more than what was counted and noted.
-use Rattle.std.proofs.Common.{◌≡◌, ◌≢◌, ℕ, zero, suc, ◌+◌, ◌≤◌, ℤ, true, List, [], ◌∷◌, ◌++◌, map, drop, length, set, All, sym, refl, ap, ◌∙◌, arith}
+use Rattle.std.proofs.Common.{◌≡◌, ◌≢◌, ℕ, zero, suc, ◌+◌, ◌≤◌, ℤ, true, List, [], ◌∷◌, ◌++◌, map, drop, length, set, All, sym, refl, ap, ◌∙◌, arith, false}
 use Rattle.std.proofs.Math.Seq.{drop-append_seam}
 use Rattle.std.proofs.lemmas.Bool.{and_parts}
 use Rattle.std.specs.List.{flat_map}
@@ -12,7 +12,7 @@ use Rattle.segment_machine.specs.declared.entry.Counting.{Counting}
 use Rattle.segment_machine.specs.declared.place.Place.TheVariants.{Spent}
 use Rattle.segment_machine.specs.declared.actor.Actor.{Actor}
 use Rattle.segment_machine.specs.Entry.{is_counted, is_noted, has_ended, counted_among, noted_among, tally_units, tally_noted}
-use Rattle.segment_machine.specs.Actor.{log_of, counted_of, noted_of, all_counted, all_noted, accepted_by, accepted_since}
+use Rattle.segment_machine.specs.Actor.{log_of, counted_of, noted_of, all_counted, all_noted, accepted_by, accepted_since, is_opener}
 use Rattle.segment_machine.specs.Seats.{spent}
 use Rattle.segment_machine.specs.State.{State}
 use Rattle.segment_invariant.specs.Body.{Anatomy}
@@ -42,12 +42,12 @@ pub ended_noted : (c : Counting) → has_ended c ≡ true → is_noted c ≡ tru
 ended_noted c ended = (and_parts _ (is_noted c) ended).1
 
 module _ (shape : Dimensions) (opened : Anatomy) (state : State) (kept : Invariant shape opened state) (id : ℕ) (a : Actor)
-    (mine : get_elem? state.actors id ≡ some a) (records : a.opener ≡ 0) (lives : a.place ≢ Spent) where
+    (mine : get_elem? state.actors id ≡ some a) (records : is_opener a.role ≡ false) (lives : a.hand.place ≢ Spent) where
   abbrev opener : Actor
   opener = kept.roles.opener
 
   abbrev Ended : Actor → Type 0
-  Ended c = All (λ c. has_ended c ≡ true) c.log
+  Ended c = All (λ c. has_ended c ≡ true) c.entries.log
 
   opener_ended : Ended opener
   opener_ended = (kept.each 0 opener kept.roles.stands (λ spent. cc (sym kept.roles.idle ∙ spent))).calls.ended
@@ -64,8 +64,8 @@ module _ (shape : Dimensions) (opened : Anatomy) (state : State) (kept : Invaria
       let total : List Entry → ℕ = λ entries. tally_units entries name key in
       let sums = units_total name key in
       let (more, log, last) = kept.roles.heirs id a mine (lives_on a records lives) in
-      let parts = sums a.inherited (log_of a) in
-      let before = ap total log ∙ sums a.inherited more in
+      let parts = sums a.entries.inherited (log_of a) in
+      let before = ap total log ∙ sums a.entries.inherited more in
       let one = logged opener opener_ended in
       let two = logged a mine_ended in
       let both = two_rows total sums counted_of state.actors 0 id opener a spent first_is kept.roles.stands mine refl in
@@ -74,10 +74,10 @@ module _ (shape : Dimensions) (opened : Anatomy) (state : State) (kept : Invaria
       logged : (c : Actor) → Ended c → tally_units (log_of c) name key ≤ tally_units (counted_of c) name key
       logged c ended =
           let sums = units_total name key in
-          let all = ap (λ (entries : List Entry). tally_units entries name key) (among_all is_counted ended_counted c.log ended c.running) in
-          let split = sums (map (λ c. c.entry) c.log) (counted_among c.running) in
-          let behind = sums c.first (map (λ c. c.entry) c.log) in
-          let whole = sums c.first (counted_among (c.log ++ c.running)) in
+          let all = ap (λ (entries : List Entry). tally_units entries name key) (among_all is_counted ended_counted c.entries.log ended c.entries.running) in
+          let split = sums (map (λ c. c.entry) c.entries.log) (counted_among c.entries.running) in
+          let behind = sums c.entries.first (map (λ c. c.entry) c.entries.log) in
+          let whole = sums c.entries.first (counted_among (c.entries.log ++ c.entries.running)) in
           omega (arith, all, split, behind, whole)
 
   -- and noted, but for the first entries of its opener
@@ -86,17 +86,17 @@ module _ (shape : Dimensions) (opened : Anatomy) (state : State) (kept : Invaria
       let total : List Entry → ℕ = λ entries. tally_noted entries name in
       let sums = noted_total name in
       let (more, log, last) = kept.roles.heirs id a mine (lives_on a records lives) in
-      let parts = sums (drop (length opener.first) a.inherited) (map (λ c. c.entry) a.log) in
-      let before = rest_most total sums (length opener.first) a.inherited more in
-      let since = ap (λ (entries : List Entry). total (drop (length opener.first) entries)) (sym log)
-      ∙ ap total (drop-append_seam opener.first (map (λ c. c.entry) opener.log)) in
+      let parts = sums (drop (length opener.entries.first) a.entries.inherited) (map (λ c. c.entry) a.entries.log) in
+      let before = rest_most total sums (length opener.entries.first) a.entries.inherited more in
+      let since = ap (λ (entries : List Entry). total (drop (length opener.entries.first) entries)) (sym log)
+      ∙ ap total (drop-append_seam opener.entries.first (map (λ c. c.entry) opener.entries.log)) in
       let one = logged opener opener_ended in
       let two = logged a mine_ended in
       let both = two_rows total sums noted_of state.actors 0 id opener a spent first_is kept.roles.stands mine refl in
       omega (arith, parts, before, since, one, two, both)
     where
-      logged : (c : Actor) → Ended c → tally_noted (map (λ c. c.entry) c.log) name ≤ tally_noted (noted_of c) name
+      logged : (c : Actor) → Ended c → tally_noted (map (λ c. c.entry) c.entries.log) name ≤ tally_noted (noted_of c) name
       logged c ended =
-          let all = ap (λ (entries : List Entry). tally_noted entries name) (among_all is_noted ended_noted c.log ended c.running) in
-          let split = noted_total name (map (λ c. c.entry) c.log) (noted_among c.running) in
+          let all = ap (λ (entries : List Entry). tally_noted entries name) (among_all is_noted ended_noted c.entries.log ended c.entries.running) in
+          let split = noted_total name (map (λ c. c.entry) c.entries.log) (noted_among c.entries.running) in
           omega (arith, all, split)

@@ -21,7 +21,7 @@ use Rattle.segment_machine.specs.declared.place.Look.{Look}
 use Rattle.segment_machine.specs.declared.place.Place.TheVariants.{Spent, Idle, Looking}
 use Rattle.segment_machine.specs.declared.seen.Seen.{Seen}
 use Rattle.segment_machine.specs.Entry.{is_counted}
-use Rattle.segment_machine.specs.Actor.{is_bound}
+use Rattle.segment_machine.specs.Actor.{is_bound, is_opener}
 use Rattle.segment_machine.specs.Calls.{CountsNext, IsKeyOfBucket, LooksOff}
 use Rattle.segment_machine.specs.Counting.{add_count}
 use Rattle.segment_machine.specs.Event.{counting_event}
@@ -49,13 +49,13 @@ use Rattle.segment_invariant.proofs.Counting.Seen.{off_was}
 use Rattle.segment_invariant.proofs.Counting.Sights.{word_within}
 
 module _ (shape : Dimensions) (opened : Anatomy) (state : State) (kept : Invariant shape opened state) (id : ℕ) (a : Actor)
-    (mine : get_elem? state.actors id ≡ some a) (recorder : a.opener ≡ 0) (entry : Counting) (next : Next a.running entry) (uncounted : is_counted entry ≡ false)
+    (mine : get_elem? state.actors id ≡ some a) (recorder : is_opener a.role ≡ false) (entry : Counting) (next : Next a.entries.running entry) (uncounted : is_counted entry ≡ false)
     (look : Look) (known : Known) (off : LooksOff a look known) (named : entry.entry.name ≡ known.name)
     (bucket : ℕ) (is_key : IsKeyOfBucket known bucket entry.entry.key) where
-  unbound : is_bound a.place ≡ false
+  unbound : is_bound a.hand.place ≡ false
   unbound = ap is_bound off.0
 
-  lives : a.place ≢ Spent
+  lives : a.hand.place ≢ Spent
   lives spent = cc (unbound, ap is_bound spent)
 
   stood : StandsRight shape kept.anatomy id a (Looking look)
@@ -215,7 +215,7 @@ module _ (shape : Dimensions) (opened : Anatomy) (state : State) (kept : Invaria
   left : Invariant shape opened (record {
     words = between.words;
     cursors = state.cursors;
-    actors = set between.actors id (seer b Idle seen a.given a.lost);
+    actors = set between.actors id (seer b Idle seen a.done.given a.done.lost);
   })
   left = count_seen shape opened between kept_between id b mine_between recorder refl look right_between off.1 bucket is_key.0
       (let some_units = has_units entry uncounted in omega (arith, word_between, some_units)) Idle refl (λ reference sum is. cc is) tt
@@ -233,9 +233,9 @@ module _ (shape : Dimensions) (opened : Anatomy) (state : State) (kept : Invaria
         subst (λ (p : List ℕ × List Actor). Invariant shape opened (record { words = p.0; cursors = state.cursors; actors = p.1 }))
             (λ i. (
               set state.words (sym spot i) (carry i),
-              (set-set state.actors id b (seer b Idle seen a.given a.lost) ∙ (λ j. set state.actors id (record a {
-                place = Idle;
-                running = (sym (next.changed as_counted)) j;
+              (set-set state.actors id b (seer b Idle seen a.done.given a.done.lost) ∙ (λ j. set state.actors id (record a {
+                hand = record a.hand { place = Idle };
+                entries = record a.entries { running = (sym (next.changed as_counted)) j };
                 seen = record a.seen { counts = a.seen.counts ++ record { at = at; word = (word_between ∙ ap (λ (n : ℕ). n + units) (sym found_is)) j } ∷ [] };
               }))) i,
             )) left,
@@ -243,7 +243,7 @@ module _ (shape : Dimensions) (opened : Anatomy) (state : State) (kept : Invaria
       )
 
 module _ (shape : Dimensions) (opened : Anatomy) (state : State) (kept : Invariant shape opened state) (id : ℕ) (a : Actor)
-    (mine : get_elem? state.actors id ≡ some a) (recorder : a.opener ≡ 0) where
+    (mine : get_elem? state.actors id ≡ some a) (recorder : is_opener a.role ≡ false) where
   -- the units are those of the next entry, and the word is the count of its bucket
   abbrev pub CountsBucket : ℕ → ℕ → Type 0
   CountsBucket at units =
@@ -254,4 +254,4 @@ module _ (shape : Dimensions) (opened : Anatomy) (state : State) (kept : Invaria
   pub bucket_counted : (at units : ℕ) → CountsBucket at units → Goes shape opened state kept id a mine recorder (counting_event (add_count at units))
   bucket_counted word amount (c, known, ((rest, is_next), uncounted), named, units_are, (look, bucket, off, is_key, place)) =
       subst (λ (p : ℕ × ℕ). Goes shape opened state kept id a mine recorder (counting_event (add_count p.0 p.1))) (λ i. (sym place i, units_are i))
-      (counted_at shape opened state kept id a mine recorder c (next_of a.running c rest is_next) uncounted look known off named bucket is_key)
+      (counted_at shape opened state kept id a mine recorder c (next_of a.entries.running c rest is_next) uncounted look known off named bucket is_key)

@@ -19,7 +19,7 @@ use Rattle.segment_machine.specs.declared.actor.Known.{Known}
 use Rattle.segment_machine.specs.declared.place.Place.TheVariants.{Spent, Idle}
 use Rattle.segment_machine.specs.declared.seen.Sighting.{Sighting}
 use Rattle.segment_machine.specs.Entry.{is_counted, is_summed, is_noted, has_ended, is_of, tally_sum, tally_noted, summed_among, noted_among}
-use Rattle.segment_machine.specs.Actor.{is_bound, cost_of, cost_total, units_of, summed_of, noted_of}
+use Rattle.segment_machine.specs.Actor.{is_bound, cost_of, cost_total, units_of, summed_of, noted_of, is_opener}
 use Rattle.segment_machine.specs.Counting.{add_redundant}
 use Rattle.segment_machine.specs.Event.{counting_event}
 use Rattle.segment_machine.specs.State.{State}
@@ -50,8 +50,8 @@ use Rattle.segment_invariant.proofs.Changes.Sums.{SameSum, sums_on}
 use Rattle.segment_invariant.proofs.Changes.Words.{Turns, behind, came_from, stands_then}
 
 module _ (shape : Dimensions) (opened : Anatomy) (state : State) (kept : Invariant shape opened state) (id : ℕ) (a : Actor)
-    (mine : get_elem? state.actors id ≡ some a) (recorder : a.opener ≡ 0) (unbound : is_bound a.place ≡ false)
-    (c : Counting) (next : Next a.running c) (known : Known) (has : Contains a.names known) (named : known.name ≡ c.entry.name)
+    (mine : get_elem? state.actors id ≡ some a) (recorder : is_opener a.role ≡ false) (unbound : is_bound a.hand.place ≡ false)
+    (c : Counting) (next : Next a.entries.running c) (known : Known) (has : Contains a.answers.names known) (named : known.name ≡ c.entry.name)
     (counted : is_counted c ≡ true) (summed : is_summed c ≡ true) (unnoted : is_noted c ≡ false) where
   abbrev d : Counting
   d = record c { noted = true }
@@ -59,7 +59,7 @@ module _ (shape : Dimensions) (opened : Anatomy) (state : State) (kept : Invaria
   abbrev units : ℕ
   units = c.entry.units
 
-  pub lived : a.place ≢ Spent
+  pub lived : a.hand.place ≢ Spent
   lived = turner_lives shape opened state kept id a mine recorder unbound c d next refl known has
 
   abbrev r : Record
@@ -106,16 +106,16 @@ module _ (shape : Dimensions) (opened : Anatomy) (state : State) (kept : Invaria
   -- ---- its entries
 
   summed_same : summed_of b ≡ summed_of a
-  summed_same = passes_same is_summed next.behind c d refl refl a.first a.log next.front ∙ ap (λ (l : List Counting). a.first ++ summed_among (a.log ++ l)) (sym next.is)
+  summed_same = passes_same is_summed next.behind c d refl refl a.entries.first a.entries.log next.front ∙ ap (λ (l : List Counting). a.entries.first ++ summed_among (a.entries.log ++ l)) (sym next.is)
 
   -- they come to so many units more
   noted_more : (name : List ℕ) → tally_noted (noted_of b) name ≡ tally_noted (noted_of a) name + of_name r.name name units
   noted_more name =
-      let beside = passes_beside is_noted [] a.log next.front next.behind c d (λ entries. tally_noted entries name) (noted_total name) in
+      let beside = passes_beside is_noted [] a.entries.log next.front next.behind c d (λ entries. tally_noted entries name) (noted_total name) in
       let off : tally_noted (map (λ (c : Counting). c.entry) (cond (is_noted c) (c ∷ []) [])) name ≡ 0 =
       ap (λ (t : Bool). tally_noted (map (λ (c : Counting). c.entry) (cond t (c ∷ []) [])) name) unnoted in
       let on : tally_noted (c.entry ∷ []) name ≡ 0 + of_name r.name name units = ap (λ (n : List ℕ). 0 + (if bytes_eq n name then units else 0)) (sym called) in
-      let was = ap (λ (l : List Counting). tally_noted (noted_among (a.log ++ l)) name) next.is in
+      let was = ap (λ (l : List Counting). tally_noted (noted_among (a.entries.log ++ l)) name) next.is in
       omega (arith, beside, off, on, was)
 
   held_more : (name : List ℕ) → of_name r.name name v ≡ of_name r.name name r.noted + of_name r.name name units
@@ -160,11 +160,11 @@ module _ (shape : Dimensions) (opened : Anatomy) (state : State) (kept : Invaria
 
   -- what the count was was as much as was accepted
   looked : LooksBack kept.anatomy state.actors kept.roles.opener
-      (seer a Idle (record a.seen { counts = a.seen.counts ++ record { at = known.reference + 13; word = word_at state.words (known.reference + 13) } ∷ [] }) a.given a.lost)
-  looked = looks_count shape opened state kept id a mine recorder lived (known.reference + 13) Idle a.given
+      (seer a Idle (record a.seen { counts = a.seen.counts ++ record { at = known.reference + 13; word = word_at state.words (known.reference + 13) } ∷ [] }) a.done.given a.done.lost)
+  looked = looks_count shape opened state kept id a mine recorder lived (known.reference + 13) Idle a.done.given
       (λ look bucket units moving. cc (unbound, ap is_bound moving)) (λ reference sum is. absurd (cc is))
 
-  begun : a.since_counts ≤ length a.seen.counts
+  begun : a.since.counts ≤ length a.seen.counts
   begun = ((kept.each id a mine lived).looks recorder).begun.1
 
   counter : changes.Counter new actors kept.roles.opener a s
@@ -182,8 +182,8 @@ module _ (shape : Dimensions) (opened : Anatomy) (state : State) (kept : Invaria
         let (x, (there, of_it, valued)) = sample_of_first shape opened state kept other.reference value place first in
         absurd (no_sample place 6 x there (omega arith) same);
     rising = λ t before same.
-        let was = All-contains (WasCounter kept.anatomy.pieces) (take a.since_counts a.seen.counts) t
-        (All-take (WasCounter kept.anatomy.pieces) a.since_counts a.seen.counts (kept.each id a mine lived).sees.counters) before in
+        let was = All-contains (WasCounter kept.anatomy.pieces) (take a.since.counts a.seen.counts) t
+        (All-take (WasCounter kept.anatomy.pieces) a.since.counts a.seen.counts (kept.each id a mine lived).sees.counters) before in
         let now = counter_now shape opened state kept t was in
         let spot = ap (word_at state.words) same in
         omega (arith, now, spot, found_is);
@@ -192,8 +192,8 @@ module _ (shape : Dimensions) (opened : Anatomy) (state : State) (kept : Invaria
         let mine_is : record { at = known.reference + 13; word = word_at state.words (known.reference + 13) } ≡ z =
         λ i. record { at = same i; word = word_at state.words (known.reference + 13) } in
         let least = looked.noted other (word_at state.words (known.reference + 13)) knows
-        (subst (λ (l : List Sighting). Contains l z) (sym (drop-append-le a.since_counts a.seen.counts _ begun))
-        (Contains-append_right (drop a.since_counts a.seen.counts) _ z (0, omega arith, mine_is))) in
+        (subst (λ (l : List Sighting). Contains l z) (sym (drop-append-le a.since.counts a.seen.counts _ begun))
+        (Contains-append_right (drop a.since.counts a.seen.counts) _ z (0, omega arith, mine_is))) in
         omega (arith, least, found_is);
   }
 
@@ -231,7 +231,7 @@ module _ (shape : Dimensions) (opened : Anatomy) (state : State) (kept : Invaria
       deed_is = deed shape opened state kept id a mine recorder unbound c d next refl known has r.sum v 13 v turns narrow (a.seen.counts ++ s ∷ []) refl
 
       amounts : d.summed ≡ true → d.entry.amount ≢ pos 0
-      amounts is = All-contains (λ (c : Counting). c.summed ≡ true → c.entry.amount ≢ pos 0) a.running c (kept.each id a mine lived).calls.ordered.amounted
+      amounts is = All-contains (λ (c : Counting). c.summed ≡ true → c.entry.amount ≢ pos 0) a.entries.running c (kept.each id a mine lived).calls.ordered.amounted
           (subst (λ (l : List Counting). Contains l c) (sym next.is) (Contains-append_right next.front (c ∷ next.behind) c (0, omega arith, refl))) is
 
       stands_now : HasRecord new.pieces known.reference (with_amount r r.sum v)
@@ -260,12 +260,12 @@ module _ (shape : Dimensions) (opened : Anatomy) (state : State) (kept : Invaria
 
       cost_same : (name : List ℕ) → summed_cost name b ≡ summed_cost name a
       cost_same name =
-          let long : length (filter (λ (c : Counting). c.summed) (next.front ++ d ∷ next.behind)) ≡ length (filter (λ (c : Counting). c.summed) a.running) =
+          let long : length (filter (λ (c : Counting). c.summed) (next.front ++ d ∷ next.behind)) ≡ length (filter (λ (c : Counting). c.summed) a.entries.running) =
           sym (length-map (filter (λ (c : Counting). c.summed) (next.front ++ d ∷ next.behind)) (λ (c : Counting). c.entry))
           ∙ (ap length (passes_same (λ (c : Counting). c.summed) next.behind c d refl refl [] [] next.front)
           ∙ (length-map (filter (λ (c : Counting). c.summed) (next.front ++ c ∷ next.behind)) (λ (c : Counting). c.entry)
           ∙ ap (λ (l : List Counting). length (filter (λ (c : Counting). c.summed) l)) (sym next.is))) in
-          ap (λ (n : ℕ). cost_of a.costs name + (if n == 0 then 0 else cost_of a.held name)) long
+          ap (λ (n : ℕ). cost_of a.units.costs name + (if n == 0 then 0 else cost_of a.units.held name)) long
 
   -- ---- its units are few
 
@@ -273,15 +273,15 @@ module _ (shape : Dimensions) (opened : Anatomy) (state : State) (kept : Invaria
   units_few =
       let fits = kept.each id a mine lived in
       let (name, cost, held, within, knows) = fits.calls.within (λ none_runs. not_empty next.front next.behind c (sym next.is ∙ none_runs)) in
-      let entries = map (λ (c : Counting). c.entry) a.running in
-      let there : Contains entries c.entry = contains_map (λ (c : Counting). c.entry) a.running c
+      let entries = map (λ (c : Counting). c.entry) a.entries.running in
+      let there : Contains entries c.entry = contains_map (λ (c : Counting). c.entry) a.entries.running c
       (subst (λ (l : List Counting). Contains l c) (sym next.is) (Contains-append_right next.front (c ∷ next.behind) c (0, omega arith, refl))) in
       let its : c.entry.name ≡ name = All-contains (λ (e : Entry). e.name ≡ name) entries c.entry within.of_name there in
       let (i, at) = at_from entries c.entry there in
       let least = sum_at_least (λ (e : Entry). if is_of name e then e.units else 0) entries i c.entry at in
       let one : (if is_of name c.entry then units else 0) ≡ units = ap (λ (t : Bool). if t then units else 0) ((bytes_eq-Decides c.entry.name name).1 its) in
       let most = within.units in
-      let all : cost_total a.held ≡ 0 + cost = ap cost_total held in
+      let all : cost_total a.units.held ≡ 0 + cost = ap cost_total held in
       let mine_units = sum_at_least units_of state.actors id a mine in
       let pool = kept.pool in
       omega (arith, least, one, most, all, mine_units, pool)
@@ -303,7 +303,7 @@ module _ (shape : Dimensions) (opened : Anatomy) (state : State) (kept : Invaria
 -- the event
 pub add_redundant_kept : (at units : ℕ) → EventKeeps (counting_event (add_redundant at units))
 add_redundant_kept at amount shape opened state id a kept mine recorder (unbound, c, known, ((rest, is_next), counted, summed), units_are, has, refers, named) =
-    let next = next_of a.running c rest is_next in
+    let next = next_of a.entries.running c rest is_next in
     let d : Counting = record c { noted = true } in
     let unnoted = last_open c counted summed next.goes in
     let (r, (k, there), called) = the_record shape opened state kept id a mine recorder unbound c d next refl known has in
@@ -319,8 +319,8 @@ add_redundant_kept at amount shape opened state id a kept mine recorder (unbound
         words = set state.words (p.0 + 13) p.1;
         cursors = state.cursors;
         actors = set state.actors id (record a {
-          place = Idle;
-          running = p.4;
+          hand = record a.hand { place = Idle };
+          entries = record a.entries { running = p.4 };
           seen = record a.seen { counts = a.seen.counts ++ record { at = p.0 + 13; word = p.2 + p.3 } ∷ [] };
         });
       })) (λ i. (refers i, (sym carry ∙ (λ j. (sym found j + units_are j) % 2 ^ 64)) i, sym found i, units_are i, sym (next.changed (λ c. record c { noted = true })) i)) whole,

@@ -1,5 +1,5 @@
 -- The units of the entry that is next are added to the count of the first sample of their value.
-use Rattle.std.proofs.Common.{◌≡◌, ◌≢◌, Bool, true, false, if◌then◌else◌, ◌&&◌, ℕ, ◌+◌, ◌%◌, ◌^◌, ◌<◌, ◌≤◌, ℤ, List, [], ◌∷◌, ◌++◌, length, set, Contains, inr, refl, sym, ap, ◌∙◌, subst, arith}
+use Rattle.std.proofs.Common.{◌≡◌, ◌≢◌, Bool, true, false, if◌then◌else◌, ◌&&◌, ℕ, ◌+◌, ◌%◌, ◌^◌, ◌<◌, ◌≤◌, ℤ, List, [], ◌∷◌, ◌++◌, length, set, Contains, inl, inr, refl, sym, ap, ◌∙◌, subst, arith}
 use Rattle.std.specs.Prelude.{Some}
 use Rattle.std.specs.Ordering.{int_eq}
 use Rattle.std.specs.Str.{bytes_eq}
@@ -19,7 +19,7 @@ use Rattle.segment_machine.specs.declared.actor.Made.TheVariants as made
 use Rattle.segment_machine.specs.declared.place.Place.TheVariants.{Spent, Idle}
 use Rattle.segment_machine.specs.declared.seen.Seen.{Seen}
 use Rattle.segment_machine.specs.Entry.{is_counted}
-use Rattle.segment_machine.specs.Actor.{is_bound, Sparse}
+use Rattle.segment_machine.specs.Actor.{is_bound, Sparse, is_opener}
 use Rattle.segment_machine.specs.Calls.{CountsNext, MayTurn}
 use Rattle.segment_machine.specs.Counting.{add_count}
 use Rattle.segment_machine.specs.Event.{counting_event}
@@ -48,18 +48,18 @@ use Rattle.segment_invariant.proofs.Counting.Sights.{word_within}
 use Rattle.segment_invariant.proofs.Counting.Whole.{whole_sample}
 
 -- a value has one first sample
-one_sample : (records : List Listed) (of : ℕ) (value : ℤ) (at place : ℕ) → IsFirstOf records of value at → IsFirstOf records of value place → at ≡ place
+pub one_sample : (records : List Listed) (of : ℕ) (value : ℤ) (at place : ℕ) → IsFirstOf records of value at → IsFirstOf records of value place → at ≡ place
 one_sample records of value at place (xs, rest, is, before) (ys, more, also, others) =
     ap (λ (l : Listed). l.reference)
     (first_unique (λ (l : Listed). l.made ≡ Some (made.Sample of value)) xs ys (record { reference = at; made = Some (made.Sample of value) })
     (record { reference = place; made = Some (made.Sample of value) }) rest more (sym is ∙ also) before others refl refl)
 
 module _ (shape : Dimensions) (opened : Anatomy) (state : State) (kept : Invariant shape opened state) (id : ℕ) (a : Actor)
-    (mine : get_elem? state.actors id ≡ some a) (recorder : a.opener ≡ 0) (unbound : is_bound a.place ≡ false)
-    (entry : Counting) (next : Next a.running entry) (uncounted : is_counted entry ≡ false)
-    (known : Known) (has : Contains a.names known) (named : entry.entry.name ≡ known.name)
+    (mine : get_elem? state.actors id ≡ some a) (recorder : is_opener a.role ≡ false) (unbound : is_bound a.hand.place ≡ false)
+    (entry : Counting) (next : Next a.entries.running entry) (uncounted : is_counted entry ≡ false)
+    (known : Known) (has : Contains a.answers.names known) (named : entry.entry.name ≡ known.name)
     (at : ℕ) (saw : IsFirstSample a.seen known.reference entry.entry.key at) where
-  lives : a.place ≢ Spent
+  lives : a.hand.place ≢ Spent
   lives spent = cc (unbound, ap is_bound spent)
 
   abbrev units : ℕ
@@ -189,9 +189,9 @@ module _ (shape : Dimensions) (opened : Anatomy) (state : State) (kept : Invaria
   left : Invariant shape opened (record {
     words = between.words;
     cursors = state.cursors;
-    actors = set between.actors id (seer b Idle seen a.given a.lost);
+    actors = set between.actors id (seer b Idle seen a.done.given a.done.lost);
   })
-  left = sample_seen shape opened between kept_between id b mine_between recorder refl at known.reference entry.entry.key met.0 met.1 Idle refl
+  left = sample_seen shape opened between kept_between id b mine_between recorder refl at known.reference entry.entry.key met.0 met.1 6 (inl refl) Idle refl
       (λ reference sum is. cc is) tt
 
   carry : v ≡ (word_at state.words (at + 6) + units) % 2 ^ 64
@@ -206,9 +206,9 @@ module _ (shape : Dimensions) (opened : Anatomy) (state : State) (kept : Invaria
         subst (λ (p : List ℕ × List Actor). Invariant shape opened (record { words = p.0; cursors = state.cursors; actors = p.1 }))
             (λ i. (
               set state.words (at + 6) (carry i),
-              (set-set state.actors id b (seer b Idle seen a.given a.lost) ∙ (λ j. set state.actors id (record a {
-                place = Idle;
-                running = (sym (next.changed as_counted)) j;
+              (set-set state.actors id b (seer b Idle seen a.done.given a.done.lost) ∙ (λ j. set state.actors id (record a {
+                hand = record a.hand { place = Idle };
+                entries = record a.entries { running = (sym (next.changed as_counted)) j };
                 seen = record a.seen { counts = a.seen.counts ++ record { at = at + 6; word = (word_between ∙ ap (λ (n : ℕ). n + units) (sym found_is)) j } ∷ [] };
               }))) i,
             )) left,
@@ -216,7 +216,7 @@ module _ (shape : Dimensions) (opened : Anatomy) (state : State) (kept : Invaria
       )
 
 module _ (shape : Dimensions) (opened : Anatomy) (state : State) (kept : Invariant shape opened state) (id : ℕ) (a : Actor)
-    (mine : get_elem? state.actors id ≡ some a) (recorder : a.opener ≡ 0) where
+    (mine : get_elem? state.actors id ≡ some a) (recorder : is_opener a.role ≡ false) where
   -- the units are those of the next entry, and the word is the count of the first sample of their value
   abbrev pub CountsSample : ℕ → ℕ → Type 0
   CountsSample at units =
@@ -227,4 +227,4 @@ module _ (shape : Dimensions) (opened : Anatomy) (state : State) (kept : Invaria
   pub sample_counted : (at units : ℕ) → CountsSample at units → Goes shape opened state kept id a mine recorder (counting_event (add_count at units))
   sample_counted word amount (c, known, ((rest, is_next), uncounted), named, units_are, (at, unbound, (has, refers, sparse), saw, place)) =
       subst (λ (p : ℕ × ℕ). Goes shape opened state kept id a mine recorder (counting_event (add_count p.0 p.1))) (λ i. (sym place i, units_are i))
-      (counted_at shape opened state kept id a mine recorder unbound c (next_of a.running c rest is_next) uncounted known has named at saw)
+      (counted_at shape opened state kept id a mine recorder unbound c (next_of a.entries.running c rest is_next) uncounted known has named at saw)

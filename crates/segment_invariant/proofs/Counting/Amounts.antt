@@ -15,12 +15,12 @@ use Rattle.segment_machine.specs.declared.actor.Known.{Known}
 use Rattle.segment_machine.specs.declared.seen.Sighting.{Sighting}
 use Rattle.segment_machine.specs.Entry.{counted_among, is_counted, is_summed, is_of, tally_units, tally_sum, tally_noted}
 use Rattle.segment_machine.specs.Note.{is_untouched}
-use Rattle.segment_machine.specs.Actor.{is_bound, counted_of, summed_of, noted_of, all_counted, taken_units}
+use Rattle.segment_machine.specs.Actor.{is_bound, counted_of, summed_of, noted_of, all_counted, taken_units, taken_of, is_opener}
 use Rattle.segment_machine.specs.State.{State}
-use Rattle.segment_invariant.specs.Body.{Record, Counts, histogram, Anatomy}
+use Rattle.segment_invariant.specs.Body.{Record, histogram, Anatomy}
 use Rattle.segment_invariant.specs.Ledger.{of_name, amount_of_name, moving_at}
 use Rattle.segment_invariant.specs.Seen.{HasRecord, IsFirst, Knows, Sees}
-use Rattle.segment_invariant.specs.Invariant.{IsLawfulRecord, IsCountsOf, SumsAreNear, LooksBack, Invariant}
+use Rattle.segment_invariant.specs.Invariant.{IsLawfulRecord, SumsAreNear, LooksBack, Invariant}
 use Rattle.segment_invariant.proofs.Lists.Countings.{sum_total, noted_total}
 use Rattle.segment_invariant.proofs.Lists.Elements.{rows, rows_total, row_in}
 use Rattle.segment_invariant.proofs.Frames.Ahead.{unbound_unbeaten}
@@ -34,6 +34,7 @@ use Rattle.segment_invariant.proofs.Counting.Entries.{going, calls_next, finals_
 use Rattle.segment_invariant.proofs.Changes.Others.{Deed, deed_of, changed, sees_no_more, looks_on, alone_was}
 use Rattle.segment_invariant.proofs.Changes.Records.{record_kept}
 use Rattle.segment_invariant.proofs.Changes.Words.{Turns, behind, turned_onward, sees_turned, turned_on}
+use Rattle.segment_invariant.proofs.Frames.Anew.{lawful_anew}
 
 -- ---- the record with that
 
@@ -41,45 +42,20 @@ abbrev pub with_amount : Record → ℕ → ℕ → Record
 with_amount r sum noted = record r { sum = sum; noted = noted }
 
 lawful_amount : (version page : ℕ) (r : Record) (sum noted : ℕ) → sum < 2 ^ 64 → IsLawfulRecord version page r → IsLawfulRecord version page (with_amount r sum noted)
-lawful_amount version page r sum noted narrow is = record {
-  sized = is.sized;
-  least = is.least;
-  named = is.named;
-  lettered = is.lettered;
-  lawful = is.lawful;
-  fields = is.fields;
-  fits = is.fits;
-  formed = is.formed;
-  unpacked = is.unpacked;
-  off = is.off;
-  sparse = is.sparse;
-  narrow = (narrow, is.narrow.1);
-}
-
-counts_amount : (version at : ℕ) (r : Record) (sum noted : ℕ) (c : Counts) → IsCountsOf version at r c → IsCountsOf version at (with_amount r sum noted) c
-counts_amount version at r sum noted c is = record {
-  mine = is.mine;
-  named = is.named;
-  same = is.same;
-  units = is.units;
-  marks = is.marks;
-  sized = is.sized;
-  packed = is.packed;
-  unused = is.unused;
-  mark = is.mark;
-}
+lawful_amount version page r sum noted narrow is = lawful_anew version page r r.counts r.single r.mark sum r.sum_mark noted is
+    is.formed is.unpacked is.off is.sparse (narrow, is.narrow.1)
 
 -- ---- the state
 
 module _ (shape : Dimensions) (opened : Anatomy) (state : State) (kept : Invariant shape opened state) (id : ℕ) (a : Actor)
-    (mine : get_elem? state.actors id ≡ some a) (recorder : a.opener ≡ 0) (unbound : is_bound a.place ≡ false)
-    (c d : Counting) (next : Next a.running c) (entry : d.entry ≡ c.entry) (known : Known) (has : Contains a.names known) where
+    (mine : get_elem? state.actors id ≡ some a) (recorder : is_opener a.role ≡ false) (unbound : is_bound a.hand.place ≡ false)
+    (c d : Counting) (next : Next a.entries.running c) (entry : d.entry ≡ c.entry) (known : Known) (has : Contains a.answers.names known) where
   -- who may turn lives, and has nothing on its way
-  pub turner_lives : a.place ≢ Spent
+  pub turner_lives : a.hand.place ≢ Spent
   turner_lives spent = cc (unbound, ap is_bound spent)
 
-  turner_rests : (name : List ℕ) (key : ℤ) → moving_at a name key a.place ≡ 0
-  turner_rests name key = rests_at a name key a.place (λ look bucket units moving. cc (unbound, ap is_bound moving))
+  turner_rests : (name : List ℕ) (key : ℤ) → moving_at a name key a.hand.place ≡ 0
+  turner_rests name key = rests_at a name key a.hand.place (λ look bucket units moving. cc (unbound, ap is_bound moving))
 
   -- the record of the histogram that it knows
   pub the_record : (r : Record) × HasRecord kept.anatomy.pieces known.reference r × (r.name ≡ known.name)
@@ -95,7 +71,7 @@ module _ (shape : Dimensions) (opened : Anatomy) (state : State) (kept : Invaria
 
   -- is the first of its name
   pub knows : Knows kept.anatomy known
-  knows = All-contains (Knows kept.anatomy) a.names known (kept.each id a mine turner_lives).names has
+  knows = All-contains (Knows kept.anatomy) a.answers.names known (kept.each id a mine turner_lives).names has
 
   module _ (sum noted j v : ℕ) (turns : Turns kept.anatomy.version (histogram r) (histogram (with_amount r sum noted)) j v) (narrow : sum < 2 ^ 64) (counts : List Sighting)
       (counted : is_counted d ≡ is_counted c) where
@@ -116,8 +92,8 @@ module _ (shape : Dimensions) (opened : Anatomy) (state : State) (kept : Invaria
 
     pub counted_same : counted_of b ≡ counted_of a
     counted_same =
-        passes_same is_counted next.behind c d entry counted a.first a.log next.front
-        ∙ ap (λ (l : List Counting). a.first ++ counted_among (a.log ++ l)) (sym next.is)
+        passes_same is_counted next.behind c d entry counted a.entries.first a.entries.log next.front
+        ∙ ap (λ (l : List Counting). a.entries.first ++ counted_among (a.entries.log ++ l)) (sym next.is)
 
     role : SameRole b a
     role = record {
@@ -125,6 +101,7 @@ module _ (shape : Dimensions) (opened : Anatomy) (state : State) (kept : Invaria
       opener = refl;
       first = refl;
       first_noted = refl;
+      first_taken = refl;
       made = refl;
       outstanding = refl;
       inherited = refl;
@@ -155,7 +132,7 @@ module _ (shape : Dimensions) (opened : Anatomy) (state : State) (kept : Invaria
           let fits = kept.each id a mine turner_lives in
           let records = record_kept shape opened state kept known.reference r (with_amount r sum noted) j v stands turns refl
           (lawful_amount kept.anatomy.version shape.page r sum noted narrow (kept.records.lawful known.reference r stands))
-          (λ c there is. counts_amount kept.anatomy.version known.reference r sum noted c is)
+          (λ c there is. is)
           (kept.records.packed known.reference r stands)
           (λ kind place is. first_one kept.anatomy.records known.name kind knows.first_spec place known.reference
           (subst (λ (name : List ℕ). IsFirst kept.anatomy.records name kind place) the_record.2 is) knows.first) in
@@ -173,21 +150,21 @@ module _ (shape : Dimensions) (opened : Anatomy) (state : State) (kept : Invaria
             };
             taken = λ name key.
                 let was = kept.balanced.taken name key in
-                let took = ap (λ list. taken_units list name key) (rows (λ (a : Actor). a.taken) state.actors id a b mine refl) in
+                let took = ap (λ list. taken_units list name key) (rows taken_of state.actors id a b mine refl) in
                 let same = ap (λ entries. tally_units entries name key) all_counted_same in
                 omega (arith, was, took, same);
             counted = λ name key. let same = ap (λ entries. tally_units entries name key) counted_same in omega (arith, same);
             keys = λ entry there units. kept.keys entry
                 (row_in counted_of state.actors id a entry mine (subst (λ (entries : List Entry). Contains entries entry) counted_same there)) units;
-            taken_keys = λ t count there. kept.taken_keys t count (row_in (λ (c : Actor). c.taken) state.actors id a t mine there);
+            taken_keys = λ t count there. kept.taken_keys t count (row_in taken_of state.actors id a t mine there);
             sums = near;
             lives = λ e. cc e;
             stood = tt;
-            up = λ free. unbound_unbeaten a.place unbound;
+            up = λ free. unbound_unbeaten a.hand.place unbound;
             sees = sees (sees_turned shape opened state kept known.reference (histogram r) (histogram (with_amount r sum noted)) j v stands turns a.seen fits.sees);
             own = refl;
             calls = calls_next a c d next entry kept.anatomy new deed counted_first summed_next amounted
-                (λ entry of there. fits.calls.met entry of (subst (λ (entries : List Entry). Contains (a.inherited ++ entries) entry) counted_same there)) fits.calls;
+                (λ entry of there. fits.calls.met entry of (subst (λ (entries : List Entry). Contains (a.entries.inherited ++ entries) entry) counted_same there)) fits.calls;
             looks = looks (looks_on shape state.words kept.anatomy new kept.shown (λ at body. ⊥)
                 (turned_onward shape opened state kept known.reference (histogram r) (histogram (with_amount r sum noted)) j v stands turns) refl shape.page kept.records records
                 a fits.sees.counters fits.sees.in_use state.actors actors kept.roles.opener deed
@@ -197,7 +174,7 @@ module _ (shape : Dimensions) (opened : Anatomy) (state : State) (kept : Invaria
                 let (r, stands, named, bounds, many) = known_stands shape opened state kept id a mine turner_lives known has in (r, stands, many))
                 (fits.looks recorder) (λ reference sum s loaded. absurd (cc loaded)) (λ at s new_one. new_one));
             finals = finals_next a c d next entry state.actors actors kept.roles stood first id deed untouched
-                (rows (λ (c : Actor). c.taken) state.actors id a b mine refl)
+                (rows taken_of state.actors id a b mine refl)
                 (λ name key apart. ap (λ entries. tally_units entries name key) all_counted_same)
                 (λ name apart. rows_total ◌+ℤ◌ (λ entries. tally_sum entries name) (sum_total name) summed_of state.actors id a b mine (sum_apart name apart))
                 (λ name apart. rows_total ◌+◌ (λ entries. tally_noted entries name) (noted_total name) noted_of state.actors id a b mine (noted_apart name apart))

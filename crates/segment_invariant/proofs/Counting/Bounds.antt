@@ -45,22 +45,22 @@ name_most costs name = sum_by-le-sum_by (λ cost. if bytes_eq cost.name name the
 
 -- what each has noted, beside the redundant count that it found, all have
 all_within : (actors : List Actor) (name : List ℕ)
-    → ((a : Actor) → Contains actors a → cost_of a.first_noted name + tally_noted (noted_of a) name ≤ cost_of a.costs name + cost_of a.held name)
-    → sum_by (λ (a : Actor). cost_of a.first_noted name) actors + tally_noted (flat_map noted_of actors) name ≤ all_costs actors name
+    → ((a : Actor) → Contains actors a → cost_of a.entries.first_noted name + tally_noted (noted_of a) name ≤ cost_of a.units.costs name + cost_of a.units.held name)
+    → sum_by (λ (a : Actor). cost_of a.entries.first_noted name) actors + tally_noted (flat_map noted_of actors) name ≤ all_costs actors name
 all_within [] name each = omega arith
 all_within (a ∷ rest) name each =
     let first = each a (0, omega arith, refl) in
     let others = all_within rest name (λ b there. each b (Contains-append_right (a ∷ []) rest b there)) in
     let done = noted_total name (noted_of a) (flat_map noted_of rest) in
-    let begun = sum_by-cons (λ (a : Actor). cost_of a.first_noted name) a rest in
-    let costs = sum_by-cons (λ (a : Actor). cost_of a.costs name + cost_of a.held name) a rest in
+    let begun = sum_by-cons (λ (a : Actor). cost_of a.entries.first_noted name) a rest in
+    let costs = sum_by-cons (λ (a : Actor). cost_of a.units.costs name + cost_of a.units.held name) a rest in
     omega (arith, first, others, done, begun, costs)
 
 module _ (shape : Dimensions) (opened : Anatomy) (state : State) (kept : Invariant shape opened state) (name : List ℕ) where
   costs_most : all_costs state.actors name ≤ 4294967295
   costs_most =
-      let all = sum_by-le-sum_by (λ (a : Actor). cost_of a.costs name + cost_of a.held name) units_of state.actors
-      (λ a. let one = name_most a.costs name in let two = name_most a.held name in omega (arith, one, two)) in
+      let all = sum_by-le-sum_by (λ (a : Actor). cost_of a.units.costs name + cost_of a.units.held name) units_of state.actors
+      (λ a. let one = name_most a.units.costs name in let two = name_most a.units.held name in omega (arith, one, two)) in
       let pool = kept.pool in
       omega (arith, all, pool)
 
@@ -71,36 +71,61 @@ module _ (shape : Dimensions) (opened : Anatomy) (state : State) (kept : Invaria
       ⊎_elim
       (λ gone. subst holds (sym (subst (StandsRight shape kept.anatomy who a) gone (kept.standing who a there))) nothing)
       (λ alive. lives a (kept.each who a there alive).calls)
-      (spent_or_not a.place)
+      (spent_or_not a.hand.place)
 
-  -- units that are counted fit
+  -- units that an actor has counted are spent, or held by the call that counted them
+  pub each_covered : (a : Actor) → Contains state.actors a → tally_noted (counted_of a) name ≤ cost_of a.units.costs name + cost_of a.units.held name
+  each_covered = each_one (λ a. tally_noted (counted_of a) name ≤ cost_of a.units.costs name + cost_of a.units.held name) (omega arith) (λ a calls. counted_spent kept.anatomy a calls name)
+
+  -- so are those of all
+  pub counted_covered : tally_noted (all_counted state.actors) name ≤ all_costs state.actors name
+  counted_covered = all_spent counted_of state.actors name each_covered
+
+  -- so they fit
   pub counted_fits : (key : ℤ) → tally_units (all_counted state.actors) name key ≤ 4294967295
   counted_fits key =
       let below = units_noted (all_counted state.actors) name key in
-      let all = all_spent counted_of state.actors name
-      (each_one (λ a. tally_noted (counted_of a) name ≤ cost_of a.costs name + cost_of a.held name) (omega arith) (λ a calls. counted_spent kept.anatomy a calls name)) in
+      let all = counted_covered in
       let most = costs_most in
       omega (arith, below, all, most)
 
   -- so do units that are noted, beside those of the opening
-  pub noted_fits : cost_of kept.roles.opener.first_noted name + tally_noted (all_noted state.actors) name ≤ 4294967295
-  noted_fits =
+  pub noted_covered : cost_of kept.roles.opener.entries.first_noted name + tally_noted (all_noted state.actors) name ≤ all_costs state.actors name
+  noted_covered =
       let all = all_within state.actors name
-      (each_one (λ a. cost_of a.first_noted name + tally_noted (noted_of a) name ≤ cost_of a.costs name + cost_of a.held name) (omega arith)
+      (each_one (λ a. cost_of a.entries.first_noted name + tally_noted (noted_of a) name ≤ cost_of a.units.costs name + cost_of a.units.held name) (omega arith)
       (λ a calls. noted_within kept.anatomy a calls name)) in
-      let one = sum_at_least (λ (a : Actor). cost_of a.first_noted name) state.actors 0 kept.roles.opener kept.roles.stands in
-      let most = costs_most in
-      omega (arith, all, one, most)
+      let one = sum_at_least (λ (a : Actor). cost_of a.entries.first_noted name) state.actors 0 kept.roles.opener kept.roles.stands in
+      omega (arith, all, one)
 
--- sums of a record are as near to each other as all units allow
+  pub noted_fits : cost_of kept.roles.opener.entries.first_noted name + tally_noted (all_noted state.actors) name ≤ 4294967295
+  noted_fits =
+      let all = noted_covered in
+      let most = costs_most in
+      omega (arith, all, most)
+
+-- sums of a record are as near to each other as what was spent on it, or is held, allows
 module _ (shape : Dimensions) (opened : Anatomy) (state : State) (kept : Invariant shape opened state) where
+  pub sums_covered : (at : ℕ) (r : Record) (x y : ℤ) → HasRecord kept.anatomy.pieces at r → IsSumOf state.actors at r x → IsSumOf state.actors at r y
+      → unsigned_abs (x -ℤ y) ≤ 2147483648 * all_costs state.actors r.name
+  sums_covered at r x y there first last =
+      let near = kept.sums at r x y there first last in
+      let less = sum_by-le-sum_by (summed_cost r.name) (λ a. cost_of a.units.costs r.name + cost_of a.units.held r.name) state.actors (summed_most r.name) in
+      omega (arith, near, less)
+
+  -- and to 0
+  pub sum_covered : (at : ℕ) (r : Record) (x : ℤ) → HasRecord kept.anatomy.pieces at r → IsSumOf state.actors at r x
+      → unsigned_abs x ≤ 2147483648 * all_costs state.actors r.name
+  sum_covered at r x there is =
+      subst (λ (z : ℤ). unsigned_abs z ≤ 2147483648 * all_costs state.actors r.name) (+ℤ_idr x) (sums_covered at r x (pos 0) there is (inl refl))
+
+  -- so as all units allow
   pub sums_fit : (at : ℕ) (r : Record) (x y : ℤ) → HasRecord kept.anatomy.pieces at r → IsSumOf state.actors at r x → IsSumOf state.actors at r y
       → unsigned_abs (x -ℤ y) ≤ 2147483648 * 4294967295
   sums_fit at r x y there first last =
-      let near = kept.sums at r x y there first last in
-      let less = sum_by-le-sum_by (summed_cost r.name) (λ a. cost_of a.costs r.name + cost_of a.held r.name) state.actors (summed_most r.name) in
+      let near = sums_covered at r x y there first last in
       let most = costs_most shape opened state kept r.name in
-      omega (arith, near, less, most)
+      omega (arith, near, most)
 
   -- and to 0
   pub sum_fits : (at : ℕ) (r : Record) (x : ℤ) → HasRecord kept.anatomy.pieces at r → IsSumOf state.actors at r x → unsigned_abs x ≤ 2147483648 * 4294967295

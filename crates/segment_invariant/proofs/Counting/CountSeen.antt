@@ -13,7 +13,7 @@ use Rattle.segment_machine.specs.declared.place.Place.{Place}
 use Rattle.segment_machine.specs.declared.place.Place.TheVariants.{Spent, SumLoaded, Moving}
 use Rattle.segment_machine.specs.declared.seen.Sighting.{Sighting}
 use Rattle.segment_machine.specs.Form.{is_off}
-use Rattle.segment_machine.specs.Actor.{is_bound}
+use Rattle.segment_machine.specs.Actor.{is_bound, is_opener}
 use Rattle.segment_machine.specs.State.{State}
 use Rattle.segment_invariant.specs.Body.{Record, Counts, Sample, counts, sample, Anatomy}
 use Rattle.segment_invariant.specs.Ledger.{key_of_bucket}
@@ -29,12 +29,12 @@ use Rattle.segment_invariant.proofs.Counting.Sights.{word_within, counter_is, se
 use Rattle.segment_invariant.proofs.Counting.Whole.{whole_mounted}
 
 module _ (shape : Dimensions) (opened : Anatomy) (state : State) (kept : Invariant shape opened state) (id : ℕ) (a : Actor)
-    (mine : get_elem? state.actors id ≡ some a) (recorder : a.opener ≡ 0) (unbound : is_bound a.place ≡ false) (look : Look) (right : LooksRight a look)
+    (mine : get_elem? state.actors id ≡ some a) (recorder : is_opener a.role ≡ false) (unbound : is_bound a.hand.place ≡ false) (look : Look) (right : LooksRight a look)
     (some_counts : look.counts ≢ 0) (bucket : ℕ) (below : bucket < buckets_of right.known.spec) where
-  lives : a.place ≢ Spent
+  lives : a.hand.place ≢ Spent
   lives spent = cc (unbound, ap is_bound spent)
 
-  still : (look : Look) (bucket units : ℕ) → a.place ≢ Moving look bucket units
+  still : (look : Look) (bucket units : ℕ) → a.hand.place ≢ Moving look bucket units
   still look bucket units moving = cc (unbound, ap is_bound moving)
 
   abbrev at : ℕ
@@ -107,19 +107,19 @@ module _ (shape : Dimensions) (opened : Anatomy) (state : State) (kept : Invaria
 
     -- the state is kept where it sees that count, and goes on to a place
     pub count_seen : (place : Place) → is_bound place ≡ false → ((reference : ℕ) (sum : ℤ) → place ≢ SumLoaded reference sum)
-        → StandsRight shape kept.anatomy id (seer a place (record a.seen { counts = a.seen.counts ++ z ∷ [] }) a.given a.lost) place
+        → StandsRight shape kept.anatomy id (seer a place (record a.seen { counts = a.seen.counts ++ z ∷ [] }) a.done.given a.done.lost) place
         → Invariant shape opened (record {
           words = state.words;
           cursors = state.cursors;
-          actors = set state.actors id (seer a place (record a.seen { counts = a.seen.counts ++ z ∷ [] }) a.given a.lost);
+          actors = set state.actors id (seer a place (record a.seen { counts = a.seen.counts ++ z ∷ [] }) a.done.given a.done.lost);
         })
     count_seen place free no_sum stood =
         let fits = kept.each id a mine lives in
         let low = the_counts.5 in
         let moves : (name : List ℕ) (key : ℤ) → _ = λ name key. rests_at a name key place (λ look bucket units moving. cc (free, ap is_bound moving))
-        ∙ sym (rests_at a name key a.place still) in
+        ∙ sym (rests_at a name key a.hand.place still) in
         sees_on shape opened state kept id a mine recorder place a.seen.singles (a.seen.counts ++ z ∷ []) unbound free moves
-        (near_on shape opened state kept id a mine recorder place (record a.seen { counts = a.seen.counts ++ z ∷ [] }) a.given a.lost lives
+        (near_on shape opened state kept id a mine recorder place (record a.seen { counts = a.seen.counts ++ z ∷ [] }) a.done.given a.done.lost lives
         (λ spent. cc (free, ap is_bound spent)) moves (λ reference sum is. absurd (no_sum reference sum is)))
         fits.sees.singles
         (All-push (WasCounter kept.anatomy.pieces) a.seen.counts z fits.sees.counters
@@ -130,4 +130,4 @@ module _ (shape : Dimensions) (opened : Anatomy) (state : State) (kept : Invaria
         (λ seven. no_sample other 7 x is_sample seven (omega arith))
         which))
         stood
-        (looks_count shape opened state kept id a mine recorder lives at place a.given still (λ reference sum is. absurd (no_sum reference sum is)))
+        (looks_count shape opened state kept id a mine recorder lives at place a.done.given still (λ reference sum is. absurd (no_sum reference sum is)))

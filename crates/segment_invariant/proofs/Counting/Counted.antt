@@ -15,7 +15,7 @@ use Rattle.segment_machine.specs.declared.entry.Entry.{Entry}
 use Rattle.segment_machine.specs.declared.place.Place.TheVariants.{Spent, Idle}
 use Rattle.segment_machine.specs.declared.actor.Actor.{Actor}
 use Rattle.segment_machine.specs.Entry.{is_counted, is_summed, is_noted, is_of, tally_units, tally_sum, tally_noted}
-use Rattle.segment_machine.specs.Actor.{is_bound, cost_of, counted_of, summed_of, noted_of, all_counted}
+use Rattle.segment_machine.specs.Actor.{is_bound, cost_of, counted_of, summed_of, noted_of, all_counted, taken_of, is_opener}
 use Rattle.segment_machine.specs.Made.{SawSample}
 use Rattle.segment_machine.specs.State.{State}
 use Rattle.segment_invariant.specs.Body.{Body, Anatomy}
@@ -59,9 +59,9 @@ has_units c uncounted = by_test c.counted c.entry.units uncounted
 -- ---- the state
 
 module _ (shape : Dimensions) (opened : Anatomy) (state : State) (kept : Invariant shape opened state) (id : ℕ) (a : Actor)
-    (mine : get_elem? state.actors id ≡ some a) (recorder : a.opener ≡ 0) (unbound : is_bound a.place ≡ false)
-    (c : Counting) (next : Next a.running c) (uncounted : is_counted c ≡ false) where
-  lived : a.place ≢ Spent
+    (mine : get_elem? state.actors id ≡ some a) (recorder : is_opener a.role ≡ false) (unbound : is_bound a.hand.place ≡ false)
+    (c : Counting) (next : Next a.entries.running c) (uncounted : is_counted c ≡ false) where
+  lived : a.hand.place ≢ Spent
   lived spent = cc (unbound, ap is_bound spent)
 
   abbrev d : Counting
@@ -86,6 +86,7 @@ module _ (shape : Dimensions) (opened : Anatomy) (state : State) (kept : Invaria
     opener = refl;
     first = refl;
     first_noted = refl;
+    first_taken = refl;
     made = refl;
     outstanding = refl;
     inherited = refl;
@@ -101,20 +102,20 @@ module _ (shape : Dimensions) (opened : Anatomy) (state : State) (kept : Invaria
   -- ---- its entries
 
   summed_same : summed_of b ≡ summed_of a
-  summed_same = passes_same is_summed next.behind c d refl refl a.first a.log next.front
-      ∙ ap (λ (l : List Counting). a.first ++ map (λ (c : Counting). c.entry) (filter is_summed (a.log ++ l))) (sym next.is)
+  summed_same = passes_same is_summed next.behind c d refl refl a.entries.first a.entries.log next.front
+      ∙ ap (λ (l : List Counting). a.entries.first ++ map (λ (c : Counting). c.entry) (filter is_summed (a.entries.log ++ l))) (sym next.is)
 
   noted_same : noted_of b ≡ noted_of a
-  noted_same = passes_same is_noted next.behind c d refl refl [] a.log next.front
-      ∙ ap (λ (l : List Counting). map (λ (c : Counting). c.entry) (filter is_noted (a.log ++ l))) (sym next.is)
+  noted_same = passes_same is_noted next.behind c d refl refl [] a.entries.log next.front
+      ∙ ap (λ (l : List Counting). map (λ (c : Counting). c.entry) (filter is_noted (a.entries.log ++ l))) (sym next.is)
 
   counted_more : (name : List ℕ) (key : ℤ) → tally_units (counted_of b) name key ≡ tally_units (counted_of a) name key + its_units c name key
   counted_more name key =
-      let beside = passes_beside is_counted a.first a.log next.front next.behind c d (λ entries. tally_units entries name key) (units_total name key) in
+      let beside = passes_beside is_counted a.entries.first a.entries.log next.front next.behind c d (λ entries. tally_units entries name key) (units_total name key) in
       let off : tally_units (map (λ (c : Counting). c.entry) (cond (is_counted c) (c ∷ []) [])) name key ≡ 0 =
       ap (λ (t : Bool). tally_units (map (λ (c : Counting). c.entry) (cond t (c ∷ []) [])) name key) uncounted in
       let on : tally_units (c.entry ∷ []) name key ≡ 0 + its_units c name key = refl in
-      let was = ap (λ (l : List Counting). tally_units (a.first ++ map (λ (c : Counting). c.entry) (filter is_counted (a.log ++ l))) name key) next.is in
+      let was = ap (λ (l : List Counting). tally_units (a.entries.first ++ map (λ (c : Counting). c.entry) (filter is_counted (a.entries.log ++ l))) name key) next.is in
       omega (arith, beside, off, on, was)
 
   -- of another name it comes to nothing
@@ -124,9 +125,9 @@ module _ (shape : Dimensions) (opened : Anatomy) (state : State) (kept : Invaria
   -- what is counted was counted before, or is its entry
   counted_from : (entry : Entry) → Contains (counted_of b) entry → Contains (counted_of a) entry ⊎ (c.entry ≡ entry)
   counted_from entry there = ⊎_elim
-      (λ was. inl (subst (λ (l : List Counting). Contains (a.first ++ map (λ (c : Counting). c.entry) (filter is_counted (a.log ++ l))) entry) (sym next.is) was))
+      (λ was. inl (subst (λ (l : List Counting). Contains (a.entries.first ++ map (λ (c : Counting). c.entry) (filter is_counted (a.entries.log ++ l))) entry) (sym next.is) was))
       inr
-      (passes_from is_counted next.behind c d entry a.first a.log next.front there)
+      (passes_from is_counted next.behind c d entry a.entries.first a.entries.log next.front there)
 
   all_more : (name : List ℕ) (key : ℤ) → tally_units (all_counted actors) name key ≡ tally_units (all_counted state.actors) name key + its_units c name key
   all_more name key =
@@ -136,16 +137,16 @@ module _ (shape : Dimensions) (opened : Anatomy) (state : State) (kept : Invaria
 
   cost_same : (name : List ℕ) → summed_cost name b ≡ summed_cost name a
   cost_same name =
-      let long : length (filter (λ (c : Counting). c.summed) (next.front ++ d ∷ next.behind)) ≡ length (filter (λ (c : Counting). c.summed) a.running) =
+      let long : length (filter (λ (c : Counting). c.summed) (next.front ++ d ∷ next.behind)) ≡ length (filter (λ (c : Counting). c.summed) a.entries.running) =
       sym (length-map (filter (λ (c : Counting). c.summed) (next.front ++ d ∷ next.behind)) (λ (c : Counting). c.entry))
       ∙ (ap length (passes_same (λ (c : Counting). c.summed) next.behind c d refl refl [] [] next.front)
       ∙ (length-map (filter (λ (c : Counting). c.summed) (next.front ++ c ∷ next.behind)) (λ (c : Counting). c.entry)
       ∙ ap (λ (l : List Counting). length (filter (λ (c : Counting). c.summed) l)) (sym next.is))) in
-      ap (λ (n : ℕ). cost_of a.costs name + (if n == 0 then 0 else cost_of a.held name)) long
+      ap (λ (n : ℕ). cost_of a.units.costs name + (if n == 0 then 0 else cost_of a.units.held name)) long
 
   -- ---- what it is in its call
 
-  next_there : Contains a.running c
+  next_there : Contains a.entries.running c
   next_there = subst (λ (l : List Counting). Contains l c) (sym next.is) (Contains-append_right next.front (c ∷ next.behind) c (0, omega arith, refl))
 
   -- ---- the state that is left
@@ -174,7 +175,7 @@ module _ (shape : Dimensions) (opened : Anatomy) (state : State) (kept : Invaria
           records = shows.records;
           balances = record {
             units = λ name key.
-                let rests = rests_at a name key a.place (λ look bucket units moving. cc (unbound, ap is_bound moving)) in
+                let rests = rests_at a name key a.hand.place (λ look bucket units moving. cc (unbound, ap is_bound moving)) in
                 let held = shows.units name key in
                 let more = counted_more name key in
                 omega (arith, rests, held, more);
@@ -193,26 +194,26 @@ module _ (shape : Dimensions) (opened : Anatomy) (state : State) (kept : Invaria
               (λ was. kept.keys entry (row_in counted_of state.actors id a entry mine was) units)
               (λ same. subst (λ (e : Entry). HasKey kept.anatomy.records e.name e.key) same shows.key)
               (counted_from entry there);
-          taken_keys = λ t count there. kept.taken_keys t count (row_in (λ (c : Actor). c.taken) state.actors id a t mine there);
+          taken_keys = λ t count there. kept.taken_keys t count (row_in taken_of state.actors id a t mine there);
           sums = sums_on kept.anatomy.pieces new.pieces state.actors actors shows.sums
               (loaded_set state.actors id a b mine (λ reference sum loaded. absurd (cc loaded)))
               (λ name. let same = sum_same (summed_cost name) state.actors id a b mine (cost_same name) in omega (arith, same)) kept.sums;
           lives = λ e. cc e;
           stood = tt;
           sees = sees_turned shape opened state kept at body then_is j v stands turns a.seen fits.sees;
-          up = λ free. unbound_unbeaten a.place unbound;
+          up = λ free. unbound_unbeaten a.hand.place unbound;
           own = refl;
           calls = calls_next a c d next refl kept.anatomy new (record (deed_of a) { place = Idle }) (λ summed. refl)
-              (All-contains (λ (c : Counting). c.noted ≡ true → is_summed c ≡ true) a.running c fits.calls.ordered.summed_next next_there)
-              (All-contains (λ (c : Counting). c.summed ≡ true → c.entry.amount ≢ pos 0) a.running c fits.calls.ordered.amounted next_there)
+              (All-contains (λ (c : Counting). c.noted ≡ true → is_summed c ≡ true) a.entries.running c fits.calls.ordered.summed_next next_there)
+              (All-contains (λ (c : Counting). c.summed ≡ true → c.entry.amount ≢ pos 0) a.entries.running c fits.calls.ordered.amounted next_there)
               (λ entry of there units. ⊎_elim
-              (λ before. fits.calls.met entry of (Contains-append_left a.inherited (counted_of a) entry before) units)
+              (λ before. fits.calls.met entry of (Contains-append_left a.entries.inherited (counted_of a) entry before) units)
               (λ own. ⊎_elim
-              (λ was. fits.calls.met entry of (Contains-append_right a.inherited (counted_of a) entry was) units)
+              (λ was. fits.calls.met entry of (Contains-append_right a.entries.inherited (counted_of a) entry was) units)
               (λ same. subst (λ (e : Entry). IsFirst kept.anatomy.records e.name spec.Sparse of
               → (sample : ℕ) × IsFirstOf kept.anatomy.records of e.key sample × Contains a.seen.chain sample × SawSample a.seen of e.key sample) same (shows.met of))
               (counted_from entry own))
-              (Contains-append_cases a.inherited (counted_of b) entry there))
+              (Contains-append_cases a.entries.inherited (counted_of b) entry there))
               fits.calls;
           looks = looks_on shape state.words kept.anatomy new kept.shown (λ at body. ⊥) (turned_onward shape opened state kept at body then_is j v stands turns) refl
               shape.page kept.records shows.records a fits.sees.counters fits.sees.in_use state.actors actors kept.roles.opener deed
@@ -220,7 +221,7 @@ module _ (shape : Dimensions) (opened : Anatomy) (state : State) (kept : Invaria
               (λ known has. let (r, there, named, bounds, many) = known_stands shape opened state kept id a mine lived known has in (r, there, many))
               (fits.looks recorder) (λ reference sum s loaded. absurd (cc loaded)) (λ at s new_one. new_one);
           finals = finals_next a c d next refl state.actors actors kept.roles stood first id (record (deed_of a) { place = Idle }) (touched c.summed c.noted)
-              (rows (λ (c : Actor). c.taken) state.actors id a b mine refl)
+              (rows taken_of state.actors id a b mine refl)
               (λ name key other. let more = all_more name key in let none_of = apart name key other in omega (arith, more, none_of))
               (λ name other. ap (λ entries. tally_sum entries name) (rows summed_of state.actors id a b mine summed_same))
               (λ name other. ap (λ entries. tally_noted entries name) (rows noted_of state.actors id a b mine noted_same))

@@ -20,31 +20,31 @@ use Rattle.segment_invariant.proofs.Frames.Together.{moment}
 use Rattle.segment_invariant.proofs.Changes.Others.{Deed, changed, is_later}
 use Rattle.segment_invariant.proofs.Counting.Running.{Next, ordered_next, all_replaced}
 
-module _ (a : Actor) (c d : Counting) (next : Next a.running c) (entry : d.entry ≡ c.entry) where
+module _ (a : Actor) (c d : Counting) (next : Next a.entries.running c) (entry : d.entry ≡ c.entry) where
   abbrev pub after : List Counting
   after = next.front ++ d ∷ next.behind
 
   -- it goes on so
   abbrev pub going : Deed → Deed
-  going deed = record deed { running = after; own = a.own; taken = a.taken }
+  going deed = record deed { running = after; own = a.hand.own; taken = a.deltas.taken }
 
-  same_entries : map (λ (c : Counting). c.entry) after ≡ map (λ (c : Counting). c.entry) a.running
+  same_entries : map (λ (c : Counting). c.entry) after ≡ map (λ (c : Counting). c.entry) a.entries.running
   same_entries =
       map-append (λ (c : Counting). c.entry) next.front (d ∷ next.behind)
       ∙ (ap (λ (e : Entry). map (λ (c : Counting). c.entry) next.front ++ e ∷ map (λ (c : Counting). c.entry) next.behind) entry
       ∙ (sym (map-append (λ (c : Counting). c.entry) next.front (c ∷ next.behind)) ∙ ap (map (λ (c : Counting). c.entry)) (sym next.is)))
 
-  runs : a.running ≢ []
+  runs : a.entries.running ≢ []
   runs none_runs = not_empty next.front next.behind c (sym next.is ∙ none_runs)
 
   -- its call stays right, where it met the samples of what it counted
   pub calls_next : (old new : Anatomy) (deed : Deed)
       → (d.summed ≡ true → is_counted d ≡ true) → (d.noted ≡ true → is_summed d ≡ true) → (d.summed ≡ true → d.entry.amount ≢ pos 0)
-      → ((entry : Entry) (of : ℕ) → Contains (a.inherited ++ counted_of (changed a (going deed))) entry → 0 < entry.units → IsFirst new.records entry.name spec.Sparse of
+      → ((entry : Entry) (of : ℕ) → Contains (a.entries.inherited ++ counted_of (changed a (going deed))) entry → 0 < entry.units → IsFirst new.records entry.name spec.Sparse of
       → (at : ℕ) × IsFirstOf new.records of entry.key at × Contains deed.seen.chain at × SawSample deed.seen of entry.key at)
       → CallsRight old a → CallsRight new (changed a (going deed))
   calls_next old new deed counted summed amounted met calls = record {
-    ordered = ordered_next a.running c d next calls.ordered counted summed amounted;
+    ordered = ordered_next a.entries.running c d next calls.ordered counted summed amounted;
     within = λ some_run.
         let (name, cost, holds, within, known) = calls.within runs in
         (name, cost, holds, subst (AreWithin name cost) (sym same_entries) within, known);
@@ -70,7 +70,7 @@ module _ (a : Actor) (c d : Counting) (next : Next a.running c) (entry : d.entry
       (counted : (name : List ℕ) (key : ℤ) → is_of name c.entry ≡ false → tally_units (all_counted new) name key ≡ tally_units (all_counted old) name key)
       (summed : (name : List ℕ) → is_of name c.entry ≡ false → tally_sum (all_summed new) name ≡ tally_sum (all_summed old) name)
       (noted : (name : List ℕ) → is_of name c.entry ≡ false → tally_noted (all_noted new) name ≡ tally_noted (all_noted old) name)
-      (calls : a.taking ≡ true → a.running ≡ []) where
+      (calls : a.deltas.taking ≡ true → a.entries.running ≡ []) where
     pub finals_next : FinalsAreExact old roles.opener id a → FinalsAreExact new roles.opener id (changed a (going deed))
     finals_next exact = record {
       deltas = λ t has eldest youngest rests.
@@ -87,7 +87,6 @@ module _ (a : Actor) (c d : Counting) (next : Next a.running c) (entry : d.entry
             (let redundant = was.2 in let same = noted s.name apart in omega (arith, redundant, same)),
           );
       moments = λ m of.
-          let is = moment old new roles.opener roles.opener id a m (is_later old new roles stood first) (exact.moments m of) in
-          record { logged = is.logged; before = is.before; mine = is.mine; eldest = is.eldest };
+          moment old new roles.opener roles.opener id a m (is_later old new roles stood first) (exact.moments m of);
       swapped = λ before last taking. absurd (runs (calls taking));
     }

@@ -1,7 +1,8 @@
--- What a record and its counts block hold of a bucket is at most what was counted there. So it needs nobody's past: it holds of counts
--- that an actor comes to know only now.
+-- What a record and its counts block hold of a bucket is at most what was counted there, and so is what a sample holds of its value. So it
+-- needs nobody's past: it holds of counts that an actor comes to know only now.
 use Rattle.std.proofs.Common.{◌≡◌, ◌≢◌, ℕ, ◌+◌, ◌<◌, ◌≤◌, List, [], set, refl, sym, ap, ◌∙◌, arith}
-use Rattle.std.specs.Prelude.{slice_index}
+use Rattle.std.specs.Prelude.{Bool, if◌then◌else◌, slice_index}
+use Rattle.std.proofs.lemmas.Bool.Decides.{Decides-int_eq}
 use mathlib.Core.Option.{some, some-injective}
 use lib.ListN.{get_elem?}
 use Rattle.atomic_table.proofs.Lists.{set_else}
@@ -13,9 +14,9 @@ use Rattle.bucket_ranges.specs.Single.{units_packed}
 use Rattle.segment_machine.specs.Actor.{all_counted}
 use Rattle.segment_machine.specs.Entry.{tally_units}
 use Rattle.segment_machine.specs.State.{State}
-use Rattle.segment_invariant.specs.Body.{Record, Counts, Body, plain, histogram, counts, Piece, Anatomy}
+use Rattle.segment_invariant.specs.Body.{Record, Counts, Sample, Body, plain, histogram, counts, sample, Piece, Anatomy}
 use Rattle.segment_invariant.specs.Ledger.{form_at, key_of_bucket, keyed, units_held, all_held}
-use Rattle.segment_invariant.specs.Seen.{HasRecord, HasCounts}
+use Rattle.segment_invariant.specs.Seen.{HasRecord, HasCounts, HasSample}
 use Rattle.segment_invariant.specs.Invariant.{IsCountsOf, Invariant}
 use Rattle.segment_invariant.proofs.Lists.Elements.{sum_at_least, sum_beside}
 use Rattle.segment_invariant.proofs.Consistency.Keys.{packed_within, packed_units}
@@ -56,3 +57,12 @@ module _ (shape : Dimensions) (opened : Anatomy) (state : State) (kept : Invaria
       of_mine c.name r.name _ of_it.named
       ∙ (ap (λ (kind : Spec). keyed kind key c.units) of_it.same ∙ keyed_one r.spec c.units bucket lawful bucketed of_it.units below) in
       omega (arith, ledger, both, packed, counted)
+
+  -- what a sample has of its value was counted
+  pub sample_most : (at : ℕ) (s : Sample) → HasSample kept.anatomy.pieces at s → s.units ≤ tally_units (all_counted state.actors) s.name s.value
+  sample_most at s (k, there) =
+      let one = sum_at_least (λ piece. units_held kept.anatomy.version s.name s.value piece.body) kept.anatomy.pieces k _ there in
+      let held : units_held kept.anatomy.version s.name s.value (sample s) ≡ s.units =
+      of_mine s.name s.name _ refl ∙ ap (λ (b : Bool). if b then s.units else 0) ((Decides-int_eq s.value s.value).1 refl) in
+      let ledger = kept.balanced.units s.name s.value in
+      omega (arith, one, held, ledger)

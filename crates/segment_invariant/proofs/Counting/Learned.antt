@@ -43,12 +43,12 @@ cost_least costs name = sum_by-le-sum_by (λ (cost : Cost). if bytes_eq cost.nam
 pub summed_least : (name : List ℕ) (a : Actor) → summed_cost name a ≤ units_of a
 summed_least name a =
     let most = summed_most name a in
-    let spent = cost_least a.costs name in
-    let held = cost_least a.held name in
+    let spent = cost_least a.units.costs name in
+    let held = cost_least a.units.held name in
     omega (arith, most, spent, held)
 
 module _ (shape : Dimensions) (opened : Anatomy) (state : State) (kept : Invariant shape opened state) (id : ℕ) (a : Actor)
-    (mine : get_elem? state.actors id ≡ some a) (lives : a.place ≢ Spent) where
+    (mine : get_elem? state.actors id ≡ some a) (lives : a.hand.place ≢ Spent) where
   -- ---- counts references
 
   pub counts_stay : (reference : ℕ) (known : Known) → Buckets a reference known → CountsStay a.seen reference (word_at state.words (reference + 8))
@@ -79,7 +79,7 @@ module _ (shape : Dimensions) (opened : Anatomy) (state : State) (kept : Invaria
   sum_fits : (at : ℕ) (r : Record) (x : ℤ) → HasRecord kept.anatomy.pieces at r → IsSumOf state.actors at r x → unsigned_abs x ≤ 2147483648 * 4294967295
   sum_fits at r x stands is = subst (λ (z : ℤ). unsigned_abs z ≤ 2147483648 * 4294967295) (+ℤ_idr x) (sums_apart at r x (pos 0) stands is (inl refl))
 
-  module _ (reference : ℕ) (known : Known) (has : Contains a.names known) (is : known.reference ≡ reference) where
+  module _ (reference : ℕ) (known : Known) (has : Contains a.answers.names known) (is : known.reference ≡ reference) where
     the_record : (r : Record) × HasRecord kept.anatomy.pieces reference r
     the_record =
         let (r, stands, named, bounds, many) = known_stands shape opened state kept id a mine lives known has in
@@ -96,7 +96,7 @@ module _ (shape : Dimensions) (opened : Anatomy) (state : State) (kept : Invaria
         (sum_fits reference r (cast_signed w64 r.sum) stands (inr (inl refl)))
 
     -- so do the sum mark that is found, the sum that was loaded before, and their difference
-    pub mark_learned : (sum : ℤ) → a.place ≡ SumLoaded reference sum
+    pub mark_learned : (sum : ℤ) → a.hand.place ≡ SumLoaded reference sum
         → (unsigned_abs (cast_signed w64 (word_at state.words (reference + 12))) ≤ 2147483648 * 4294967295) × (unsigned_abs sum ≤ 2147483648 * 4294967295)
         × (unsigned_abs (sum -ℤ cast_signed w64 (word_at state.words (reference + 12))) ≤ 2147483648 * 4294967295)
     mark_learned sum placed =

@@ -26,6 +26,7 @@ use Rattle.segment_invariant.proofs.Counting.Loaded.{counts_within, counts_fixed
 use Rattle.segment_invariant.proofs.Counting.Looks.{knows_of}
 use Rattle.segment_invariant.proofs.Counting.References.{words_seen}
 use Rattle.segment_invariant.proofs.Counting.Sights.{word_within}
+use Rattle.segment_machine.specs.Actor.{is_opener}
 
 -- the single word in what an actor goes on with is one that it saw
 single_right : (shape : Dimensions) (anatomy : Anatomy) (id : ℕ) (a : Actor) (place : Place) (h word : ℕ) → StandsRight shape anatomy id a place
@@ -45,15 +46,15 @@ sighted seen h found some_there =
     subst (λ (b : Bool). Contains (seen ++ (if b then [] else s ∷ [])) s) (sym (ne_eqb found 0 some_there)) (Contains-push seen s)
 
 module _ (shape : Dimensions) (opened : Anatomy) (state : State) (kept : Invariant shape opened state) (id : ℕ) (a : Actor)
-    (mine : get_elem? state.actors id ≡ some a) (recorder : a.opener ≡ 0) where
+    (mine : get_elem? state.actors id ≡ some a) (recorder : is_opener a.role ≡ false) where
   counts_loaded : (h : ℕ) → Ready a (counting_event (load_counts h)) → Goes shape opened state kept id a mine recorder (counting_event (load_counts h))
   counts_loaded h (unbound, (known, (has, refers, bucketed))) =
       let found : ℕ = word_at state.words (h + 8) in
-      let place : Place = Looking (record (look_of a.place h) { counts = found }) in
+      let place : Place = Looking (record (look_of a.hand.place h) { counts = found }) in
       let turns = turns_unbound a place unbound refl in
       let (r, first, there, named, many, keys) = knows_of shape opened state kept id a mine recorder turns.lived known has in
       let stands : HasRecord kept.anatomy.pieces h r = subst (λ (n : ℕ). HasRecord kept.anatomy.pieces n r) refers there in
-      let (histogram_is, counts_are) = look_right shape kept.anatomy id a a.place h (kept.standing id a mine) in
+      let (histogram_is, counts_are) = look_right shape kept.anatomy id a a.hand.place h (kept.standing id a mine) in
       happens opened.version state id a (counting_event (load_counts h)) (word_within shape opened state kept h 8 (histogram r) stands refl (omega arith)) shape opened (
         loaded shape opened state kept id a mine recorder (h + 8) (next a (counting_event (load_counts h)) found)
             (words_seen shape opened state kept id a mine recorder unbound place turns.lives (λ reference sum is. cc is) turns.moves (sight_counts h found)
@@ -61,7 +62,7 @@ module _ (shape : Dimensions) (opened : Anatomy) (state : State) (kept : Invaria
             (record {
               known = known;
               knows = (has, refers ∙ sym histogram_is, bucketed);
-              single = λ word is. single_right shape kept.anatomy id a a.place h word (kept.standing id a mine) is;
+              single = λ word is. single_right shape kept.anatomy id a a.hand.place h word (kept.standing id a mine) is;
               counts = λ some_there. subst (λ (n : ℕ). Contains (a.seen.words ++ sight_counts h found) (record { at = n + 8; word = found })) (sym histogram_is)
                   (sighted a.seen.words h found some_there);
             })),

@@ -22,7 +22,7 @@ use Rattle.segment_invariant.proofs.Walking.Walks.{block_within}
 use Rattle.segment_invariant.proofs.Counting.Seen.{known_stands}
 
 module _ (shape : Dimensions) (opened : Anatomy) (state : State) (kept : Invariant shape opened state) (id : ℕ) (a : Actor)
-    (mine : get_elem? state.actors id ≡ some a) (lives : a.place ≢ Spent) where
+    (mine : get_elem? state.actors id ≡ some a) (lives : a.hand.place ≢ Spent) where
   -- the word that is found is the record's, and counts lie within the segment
   pub counts_found : (at : ℕ) (r : Record) → HasRecord kept.anatomy.pieces at r → word_at state.words (at + 8) ≡ r.counts
   counts_found at r (k, there) = piece_word shape state.words kept.anatomy kept.shown k _ 8 there (omega arith)

@@ -21,7 +21,7 @@ use Rattle.segment_machine.specs.declared.seen.Seen.{Seen}
 use Rattle.segment_machine.specs.declared.seen.Sighting.{Sighting}
 use Rattle.segment_machine.specs.Entry.{tally_units}
 use Rattle.segment_machine.specs.Form.{is_off, Leads}
-use Rattle.segment_machine.specs.Actor.{word_seen, all_counted, bucket_key, transit_of, SawCount}
+use Rattle.segment_machine.specs.Actor.{word_seen, all_counted, bucket_key, transit_of, SawCount, is_opener, made_of}
 use Rattle.segment_machine.specs.Note.{SawBucket}
 use Rattle.segment_machine.specs.State.{State}
 use Rattle.segment_invariant.specs.Body.{Record, Counts, Body, histogram, counts, sample, words_of, Piece, Anatomy}
@@ -131,13 +131,13 @@ module _ (shape : Dimensions) (opened : Anatomy) (state : State) (kept : Invaria
       mounted (inr (inr (inl (eight, some_there)))) = some_there
       mounted (inr (inr (inr (from, below)))) = absurd (omega (arith, from))
 
-  module _ (id : ℕ) (a : Actor) (mine : get_elem? state.actors id ≡ some a) (records : a.opener ≡ 0) (lives : a.place ≢ Spent) where
+  module _ (id : ℕ) (a : Actor) (mine : get_elem? state.actors id ≡ some a) (records : is_opener a.role ≡ false) (lives : a.hand.place ≢ Spent) where
     abbrev Known_as : Known → Type 0
     Known_as known = (r : Record) × IsFirst kept.anatomy.records known.name r.spec known.reference × HasRecord blocks known.reference r × (r.name ≡ known.name)
         × (buckets_of r.spec ≡ buckets_of known.spec) × ((i : ℕ) → key_of_bucket r.spec i ≡ bucket_key (Some known) i)
 
-    pub knows_of : (known : Known) → Contains a.names known → Known_as known
-    knows_of known has = known_first shape opened state kept known (All-contains (Knows kept.anatomy) a.names known (kept.each id a mine lives).names has)
+    pub knows_of : (known : Known) → Contains a.answers.names known → Known_as known
+    knows_of known has = known_first shape opened state kept known (All-contains (Knows kept.anatomy) a.answers.names known (kept.each id a mine lives).names has)
 
     -- a counts reference that it saw is the record's
     pub counts_seen : (at place : ℕ) (r : Record) → HasRecord blocks at r → word_seen a.seen.words (at + 8) ≡ Some place → (r.counts ≡ place) × (r.counts ≢ 0)
@@ -145,10 +145,10 @@ module _ (shape : Dimensions) (opened : Anatomy) (state : State) (kept : Invaria
         (word_contains a.seen.words (at + 8) place seen))
 
     -- what was seen of a bucket is at most what was counted: where the word is the record's, the counts reference is fixed, and the count no more than it is
-    pub fixed_most : (known : Known) (bucket word place count : ℕ) → Contains a.names known → bucket < buckets_of known.spec
+    pub fixed_most : (known : Known) (bucket word place count : ℕ) → Contains a.answers.names known → bucket < buckets_of known.spec
         → ((r : Record) → HasRecord blocks known.reference r → word ≡ r.single) → WasFixed blocks (record { at = known.reference + 8; word = place })
         → ((c : Counts) → HasCounts blocks place c → bucket < length c.units → count ≤ slice_index c.units bucket)
-        → count + units_packed (single_of a.version (buckets_of known.spec) word) bucket
+        → count + units_packed (single_of a.segment.version (buckets_of known.spec) word) bucket
         ≤ tally_units (all_counted state.actors) known.name (bucket_key (Some known) bucket)
     fixed_most known bucket word place count has below is fixed most =
         let (r, first, stands, named, many, keys) = knows_of known has in
@@ -158,16 +158,16 @@ module _ (shape : Dimensions) (opened : Anatomy) (state : State) (kept : Invaria
         let within : bucket < buckets_of r.spec = omega (arith, below, many) in
         let up = most c (subst (λ (n : ℕ). HasCounts blocks n c) place_is mounted) (omega (arith, within, units)) in
         let whole = whole_mounted shape opened state kept known.name r.spec known.reference r first stands named refl bucket within c mounted of_it in
-        let form : units_packed (single_of a.version (buckets_of known.spec) word) bucket ≡ units_packed (form_at version r) bucket =
+        let form : units_packed (single_of a.segment.version (buckets_of known.spec) word) bucket ≡ units_packed (form_at version r) bucket =
         (λ i. units_packed (single_of ((kept.each id a mine lives).versioned i) (sym many i) (is r stands i)) bucket) in
         let key = ap (tally_units (all_counted state.actors) known.name) (keys bucket) in
         omega (arith, up, whole, form, key)
 
     -- so it is where it saw that reference
-    pub off_most : (known : Known) (bucket word place count : ℕ) → Contains a.names known → bucket < buckets_of known.spec
+    pub off_most : (known : Known) (bucket word place count : ℕ) → Contains a.answers.names known → bucket < buckets_of known.spec
         → ((r : Record) → HasRecord blocks known.reference r → word ≡ r.single) → word_seen a.seen.words (known.reference + 8) ≡ Some place
         → ((c : Counts) → HasCounts blocks place c → bucket < length c.units → count ≤ slice_index c.units bucket)
-        → count + units_packed (single_of a.version (buckets_of known.spec) word) bucket
+        → count + units_packed (single_of a.segment.version (buckets_of known.spec) word) bucket
         ≤ tally_units (all_counted state.actors) known.name (bucket_key (Some known) bucket)
     off_most known bucket word place count has below is seen = fixed_most known bucket word place count has below is
         (All-contains (WasFixed blocks) a.seen.words _ (kept.each id a mine lives).sees.fixed (word_contains a.seen.words (known.reference + 8) place seen))
@@ -195,10 +195,10 @@ module _ (shape : Dimensions) (opened : Anatomy) (state : State) (kept : Invaria
 
     -- nothing of a bucket is in transit where it is settled, and the actor itself moves nothing
     pub settled_quiet : (known : Known) (bucket : ℕ) (r : Record) → HasRecord blocks known.reference r → IsSettled kept.anatomy state.actors a known bucket
-        → ((look : Look) (bucket units : ℕ) → a.place ≢ Moving look bucket units) → transit_of state.actors known.reference bucket ≡ 0
+        → ((look : Look) (bucket units : ℕ) → a.hand.place ≢ Moving look bucket units) → transit_of state.actors known.reference bucket ≡ 0
     settled_quiet known bucket r stands settled still = rests shape opened state kept known.reference bucket nobody
       where
-        nobody : (who : ℕ) (x : Actor) (look : Look) (units : ℕ) → get_elem? state.actors who ≡ some x → x.place ≡ Moving look bucket units
+        nobody : (who : ℕ) (x : Actor) (look : Look) (units : ℕ) → get_elem? state.actors who ≡ some x → x.hand.place ≡ Moving look bucket units
             → look.histogram ≡ known.reference → ⊥
         nobody who x look units there place at = by_case settled
           where
@@ -209,16 +209,16 @@ module _ (shape : Dimensions) (opened : Anatomy) (state : State) (kept : Invaria
             alone (one, here, none_out, youngest) = dite (ℕ_discrete who 0)
                 (λ zero_is.
                 let same = one_at state.actors 0 kept.roles.opener x kept.roles.stands (sym (ap (get_elem? state.actors) zero_is) ∙ there) in
-                cc (sym kept.roles.idle ∙ (ap (λ (c : Actor). c.place) same ∙ place)))
+                cc (sym kept.roles.idle ∙ (ap (λ (c : Actor). c.hand.place) same ∙ place)))
                 (λ recorder. dite (ℕ_discrete who id)
                 (λ itself.
                 let same = one_at state.actors id a x mine (sym (ap (get_elem? state.actors) itself) ∙ there) in
-                still look bucket units (ap (λ (c : Actor). c.place) same ∙ place))
+                still look bucket units (ap (λ (c : Actor). c.hand.place) same ∙ place))
                 (λ other.
                 let alive = lives_on x (kept.roles.only who x there recorder).0 (λ spent. cc (sym place ∙ spent)) in
                 let below = kept.roles.eldest id who a x mine there (lives_on a records lives) alive (λ e. other (sym e)) none_out in
                 let young = kept.roles.younger who x there alive in
-                let same = ap (λ (c : Actor). c.made) (one_at state.actors 0 kept.roles.opener one kept.roles.stands here) in
+                let same = ap (λ (c : Actor). made_of c.role) (one_at state.actors 0 kept.roles.opener one kept.roles.stands here) in
                 omega (arith, below, young, youngest, same)))
 
             by_case : IsSettled kept.anatomy state.actors a known bucket → ⊥
@@ -248,22 +248,22 @@ module _ (shape : Dimensions) (opened : Anatomy) (state : State) (kept : Invaria
           let here : h ≡ at = omega (arith, spot) in
           sym (ap (λ (s : Sighting). s.word) same) ∙ ap (λ (z : Record). z.single) (one_record at r q (subst (λ (n : ℕ). HasRecord blocks n r) here stands) there)
 
-      most_now : (known : Known) (bucket total : ℕ) → Contains a.names known → bucket < buckets_of known.spec
-          → SawBucket (seer a place more given a.lost) known bucket total → total ≤ tally_units (all_counted state.actors) known.name (bucket_key (Some known) bucket)
+      most_now : (known : Known) (bucket total : ℕ) → Contains a.answers.names known → bucket < buckets_of known.spec
+          → SawBucket (seer a place more given a.done.lost) known bucket total → total ≤ tally_units (all_counted state.actors) known.name (bucket_key (Some known) bucket)
       most_now known bucket total has below (word, single, rest) = ⊎_elim
           (λ old. looks.most known bucket total has below (word, old, rest))
           (λ new. fresh (now_is known.reference word new) rest)
-          (since_push a.since_singles a.seen.singles y _ looks.begun.0 single)
+          (since_push a.since.singles a.seen.singles y _ looks.begun.0 single)
         where
           fresh : ((q : Record) → HasRecord blocks known.reference q → word ≡ q.single)
-              → (((is_off word ≡ false) × (total ≡ units_packed (single_of a.version (buckets_of known.spec) word) bucket))
+              → (((is_off word ≡ false) × (total ≡ units_packed (single_of a.segment.version (buckets_of known.spec) word) bucket))
               ⊎ ((is_off word ≡ true) × ((counts count : ℕ) × (word_seen a.seen.words (known.reference + 8) ≡ Some counts)
-              × SawCount a (counts + 4 + bucket) count × (total ≡ count + units_packed (single_of a.version (buckets_of known.spec) word) bucket))))
+              × SawCount a (counts + 4 + bucket) count × (total ≡ count + units_packed (single_of a.segment.version (buckets_of known.spec) word) bucket))))
               → total ≤ tally_units (all_counted state.actors) known.name (bucket_key (Some known) bucket)
           fresh is (inl (on, total_is)) =
               let (q, first, there, named, many, keys) = knows_of known has in
               let whole = on_whole known bucket q first there named (omega (arith, below, many)) (ap is_off (sym (is q there)) ∙ on) in
-              let form : units_packed (single_of a.version (buckets_of known.spec) word) bucket ≡ units_packed (form_at version q) bucket =
+              let form : units_packed (single_of a.segment.version (buckets_of known.spec) word) bucket ≡ units_packed (form_at version q) bucket =
               (λ i. units_packed (single_of ((kept.each id a mine lives).versioned i) (sym many i) (is q there i)) bucket) in
               let key = ap (tally_units (all_counted state.actors) known.name) (keys bucket) in
               omega (arith, total_is, whole, form, key)
@@ -272,7 +272,7 @@ module _ (shape : Dimensions) (opened : Anatomy) (state : State) (kept : Invaria
               (λ c mounted low. count_most shape opened state kept id a mine lives refers bucket count c mounted low saw) in
               omega (arith, up, total_is)
 
-      pub looks_single : LooksBack kept.anatomy state.actors kept.roles.opener (seer a place more given a.lost)
+      pub looks_single : LooksBack kept.anatomy state.actors kept.roles.opener (seer a place more given a.done.lost)
       looks_single = record {
         most = most_now;
         packed = λ known bucket word has below saw on. ⊎_elim
@@ -286,36 +286,36 @@ module _ (shape : Dimensions) (opened : Anatomy) (state : State) (kept : Invaria
             let key = ap (tally_units (all_counted state.actors) known.name) (keys bucket) in
             let accepted = accepted_counted shape opened state kept id a mine records lives known.name (bucket_key (Some known) bucket) in
             omega (arith, whole, form, key, accepted))
-            (since_push a.since_singles a.seen.singles y _ looks.begun.0 saw);
+            (since_push a.since.singles a.seen.singles y _ looks.begun.0 saw);
         counted = looks.counted;
         samples = looks.samples;
         rising = looks.rising;
         leading = λ s t q at before now same spot there.
-            let was = before_push a.since_singles a.seen.singles y s looks.begun.0 before in
+            let was = before_push a.since.singles a.seen.singles y s looks.begun.0 before in
             ⊎_elim
             (λ old. looks.leading s t q at was old same spot there)
             (λ new.
             let is = now_is at t.word (new ∙ (λ i. record { at = spot i; word = t.word })) q there in
             let leads = single_now s at q (All-contains (WasSingle version blocks) _ s
-            (All-take (WasSingle version blocks) a.since_singles a.seen.singles (kept.each id a mine lives).sees.singles) was) (same ∙ spot) there in
+            (All-take (WasSingle version blocks) a.since.singles a.seen.singles (kept.each id a mine lives).sees.singles) was) (same ∙ spot) there in
             subst (Leads version (buckets_of q.spec) s.word) (sym is) leads.1)
-            (since_push a.since_singles a.seen.singles y t looks.begun.0 now);
+            (since_push a.since.singles a.seen.singles y t looks.begun.0 now);
         closed = λ s t q c at i before now spot there mounts is from below. ⊎_elim
             (λ old. looks.closed s t q c at i before old spot there mounts is from below)
             (λ new.
             let word = now_is at t.word (new ∙ (λ i. record { at = spot i; word = t.word })) q there in
             ap is_off word ∙ in_use_now s q c at i (All-contains (WasInUse blocks) _ s
-            (All-take (WasInUse blocks) a.since_counts a.seen.counts (kept.each id a mine lives).sees.in_use) before) there mounts is from below)
-            (since_push a.since_singles a.seen.singles y t looks.begun.0 now);
-        begun = (longer_push a.since_singles a.seen.singles y looks.begun.0, looks.begun.1);
+            (All-take (WasInUse blocks) a.since.counts a.seen.counts (kept.each id a mine lives).sees.in_use) before) there mounts is from below)
+            (since_push a.since.singles a.seen.singles y t looks.begun.0 now);
+        begun = (longer_push a.since.singles a.seen.singles y looks.begun.0, looks.begun.1);
         noted = looks.noted;
         sum = λ reference sum q loaded. absurd (no_sum reference sum loaded);
       }
 
     -- ---- a counter more
 
-    module _ (at : ℕ) (place : Place) (given : List Given) (still : (look : Look) (bucket units : ℕ) → a.place ≢ Moving look bucket units)
-        (sums : (reference : ℕ) (sum : ℤ) → place ≡ SumLoaded reference sum → a.place ≡ SumLoaded reference sum) where
+    module _ (at : ℕ) (place : Place) (given : List Given) (still : (look : Look) (bucket units : ℕ) → a.hand.place ≢ Moving look bucket units)
+        (sums : (reference : ℕ) (sum : ℤ) → place ≡ SumLoaded reference sum → a.hand.place ≡ SumLoaded reference sum) where
       abbrev z : Sighting
       z = record { at = at; word = word_at state.words at }
 
@@ -328,8 +328,8 @@ module _ (shape : Dimensions) (opened : Anatomy) (state : State) (kept : Invaria
       now_word : (spot word : ℕ) → z ≡ record { at = spot; word = word } → word ≡ word_at state.words spot
       now_word spot word same = sym (ap (λ (s : Sighting). s.word) same) ∙ ap (λ (s : Sighting). word_at state.words s.at) same
 
-      most_then : (known : Known) (bucket total : ℕ) → Contains a.names known → bucket < buckets_of known.spec
-          → SawBucket (seer a place counter_more given a.lost) known bucket total
+      most_then : (known : Known) (bucket total : ℕ) → Contains a.answers.names known → bucket < buckets_of known.spec
+          → SawBucket (seer a place counter_more given a.done.lost) known bucket total
           → total ≤ tally_units (all_counted state.actors) known.name (bucket_key (Some known) bucket)
       most_then known bucket total has below (word, single, inl on) = looked.most known bucket total has below (word, single, inl on)
       most_then known bucket total has below (word, single, inr (off, (refers, count, seen, saw, total_is))) = ⊎_elim
@@ -339,9 +339,9 @@ module _ (shape : Dimensions) (opened : Anatomy) (state : State) (kept : Invaria
           let up = off_most known bucket word refers count has below (λ q there. off_is shape opened state kept id a mine lives known.reference word q there single off) seen
           (λ c mounted low. let now = count_now refers bucket c mounted low in omega (arith, is, now)) in
           omega (arith, up, total_is))
-          (since_push a.since_counts a.seen.counts z _ looked.begun.1 saw)
+          (since_push a.since.counts a.seen.counts z _ looked.begun.1 saw)
 
-      pub looks_count : LooksBack kept.anatomy state.actors kept.roles.opener (seer a place counter_more given a.lost)
+      pub looks_count : LooksBack kept.anatomy state.actors kept.roles.opener (seer a place counter_more given a.done.lost)
       looks_count = record {
         most = most_then;
         packed = looked.packed;
@@ -362,7 +362,7 @@ module _ (shape : Dimensions) (opened : Anatomy) (state : State) (kept : Invaria
             let key = ap (tally_units (all_counted state.actors) known.name) (keys bucket) in
             let accepted = accepted_counted shape opened state kept id a mine records lives known.name (bucket_key (Some known) bucket) in
             omega (arith, form, is, now, whole, quiet, key, accepted))
-            (since_push a.since_counts a.seen.counts z _ looked.begun.1 saw);
+            (since_push a.since.counts a.seen.counts z _ looked.begun.1 saw);
         samples = λ known value where_at count has first saw. ⊎_elim
             (λ old. looked.samples known value where_at count has first old)
             (λ new.
@@ -376,21 +376,21 @@ module _ (shape : Dimensions) (opened : Anatomy) (state : State) (kept : Invaria
             let tally = ap (λ (name : List ℕ). tally_units (all_counted state.actors) name value) name in
             let accepted = accepted_counted shape opened state kept id a mine records lives known.name value in
             omega (arith, is, now, whole, tally, accepted))
-            (since_push a.since_counts a.seen.counts z _ looked.begun.1 saw);
+            (since_push a.since.counts a.seen.counts z _ looked.begun.1 saw);
         rising = λ s t before now same.
-            let was = before_push a.since_counts a.seen.counts z s looked.begun.1 before in
+            let was = before_push a.since.counts a.seen.counts z s looked.begun.1 before in
             ⊎_elim
             (λ old. looked.rising s t was old same)
             (λ new.
             let low = counter_now s (All-contains (WasCounter blocks) _ s
-            (All-take (WasCounter blocks) a.since_counts a.seen.counts (kept.each id a mine lives).sees.counters) was) in
+            (All-take (WasCounter blocks) a.since.counts a.seen.counts (kept.each id a mine lives).sees.counters) was) in
             let is = now_word t.at t.word new in
             let spot = ap (word_at state.words) same in
             omega (arith, low, is, spot))
-            (since_push a.since_counts a.seen.counts z t looked.begun.1 now);
+            (since_push a.since.counts a.seen.counts z t looked.begun.1 now);
         leading = looked.leading;
-        closed = λ s t q c spot i before. looked.closed s t q c spot i (before_push a.since_counts a.seen.counts z s looked.begun.1 before);
-        begun = (looked.begun.0, longer_push a.since_counts a.seen.counts z looked.begun.1);
+        closed = λ s t q c spot i before. looked.closed s t q c spot i (before_push a.since.counts a.seen.counts z s looked.begun.1 before);
+        begun = (looked.begun.0, longer_push a.since.counts a.seen.counts z looked.begun.1);
         noted = λ known count has saw. ⊎_elim
             (λ old. looked.noted known count has old)
             (λ new.
@@ -400,6 +400,6 @@ module _ (shape : Dimensions) (opened : Anatomy) (state : State) (kept : Invaria
             let whole = whole_noted shape opened state kept known.name r.spec known.reference r first stands named in
             let accepted = accepted_noted shape opened state kept id a mine records lives known.name in
             omega (arith, is, now, whole, accepted))
-            (since_push a.since_counts a.seen.counts z _ looked.begun.1 saw);
+            (since_push a.since.counts a.seen.counts z _ looked.begun.1 saw);
         sum = λ reference sum q loaded. looked.sum reference sum q (sums reference sum loaded);
       }

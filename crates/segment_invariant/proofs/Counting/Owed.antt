@@ -1,6 +1,6 @@
 -- What a recorder that is alone has seen of a bucket, or of a value, is no less than what had been accepted; and what it has seen of a
 -- mark was taken.
-use Rattle.std.proofs.Common.{◌≡◌, ◌≢◌, ℕ, ◌+◌, ◌<◌, ◌≤◌, ℤ, pos, Some, None, length, ◌==◌, Contains, inl, inr, ⊎_elim, refl, sym, ap, ◌∙◌, subst, arith}
+use Rattle.std.proofs.Common.{◌≡◌, ◌≢◌, ℕ, ◌+◌, ◌<◌, ◌≤◌, ℤ, pos, Some, None, length, ◌==◌, Contains, inl, inr, ⊎_elim, refl, sym, ap, ◌∙◌, subst, arith, false}
 use Rattle.std.specs.Prelude.{slice_index, if◌then◌else◌}
 use Rattle.std.proofs.lemmas.Bool.Decides.{Decides-int_eq}
 use Rattle.std.proofs.lemmas.List.Elements.{All-contains}
@@ -15,7 +15,7 @@ use Rattle.segment_machine.specs.declared.actor.Known.{Known}
 use Rattle.segment_machine.specs.declared.place.Place.TheVariants.{Spent}
 use Rattle.segment_machine.specs.Form.{Leads}
 use Rattle.segment_machine.specs.Entry.{tally_units}
-use Rattle.segment_machine.specs.Actor.{word_seen, bucket_key, accepted_by, all_counted, SawCount}
+use Rattle.segment_machine.specs.Actor.{word_seen, bucket_key, accepted_by, all_counted, SawCount, is_opener}
 use Rattle.segment_machine.specs.Note.{SawBucket, IsMarkOf}
 use Rattle.segment_machine.specs.State.{State}
 use Rattle.segment_invariant.specs.Consistent.{units_taken}
@@ -51,7 +51,7 @@ leads_packed version n old new bucket none is (inr (inl empty)) =
 leads_packed version n old new bucket none is (inr (inr (on, same, more))) = same ∙ is
 
 module _ (shape : Dimensions) (opened : Anatomy) (state : State) (kept : Invariant shape opened state) (id : ℕ) (a : Actor)
-    (mine : get_elem? state.actors id ≡ some a) (lives : a.place ≢ Spent) where
+    (mine : get_elem? state.actors id ≡ some a) (lives : a.hand.place ≢ Spent) where
   -- counts that it saw are those of the record
   counts_are : (at place : ℕ) (r : Record) → HasRecord kept.anatomy.pieces at r → word_seen a.seen.words (at + 8) ≡ Some place
       → (place ≡ r.counts) × (r.counts ≢ 0)
@@ -67,7 +67,7 @@ module _ (shape : Dimensions) (opened : Anatomy) (state : State) (kept : Invaria
       )
 
   -- a mark that it saw was taken
-  pub mark_taken : (known : Known) (bucket at mark : ℕ) → Contains a.names known → bucket < buckets_of known.spec → IsMarkOf a known bucket at
+  pub mark_taken : (known : Known) (bucket at mark : ℕ) → Contains a.answers.names known → bucket < buckets_of known.spec → IsMarkOf a known bucket at
       → SawCount a at mark → mark ≤ units_taken state.actors known.name (bucket_key (Some known) bucket)
   mark_taken known bucket at mark has below where_at saw =
       let (r, stands, named, bounds, many) = known_stands shape opened state kept id a mine lives known has in
@@ -109,10 +109,10 @@ module _ (shape : Dimensions) (opened : Anatomy) (state : State) (kept : Invaria
       where_at
 
   -- the first sample of a value: what it saw of its count is counted, and what it saw of its mark was taken
-  module _ (known : Known) (value : ℤ) (at : ℕ) (has : Contains a.names known) (sparse : known.spec ≡ spec.Sparse)
+  module _ (known : Known) (value : ℤ) (at : ℕ) (has : Contains a.answers.names known) (sparse : known.spec ≡ spec.Sparse)
       (first : IsFirstOf kept.anatomy.records known.reference value at) where
     abbrev knows : Knows kept.anatomy known
-    knows = All-contains (Knows kept.anatomy) a.names known (kept.each id a mine lives).names has
+    knows = All-contains (Knows kept.anatomy) a.answers.names known (kept.each id a mine lives).names has
 
     record_is : (r : Record) × (HasRecord kept.anatomy.pieces known.reference r × (r.name ≡ known.name) × (r.spec ≡ knows.first_spec))
     record_is = record_of_first shape opened state kept known.name knows.first_spec known.reference knows.first
@@ -142,8 +142,8 @@ module _ (shape : Dimensions) (opened : Anatomy) (state : State) (kept : Invaria
         omega (arith, most, held, all)
 
   -- where it is alone, what it saw of a bucket is no less than what had been accepted
-  module _ (records : a.opener ≡ 0) (alone : IsAlone state.actors a) where
-    pub bucket_owed : (known : Known) (bucket total : ℕ) → Contains a.names known → bucket < buckets_of known.spec → SawBucket a known bucket total
+  module _ (records : is_opener a.role ≡ false) (alone : IsAlone state.actors a) where
+    pub bucket_owed : (known : Known) (bucket total : ℕ) → Contains a.answers.names known → bucket < buckets_of known.spec → SawBucket a known bucket total
         → tally_units (accepted_by a) known.name (bucket_key (Some known) bucket) ≤ total
     bucket_owed known bucket total has below (word, single, seen) =
         let fits = kept.each id a mine lives in
@@ -152,14 +152,14 @@ module _ (shape : Dimensions) (opened : Anatomy) (state : State) (kept : Invaria
         ⊎_elim
         (λ (on, is).
         let held = looks.packed known bucket word has below single on in
-        let form : units_packed (single_of a.version (buckets_of known.spec) word) bucket ≡ units_packed (single_of kept.anatomy.version (buckets_of known.spec) word) bucket =
+        let form : units_packed (single_of a.segment.version (buckets_of known.spec) word) bucket ≡ units_packed (single_of kept.anatomy.version (buckets_of known.spec) word) bucket =
         (λ i. units_packed (single_of (fits.versioned i) (buckets_of known.spec) word) bucket) in
         omega (arith, held, is, form))
         (λ (off, (place, count, seen_counts, counted, is)).
         let (where_is, some_counts) = counts_are known.reference place r stands seen_counts in
         let held = looks.counted known bucket count r has below stands some_counts (subst (λ n. SawCount a (n + 4 + bucket) count) where_is counted) (inr (inl alone)) in
         let same = off_is shape opened state kept id a mine lives known.reference word r stands single off in
-        let form : units_packed (single_of a.version (buckets_of known.spec) word) bucket ≡ units_packed (form_at kept.anatomy.version r) bucket =
+        let form : units_packed (single_of a.segment.version (buckets_of known.spec) word) bucket ≡ units_packed (form_at kept.anatomy.version r) bucket =
         (λ i. units_packed (single_of (fits.versioned i) (sym many i) (same i)) bucket) in
         omega (arith, held, is, form))
         seen

@@ -12,7 +12,7 @@ use Rattle.segment_machine.specs.declared.place.Place.TheVariants.{Spent, SumLoa
 use Rattle.segment_machine.specs.declared.seen.Seen.{Seen}
 use Rattle.segment_machine.specs.declared.seen.Sighting.{Sighting}
 use Rattle.segment_machine.specs.Entry.{tally_units}
-use Rattle.segment_machine.specs.Actor.{all_counted, bucket_key, is_bound}
+use Rattle.segment_machine.specs.Actor.{all_counted, bucket_key, is_bound, is_opener}
 use Rattle.segment_machine.specs.Note.{SawBucket}
 use Rattle.segment_machine.specs.State.{State}
 use Rattle.std.specs.Prelude.{Some}
@@ -28,23 +28,23 @@ use Rattle.segment_invariant.proofs.Counting.Looks.{fixed_most}
 use Rattle.segment_invariant.proofs.Counting.Seen.{count_most, off_is}
 
 module _ (shape : Dimensions) (opened : Anatomy) (state : State) (kept : Invariant shape opened state) (id : ℕ) (a : Actor)
-    (mine : get_elem? state.actors id ≡ some a) (recorder : a.opener ≡ 0) (unbound : is_bound a.place ≡ false) (place : Place) (free : place ≢ Spent)
+    (mine : get_elem? state.actors id ≡ some a) (recorder : is_opener a.role ≡ false) (unbound : is_bound a.hand.place ≡ false) (place : Place) (free : place ≢ Spent)
     (unsummed : (reference : ℕ) (sum : ℤ) → place ≢ SumLoaded reference sum)
-    (moves : (name : List ℕ) (key : ℤ) → moving_at a name key place ≡ moving_at a name key a.place) (more : List Sighting)
+    (moves : (name : List ℕ) (key : ℤ) → moving_at a name key place ≡ moving_at a name key a.hand.place) (more : List Sighting)
     (fixed : All (WasFixed kept.anatomy.pieces) (a.seen.words ++ more)) where
   abbrev pub with_words : Seen
   with_words = record a.seen { words = a.seen.words ++ more }
 
   abbrev b : Actor
-  b = seer a place with_words a.given a.lost
+  b = seer a place with_words a.done.given a.done.lost
 
-  lives : a.place ≢ Spent
+  lives : a.hand.place ≢ Spent
   lives spent = cc (unbound, ap is_bound spent)
 
   abbrev looks : LooksBack kept.anatomy state.actors kept.roles.opener a
   looks = (kept.each id a mine lives).looks recorder
 
-  most_now : (known : Known) (bucket total : ℕ) → Contains a.names known → bucket < buckets_of known.spec → SawBucket b known bucket total
+  most_now : (known : Known) (bucket total : ℕ) → Contains a.answers.names known → bucket < buckets_of known.spec → SawBucket b known bucket total
       → total ≤ tally_units (all_counted state.actors) known.name (bucket_key (Some known) bucket)
   most_now known bucket total has below (word, single, inl on) = looks.most known bucket total has below (word, single, inl on)
   most_now known bucket total has below (word, single, inr (off, (refers, count, seen, saw, total_is))) =
@@ -73,10 +73,10 @@ module _ (shape : Dimensions) (opened : Anatomy) (state : State) (kept : Invaria
       → Invariant shape opened (record { words = state.words; cursors = state.cursors; actors = set state.actors id b })
   words_seen stands =
       let fits = kept.each id a mine lives in
-      sees_more shape opened state kept id a mine recorder place with_words a.given a.lost lives free moves state.cursors
+      sees_more shape opened state kept id a mine recorder place with_words a.done.given a.done.lost lives free moves state.cursors
       (later_itself (order_of kept.anatomy) state.cursors)
-      (near_on shape opened state kept id a mine recorder place with_words a.given a.lost lives free moves (λ reference sum is. absurd (unsummed reference sum is)))
-      (given_on shape opened state kept id a mine recorder place with_words a.given a.lost lives free moves refl)
+      (near_on shape opened state kept id a mine recorder place with_words a.done.given a.done.lost lives free moves (λ reference sum is. absurd (unsummed reference sum is)))
+      (given_on shape opened state kept id a mine recorder place with_words a.done.given a.done.lost lives free moves refl)
       (record {
         free = fits.sees.free;
         walked = fits.sees.walked;
@@ -89,7 +89,7 @@ module _ (shape : Dimensions) (opened : Anatomy) (state : State) (kept : Invaria
         fixed = fixed;
         shared = fits.sees.shared;
       })
-      (ahead_at (order_of kept.anatomy) kept.anatomy.tail state.cursors a.place a.beaten a.lost fits.ahead place (λ no. unbound_unbeaten a.place unbound))
+      (ahead_at (order_of kept.anatomy) kept.anatomy.tail state.cursors a.hand.place a.done.beaten a.done.lost fits.ahead place (λ no. unbound_unbeaten a.hand.place unbound))
       stands
-      (calls_more kept.anatomy a place with_words a.given a.lost (λ at has. has) (λ at word. word_still a.seen.words at word more) fits.calls)
+      (calls_more kept.anatomy a place with_words a.done.given a.done.lost (λ at has. has) (λ at word. word_still a.seen.words at word more) fits.calls)
       looks_words

@@ -54,7 +54,7 @@ abbrev references : List Listed → List ℕ
 references records = map (λ (l : Listed). l.reference) records
 
 module _ (shape : Dimensions) (opened : Anatomy) (state : State) (kept : Invariant shape opened state) (id : ℕ) (a : Actor)
-    (mine : get_elem? state.actors id ≡ some a) (lives : a.place ≢ Spent) where
+    (mine : get_elem? state.actors id ≡ some a) (lives : a.hand.place ≢ Spent) where
   abbrev order : List ℕ
   order = order_of kept.anatomy
 
@@ -84,7 +84,7 @@ module _ (shape : Dimensions) (opened : Anatomy) (state : State) (kept : Invaria
           let equal : s.value ≡ value =
           sym (value_word s.value (kept.records.valued l.reference s stands).valued) ∙ (ap (cast_signed w64) word ∙ value_word value small) in
           (is ∙ (λ i. Some (made.Sample ((sym mine_is ∙ same) i) ((sym numbered ∙ equal) i))), (s, stands, same, equal))
-      by_made None is (size, kind, next, payload, stands, first, third, long) =
+      by_made None is (size, kind, next, payload, stands, third, long) =
           absurd (third (sighted shape opened state kept id a mine lives l.reference 2 3 (other size kind next payload) stands (omega arith) tag))
 
   -- one that it saw to be another was not

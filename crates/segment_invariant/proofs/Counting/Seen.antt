@@ -48,13 +48,13 @@ mark_in c i below =
     ∙ (get_or-append_right c.units c.marks (length c.units) (length c.units + i) 0 refl (omega arith) ∙ ap (slice_index c.marks) again)))
 
 module _ (shape : Dimensions) (opened : Anatomy) (state : State) (kept : Invariant shape opened state) (id : ℕ) (a : Actor)
-    (mine : get_elem? state.actors id ≡ some a) (lives : a.place ≢ Spent) where
+    (mine : get_elem? state.actors id ≡ some a) (lives : a.hand.place ≢ Spent) where
   -- a histogram that it knows stands as a record of that name and as many buckets, with the same keys
-  pub known_stands : (known : Known) → Contains a.names known
+  pub known_stands : (known : Known) → Contains a.answers.names known
       → (r : Record) × HasRecord kept.anatomy.pieces known.reference r × (r.name ≡ known.name) × (boundaries_of r.spec ≡ boundaries_of known.spec)
       × (buckets_of r.spec ≡ buckets_of known.spec)
   known_stands known has =
-      let knows = All-contains (Knows kept.anatomy) a.names known (kept.each id a mine lives).names has in
+      let knows = All-contains (Knows kept.anatomy) a.answers.names known (kept.each id a mine lives).names has in
       let (front, behind, is, others) = knows.first in
       let l : Listed = record { reference = known.reference; made = Some (made.Histogram known.name knows.first_spec) } in
       let (r, stands, named, same) = All-contains (λ l. StandsAs kept.anatomy.pieces l l.made) kept.anatomy.records l kept.list.standing
@@ -84,7 +84,7 @@ module _ (shape : Dimensions) (opened : Anatomy) (state : State) (kept : Invaria
   -- and so it is of one that it saw
   single_was : (at word : ℕ) → SawSingle a (at + 9) word → WasSingle kept.anatomy.version kept.anatomy.pieces (record { at = at + 9; word = word })
   single_was at word saw = All-contains (WasSingle kept.anatomy.version kept.anatomy.pieces) _ (record { at = at + 9; word = word })
-      (All-drop (WasSingle kept.anatomy.version kept.anatomy.pieces) a.since_singles a.seen.singles (kept.each id a mine lives).sees.singles) saw
+      (All-drop (WasSingle kept.anatomy.version kept.anatomy.pieces) a.since.singles a.seen.singles (kept.each id a mine lives).sees.singles) saw
 
   pub seen_leads : (at word : ℕ) (r : Record) → HasRecord kept.anatomy.pieces at r → SawSingle a (at + 9) word
       → Leads kept.anatomy.version (buckets_of r.spec) word r.single
@@ -100,7 +100,7 @@ module _ (shape : Dimensions) (opened : Anatomy) (state : State) (kept : Invaria
       let counters = (kept.each id a mine lives).sees.counters in
       let (place, j, there_body, (m, here), is, counter, least) =
       All-contains (WasCounter kept.anatomy.pieces) _ (record { at = at + i; word = word })
-      (All-drop (WasCounter kept.anatomy.pieces) a.since_counts a.seen.counts counters) saw in
+      (All-drop (WasCounter kept.anatomy.pieces) a.since.counts a.seen.counts counters) saw in
       let index = one_index shape state.words kept.anatomy kept.shown k m _ _ i j there here within (counter_within there_body j counter) is in
       let same = some-injective _ _ (sym there ∙ (ap (get_elem? kept.anatomy.pieces) index ∙ here)) in
       let spot : at ≡ place = ap (λ (p : Piece). p.at) same in
@@ -130,7 +130,7 @@ module _ (shape : Dimensions) (opened : Anatomy) (state : State) (kept : Invaria
       omega (arith, most, value)
 
   -- so what it saw of a bucket, where it saw the single word off and a count of the counts that the record names
-  pub seen_most : (known : Known) (bucket word place count : ℕ) → Contains a.names known → bucket < buckets_of known.spec
+  pub seen_most : (known : Known) (bucket word place count : ℕ) → Contains a.answers.names known → bucket < buckets_of known.spec
       → SawSingle a (known.reference + 9) word → is_off word ≡ true
       → ((r : Record) → HasRecord kept.anatomy.pieces known.reference r → r.counts ≡ place) → place ≢ 0 → SawCount a (place + 4 + bucket) count
       → count + units_packed (single_of kept.anatomy.version (buckets_of known.spec) word) bucket

@@ -10,7 +10,7 @@ use Rattle.segment_machine.specs.declared.place.Place.{Place}
 use Rattle.segment_machine.specs.declared.place.Place.TheVariants.{Spent}
 use Rattle.segment_machine.specs.declared.seen.Seen.{Seen}
 use Rattle.segment_machine.specs.declared.seen.Sighting.{Sighting}
-use Rattle.segment_machine.specs.Actor.{is_bound}
+use Rattle.segment_machine.specs.Actor.{is_bound, is_opener}
 use Rattle.segment_machine.specs.State.{State}
 use Rattle.segment_invariant.specs.Body.{Body, Anatomy, counts, is_claimed, layout_of, order_of, words_of}
 use Rattle.segment_invariant.specs.Ledger.{moving_at}
@@ -48,15 +48,15 @@ module _ (shape : Dimensions) (opened : Anatomy) (state : State) (kept : Invaria
       (omega (arith, below, long, all)) (sym spot ∙ is) in
       absurd (apart c bodies)
 
-  module _ (id : ℕ) (a : Actor) (mine : get_elem? state.actors id ≡ some a) (records : a.opener ≡ 0) (place : Place) (singles counts : List Sighting)
-      (unbound : is_bound a.place ≡ false) (free : is_bound place ≡ false) (moves : (name : List ℕ) (key : ℤ) → moving_at a name key place ≡ moving_at a name key a.place) where
+  module _ (id : ℕ) (a : Actor) (mine : get_elem? state.actors id ≡ some a) (records : is_opener a.role ≡ false) (place : Place) (singles counts : List Sighting)
+      (unbound : is_bound a.hand.place ≡ false) (free : is_bound place ≡ false) (moves : (name : List ℕ) (key : ℤ) → moving_at a name key place ≡ moving_at a name key a.hand.place) where
     abbrev saw : Seen
     saw = record a.seen { singles = singles; counts = counts }
 
     abbrev b : Actor
-    b = seer a place saw a.given a.lost
+    b = seer a place saw a.done.given a.done.lost
 
-    lived : a.place ≢ Spent
+    lived : a.hand.place ≢ Spent
     lived spent = cc (unbound, ap is_bound spent)
 
     lives : place ≢ Spent
@@ -68,8 +68,8 @@ module _ (shape : Dimensions) (opened : Anatomy) (state : State) (kept : Invaria
         → Invariant shape opened (record { words = state.words; cursors = state.cursors; actors = set state.actors id b })
     sees_on near are_singles are_counters are_used are_met stands looks =
         let fits = kept.each id a mine lived in
-        sees_more shape opened state kept id a mine records place saw a.given a.lost lived lives moves state.cursors (later_itself (order_of kept.anatomy) state.cursors)
-        near (given_on shape opened state kept id a mine records place saw a.given a.lost lived lives moves refl)
+        sees_more shape opened state kept id a mine records place saw a.done.given a.done.lost lived lives moves state.cursors (later_itself (order_of kept.anatomy) state.cursors)
+        near (given_on shape opened state kept id a mine records place saw a.done.given a.done.lost lived lives moves refl)
         (record {
           free = fits.sees.free;
           walked = fits.sees.walked;
@@ -81,5 +81,5 @@ module _ (shape : Dimensions) (opened : Anatomy) (state : State) (kept : Invaria
           fixed = fits.sees.fixed;
           shared = fits.sees.shared;
         })
-        (ahead_at (order_of kept.anatomy) kept.anatomy.tail state.cursors a.place a.beaten a.lost fits.ahead place (λ no. unbound_unbeaten a.place unbound))
-        stands (calls_more kept.anatomy a place saw a.given a.lost (λ at has. has) (λ at word has. has) fits.calls) looks
+        (ahead_at (order_of kept.anatomy) kept.anatomy.tail state.cursors a.hand.place a.done.beaten a.done.lost fits.ahead place (λ no. unbound_unbeaten a.hand.place unbound))
+        stands (calls_more kept.anatomy a place saw a.done.given a.done.lost (λ at has. has) (λ at word has. has) fits.calls) looks

@@ -39,9 +39,9 @@ module _ (shape : Dimensions) (opened : Anatomy) (state : State) (kept : Invaria
   version = kept.anatomy.version
 
   -- nothing of a bucket is in transit where nobody moves units of it
-  pub rests : (at i : ℕ) → ((who : ℕ) (x : Actor) (look : Look) (units : ℕ) → get_elem? state.actors who ≡ some x → x.place ≡ Moving look i units
+  pub rests : (at i : ℕ) → ((who : ℕ) (x : Actor) (look : Look) (units : ℕ) → get_elem? state.actors who ≡ some x → x.hand.place ≡ Moving look i units
       → look.histogram ≡ at → ⊥) → transit_of state.actors at i ≡ 0
-  rests at i nobody = sum_none (λ x. transit_at x.place at i) state.actors (λ who x there _. ⊎_elim
+  rests at i nobody = sum_none (λ x. transit_at x.hand.place at i) state.actors (λ who x there _. ⊎_elim
       (λ moves. let (look, bucket, units, place) = moves in
       ap (λ (place : Place). transit_at place at i) place
       ∙ by_test ((look.histogram == at) && (bucket == i)) units (λ both.
@@ -49,7 +49,7 @@ module _ (shape : Dimensions) (opened : Anatomy) (state : State) (kept : Invaria
       let same : bucket ≡ i = eqb-true bucket i parts.1 in
       nobody who x look units there (place ∙ ap (λ (b : ℕ). Moving look b units) same) (eqb-true look.histogram at parts.0)))
       (λ still. still.1 at i)
-      (moves_or_not x.place))
+      (moves_or_not x.hand.place))
     where
       by_test : (b : Bool) (units : ℕ) → (b ≡ true → ⊥) → (if b then units else 0) ≡ 0
       by_test true units nobody_does = absurd (nobody_does refl)
@@ -67,7 +67,7 @@ module _ (shape : Dimensions) (opened : Anatomy) (state : State) (kept : Invaria
     packed = packed_units r.spec (kept.records.lawful at r has).lawful bucketed i below (form_at version r)
         (λ bucket is. packed_within version (buckets_of r.spec) r.single bucket is)
 
-    moved : std.sum_by (λ (x : Actor). transit_at x.place at i) state.actors + all_held (units_held version name key) kept.anatomy.pieces
+    moved : std.sum_by (λ (x : Actor). transit_at x.hand.place at i) state.actors + all_held (units_held version name key) kept.anatomy.pieces
         ≡ tally_units (all_counted state.actors) name key
     moved =
         let moving = moved_all shape opened state kept name kind at r first has named specified bucketed i below in
@@ -109,7 +109,7 @@ module _ (shape : Dimensions) (opened : Anatomy) (state : State) (kept : Invaria
 
   -- of all units
   pub whole_noted : (name : List ℕ) (kind : Spec) (at : ℕ) (r : Record) → IsFirst kept.anatomy.records name kind at → HasRecord kept.anatomy.pieces at r
-      → r.name ≡ name → r.noted ≡ cost_of kept.roles.opener.first_noted name + tally_noted (all_noted state.actors) name
+      → r.name ≡ name → r.noted ≡ cost_of kept.roles.opener.entries.first_noted name + tally_noted (all_noted state.actors) name
   whole_noted name kind at r first has named =
       let is = noted_is shape opened state kept name kind at r first has named in
       let ledger = kept.balanced.noted name in

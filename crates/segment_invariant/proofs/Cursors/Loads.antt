@@ -1,5 +1,5 @@
 -- A shared cursor is loaded.
-use Rattle.std.proofs.Common.{◌≡◌, ◌≢◌, ℕ, ◌<◌, ℤ, List, ◌++◌, length, set, refl, sym, subst, arith}
+use Rattle.std.proofs.Common.{◌≡◌, ◌≢◌, ℕ, ◌<◌, ℤ, List, ◌++◌, length, set, refl, sym, subst, arith, false}
 use Rattle.std.specs.Prelude.{slice_index}
 use Rattle.std.proofs.lemmas.List.Elements.{All-push, Contains-push}
 use mathlib.Core.Option.{some}
@@ -26,23 +26,15 @@ use Rattle.segment_invariant.proofs.Frames.SeesMore.{seer, calls_more, later_its
 use Rattle.segment_invariant.proofs.Frames.Shown.{Goes}
 use Rattle.segment_invariant.proofs.Walking.Walks.{reference_is}
 use Rattle.segment_invariant.proofs.Walking.Nexts.{no_later_itself}
+use Rattle.segment_machine.specs.Actor.{is_opener}
+use Rattle.segment_invariant.proofs.Frames.Anew.{looks_anew_at}
 
 -- what an actor looks back at, where it sees no more than cursors and has loaded no sum
 pub looks_past : (anatomy : Anatomy) (actors : _) (opener a : Actor) (place : Place) (cursors : List Sighting) (given : List Given) (lost : List ℕ)
     → ((reference : ℕ) (sum : ℤ) → place ≢ SumLoaded reference sum) → LooksBack anatomy actors opener a
     → LooksBack anatomy actors opener (seer a place (record a.seen { cursors = cursors }) given lost)
-looks_past anatomy actors opener a place cursors given lost none looks = record {
-  most = looks.most;
-  packed = looks.packed;
-  counted = looks.counted;
-  samples = looks.samples;
-  rising = looks.rising;
-  leading = looks.leading;
-  closed = looks.closed;
-  begun = looks.begun;
-  noted = looks.noted;
-  sum = λ reference sum r loaded. absurd (none reference sum loaded);
-}
+looks_past anatomy actors opener a place cursors given lost none looks =
+    looks_anew_at anatomy actors opener a place looks (λ reference sum r loaded. absurd (none reference sum loaded))
 
 -- it has seen one more cursor
 pub sees_cursor : (anatomy : Anatomy) (cursors : List ℕ) (seen : Seen) (s : Sighting) → Sees anatomy cursors seen
@@ -61,7 +53,7 @@ sees_cursor anatomy cursors seen s sees is = record {
 }
 
 module _ (shape : Dimensions) (opened : Anatomy) (state : State) (kept : Invariant shape opened state) (id : ℕ) (a : Actor)
-    (mine : get_elem? state.actors id ≡ some a) (records : a.opener ≡ 0) where
+    (mine : get_elem? state.actors id ≡ some a) (records : is_opener a.role ≡ false) where
   -- a cursor stands on the list
   pub cursor_stop : (cursor : ℕ) → cursor < length state.cursors → IsStop (order_of kept.anatomy) (slice_index state.cursors cursor)
   cursor_stop cursor below = let (place, within, is, gave) = kept.cursors.stand cursor below in (place, within, is)
@@ -80,17 +72,17 @@ module _ (shape : Dimensions) (opened : Anatomy) (state : State) (kept : Invaria
         subst (λ (cursors : List ℕ). Invariant shape opened (record {
           words = state.words;
           cursors = cursors;
-          actors = set state.actors id (seer a place seen a.given a.lost);
+          actors = set state.actors id (seer a place seen a.done.given a.done.lost);
         })) (sym (set-get_or state.cursors cursor 0))
-            (sees_more shape opened state kept id a mine records place seen a.given a.lost turns.lived turns.lives turns.moves state.cursors
+            (sees_more shape opened state kept id a mine records place seen a.done.given a.done.lost turns.lived turns.lives turns.moves state.cursors
             (later_itself (order_of kept.anatomy) state.cursors)
-            (near_on shape opened state kept id a mine records place seen a.given a.lost turns.lived turns.lives turns.moves turns.sums)
-            (given_on shape opened state kept id a mine records place seen a.given a.lost turns.lived turns.lives turns.moves refl)
+            (near_on shape opened state kept id a mine records place seen a.done.given a.done.lost turns.lived turns.lives turns.moves turns.sums)
+            (given_on shape opened state kept id a mine records place seen a.done.given a.done.lost turns.lived turns.lives turns.moves refl)
             (sees_cursor kept.anatomy state.cursors a.seen s fits.sees (within, no_later_itself (order_of kept.anatomy) found stop))
-            (ahead_at (order_of kept.anatomy) kept.anatomy.tail state.cursors a.place a.beaten a.lost fits.ahead place (λ no. unbound_unbeaten a.place unbound))
+            (ahead_at (order_of kept.anatomy) kept.anatomy.tail state.cursors a.hand.place a.done.beaten a.done.lost fits.ahead place (λ no. unbound_unbeaten a.hand.place unbound))
             (fits.ahead.exchanges cursor within, Contains-push a.seen.cursors s)
-            (calls_more kept.anatomy a place seen a.given a.lost (λ at has. has) (λ at word has. has) fits.calls)
-            (looks_past kept.anatomy state.actors kept.roles.opener a place (a.seen.cursors ++ sight cursor found) a.given a.lost
+            (calls_more kept.anatomy a place seen a.done.given a.done.lost (λ at has. has) (λ at word has. has) fits.calls)
+            (looks_past kept.anatomy state.actors kept.roles.opener a place (a.seen.cursors ++ sight cursor found) a.done.given a.done.lost
             (λ reference sum loaded. cc loaded) (fits.looks records))),
         reference_is shape opened state kept id a mine records found turns.lived stop,
       )

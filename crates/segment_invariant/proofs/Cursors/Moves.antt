@@ -1,5 +1,5 @@
 -- A shared cursor is moved on, or another actor was before.
-use Rattle.std.proofs.Common.{◌≡◌, ◌≢◌, ℕ, suc, ◌+◌, ◌<◌, ◌≤◌, ◌==◌, Bool, List, [], ◌∷◌, ◌++◌, map, length, set, take, All, Contains, inl, inr, ⊎_elim, refl, sym, ap, ◌∙◌, subst, arith, eq-eqb, ne_eqb, length-set, append-nil, length-take, get_or-take}
+use Rattle.std.proofs.Common.{◌≡◌, ◌≢◌, ℕ, suc, ◌+◌, ◌<◌, ◌≤◌, ◌==◌, Bool, List, [], ◌∷◌, ◌++◌, map, length, set, take, All, Contains, inl, inr, ⊎_elim, refl, sym, ap, ◌∙◌, subst, arith, eq-eqb, ne_eqb, length-set, append-nil, length-take, get_or-take, false}
 use Rattle.std.specs.Prelude.{slice_index, if◌then◌else◌, IsPermutation}
 use Rattle.std.proofs.Math.Seq.{take-suc}
 use Rattle.std.proofs.lemmas.List.{map-append, get_or-set_other}
@@ -21,7 +21,7 @@ use Rattle.segment_machine.specs.declared.actor.Given.{Given}
 use Rattle.segment_machine.specs.declared.place.Place.TheVariants.{Spent, Idle, BehindCursor}
 use Rattle.segment_machine.specs.declared.seen.Seen.{Seen}
 use Rattle.segment_machine.specs.declared.seen.Sighting.{Sighting}
-use Rattle.segment_machine.specs.Actor.{given_by, all_given}
+use Rattle.segment_machine.specs.Actor.{given_by, all_given, is_opener}
 use Rattle.segment_machine.specs.Calls.{sight}
 use Rattle.segment_machine.specs.State.{State}
 use Rattle.segment_machine.specs.Cursors.{move_cursor, after_cursor}
@@ -67,15 +67,15 @@ in_front words chain linked front k reference le among there =
     omega (arith, same, low)
 
 module _ (shape : Dimensions) (opened : Anatomy) (state : State) (kept : Invariant shape opened state) (id : ℕ) (a : Actor)
-    (mine : get_elem? state.actors id ≡ some a) (records : a.opener ≡ 0) where
+    (mine : get_elem? state.actors id ≡ some a) (records : is_opener a.role ≡ false) where
   abbrev order : List ℕ
   order = order_of kept.anatomy
 
-  module _ (cursor old new : ℕ) (placed : a.place ≡ BehindCursor cursor old new) where
-    lived : a.place ≢ Spent
+  module _ (cursor old new : ℕ) (placed : a.hand.place ≡ BehindCursor cursor old new) where
+    lived : a.hand.place ≢ Spent
     lived spent = cc (placed, spent)
 
-    stands : AreNeighbours order old new × Contains a.seen.cursors (record { at = cursor; word = old }) × IsReachedAt order (slice_index a.lost cursor) old
+    stands : AreNeighbours order old new × Contains a.seen.cursors (record { at = cursor; word = old }) × IsReachedAt order (slice_index a.done.lost cursor) old
     stands = subst (StandsRight shape kept.anatomy id a) placed (kept.standing id a mine)
 
     within : cursor < length state.cursors
@@ -88,7 +88,7 @@ module _ (shape : Dimensions) (opened : Anatomy) (state : State) (kept : Invaria
         (record { at = cursor; word = old }) (kept.each id a mine lived).sees.shared stands.1).1
 
     -- where another actor moved it on first, it stands behind one record more
-    goes_past : slice_index state.cursors cursor ≢ old → IsReachedAt order (slice_index a.lost cursor + 1) (slice_index state.cursors cursor)
+    goes_past : slice_index state.cursors cursor ≢ old → IsReachedAt order (slice_index a.done.lost cursor + 1) (slice_index state.cursors cursor)
     goes_past miss =
         let (k, low, within_list, is) = stands.2 in
         let (i, j, le, inside, i_is, j_is) = passed in
@@ -97,20 +97,20 @@ module _ (shape : Dimensions) (opened : Anatomy) (state : State) (kept : Invaria
         (j, omega (arith, low, same, le, apart), inside, j_is)
 
     abbrev lost : List ℕ
-    lost = set a.lost cursor (slice_index a.lost cursor + 1)
+    lost = set a.done.lost cursor (slice_index a.done.lost cursor + 1)
 
-    lost_more : slice_index state.cursors cursor ≢ old → IsAhead order kept.anatomy.tail state.cursors Idle a.beaten lost
+    lost_more : slice_index state.cursors cursor ≢ old → IsAhead order kept.anatomy.tail state.cursors Idle a.done.beaten lost
     lost_more miss =
         let ahead = (kept.each id a mine lived).ahead in
         let many = ahead.many in record {
           links = λ no. ahead.links (ap is_beaten placed);
-          many = length-set a.lost cursor (slice_index a.lost cursor + 1) ∙ many;
+          many = length-set a.done.lost cursor (slice_index a.done.lost cursor + 1) ∙ many;
           exchanges = λ k below. dite (ℕ_discrete k cursor)
               (λ same. subst (λ (n : ℕ). IsReachedAt order (slice_index lost n) (slice_index state.cursors n)) (sym same)
               (subst (λ (n : ℕ). IsReachedAt order n (slice_index state.cursors cursor))
-              (sym (get_or-set_at a.lost cursor cursor (slice_index a.lost cursor + 1) 0 refl (omega (arith, many, within)))) (goes_past miss)))
+              (sym (get_or-set_at a.done.lost cursor cursor (slice_index a.done.lost cursor + 1) 0 refl (omega (arith, many, within)))) (goes_past miss)))
               (λ apart. subst (λ (n : ℕ). IsReachedAt order n (slice_index state.cursors k))
-              (sym (get_or-set_other a.lost cursor k (slice_index a.lost cursor + 1) 0 apart)) (ahead.exchanges k below));
+              (sym (get_or-set_other a.done.lost cursor k (slice_index a.done.lost cursor + 1) 0 apart)) (ahead.exchanges k below));
         }
 
     -- another actor moved it on first
@@ -132,15 +132,15 @@ module _ (shape : Dimensions) (opened : Anatomy) (state : State) (kept : Invaria
                 sym (ne_eqb found old miss) i,
                 sym (ap (λ (b : Bool). set state.cursors cursor (if b then new else found)) (ne_eqb found old miss) ∙ set-get_or state.cursors cursor 0) i,
               ))
-              (sees_more shape opened state kept id a mine records Idle seen a.given lost turns.lived turns.lives turns.moves state.cursors
+              (sees_more shape opened state kept id a mine records Idle seen a.done.given lost turns.lived turns.lives turns.moves state.cursors
               (later_itself order state.cursors)
-              (near_on shape opened state kept id a mine records Idle seen a.given lost turns.lived turns.lives turns.moves turns.sums)
-              (given_on shape opened state kept id a mine records Idle seen a.given lost turns.lived turns.lives turns.moves refl)
+              (near_on shape opened state kept id a mine records Idle seen a.done.given lost turns.lived turns.lives turns.moves turns.sums)
+              (given_on shape opened state kept id a mine records Idle seen a.done.given lost turns.lived turns.lives turns.moves refl)
               (sees_cursor kept.anatomy state.cursors a.seen s fits.sees (within, no_later_itself order found stop))
               (lost_more miss)
               tt
-              (calls_more kept.anatomy a Idle seen a.given lost (λ at has. has) (λ at word has. has) fits.calls)
-              (looks_past kept.anatomy state.actors kept.roles.opener a Idle (a.seen.cursors ++ sight cursor found) a.given lost
+              (calls_more kept.anatomy a Idle seen a.done.given lost (λ at has. has) (λ at word has. has) fits.calls)
+              (looks_past kept.anatomy state.actors kept.roles.opener a Idle (a.seen.cursors ++ sight cursor found) a.done.given lost
               (λ reference sum loaded. cc loaded) (fits.looks records))),
           (
             reference_is shape opened state kept id a mine records found lived stop,
@@ -164,7 +164,7 @@ module _ (shape : Dimensions) (opened : Anatomy) (state : State) (kept : Invaria
       then_seen = record a.seen { cursors = a.seen.cursors ++ sight cursor new }
 
       abbrev b : Actor
-      b = seer a Idle then_seen (a.given ++ gift ∷ []) a.lost
+      b = seer a Idle then_seen (a.done.given ++ gift ∷ []) a.done.lost
 
       abbrev actors : List Actor
       actors = set state.actors id b
@@ -191,17 +191,17 @@ module _ (shape : Dimensions) (opened : Anatomy) (state : State) (kept : Invaria
             (λ apart. subst (IsNoLater order at) (sym (get_or-set_other state.cursors cursor k new 0 apart)) seen);
       }
 
-      gave_more : (k : ℕ) → given_by k (a.given ++ gift ∷ []) ≡ given_by k a.given ++ given_by k (gift ∷ [])
-      gave_more k = given_push k a.given gift
+      gave_more : (k : ℕ) → given_by k (a.done.given ++ gift ∷ []) ≡ given_by k a.done.given ++ given_by k (gift ∷ [])
+      gave_more k = given_push k a.done.given gift
 
       -- what the actor was given by the cursor stands before that place
-      before : (x : Given) (k : ℕ) → Contains a.given x → x.cursor ≡ cursor → get_elem? order k ≡ some x.reference → k < place
+      before : (x : Given) (k : ℕ) → Contains a.done.given x → x.cursor ≡ cursor → get_elem? order k ≡ some x.reference → k < place
       before x k has same there =
           let (front, inside, is, gave) = kept.cursors.stand cursor within in
           let front_is = stood front inside is in
-          let by : Contains (given_by cursor a.given) x.reference =
-          contains_map (λ (g : Given). g.reference) _ x (contains_filter (λ (g : Given). g.cursor == cursor) a.given x has (eq-eqb x.cursor cursor same)) in
-          let among = Contains-permutation _ _ x.reference gave (row_in (λ (c : Actor). given_by cursor c.given) state.actors id a x.reference mine by) in
+          let by : Contains (given_by cursor a.done.given) x.reference =
+          contains_map (λ (g : Given). g.reference) _ x (contains_filter (λ (g : Given). g.cursor == cursor) a.done.given x has (eq-eqb x.cursor cursor same)) in
+          let among = Contains-permutation _ _ x.reference gave (row_in (λ (c : Actor). given_by cursor c.done.given) state.actors id a x.reference mine by) in
           let lt = in_front state.words order kept.list.linked front k x.reference inside among there in
           omega (arith, lt, front_is)
 
@@ -213,22 +213,22 @@ module _ (shape : Dimensions) (opened : Anatomy) (state : State) (kept : Invaria
           let same : suc l ≡ suc place = one_place state.words order (suc l) (suc place) kept.list.linked below lt (index_at order l new 0 there ∙ sym stands.0.3) in
           omega (arith, same)
 
-      ordered_now : GivenInOrder order (a.given ++ gift ∷ [])
+      ordered_now : GivenInOrder order (a.done.given ++ gift ∷ [])
       ordered_now i j k l x y lt first second same is also = ⊎_elim
           (λ x_old. ⊎_elim
           (λ y_old. kept.cursors.ordered id a mine records i j k l x y lt x_old y_old same is also)
           (λ y_new.
           let reference : new ≡ y.reference = ap (λ (g : Given). g.reference) y_new.1 in
           let of_it : cursor ≡ y.cursor = ap (λ (g : Given). g.cursor) y_new.1 in
-          let low = before x k (contains_at a.given i x x_old) (same ∙ sym of_it) is in
+          let low = before x k (contains_at a.done.given i x x_old) (same ∙ sym of_it) is in
           let place_is = last l (also ∙ ap some (sym reference)) in
           omega (arith, low, place_is))
-          (at_snoc_index a.given gift y j second))
+          (at_snoc_index a.done.given gift y j second))
           (λ x_new. ⊎_elim
-          (λ y_old. let below = below_length a.given j y y_old in let e = x_new.0 in absurd (omega (arith, below, e, lt)))
+          (λ y_old. let below = below_length a.done.given j y y_old in let e = x_new.0 in absurd (omega (arith, below, e, lt)))
           (λ y_new. let d = y_new.0 in let e = x_new.0 in absurd (omega (arith, d, e, lt)))
-          (at_snoc_index a.given gift y j second))
-          (at_snoc_index a.given gift x i first)
+          (at_snoc_index a.done.given gift y j second))
+          (at_snoc_index a.done.given gift x i first)
 
       abbrev Stood : ℕ → Type 0
       Stood k = (place : ℕ) × (place ≤ length order) × (slice_index (stops order) place ≡ slice_index cursors k) × IsPermutation (all_given actors k) (take place order)
@@ -243,8 +243,8 @@ module _ (shape : Dimensions) (opened : Anatomy) (state : State) (kept : Invaria
             le,
             is ∙ sym (get_or-set_other state.cursors cursor k new 0 apart),
             subst (λ (list : List ℕ). IsPermutation list (take front order))
-                (sym (rows (λ (c : Actor). given_by k c.given) state.actors id a b mine
-                (gave_more k ∙ (ap (λ (more : List ℕ). given_by k a.given ++ more) (given_elsewhere k cursor new (λ e. apart (sym e))) ∙ append-nil (given_by k a.given)))))
+                (sym (rows (λ (c : Actor). given_by k c.done.given) state.actors id a b mine
+                (gave_more k ∙ (ap (λ (more : List ℕ). given_by k a.done.given ++ more) (given_elsewhere k cursor new (λ e. apart (sym e))) ∙ append-nil (given_by k a.done.given)))))
                 gave,
           ))
         where
@@ -252,8 +252,8 @@ module _ (shape : Dimensions) (opened : Anatomy) (state : State) (kept : Invaria
           moved_on =
               let (front, inside, is, gave) = kept.cursors.stand cursor within in
               let front_is = stood front inside is in
-              let more = rows_more (λ (c : Actor). given_by cursor c.given) state.actors id a b (new ∷ []) mine
-              (gave_more cursor ∙ ap (λ (more : List ℕ). given_by cursor a.given ++ more) (given_here cursor new)) in
+              let more = rows_more (λ (c : Actor). given_by cursor c.done.given) state.actors id a b (new ∷ []) mine
+              (gave_more cursor ∙ ap (λ (more : List ℕ). given_by cursor a.done.given ++ more) (given_here cursor new)) in
               let grown : take place order ++ new ∷ [] ≡ take (suc place) order =
               ap (λ (n : ℕ). take place order ++ n ∷ []) (sym stands.0.3) ∙ sym (take-suc order place 0 stands.0.1) in (
                 suc place,
@@ -269,12 +269,12 @@ module _ (shape : Dimensions) (opened : Anatomy) (state : State) (kept : Invaria
       kept_cursors = record {
         stand = stand_now;
         ordered = λ who c there opens. elim (at_set state.actors id who b c there) [
-          | inl t ↦ subst (λ (c : Actor). GivenInOrder order c.given) t.1 ordered_now
+          | inl t ↦ subst (λ (c : Actor). GivenInOrder order c.done.given) t.1 ordered_now
           | inr t ↦ kept.cursors.ordered who c t.1 opens
         ];
         given = λ who c there. elim (at_set state.actors id who b c there) [
-          | inl t ↦ subst (λ (c : Actor). All (λ g. Contains order g.reference) c.given) t.1
-              (All-push (λ (g : Given). Contains order g.reference) a.given gift (kept.cursors.given id a mine)
+          | inl t ↦ subst (λ (c : Actor). All (λ g. Contains order g.reference) c.done.given) t.1
+              (All-push (λ (g : Given). Contains order g.reference) a.done.given gift (kept.cursors.given id a mine)
               (let (x, here_it) = there_below order place stands.0.1 in
               let is : x ≡ new = sym (index_at order place x 0 here_it) ∙ stands.0.3 in
               contains_at order place new (here_it ∙ ap some is)))
@@ -296,16 +296,16 @@ module _ (shape : Dimensions) (opened : Anatomy) (state : State) (kept : Invaria
               cursors = set state.cursors cursor (if hits then new else found);
               actors = set state.actors id (after_cursor hits a cursor new found);
             })) (sym (eq-eqb found old hit))
-                (sees_more shape opened state kept id a mine records Idle then_seen (a.given ++ gift ∷ []) a.lost turns.lived turns.lives turns.moves cursors later
-                (near_on shape opened state kept id a mine records Idle then_seen (a.given ++ gift ∷ []) a.lost turns.lived turns.lives turns.moves turns.sums)
+                (sees_more shape opened state kept id a mine records Idle then_seen (a.done.given ++ gift ∷ []) a.done.lost turns.lived turns.lives turns.moves cursors later
+                (near_on shape opened state kept id a mine records Idle then_seen (a.done.given ++ gift ∷ []) a.done.lost turns.lived turns.lives turns.moves turns.sums)
                 kept_cursors
                 (sees_cursor kept.anatomy cursors a.seen s (sees_later kept.anatomy state.cursors cursors a.seen later fits.sees)
                 (omega (arith, many, within), subst (IsNoLater order new) (sym here) (no_later_itself order new stop_new)))
-                (ahead_behind state.words order kept.anatomy.tail state.cursors cursors Idle a.beaten a.lost kept.list.linked later
-                (ahead_at order kept.anatomy.tail state.cursors a.place a.beaten a.lost fits.ahead Idle (λ no. ap is_beaten placed)))
+                (ahead_behind state.words order kept.anatomy.tail state.cursors cursors Idle a.done.beaten a.done.lost kept.list.linked later
+                (ahead_at order kept.anatomy.tail state.cursors a.hand.place a.done.beaten a.done.lost fits.ahead Idle (λ no. ap is_beaten placed)))
                 tt
-                (calls_more kept.anatomy a Idle then_seen (a.given ++ gift ∷ []) a.lost (λ at has. has) (λ at word has. has) fits.calls)
-                (looks_past kept.anatomy state.actors kept.roles.opener a Idle (a.seen.cursors ++ sight cursor new) (a.given ++ gift ∷ []) a.lost
+                (calls_more kept.anatomy a Idle then_seen (a.done.given ++ gift ∷ []) a.done.lost (λ at has. has) (λ at word has. has) fits.calls)
+                (looks_past kept.anatomy state.actors kept.roles.opener a Idle (a.seen.cursors ++ sight cursor new) (a.done.given ++ gift ∷ []) a.done.lost
                 (λ reference sum loaded. cc loaded) (fits.looks records))),
             (
               reference_is shape opened state kept id a mine records found lived (cursor_stop shape opened state kept id a mine records cursor within),

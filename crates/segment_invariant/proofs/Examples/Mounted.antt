@@ -109,7 +109,7 @@ opened = record {
   ended = refl;
 }
 
-apart : (i j : ℕ) (a b : Claim) → i < j → get_elem? who.claimed i ≡ some a → get_elem? who.claimed j ≡ some b → Apart (run_of a) (run_of b)
+apart : (i j : ℕ) (a b : Claim) → i < j → get_elem? who.done.claimed i ≡ some a → get_elem? who.done.claimed j ≡ some b → Apart (run_of a) (run_of b)
 apart zero zero a b below x y = absurd (omega (arith, below))
 apart zero (suc zero) a b below x y =
     subst (λ (a : Claim). Apart (run_of a) (run_of b)) (some-injective _ a x)
@@ -147,7 +147,7 @@ list = record {
   paged = all_of_two (λ (claim : Claim). claim.at % 64 + claim.size ≤ 64) _ _ (omega arith) (omega arith);
   few = omega arith;
   sized = all_of_two (λ (claim : Claim). (field_at mounted claim.at 0 ≡ claim.size) × (field_at mounted claim.at 1 ≡ 0xC8799269)) _ _ (refl, refl) (refl, refl);
-  claimed = λ at there. only 16 (λ (at : ℕ). Contains (places_of who.claimed) at) (0, omega arith, refl) at there;
+  claimed = λ at there. only 16 (λ (at : ℕ). Contains (places_of who.done.claimed) at) (0, omega arith, refl) at there;
   seen = each_one who (SawBefore mounted [] chain) seen;
   cursors_stand = λ k below. absurd (omega (arith, below));
 }
@@ -182,7 +182,7 @@ records = record {
   formed = λ at there tag. subst (HasForm 1 mounted) (here at there) form;
   own_counts = λ a b first second tag other counts same. sym (here a first) ∙ here b second;
   claimed_counts = λ at there tag counts. subst
-      (λ (k : ℕ). Contains (places_of who.claimed) (field_at mounted k 8) × (¬ (Contains chain (field_at mounted k 8))))
+      (λ (k : ℕ). Contains (places_of who.done.claimed) (field_at mounted k 8) × (¬ (Contains chain (field_at mounted k 8))))
       (here at there)
       ((1, omega arith, refl), λ listed. let e = here 32 listed in absurd (omega (arith, e)));
   singles = each_one who
@@ -211,7 +211,7 @@ placed k d below = all_of_three (λ (e : Entry). HasPlace mounted chain e.name e
     at_zero : HasPlace mounted chain letter_a (pos 0)
     at_zero = (16, the_one mounted letter_a refl refl, inl (0, refl, omega arith, refl))
 
-ended : All (λ (c : Counting). has_ended c ≡ true) who.log
+ended : All (λ (c : Counting). has_ended c ≡ true) who.entries.log
 ended = all_of_three (λ (c : Counting). has_ended c ≡ true) (whole (one 1)) (whole (one 1)) (whole (one 0)) refl refl refl
 
 totals : TotalsAreCounted 1 mounted all chain
@@ -224,11 +224,11 @@ totals = record {
       name at is;
   values = λ name at sample value is sparse. absurd (no_sparse name at is sparse);
   placed = λ entry there units. subst (λ (e : Entry). HasPlace mounted chain e.name e.key) there.2 (placed there.0 entry there.1);
-  ended = each_one who (λ (a : Actor). All (λ (c : Counting). has_ended c ≡ true) a.log) ended;
+  ended = each_one who (λ (a : Actor). All (λ (c : Counting). has_ended c ≡ true) a.entries.log) ended;
 }
 
 abbrev Answers : Actor → Type 0
-Answers a = All (λ (answered : Answered). All (λ (count : ℤ × ℕ). count.1 ≤ tally_units (all_counted all) answered.name count.0) answered.counts) a.snapshots
+Answers a = All (λ (answered : Answered). All (λ (count : ℤ × ℕ). count.1 ≤ tally_units (all_counted all) answered.name count.0) answered.counts) a.deltas.snapshots
 
 nothing_answered : Each all Answers
 nothing_answered = each_one who Answers (λ k d below. absurd (omega (arith, below)))
@@ -281,7 +281,7 @@ flags = record {
 -- no delta is running
 none_loaded : (at : ℕ) (sum : ℤ) → IsLoaded all at sum → ⊥
 none_loaded at sum (a, there, stands) =
-    let idle : a.place ≡ Idle = only who (λ (b : Actor). b.place ≡ Idle) refl a there in
+    let idle : a.hand.place ≡ Idle = only who (λ (b : Actor). b.hand.place ≡ Idle) refl a there in
     clash at sum (sym idle ∙ stands)
   where
     clash : (at : ℕ) (sum : ℤ) → Idle ≡ SumLoaded at sum → ⊥

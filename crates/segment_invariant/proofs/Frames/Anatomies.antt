@@ -17,6 +17,7 @@ use Rattle.segment_invariant.specs.Invariant.{StandsAs, ListIsKept, RecordsAreKe
 use Rattle.segment_invariant.proofs.Frames.Standing.{Grounds, own_stays}
 use Rattle.segment_invariant.proofs.Frames.Growth.{reshaped, Stays, Grows, grows_not, stands_as_grows, names_grow, sees_grow, grounds_grow}
 use Rattle.segment_invariant.proofs.Frames.OneActor.{Doing, doing, TurnsTo}
+use Rattle.segment_invariant.proofs.Frames.Anew.{calls_anew, looks_anew_at}
 
 -- what blocks hold together is the same
 pub record SameHoldings (version : ℕ) (old new : List Piece) : Type 0 where
@@ -40,17 +41,10 @@ balanced_same version opened old new actors same is = record {
 
 -- running calls rest on the records of the list alone
 pub calls_same : (old new : Anatomy) (a : Actor) → new.records ≡ old.records → CallsRight old a → CallsRight new a
-calls_same old new a same calls = record {
-  ordered = calls.ordered;
-  within = calls.within;
-  held = calls.held;
-  ended = calls.ended;
-  spent = calls.spent;
-  met = λ entry of there units first.
-      let (at, first_of, walked, saw) = calls.met entry of there units (subst (λ (records : List Listed). IsFirst records entry.name spec.Sparse of) same first) in
-      (at, subst (λ (records : List Listed). IsFirstOf records of entry.key at) (sym same) first_of, walked, saw);
-  taking = calls.taking;
-}
+calls_same old new a same calls = calls_anew old new a a.seen calls
+    (λ entry of there units first.
+    let (at, first_of, walked, saw) = calls.met entry of there units (subst (λ (records : List Listed). IsFirst records entry.name spec.Sparse of) same first) in
+    (at, subst (λ (records : List Listed). IsFirstOf records of entry.key at) (sym same) first_of, walked, saw))
 
 module _ (anatomy : Anatomy) (pieces : List Piece) (spare : ℕ) (corrupt full : Bool) (tail : ℕ) (stays : Stays anatomy.pieces pieces) where
   abbrev later : Anatomy
@@ -113,7 +107,7 @@ module _ (anatomy : Anatomy) (pieces : List Piece) (spare : ℕ) (corrupt full :
 
   -- running calls
   pub calls_along : (a : Actor) → CallsRight anatomy a → CallsRight later a
-  calls_along a = calls_same anatomy later a refl
+  calls_along a calls = calls
 
   -- what was seen since a delta or a snapshot began
   pub looks_along : (actors : List Actor) (opener a : Actor) → LooksBack anatomy actors opener a → LooksBack later actors opener a
@@ -136,7 +130,7 @@ module _ (anatomy : Anatomy) (pieces : List Piece) (spare : ℕ) (corrupt full :
   pub fits_along : (shape : Dimensions) (cursors : List ℕ) (actors : List Actor) (opener : Actor) (id : ℕ) (a : Actor)
       → ((at : ℕ) (body : Body) → Stands anatomy.pieces at (some id) body → Stands pieces at (some id) body)
       → Behind a.seen.free (free_of later) → AreNoLater (order_of anatomy) a.seen.tails tail
-      → IsAhead (order_of anatomy) tail cursors a.place a.beaten a.lost
+      → IsAhead (order_of anatomy) tail cursors a.hand.place a.done.beaten a.done.lost
       → Fits shape anatomy cursors actors opener id a → Fits shape later cursors actors opener id a
   fits_along shape cursors actors opener id a others free no_later ahead fits = record {
     shaped = fits.shaped;
@@ -144,8 +138,8 @@ module _ (anatomy : Anatomy) (pieces : List Piece) (spare : ℕ) (corrupt full :
     numbered = fits.numbered;
     ahead = ahead;
     sees = sees_along cursors a.seen free no_later fits.sees;
-    names = names_along a.names fits.names;
-    own = own_stays shape anatomy later id (λ own. others own.at (held own)) a.own fits.own;
+    names = names_along a.answers.names fits.names;
+    own = own_stays shape anatomy later id (λ own. others own.at (held own)) a.hand.own fits.own;
     apart = fits.apart;
     owes = fits.owes;
     calls = calls_along a fits.calls;
@@ -178,28 +172,7 @@ module _ (anatomy : Anatomy) (a : Actor) (d : Doing) where
     shared = sees.shared;
   }
 
-  pub calls_doing : CallsRight anatomy a → CallsRight anatomy (doing a (sees_no_more a d))
-  calls_doing calls = record {
-    ordered = calls.ordered;
-    within = calls.within;
-    held = calls.held;
-    ended = calls.ended;
-    spent = calls.spent;
-    met = calls.met;
-    taking = calls.taking;
-  }
-
   pub looks_doing : (actors : List Actor) (opener : Actor) → TurnsTo a d.place → LooksBack anatomy actors opener a
       → LooksBack anatomy actors opener (doing a (sees_no_more a d))
-  looks_doing actors opener turns looks = record {
-    most = looks.most;
-    packed = looks.packed;
-    counted = looks.counted;
-    samples = looks.samples;
-    rising = looks.rising;
-    leading = looks.leading;
-    closed = looks.closed;
-    begun = looks.begun;
-    noted = looks.noted;
-    sum = λ reference sum r loaded. looks.sum reference sum r (turns.sums reference sum loaded);
-  }
+  looks_doing actors opener turns looks =
+      looks_anew_at anatomy actors opener a d.place looks (λ reference sum r loaded. looks.sum reference sum r (turns.sums reference sum loaded))

@@ -91,63 +91,63 @@ module _ (records : List Listed) where
 
   module _ (actors : List Actor) (id : ℕ) (a b : Actor) (mine : get_elem? actors id ≡ some a) where
     -- of one that became another: its own, and what others have
-    own_name : (known : Known) → Contains b.names known → Contains (all_names (set actors id b)) known
-    own_name known has = row_in (λ (c : Actor). c.names) (set actors id b) id b known (set_at actors id a b mine) has
+    own_name : (known : Known) → Contains b.answers.names known → Contains (all_names (set actors id b)) known
+    own_name known has = row_in (λ (c : Actor). c.answers.names) (set actors id b) id b known (set_at actors id a b mine) has
 
-    own_debt : (owes : Known) → Contains b.owed owes → Contains (all_owed (set actors id b)) owes
-    own_debt owes has = row_in (λ (c : Actor). c.owed) (set actors id b) id b owes (set_at actors id a b mine) has
+    own_debt : (owes : Known) → Contains b.answers.owed owes → Contains (all_owed (set actors id b)) owes
+    own_debt owes has = row_in (λ (c : Actor). c.answers.owed) (set actors id b) id b owes (set_at actors id a b mine) has
 
-    name_left : (known : Known) → Contains (all_names actors) known → Contains (all_names (set actors id b)) known ⊎ Contains a.names known
-    name_left known has = row_left (λ (c : Actor). c.names) actors id a b known mine has
+    name_left : (known : Known) → Contains (all_names actors) known → Contains (all_names (set actors id b)) known ⊎ Contains a.answers.names known
+    name_left known has = row_left (λ (c : Actor). c.answers.names) actors id a b known mine has
 
-    debt_left : (owes : Known) → Contains (all_owed actors) owes → Contains (all_owed (set actors id b)) owes ⊎ Contains a.owed owes
-    debt_left owes has = row_left (λ (c : Actor). c.owed) actors id a b owes mine has
+    debt_left : (owes : Known) → Contains (all_owed actors) owes → Contains (all_owed (set actors id b)) owes ⊎ Contains a.answers.owed owes
+    debt_left owes has = row_left (λ (c : Actor). c.answers.owed) actors id a b owes mine has
 
     -- it was answered the same, and owes no less
-    pub answered_more : b.names ≡ a.names → ((owes : Known) → Contains a.owed owes → Contains b.owed owes)
+    pub answered_more : b.answers.names ≡ a.answers.names → ((owes : Known) → Contains a.answers.owed owes → Contains b.answers.owed owes)
         → AreAnswered records actors → AreAnswered records (set actors id b)
     answered_more names owed = answered_by actors (set actors id b)
-        (λ known has. subst (λ (list : List Known). Contains list known) (sym (rows (λ (c : Actor). c.names) actors id a b mine names)) has)
+        (λ known has. subst (λ (list : List Known). Contains list known) (sym (rows (λ (c : Actor). c.answers.names) actors id a b mine names)) has)
         (λ owes has. ⊎_elim (λ still. still) (λ own. own_debt owes (owed owes own)) (debt_left owes has))
 
     -- or the same
-    pub answered_set : b.names ≡ a.names → b.owed ≡ a.owed → AreAnswered records actors → AreAnswered records (set actors id b)
+    pub answered_set : b.answers.names ≡ a.answers.names → b.answers.owed ≡ a.answers.owed → AreAnswered records actors → AreAnswered records (set actors id b)
     answered_set names owed = answered_more names (λ owes has. subst (λ (list : List Known). Contains list owes) (sym owed) has)
 
     -- it was answered, and owes nothing of that name any more
-    pub answered_knows : (known : Known) → b.names ≡ a.names ++ known ∷ [] → b.owed ≡ filter (λ (mine : Known). not (bytes_eq mine.name known.name)) a.owed
+    pub answered_knows : (known : Known) → b.answers.names ≡ a.answers.names ++ known ∷ [] → b.answers.owed ≡ filter (λ (mine : Known). not (bytes_eq mine.name known.name)) a.answers.owed
         → AreAnswered records actors → AreAnswered records (set actors id b)
     answered_knows known names owed all name kind at first = along (all name kind at first)
       where
-        by_name : Contains a.owed (debt name kind at) → (same : Bool) → bytes_eq name known.name ≡ same → IsAnswered (set actors id b) name kind at
+        by_name : Contains a.answers.owed (debt name kind at) → (same : Bool) → bytes_eq name known.name ≡ same → IsAnswered (set actors id b) name kind at
         by_name has true is = inl (
           known,
-          own_name known (subst (λ (list : List Known). Contains list known) (sym names) (Contains-append_right a.names (known ∷ []) known (0, omega arith, refl))),
+          own_name known (subst (λ (list : List Known). Contains list known) (sym names) (Contains-append_right a.answers.names (known ∷ []) known (0, omega arith, refl))),
           sym ((bytes_eq-Decides name known.name).0 is),
         )
         by_name has false is = inr (own_debt (debt name kind at) (subst (λ (list : List Known). Contains list (debt name kind at)) (sym owed)
-            (contains_filter (λ (mine : Known). not (bytes_eq mine.name known.name)) a.owed (debt name kind at) has (ap not is))))
+            (contains_filter (λ (mine : Known). not (bytes_eq mine.name known.name)) a.answers.owed (debt name kind at) has (ap not is))))
 
         along : IsAnswered actors name kind at → IsAnswered (set actors id b) name kind at
         along (inl (k, has, is)) = inl (
           k,
           ⊎_elim (λ still. still)
-              (λ own. own_name k (subst (λ (list : List Known). Contains list k) (sym names) (Contains-append_left a.names (known ∷ []) k own))) (name_left k has),
+              (λ own. own_name k (subst (λ (list : List Known). Contains list k) (sym names) (Contains-append_left a.answers.names (known ∷ []) k own))) (name_left k has),
           is,
         )
         along (inr owes) = ⊎_elim (λ still. inr still) (λ own. by_name own (bytes_eq name known.name) refl) (debt_left (debt name kind at) owes)
 
     -- it was refused: the first record of the name is another one
     pub answered_declines : (refused : Known) (first_kind : Spec) (place : ℕ) → IsFirst records refused.name first_kind place → place ≢ refused.reference
-        → b.names ≡ a.names → b.owed ≡ filter (λ (other : Known). not (bytes_eq other.name refused.name && (other.reference == refused.reference))) a.owed
+        → b.answers.names ≡ a.answers.names → b.answers.owed ≡ filter (λ (other : Known). not (bytes_eq other.name refused.name && (other.reference == refused.reference))) a.answers.owed
         → AreAnswered records actors → AreAnswered records (set actors id b)
     answered_declines refused first_kind place its apart names owed all name kind at first = along (all name kind at first)
       where
-        passes : Contains a.owed (debt name kind at) → not (bytes_eq name refused.name && (at == refused.reference)) ≡ true → IsAnswered (set actors id b) name kind at
+        passes : Contains a.answers.owed (debt name kind at) → not (bytes_eq name refused.name && (at == refused.reference)) ≡ true → IsAnswered (set actors id b) name kind at
         passes has is = inr (own_debt (debt name kind at) (subst (λ (list : List Known). Contains list (debt name kind at)) (sym owed)
-            (contains_filter (λ (other : Known). not (bytes_eq other.name refused.name && (other.reference == refused.reference))) a.owed (debt name kind at) has is)))
+            (contains_filter (λ (other : Known). not (bytes_eq other.name refused.name && (other.reference == refused.reference))) a.answers.owed (debt name kind at) has is)))
 
-        by_both : Contains a.owed (debt name kind at) → (same here : Bool) → bytes_eq name refused.name ≡ same → (at == refused.reference) ≡ here → IsAnswered (set actors id b) name kind at
+        by_both : Contains a.answers.owed (debt name kind at) → (same here : Bool) → bytes_eq name refused.name ≡ same → (at == refused.reference) ≡ here → IsAnswered (set actors id b) name kind at
         by_both has true true named is =
             let one = first_one records refused.name first_kind kind place at its
             (subst (λ (n : List ℕ). IsFirst records n kind at) ((bytes_eq-Decides name refused.name).0 named) first) in
@@ -158,7 +158,7 @@ module _ (records : List Listed) where
         along : IsAnswered actors name kind at → IsAnswered (set actors id b) name kind at
         along (inl (k, has, is)) = inl (
           k,
-          subst (λ (list : List Known). Contains list k) (sym (rows (λ (c : Actor). c.names) actors id a b mine names)) has,
+          subst (λ (list : List Known). Contains list k) (sym (rows (λ (c : Actor). c.answers.names) actors id a b mine names)) has,
           is,
         )
         along (inr owes) =

@@ -1,5 +1,5 @@
 -- What an invariant says of all actors together, and of the blocks: the books of a segment.
-use Rattle.std.proofs.Common.{◌≡◌, ◌≢◌, ◌⊎◌, ℕ, ◌<◌, ◌≤◌, Bool, ◌||◌, ℤ, List, ◌++◌, map, take, length, set, inl, inr, sym, ap, ◌∙◌, subst}
+use Rattle.std.proofs.Common.{◌≡◌, ◌≢◌, ◌⊎◌, ℕ, ◌<◌, ◌≤◌, Bool, ◌||◌, ℤ, List, ◌++◌, map, take, length, set, inl, inr, sym, ap, ◌∙◌, subst, false}
 use Rattle.std.specs.Prelude.{sum_by, slice_index, IsPermutation}
 use mathlib.Core.Option.{some}
 use lib.ListN.{get_elem?}
@@ -13,13 +13,13 @@ use Rattle.segment_invariant.proofs.Frames.Answers.{answered_by}
 use Rattle.segment_machine.specs.declared.entry.Entry.{Entry}
 use Rattle.segment_machine.specs.declared.place.Place.TheVariants.{Spent}
 use Rattle.segment_machine.specs.declared.actor.Actor.{Actor}
+use Rattle.segment_machine.specs.declared.actor.Portion.{Portion}
 use Rattle.segment_machine.specs.declared.actor.Given.{Given}
-use Rattle.segment_machine.specs.declared.actor.Taken.{Taken}
-use Rattle.segment_machine.specs.Actor.{cost_of, given_by, all_counted, all_taken, all_given, all_published, units_of, all_names, all_owed}
+use Rattle.segment_machine.specs.Actor.{cost_of, given_by, all_counted, all_taken, all_given, all_published, units_of, all_names, all_owed, is_opener}
 use Rattle.segment_machine.specs.State.{State}
 use Rattle.segment_invariant.specs.Body.{Piece, Anatomy, layout_of, order_of, claims_of, listed}
 use Rattle.segment_invariant.specs.Ledger.{noted_held, all_held, IsBalanced}
-use Rattle.segment_invariant.specs.Invariant.{ClaimedRight, HasKey, ListIsKept, RecordsAreKept, SumsAreNear, IsSetBy, StandStill, RolesAreKept, CursorsAreKept, StandsRight, Fits, Invariant, AreAnswered}
+use Rattle.segment_invariant.specs.Invariant.{ClaimedRight, HasKey, ListIsKept, RecordsAreKept, ArePassedOver, SumsAreNear, IsSetBy, StandStill, RolesAreKept, CursorsAreKept, StandsRight, Fits, Invariant, AreAnswered}
 use Rattle.segment_invariant.proofs.Lists.Elements.{rows}
 use Rattle.segment_invariant.proofs.Frames.Deeds.{Deeds, sums_of}
 use Rattle.segment_invariant.proofs.Frames.Together.{LoadedBefore, balanced, sums_near, taken_keys}
@@ -43,16 +43,17 @@ pub record Books (shape : Dimensions) (opened anatomy : Anatomy) (words cursors 
   pub still : StandStill opened.pieces anatomy.pieces
   pub blocks : (k : ℕ) (piece : Piece) → get_elem? anatomy.pieces k ≡ some piece → ClaimedRight piece
   pub list : ListIsKept words opened anatomy actors
-  pub claims : IsPermutation (claims_of anatomy.pieces) (claims_of opened.pieces ++ flat_map (λ a. a.claimed) actors)
+  pub claims : IsPermutation (claims_of anatomy.pieces) (claims_of opened.pieces ++ flat_map (λ a. a.done.claimed) actors)
   pub records : RecordsAreKept shape.page anatomy
+  pub passed_over : ArePassedOver shape.page opened anatomy.pieces
   pub balanced : IsBalanced anatomy.version opened.pieces anatomy.pieces actors
   pub keys : (entry : Entry) → Contains (all_counted actors) entry → 0 < entry.units → HasKey anatomy.records entry.name entry.key
-  pub taken_keys : (t : Taken) (count : ℤ × ℕ) → Contains (all_taken actors) t → Contains t.counts count
+  pub taken_keys : (t : Portion) (count : ℤ × ℕ) → Contains (all_taken actors) t → Contains t.counts count
       → HasKey anatomy.records t.name count.0
   pub sums : SumsAreNear anatomy.pieces actors
   pub pool : sum_by units_of actors ≡ 4294967295
-  pub corrupt : IsSetBy anatomy.corrupt opened.corrupt (map (λ a. a.spoiled) actors)
-  pub full : IsSetBy anatomy.full opened.full (map (λ a. a.filled) actors)
+  pub corrupt : IsSetBy anatomy.corrupt opened.corrupt (map (λ a. a.done.spoiled) actors)
+  pub full : IsSetBy anatomy.full opened.full (map (λ a. a.done.filled) actors)
   pub answered : AreAnswered anatomy.records actors
   pub stand : CursorsStand (order_of anatomy) cursors actors
 
@@ -67,6 +68,7 @@ books_of shape opened state kept = record {
   list = kept.list;
   claims = kept.claims;
   records = kept.records;
+  passed_over = kept.passed_over;
   balanced = kept.balanced;
   keys = kept.keys;
   taken_keys = kept.taken_keys;
@@ -81,11 +83,11 @@ books_of shape opened state kept = record {
 -- with what is said of each actor, all is kept
 pub kept_by : (shape : Dimensions) (opened anatomy : Anatomy) (words cursors : List ℕ) (actors : List Actor)
     → Books shape opened anatomy words cursors actors → (roles : RolesAreKept actors)
-    → ((name : List ℕ) → cost_of roles.opener.first_noted name ≡ all_held (noted_held name) opened.pieces)
-    → ((id : ℕ) (a : Actor) → get_elem? actors id ≡ some a → a.opener ≡ 0 → GivenInOrder (order_of anatomy) a.given)
-    → ((id : ℕ) (a : Actor) → get_elem? actors id ≡ some a → All (λ g. Contains (order_of anatomy) g.reference) a.given)
-    → ((id : ℕ) (a : Actor) → get_elem? actors id ≡ some a → StandsRight shape anatomy id a a.place)
-    → ((id : ℕ) (a : Actor) → get_elem? actors id ≡ some a → a.place ≢ Spent → Fits shape anatomy cursors actors roles.opener id a)
+    → ((name : List ℕ) → cost_of roles.opener.entries.first_noted name ≡ all_held (noted_held name) opened.pieces)
+    → ((id : ℕ) (a : Actor) → get_elem? actors id ≡ some a → is_opener a.role ≡ false → GivenInOrder (order_of anatomy) a.done.given)
+    → ((id : ℕ) (a : Actor) → get_elem? actors id ≡ some a → All (λ g. Contains (order_of anatomy) g.reference) a.done.given)
+    → ((id : ℕ) (a : Actor) → get_elem? actors id ≡ some a → StandsRight shape anatomy id a a.hand.place)
+    → ((id : ℕ) (a : Actor) → get_elem? actors id ≡ some a → a.hand.place ≢ Spent → Fits shape anatomy cursors actors roles.opener id a)
     → Invariant shape opened (record { words = words; cursors = cursors; actors = actors })
 kept_by shape opened anatomy words cursors actors books roles first_noted ordered given standing each = record {
   anatomy = anatomy;
@@ -97,6 +99,7 @@ kept_by shape opened anatomy words cursors actors books roles first_noted ordere
   list = books.list;
   claims = books.claims;
   records = books.records;
+  passed_over = books.passed_over;
   balanced = books.balanced;
   keys = books.keys;
   taken_keys = books.taken_keys;
@@ -130,7 +133,7 @@ listed_by words opened anatomy old new same list = record {
 -- ---- where one actor becomes another
 
 -- shared cursors are kept where they gave it the same
-pub cursors_set : (chain cursors : List ℕ) (actors : List Actor) (id : ℕ) (a b : Actor) → get_elem? actors id ≡ some a → a.opener ≡ 0 → b.given ≡ a.given
+pub cursors_set : (chain cursors : List ℕ) (actors : List Actor) (id : ℕ) (a b : Actor) → get_elem? actors id ≡ some a → is_opener a.role ≡ false → b.done.given ≡ a.done.given
     → CursorsAreKept chain cursors actors → CursorsAreKept chain cursors (set actors id b)
 cursors_set chain cursors actors id a b mine records same kept = record {
   stand = λ k below.
@@ -138,23 +141,23 @@ cursors_set chain cursors actors id a b mine records same kept = record {
         place,
         within,
         is,
-        subst (λ given. IsPermutation given (take place chain)) (sym (rows (λ (a : Actor). given_by k a.given) actors id a b mine (ap (given_by k) same))) gave,
+        subst (λ given. IsPermutation given (take place chain)) (sym (rows (λ (a : Actor). given_by k a.done.given) actors id a b mine (ap (given_by k) same))) gave,
       );
   ordered = λ other c there. elim (at_set actors id other b c there) [
-    | inl t ↦ λ recorder. subst (GivenInOrder chain) (sym same ∙ ap (λ (c : Actor). c.given) t.1) (kept.ordered id a mine records)
+    | inl t ↦ λ recorder. subst (GivenInOrder chain) (sym same ∙ ap (λ (c : Actor). c.done.given) t.1) (kept.ordered id a mine records)
     | inr t ↦ kept.ordered other c t.1
   ];
   given = λ other c there. elim (at_set actors id other b c there) [
-    | inl t ↦ subst (All (λ g. Contains chain g.reference)) (sym same ∙ ap (λ (c : Actor). c.given) t.1) (kept.given id a mine)
+    | inl t ↦ subst (All (λ g. Contains chain g.reference)) (sym same ∙ ap (λ (c : Actor). c.done.given) t.1) (kept.given id a mine)
     | inr t ↦ kept.given other c t.1
   ];
 }
 
 -- the list is kept where it published the same
 pub listed_set : (words : List ℕ) (opened anatomy : Anatomy) (actors : List Actor) (id : ℕ) (a b : Actor) → get_elem? actors id ≡ some a
-    → b.published ≡ a.published → ListIsKept words opened anatomy actors → ListIsKept words opened anatomy (set actors id b)
+    → b.done.published ≡ a.done.published → ListIsKept words opened anatomy actors → ListIsKept words opened anatomy (set actors id b)
 listed_set words opened anatomy actors id a b mine same = listed_by words opened anatomy actors (set actors id b)
-    (subst (λ made. IsPermutation made (all_published actors)) (sym (rows (λ (a : Actor). a.published) actors id a b mine same)) (IsPermutation-refl _))
+    (subst (λ made. IsPermutation made (all_published actors)) (sym (rows (λ (a : Actor). a.done.published) actors id a b mine same)) (IsPermutation-refl _))
 
 -- ---- where others did the same together
 
@@ -171,6 +174,7 @@ books_by shape opened anatomy words cursors old new same loaded books = record {
   claims = IsPermutation-trans _ _ _ books.claims
       (IsPermutation-append_right (claims_of opened.pieces) _ _ (IsPermutation-sym _ _ same.claimed));
   records = books.records;
+  passed_over = books.passed_over;
   balanced = balanced anatomy.version opened.pieces anatomy.pieces old new (sums_of old new same) books.balanced;
   keys = λ entry there. books.keys entry (Contains-permutation _ _ entry same.counted there);
   taken_keys = taken_keys anatomy.records old new same books.taken_keys;

@@ -3,46 +3,38 @@ use Rattle.std.proofs.Common.{◌≡◌, ◌≤◌, ℕ, Bool, false, ◌||◌, 
 use mathlib.Core.Option.{some, some-injective, some-ne-none}
 use lib.ListN.{get_elem?}
 use Rattle.std.specs.Prelude.{fold, sum_by, if◌then◌else◌, IsPermutation}
-use Rattle.std.specs.Str.{bytes_eq}
 use Rattle.std.specs.List.{flat_map}
 use Rattle.std.proofs.lemmas.Grind.{flat_map-append}
-use Rattle.std.proofs.lemmas.List.{map-append}
-use Rattle.std.proofs.lemmas.List.Sums.{sum_by-append, sum_by-cons}
+use Rattle.std.proofs.lemmas.List.Sums.{sum_by-append}
 use Rattle.std.proofs.lemmas.List.Sorted.{sum_by-IsPermutation}
 use Rattle.segment_machine.specs.declared.entry.Entry.{Entry}
 use Rattle.segment_machine.specs.declared.actor.Actor.{Actor}
-use Rattle.segment_machine.specs.declared.actor.Taken.{Taken}
+use Rattle.segment_machine.specs.declared.actor.Portion.{Portion}
 use Rattle.segment_machine.specs.Entry.{is_of, tally_units, tally_sum, tally_noted}
-use Rattle.segment_machine.specs.Actor.{counted_of, summed_of, noted_of, given_by, units_listed, taken_units, taken_sum, units_of, all_counted, all_summed, all_noted, all_taken, all_published, all_given, all_names, all_owed}
+use Rattle.segment_machine.specs.Actor.{counted_of, summed_of, noted_of, given_by, taken_units, taken_sum, units_of, all_counted, all_summed, all_noted, all_taken, all_published, all_given, all_names, all_owed, taken_of}
 use Rattle.segment_invariant.specs.Ledger.{all_moving, moving_at}
 use Rattle.segment_invariant.specs.Invariant.{summed_cost, summed_costs}
 use Rattle.segment_invariant.proofs.Lists.Elements.{split_at}
 use Rattle.segment_invariant.proofs.Lists.Sums.{IsTotal, exchanged, added, numbers, amounts, flags, lists, amounts_total, flags_total}
-
--- what was taken, whenever that was
-abbrev pub timeless : Taken → Taken
-timeless t = record t { moment = record { log = 0; before = 0; outstanding = 0 } }
-
-abbrev pub took : Actor → List Taken
-took a = map timeless a.taken
+use Rattle.segment_invariant.proofs.Lists.Portions.{taken_sum_total}
 
 -- what some actors did together others did
 pub record Deeds (old new : List Actor) : Type 0 where
   pub counted : IsPermutation (all_counted new) (all_counted old)
   pub summed : (name : List ℕ) → tally_sum (all_summed new) name ≡ tally_sum (all_summed old) name
   pub noted : IsPermutation (all_noted new) (all_noted old)
-  pub claimed : IsPermutation (flat_map (λ a. a.claimed) new) (flat_map (λ a. a.claimed) old)
+  pub claimed : IsPermutation (flat_map (λ a. a.done.claimed) new) (flat_map (λ a. a.done.claimed) old)
   pub published : IsPermutation (all_published new) (all_published old)
   pub names : IsPermutation (all_names new) (all_names old)
   pub owed : IsPermutation (all_owed new) (all_owed old)
   pub given : (k : ℕ) → IsPermutation (all_given new k) (all_given old k)
-  pub taken : IsPermutation (flat_map took new) (flat_map took old)
+  pub taken : IsPermutation (all_taken new) (all_taken old)
   pub taken_sums : (name : List ℕ) → taken_sum (all_taken new) name ≡ taken_sum (all_taken old) name
   pub moving : (name : List ℕ) (key : ℤ) → all_moving name key new ≡ all_moving name key old
   pub costs : (name : List ℕ) → summed_costs name new ≡ summed_costs name old
   pub units : sum_by units_of new ≡ sum_by units_of old
-  pub spoiled : fold ◌||◌ false (map (λ a. a.spoiled) new) ≡ fold ◌||◌ false (map (λ a. a.spoiled) old)
-  pub filled : fold ◌||◌ false (map (λ a. a.filled) new) ≡ fold ◌||◌ false (map (λ a. a.filled) old)
+  pub spoiled : fold ◌||◌ false (map (λ a. a.done.spoiled) new) ≡ fold ◌||◌ false (map (λ a. a.done.spoiled) old)
+  pub filled : fold ◌||◌ false (map (λ a. a.done.filled) new) ≡ fold ◌||◌ false (map (λ a. a.done.filled) old)
 
 -- ---- the sums of amounts are sums over actors
 
@@ -57,16 +49,14 @@ sum_total name xs ys =
 abbrev taken_sum_of : List ℕ → List Actor → ℤ
 taken_sum_of name actors = taken_sum (all_taken actors) name
 
-taken_sum_total : (name : List ℕ) → IsTotal ◌+ℤ◌ (taken_sum_of name)
-taken_sum_total name xs ys =
-    ap (λ (list : List Taken). taken_sum list name) (flat_map-append (λ (a : Actor). a.taken) xs ys)
-    ∙ amounts_total (λ (t : Taken). if bytes_eq t.name name then t.sum else pos 0) (all_taken xs) (all_taken ys)
+took_total : (name : List ℕ) → IsTotal ◌+ℤ◌ (taken_sum_of name)
+took_total name xs ys = ap (λ (list : List Portion). taken_sum list name) (flat_map-append taken_of xs ys) ∙ taken_sum_total name (all_taken xs) (all_taken ys)
 
 abbrev is_spoiled : List Actor → Bool
-is_spoiled actors = fold ◌||◌ false (map (λ a. a.spoiled) actors)
+is_spoiled actors = fold ◌||◌ false (map (λ a. a.done.spoiled) actors)
 
 abbrev is_filled : List Actor → Bool
-is_filled actors = fold ◌||◌ false (map (λ a. a.filled) actors)
+is_filled actors = fold ◌||◌ false (map (λ a. a.done.filled) actors)
 
 -- ---- two in the place of two others, and one more
 
@@ -76,18 +66,18 @@ deeds_exchanged a b a' b' mid behind same = record {
   counted = exchanged _ _ all_counted lists (flat_map-append counted_of) a b a' b' mid behind same.counted;
   summed = λ name. exchanged _ _ (sum_of name) amounts (sum_total name) a b a' b' mid behind (same.summed name);
   noted = exchanged _ _ all_noted lists (flat_map-append noted_of) a b a' b' mid behind same.noted;
-  claimed = exchanged _ _ (flat_map (λ a. a.claimed)) lists (flat_map-append (λ a. a.claimed)) a b a' b' mid behind same.claimed;
-  published = exchanged _ _ all_published lists (flat_map-append (λ a. a.published)) a b a' b' mid behind same.published;
-  names = exchanged _ _ all_names lists (flat_map-append (λ a. a.names)) a b a' b' mid behind same.names;
-  owed = exchanged _ _ all_owed lists (flat_map-append (λ a. a.owed)) a b a' b' mid behind same.owed;
-  given = λ k. exchanged _ _ (λ actors. all_given actors k) lists (flat_map-append (λ a. given_by k a.given)) a b a' b' mid behind (same.given k);
-  taken = exchanged _ _ (flat_map took) lists (flat_map-append took) a b a' b' mid behind same.taken;
-  taken_sums = λ name. exchanged _ _ (taken_sum_of name) amounts (taken_sum_total name) a b a' b' mid behind (same.taken_sums name);
-  moving = λ name key. exchanged _ _ (all_moving name key) numbers (sum_by-append (λ a. moving_at a name key a.place)) a b a' b' mid behind (same.moving name key);
+  claimed = exchanged _ _ (flat_map (λ a. a.done.claimed)) lists (flat_map-append (λ a. a.done.claimed)) a b a' b' mid behind same.claimed;
+  published = exchanged _ _ all_published lists (flat_map-append (λ a. a.done.published)) a b a' b' mid behind same.published;
+  names = exchanged _ _ all_names lists (flat_map-append (λ a. a.answers.names)) a b a' b' mid behind same.names;
+  owed = exchanged _ _ all_owed lists (flat_map-append (λ a. a.answers.owed)) a b a' b' mid behind same.owed;
+  given = λ k. exchanged _ _ (λ actors. all_given actors k) lists (flat_map-append (λ a. given_by k a.done.given)) a b a' b' mid behind (same.given k);
+  taken = exchanged _ _ all_taken lists (flat_map-append taken_of) a b a' b' mid behind same.taken;
+  taken_sums = λ name. exchanged _ _ (taken_sum_of name) amounts (took_total name) a b a' b' mid behind (same.taken_sums name);
+  moving = λ name key. exchanged _ _ (all_moving name key) numbers (sum_by-append (λ a. moving_at a name key a.hand.place)) a b a' b' mid behind (same.moving name key);
   costs = λ name. exchanged _ _ (summed_costs name) numbers (sum_by-append (summed_cost name)) a b a' b' mid behind (same.costs name);
   units = exchanged _ _ (sum_by units_of) numbers (sum_by-append units_of) a b a' b' mid behind same.units;
-  spoiled = exchanged _ _ is_spoiled flags (flags_total (λ (a : Actor). a.spoiled)) a b a' b' mid behind same.spoiled;
-  filled = exchanged _ _ is_filled flags (flags_total (λ (a : Actor). a.filled)) a b a' b' mid behind same.filled;
+  spoiled = exchanged _ _ is_spoiled flags (flags_total (λ (a : Actor). a.done.spoiled)) a b a' b' mid behind same.spoiled;
+  filled = exchanged _ _ is_filled flags (flags_total (λ (a : Actor). a.done.filled)) a b a' b' mid behind same.filled;
 }
 
 pub deeds_added : (a a' n : Actor) (rest : List Actor) → Deeds (a ∷ []) (a' ∷ n ∷ []) → Deeds (a ∷ rest) (a' ∷ (rest ++ n ∷ []))
@@ -95,18 +85,18 @@ deeds_added a a' n rest same = record {
   counted = added _ _ all_counted lists (flat_map-append counted_of) a a' n rest same.counted;
   summed = λ name. added _ _ (sum_of name) amounts (sum_total name) a a' n rest (same.summed name);
   noted = added _ _ all_noted lists (flat_map-append noted_of) a a' n rest same.noted;
-  claimed = added _ _ (flat_map (λ a. a.claimed)) lists (flat_map-append (λ a. a.claimed)) a a' n rest same.claimed;
-  published = added _ _ all_published lists (flat_map-append (λ a. a.published)) a a' n rest same.published;
-  names = added _ _ all_names lists (flat_map-append (λ a. a.names)) a a' n rest same.names;
-  owed = added _ _ all_owed lists (flat_map-append (λ a. a.owed)) a a' n rest same.owed;
-  given = λ k. added _ _ (λ actors. all_given actors k) lists (flat_map-append (λ a. given_by k a.given)) a a' n rest (same.given k);
-  taken = added _ _ (flat_map took) lists (flat_map-append took) a a' n rest same.taken;
-  taken_sums = λ name. added _ _ (taken_sum_of name) amounts (taken_sum_total name) a a' n rest (same.taken_sums name);
-  moving = λ name key. added _ _ (all_moving name key) numbers (sum_by-append (λ a. moving_at a name key a.place)) a a' n rest (same.moving name key);
+  claimed = added _ _ (flat_map (λ a. a.done.claimed)) lists (flat_map-append (λ a. a.done.claimed)) a a' n rest same.claimed;
+  published = added _ _ all_published lists (flat_map-append (λ a. a.done.published)) a a' n rest same.published;
+  names = added _ _ all_names lists (flat_map-append (λ a. a.answers.names)) a a' n rest same.names;
+  owed = added _ _ all_owed lists (flat_map-append (λ a. a.answers.owed)) a a' n rest same.owed;
+  given = λ k. added _ _ (λ actors. all_given actors k) lists (flat_map-append (λ a. given_by k a.done.given)) a a' n rest (same.given k);
+  taken = added _ _ all_taken lists (flat_map-append taken_of) a a' n rest same.taken;
+  taken_sums = λ name. added _ _ (taken_sum_of name) amounts (took_total name) a a' n rest (same.taken_sums name);
+  moving = λ name key. added _ _ (all_moving name key) numbers (sum_by-append (λ a. moving_at a name key a.hand.place)) a a' n rest (same.moving name key);
   costs = λ name. added _ _ (summed_costs name) numbers (sum_by-append (summed_cost name)) a a' n rest (same.costs name);
   units = added _ _ (sum_by units_of) numbers (sum_by-append units_of) a a' n rest same.units;
-  spoiled = added _ _ is_spoiled flags (flags_total (λ (a : Actor). a.spoiled)) a a' n rest same.spoiled;
-  filled = added _ _ is_filled flags (flags_total (λ (a : Actor). a.filled)) a a' n rest same.filled;
+  spoiled = added _ _ is_spoiled flags (flags_total (λ (a : Actor). a.done.spoiled)) a a' n rest same.spoiled;
+  filled = added _ _ is_filled flags (flags_total (λ (a : Actor). a.done.filled)) a a' n rest same.filled;
 }
 
 -- the first of some actors and another became others
@@ -136,29 +126,8 @@ module _ (old new : List Actor) (same : Deeds old new) where
   pub units_noted : (name : List ℕ) → tally_noted (all_noted new) name ≡ tally_noted (all_noted old) name
   units_noted name = sym (sum_by-IsPermutation _ (all_noted new) (all_noted old) same.noted)
 
--- what was taken in all, whenever
-pub took_all : (actors : List Actor) → flat_map took actors ≡ map timeless (all_taken actors)
-took_all [] = refl
-took_all (a ∷ actors) = ap (λ (list : List Taken). took a ++ list) (took_all actors) ∙ sym (map-append timeless a.taken (all_taken actors))
-
-took_units : (list : List Taken) (name : List ℕ) (key : ℤ) → taken_units (map timeless list) name key ≡ taken_units list name key
-took_units [] name key = refl
-took_units (t ∷ list) name key =
-    let each : Taken → ℕ = λ t. if bytes_eq t.name name then units_listed t.counts key else 0 in
-    let now = sum_by-cons each (timeless t) (map timeless list) in
-    let before = sum_by-cons each t list in
-    let rest = took_units list name key in
-    omega (arith, now, before, rest)
-
-module _ (old new : List Actor) (same : Deeds old new) where
   pub units_took : (name : List ℕ) (key : ℤ) → taken_units (all_taken new) name key ≡ taken_units (all_taken old) name key
-  units_took name key =
-      let now = took_units (all_taken new) name key in
-      let before = took_units (all_taken old) name key in
-      let all = sum_by-IsPermutation (λ (t : Taken). if bytes_eq t.name name then units_listed t.counts key else 0) _ _ same.taken in
-      let first = ap (λ (list : List Taken). taken_units list name key) (took_all new) in
-      let last = ap (λ (list : List Taken). taken_units list name key) (took_all old) in
-      sym now ∙ sym first ∙ sym all ∙ last ∙ before
+  units_took name key = sym (sum_by-IsPermutation _ (all_taken new) (all_taken old) same.taken)
 
 -- ---- what comes to the same
 

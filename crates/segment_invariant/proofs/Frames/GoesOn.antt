@@ -1,5 +1,5 @@
 -- A state is kept where one actor goes on, and at most one of the blocks in the making changes.
-use Rattle.std.proofs.Common.{◌≡◌, ◌≢◌, ℕ, ◌<◌, Bool, List, ◌++◌, map, length, set, take, drop, All, Contains, inl, inr, refl, sym, ap, ◌∙◌, subst, subst₂, arith, length-set}
+use Rattle.std.proofs.Common.{true≢false, ◌≡◌, ◌≢◌, ℕ, ◌<◌, Bool, List, ◌++◌, map, length, set, take, drop, All, Contains, inl, inr, refl, sym, ap, ◌∙◌, subst, subst₂, length-set, false}
 use Rattle.std.proofs.Math.Seq.{take-append_seam, drop-append_seam}
 use Rattle.std.proofs.lemmas.List.{set-append_left, get_or_append_left}
 use Rattle.std.specs.Prelude.{IsPermutation}
@@ -29,9 +29,11 @@ use Rattle.segment_invariant.proofs.Frames.Standing.{follows_itself, stands_on}
 use Rattle.segment_invariant.proofs.Frames.Together.{balanced, sums_near}
 use Rattle.segment_invariant.proofs.Frames.Books.{cursors_set, listed_set}
 use Rattle.segment_invariant.proofs.Frames.Roles.{roles_set}
-use Rattle.segment_invariant.proofs.Frames.OneActor.{Doing, doing, TurnsTo, SameDeeds, same_role, same_deeds, same_sums, fits_same, finals_doing}
+use Rattle.segment_invariant.proofs.Frames.OneActor.{Doing, doing, TurnsTo, SameDeeds, same_role, same_deeds, same_sums, fits_same}
 use Rattle.segment_invariant.proofs.Frames.Anatomies.{balanced_along, list_along, records_along, sums_along, names_along, fits_along, grounds_along}
 use Rattle.segment_invariant.proofs.Frames.Growth.{reshaped, Stays}
+use Rattle.segment_invariant.proofs.Frames.PassedOver.{still_there, passed_on}
+use Rattle.segment_machine.specs.Actor.{is_opener}
 
 -- What has to be shown where an actor goes on to a doing: of the blocks and the words that are then there, and of the actor itself.
 pub record Goes (shape : Dimensions) (opened : Anatomy) (state : State) (old new : Anatomy) (opener : Actor) (id : ℕ) (a : Actor) (d : Doing) (words : List ℕ) : Type 0 where
@@ -41,31 +43,31 @@ pub record Goes (shape : Dimensions) (opened : Anatomy) (state : State) (old new
   pub still : StandStill old.pieces new.pieces
   pub blocks : (k : ℕ) (piece : Piece) → get_elem? new.pieces k ≡ some piece → ClaimedRight piece
   pub linked : IsLinked words (order_of old)
-  pub published : d.published ≡ a.published
-  pub owed : d.owed ≡ a.owed
-  pub claims : IsPermutation (claims_of new.pieces) (claims_of opened.pieces ++ flat_map (λ a. a.claimed) (set state.actors id (doing a d)))
+  pub published : d.published ≡ a.done.published
+  pub owed : d.owed ≡ a.answers.owed
+  pub claims : IsPermutation (claims_of new.pieces) (claims_of opened.pieces ++ flat_map (λ a. a.done.claimed) (set state.actors id (doing a d)))
   pub free : (seen : ℕ) → Behind seen (free_of old) → Behind seen (free_of new)
   pub tail : IsStop (order_of old) new.tail
   pub tail_later : (seen : ℕ) → IsNoLater (order_of old) seen old.tail → IsNoLater (order_of old) seen new.tail
-  pub corrupt : IsSetBy new.corrupt opened.corrupt (map (λ a. a.spoiled) (set state.actors id (doing a d)))
-  pub full : IsSetBy new.full opened.full (map (λ a. a.filled) (set state.actors id (doing a d)))
+  pub corrupt : IsSetBy new.corrupt opened.corrupt (map (λ a. a.done.spoiled) (set state.actors id (doing a d)))
+  pub full : IsSetBy new.full opened.full (map (λ a. a.done.filled) (set state.actors id (doing a d)))
   pub stands : StandsRight shape new id (doing a d) d.place
   pub sees : Sees new state.cursors (doing a d).seen
-  pub ahead : IsAhead (order_of new) new.tail state.cursors d.place d.beaten a.lost
+  pub ahead : IsAhead (order_of new) new.tail state.cursors d.place d.beaten a.done.lost
   pub own : All (HoldsOwn shape new.pieces id) d.own
   pub apart : (i j : ℕ) (x y : Own) → get_elem? d.own i ≡ some x → get_elem? d.own j ≡ some y → x.at ≡ y.at → i ≡ j
   pub calls : CallsRight new (doing a d)
   pub looks : LooksBack new state.actors opener (doing a d)
 
 module _ (shape : Dimensions) (opened : Anatomy) (state : State) (kept : Invariant shape opened state) (id : ℕ) (a : Actor)
-    (mine : get_elem? state.actors id ≡ some a) (records : a.opener ≡ 0) where
+    (mine : get_elem? state.actors id ≡ some a) (records : is_opener a.role ≡ false) where
   -- a recorder is not the first actor
   pub not_opener : id ≢ 0
   not_opener zero_is =
       let opener : kept.roles.opener ≡ a = some-injective _ _ (sym kept.roles.stands ∙ (ap (get_elem? state.actors) (sym zero_is) ∙ mine)) in
-      let one = ap (λ (b : Actor). b.opener) opener in
+      let one = ap (λ (b : Actor). is_opener b.role) opener in
       let opens = kept.roles.opens in
-      omega (arith, one, opens, records)
+      true≢false (sym opens ∙ (one ∙ records))
 
   module _ (d : Doing) (turns : TurnsTo a d.place) (pieces : List Piece) (spare : ℕ) (corrupt full : Bool) (tail : ℕ) (words : List ℕ)
       (goes : Goes shape opened state kept.anatomy (reshaped kept.anatomy pieces spare corrupt full tail) kept.roles.opener id a d words) where
@@ -87,7 +89,7 @@ module _ (shape : Dimensions) (opened : Anatomy) (state : State) (kept : Invaria
     fits_else other b ne fits = fits_along before pieces spare corrupt full tail goes.stays shape state.cursors state.actors kept.roles.opener other b
         (λ at body. goes.others other at body ne) (goes.free b.seen.free fits.sees.free) (All-weaker (λ place. IsNoLater (order_of before) place before.tail) (λ place. IsNoLater (order_of before) place tail)
         goes.tail_later b.seen.tails fits.sees.tails)
-        (ahead_later (order_of before) before.tail state.cursors b.place b.beaten b.lost fits.ahead state.words tail kept.list.linked goes.tail_later) fits
+        (ahead_later (order_of before) before.tail state.cursors b.hand.place b.done.beaten b.done.lost fits.ahead state.words tail kept.list.linked goes.tail_later) fits
 
     -- the actor that goes on
     fits_mine : Fits shape behind state.cursors state.actors kept.roles.opener id (doing a d)
@@ -98,17 +100,17 @@ module _ (shape : Dimensions) (opened : Anatomy) (state : State) (kept : Invaria
           numbered = fits.numbered;
           sees = goes.sees;
           ahead = goes.ahead;
-          names = names_along before pieces spare corrupt full tail goes.stays a.names fits.names;
+          names = names_along before pieces spare corrupt full tail goes.stays a.answers.names fits.names;
           own = goes.own;
           apart = goes.apart;
           owes = subst₂ OwesPublished (sym goes.published) (sym goes.owed) fits.owes;
           calls = goes.calls;
           looks = λ recorder. goes.looks;
-          finals = finals_doing state.actors kept.roles.opener id a d fits.finals;
+          finals = fits.finals;
           snapshots = fits.snapshots;
         }
 
-    fits_all : (other : ℕ) (b : Actor) → get_elem? actors other ≡ some b → b.place ≢ Spent
+    fits_all : (other : ℕ) (b : Actor) → get_elem? actors other ≡ some b → b.hand.place ≢ Spent
         → Fits shape behind state.cursors actors kept.roles.opener other b
     fits_all other b there lives = fits_same state.actors actors same shape behind state.cursors kept.roles.opener other b kept.roles.stands
         (elim (at_set state.actors id other (doing a d) b there) [
@@ -116,12 +118,12 @@ module _ (shape : Dimensions) (opened : Anatomy) (state : State) (kept : Invaria
           | inr t ↦ fits_else other b t.0 (kept.each other b t.1 lives)
         ])
 
-    stands_all : (other : ℕ) (b : Actor) → get_elem? actors other ≡ some b → StandsRight shape behind other b b.place
+    stands_all : (other : ℕ) (b : Actor) → get_elem? actors other ≡ some b → StandsRight shape behind other b b.hand.place
     stands_all other b there = elim (at_set state.actors id other (doing a d) b there) [
-      | inl t ↦ subst (λ (p : ℕ × Actor). StandsRight shape behind p.0 p.1 p.1.place) (λ i. (sym t.0 i, t.1 i)) goes.stands
+      | inl t ↦ subst (λ (p : ℕ × Actor). StandsRight shape behind p.0 p.1 p.1.hand.place) (λ i. (sym t.0 i, t.1 i)) goes.stands
       | inr t ↦ stands_on shape before behind other b b
           (grounds_along before pieces spare corrupt full tail goes.stays other (λ at words. goes.others other at (plain words) t.0)) (follows_itself b)
-          b.place (kept.standing other b t.1)
+          b.hand.place (kept.standing other b t.1)
     ]
 
     still_all : StandStill opened.pieces pieces
@@ -143,6 +145,7 @@ module _ (shape : Dimensions) (opened : Anatomy) (state : State) (kept : Invaria
           (list_along before pieces spare corrupt full tail goes.stays state.words words opened state.actors goes.linked goes.tail kept.list);
       claims = goes.claims;
       records = records_along before pieces spare corrupt full tail goes.stays shape.page kept.records;
+      passed_over = passed_on shape.page opened before.pieces pieces (still_there before.pieces pieces goes.stays) kept.passed_over;
       balanced = balanced before.version opened.pieces pieces state.actors actors (same_sums state.actors actors same)
           (balanced_along before pieces spare corrupt full tail goes.stays opened.pieces state.actors kept.balanced);
       keys = λ entry there. kept.keys entry (subst (λ entries. Contains entries entry) same.counted there);

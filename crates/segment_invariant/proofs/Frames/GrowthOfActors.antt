@@ -25,9 +25,10 @@ use Rattle.segment_invariant.specs.Ledger.{form_at}
 use Rattle.segment_invariant.specs.Seen.{HasRecord, IsNamed, IsFirstOf, WasCounter, Sees, WasSingle, HasCounts}
 use Rattle.segment_invariant.specs.Invariant.{HoldsOwn, CallsRight, HasKey, IsSettled, LooksBack, OwesPublished, Fits, IsAhead}
 use Rattle.segment_invariant.proofs.Blocks.Places.{counter_within}
-use Rattle.segment_invariant.proofs.Frames.OneActor.{Doing, doing, doing_of, finals_doing}
+use Rattle.segment_invariant.proofs.Frames.OneActor.{Doing, doing, doing_of}
 use Rattle.segment_invariant.proofs.Frames.Growth.{Grows, names_grow, first_of_longer, record_stays, record_came, counts_came}
 use Rattle.segment_machine.specs.Form.{Leads}
+use Rattle.segment_invariant.proofs.Frames.Anew.{calls_anew}
 
 -- ---- what holds of one actor
 
@@ -36,9 +37,9 @@ use Rattle.segment_machine.specs.Form.{Leads}
 pub record SawMore (x : Actor) (c : Doing) : Type 0 where
   pub chain : (at : ℕ) → Contains x.seen.chain at → Contains c.seen_chain at
   pub words : (at word : ℕ) → word_seen x.seen.words at ≡ Some word → word_seen c.seen_words at ≡ Some word
-  pub counts : (known : Known) (word : ℕ) → Contains x.names known → word_seen c.seen_words (known.reference + 8) ≡ Some word
+  pub counts : (known : Known) (word : ℕ) → Contains x.answers.names known → word_seen c.seen_words (known.reference + 8) ≡ Some word
       → word_seen x.seen.words (known.reference + 8) ≡ Some word
-  pub loaded : (reference : ℕ) (sum : ℤ) → c.place ≡ SumLoaded reference sum → x.place ≡ SumLoaded reference sum
+  pub loaded : (reference : ℕ) (sum : ℤ) → c.place ≡ SumLoaded reference sum → x.hand.place ≡ SumLoaded reference sum
 
 pub saw_itself : (x : Actor) → SawMore x (doing_of x)
 saw_itself x = record {
@@ -49,9 +50,9 @@ saw_itself x = record {
 }
 
 module _ (shape : Dimensions) (old new : Anatomy) (added : ℕ → Body → Type 0) (grows : Grows old new added) (actors : List Actor) (opener x : Actor) (c : Doing) (more : SawMore x c)
-    (keyed : (entry : Entry) → Contains (x.inherited ++ counted_of x) entry → 0 < entry.units → HasKey old.records entry.name entry.key)
-    (known_record : (known : Known) → Contains x.names known → (r : Record) × HasRecord old.pieces known.reference r)
-    (loaded_record : (reference : ℕ) (sum : ℤ) → x.place ≡ SumLoaded reference sum → (r : Record) × HasRecord old.pieces reference r)
+    (keyed : (entry : Entry) → Contains (x.entries.inherited ++ counted_of x) entry → 0 < entry.units → HasKey old.records entry.name entry.key)
+    (known_record : (known : Known) → Contains x.answers.names known → (r : Record) × HasRecord old.pieces known.reference r)
+    (loaded_record : (reference : ℕ) (sum : ℤ) → x.hand.place ≡ SumLoaded reference sum → (r : Record) × HasRecord old.pieces reference r)
     (singles : All (WasSingle old.version old.pieces) x.seen.singles) (counters : All (WasCounter old.pieces) x.seen.counts) where
   -- what was added stands where no record stood
   no_record : (at : ℕ) (body : Body) (r : Record) → 0 < length (words_of body) → added at body → HasRecord old.pieces at r → ⊥
@@ -65,27 +66,20 @@ module _ (shape : Dimensions) (old new : Anatomy) (added : ℕ → Body → Type
       (kind, refl)
 
   calls_grow : CallsRight old x → CallsRight new (doing x c)
-  calls_grow calls = record {
-    ordered = calls.ordered;
-    within = calls.within;
-    held = calls.held;
-    ended = calls.ended;
-    spent = calls.spent;
-    met = λ entry of counted some_units first. ⊎_elim
-        (λ before.
-        let (at, sampled, met, (tag, histogram_is, value, small)) = calls.met entry of counted some_units before in (
-          at,
-          subst (λ (records : List Listed). IsFirstOf records of entry.key at) (sym grows.records) (first_of_longer old.records grows.more of at entry.key sampled),
-          more.chain at met,
-          (more.words (at + 2) 3 tag, more.words (at + 4) of histogram_is, more.words (at + 5) _ value, small),
-        ))
-        (λ new_one. absurd (no_name entry (keyed entry counted some_units) new_one.2))
-        (grows.first_came entry.name spec.Sparse of first);
-    taking = calls.taking;
-  }
+  calls_grow calls = calls_anew old new x (doing x c).seen calls
+      (λ entry of counted some_units first. ⊎_elim
+      (λ before.
+      let (at, sampled, met, (tag, histogram_is, value, small)) = calls.met entry of counted some_units before in (
+        at,
+        subst (λ (records : List Listed). IsFirstOf records of entry.key at) (sym grows.records) (first_of_longer old.records grows.more of at entry.key sampled),
+        more.chain at met,
+        (more.words (at + 2) 3 tag, more.words (at + 4) of histogram_is, more.words (at + 5) _ value, small),
+      ))
+      (λ new_one. absurd (no_name entry (keyed entry counted some_units) new_one.2))
+      (grows.first_came entry.name spec.Sparse of first))
 
   -- what it saw of a bucket it had seen
-  saw_before : (known : Known) (bucket total : ℕ) → Contains x.names known → SawBucket (doing x c) known bucket total → SawBucket x known bucket total
+  saw_before : (known : Known) (bucket total : ℕ) → Contains x.answers.names known → SawBucket (doing x c) known bucket total → SawBucket x known bucket total
   saw_before known bucket total named (word, single, inl on) = (word, single, inl on)
   saw_before known bucket total named (word, single, inr (off, (place, count, seen, saw, is))) =
       (word, single, inr (off, (place, count, more.counts known place named seen, saw, is)))
@@ -98,10 +92,10 @@ module _ (shape : Dimensions) (old new : Anatomy) (added : ℕ → Body → Type
       subst (λ (version : ℕ). packed_bucket (form_at version r) ≢ Some bucket) grows.version (apart (record r { next = n }) still)))
 
   -- a single word that it saw is of a record that stood
-  no_single : (t : Sighting) (at : ℕ) (r : Record) → Contains (drop x.since_singles x.seen.singles) t → t.at ≡ at + 9 → added at (histogram r) → ⊥
+  no_single : (t : Sighting) (at : ℕ) (r : Record) → Contains (drop x.since.singles x.seen.singles) t → t.at ≡ at + 9 → added at (histogram r) → ⊥
   no_single t at r now spot new_one =
-      let (place, q, stands, is, formed, leads) = All-contains (WasSingle old.version old.pieces) (drop x.since_singles x.seen.singles) t
-      (All-drop (WasSingle old.version old.pieces) x.since_singles x.seen.singles singles) now in
+      let (place, q, stands, is, formed, leads) = All-contains (WasSingle old.version old.pieces) (drop x.since.singles x.seen.singles) t
+      (All-drop (WasSingle old.version old.pieces) x.since.singles x.seen.singles singles) now in
       grows.apart at place 9 9 (histogram r) (histogram q) new_one stands (omega arith) (omega arith) (sym spot ∙ is)
 
   looks_grow : LooksBack old actors opener x → LooksBack new actors opener (doing x c)
@@ -123,7 +117,7 @@ module _ (shape : Dimensions) (old new : Anatomy) (added : ℕ → Body → Type
         (λ before. looks.samples known value at count named before saw)
         (λ new_one.
         let seen : Sighting = record { at = at + 6; word = count } in
-        let was = All-contains (WasCounter old.pieces) (drop x.since_counts x.seen.counts) seen (All-drop (WasCounter old.pieces) x.since_counts x.seen.counts counters) saw in
+        let was = All-contains (WasCounter old.pieces) (drop x.since.counts x.seen.counts) seen (All-drop (WasCounter old.pieces) x.since.counts x.seen.counts counters) saw in
         let (place, i, body, stands, is, counter, least) = was in
         absurd (grows.apart at place 6 i (sample new_one.0) body new_one.1 stands (omega arith) (counter_within body i counter) is))
         (grows.first_of_came known.reference at value first);
@@ -156,7 +150,7 @@ module _ (shape : Dimensions) (old new : Anatomy) (added : ℕ → Body → Type
 
   -- all that holds of it
   pub fits_grow : (cursors : List ℕ) (id : ℕ) → Sees new cursors (doing x c).seen
-      → IsAhead (order_of new) new.tail cursors c.place c.beaten x.lost → All (HoldsOwn shape new.pieces id) c.own
+      → IsAhead (order_of new) new.tail cursors c.place c.beaten x.done.lost → All (HoldsOwn shape new.pieces id) c.own
       → ((i j : ℕ) (y z : Own) → get_elem? c.own i ≡ some y → get_elem? c.own j ≡ some z → y.at ≡ z.at → i ≡ j)
       → OwesPublished c.published c.owed
       → Fits shape old cursors actors opener id x → Fits shape new cursors actors opener id (doing x c)
@@ -166,12 +160,12 @@ module _ (shape : Dimensions) (old new : Anatomy) (added : ℕ → Body → Type
     numbered = fits.numbered;
     ahead = ahead;
     sees = sees;
-    names = names_grow old new added grows x.names fits.names;
+    names = names_grow old new added grows x.answers.names fits.names;
     own = own;
     apart = apart;
     owes = owes;
     calls = calls_grow fits.calls;
     looks = λ records. looks_grow (fits.looks records);
-    finals = finals_doing actors opener id x c fits.finals;
+    finals = fits.finals;
     snapshots = fits.snapshots;
   }

@@ -17,37 +17,6 @@ use Rattle.segment_invariant.specs.Seen.{Stands, HasRecord, HasCounts, HasSample
 use Rattle.segment_invariant.specs.Invariant.{StandsAs, IsListed, IsLawfulRecord, IsCountsOf, IsLawfulSample, CountsNothing, RecordsAreKept, HasKey, SumsAreNear, IsSumOf, summed_costs}
 use Rattle.segment_invariant.proofs.Frames.Growth.{Grows, first_grows, first_of_longer, record_stays, record_came, counts_stay, counts_came, sample_came}
 
--- ---- a record with another next
-
-lawful_next : (version page n : ℕ) (r : Record) → IsLawfulRecord version page r → IsLawfulRecord version page (record r { next = n })
-lawful_next version page n r is = record {
-  sized = is.sized;
-  least = is.least;
-  named = is.named;
-  lettered = is.lettered;
-  lawful = is.lawful;
-  fields = is.fields;
-  fits = is.fits;
-  formed = is.formed;
-  unpacked = is.unpacked;
-  off = is.off;
-  sparse = is.sparse;
-  narrow = is.narrow;
-}
-
-counts_next : (version at n : ℕ) (r : Record) (c : Counts) → IsCountsOf version at r c → IsCountsOf version at (record r { next = n }) c
-counts_next version at n r c is = record {
-  mine = is.mine;
-  named = is.named;
-  same = is.same;
-  units = is.units;
-  marks = is.marks;
-  sized = is.sized;
-  packed = is.packed;
-  unused = is.unused;
-  mark = is.mark;
-}
-
 -- ---- what was added
 
 -- What was added is lawful and counts nothing.
@@ -127,7 +96,7 @@ module _ (page : ℕ) (old new : Anatomy) (added : ℕ → Body → Type 0) (gro
     lawful = λ at r there. ⊎_elim
         (λ t. let (r0, n, before, same) = t in
         subst (λ (z : ℕ × Record). IsLawfulRecord z.0 page z.1) (λ i. (sym grows.version i, sym same i))
-        (lawful_next old.version page n r0 (kept.lawful at r0 before)))
+        (kept.lawful at r0 before))
         (λ new_one. right.lawful at r new_one)
         (record_came old new added grows at r there);
     mounted = λ at r there. ⊎_elim
@@ -135,7 +104,7 @@ module _ (page : ℕ) (old new : Anatomy) (added : ℕ → Body → Type 0) (gro
         subst (λ (z : ℕ × Record). z.1.counts ≢ 0 → (c : Counts) × HasCounts new.pieces z.1.counts c × IsCountsOf z.0 at z.1 c)
         (λ i. (sym grows.version i, sym same i))
         (λ mounts. let (c, stands, is) = kept.mounted at r0 before mounts in
-        (c, counts_stay old new added grows r0.counts c stands, counts_next old.version at n r0 c is)))
+        (c, counts_stay old new added grows r0.counts c stands, is)))
         (λ new_one mounts. absurd (mounts (right.nothing at r new_one).0))
         (record_came old new added grows at r there);
     named = λ at c there. ⊎_elim
@@ -150,8 +119,7 @@ module _ (page : ℕ) (old new : Anatomy) (added : ℕ → Body → Type 0) (gro
         (λ new_one none_named. let unmarked = (right.nothing at r new_one).2 in omega (arith, unmarked))
         (record_came old new added grows at r there);
     valued = λ at s there. ⊎_elim
-        (λ t. let (s0, n, before, same) = t in let is = kept.valued at s0 before in
-        subst IsLawfulSample (sym same) record { sized = is.sized; valued = is.valued; taken = is.taken })
+        (λ t. let (s0, n, before, same) = t in subst IsLawfulSample (sym same) (kept.valued at s0 before))
         (λ new_one. right.valued at s new_one)
         (sample_came old new added grows at s there);
     sampled = λ front behind at of value is. ⊎_elim
@@ -175,7 +143,7 @@ module _ (old new : Anatomy) (added : ℕ → Body → Type 0) (grows : Grows ol
   )
 
   module _ (actors : List Actor)
-      (loaded_record : (id : ℕ) (a : Actor) (reference : ℕ) (sum : ℤ) → get_elem? actors id ≡ some a → a.place ≡ SumLoaded reference sum
+      (loaded_record : (id : ℕ) (a : Actor) (reference : ℕ) (sum : ℤ) → get_elem? actors id ≡ some a → a.hand.place ≡ SumLoaded reference sum
       → (r : Record) × HasRecord old.pieces reference r)
       (nothing : (at : ℕ) (r : Record) → added at (histogram r) → (r.sum ≡ 0) × (r.sum_mark ≡ 0)) where
     -- of what was added every sum is 0

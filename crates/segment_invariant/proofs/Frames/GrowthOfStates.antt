@@ -48,47 +48,47 @@ counted_all = among_all is_counted ended_counted
 
 module _ (shape : Dimensions) (opened : Anatomy) (state : State) (kept : Invariant shape opened state) where
   -- what was accepted before an actor was made, and what it has counted, is counted
-  inherited_counted : (id : ℕ) (x : Actor) (entry : Entry) → get_elem? state.actors id ≡ some x → x.place ≢ Spent → Contains x.inherited entry
+  inherited_counted : (id : ℕ) (x : Actor) (entry : Entry) → get_elem? state.actors id ≡ some x → x.hand.place ≢ Spent → Contains x.entries.inherited entry
       → Contains (all_counted state.actors) entry
   inherited_counted id x entry there lives has = dite (ℕ_discrete id 0)
       (λ first.
       let opener : x ≡ kept.roles.opener = some-injective _ _ (sym there ∙ (ap (get_elem? state.actors) first ∙ kept.roles.stands)) in
-      let lt = (subst (λ (l : List Entry). Contains l entry) (ap (λ (z : Actor). z.inherited) opener ∙ kept.roles.rests.3) has).1 in
+      let lt = (subst (λ (l : List Entry). Contains l entry) (ap (λ (z : Actor). z.entries.inherited) opener ∙ kept.roles.rests.3) has).1 in
       absurd (omega (arith, lt)))
       (λ ne.
       let opener : Actor = kept.roles.opener in
       let (more, log, last) = kept.roles.heirs id x there (lives_on x (kept.roles.only id x there ne).0 lives) in
-      let logged : Contains (log_of opener) entry = subst (λ (l : List Entry). Contains l entry) (sym log) (Contains-append_left x.inherited more entry has) in
+      let logged : Contains (log_of opener) entry = subst (λ (l : List Entry). Contains l entry) (sym log) (Contains-append_left x.entries.inherited more entry has) in
       let ended = (kept.each 0 opener kept.roles.stands (λ spent. cc (sym kept.roles.idle ∙ spent))).calls.ended in
       row_in counted_of state.actors 0 opener entry kept.roles.stands
       (⊎_elim
-      (λ left. Contains-append_left opener.first _ entry left)
-      (λ right. Contains-append_right opener.first _ entry
-      (subst (λ (l : List Entry). Contains l entry) (sym (counted_all opener.log ended opener.running)) (Contains-append_left (map (λ c. c.entry) opener.log) _ entry right)))
-      (Contains-append_cases opener.first (map (λ c. c.entry) opener.log) entry logged)))
+      (λ left. Contains-append_left opener.entries.first _ entry left)
+      (λ right. Contains-append_right opener.entries.first _ entry
+      (subst (λ (l : List Entry). Contains l entry) (sym (counted_all opener.entries.log ended opener.entries.running)) (Contains-append_left (map (λ c. c.entry) opener.entries.log) _ entry right)))
+      (Contains-append_cases opener.entries.first (map (λ c. c.entry) opener.entries.log) entry logged)))
 
   -- so it has a key
-  pub keyed : (id : ℕ) (x : Actor) → get_elem? state.actors id ≡ some x → x.place ≢ Spent
-      → (entry : Entry) → Contains (x.inherited ++ counted_of x) entry → 0 < entry.units → HasKey kept.anatomy.records entry.name entry.key
+  pub keyed : (id : ℕ) (x : Actor) → get_elem? state.actors id ≡ some x → x.hand.place ≢ Spent
+      → (entry : Entry) → Contains (x.entries.inherited ++ counted_of x) entry → 0 < entry.units → HasKey kept.anatomy.records entry.name entry.key
   keyed id x there lives entry has units = kept.keys entry
       (⊎_elim
       (λ before. inherited_counted id x entry there lives before)
       (λ own. row_in counted_of state.actors id x entry there own)
-      (Contains-append_cases x.inherited (counted_of x) entry has))
+      (Contains-append_cases x.entries.inherited (counted_of x) entry has))
       units
 
   -- a histogram that it knows stands as a record, and so does one whose sum it has loaded
-  pub known_record : (id : ℕ) (x : Actor) → get_elem? state.actors id ≡ some x → x.place ≢ Spent
-      → (known : Known) → Contains x.names known → (r : Record) × HasRecord kept.anatomy.pieces known.reference r
+  pub known_record : (id : ℕ) (x : Actor) → get_elem? state.actors id ≡ some x → x.hand.place ≢ Spent
+      → (known : Known) → Contains x.answers.names known → (r : Record) × HasRecord kept.anatomy.pieces known.reference r
   known_record id x there lives known has =
-      let knows = All-contains (Knows kept.anatomy) x.names known (kept.each id x there lives).names has in
+      let knows = All-contains (Knows kept.anatomy) x.answers.names known (kept.each id x there lives).names has in
       let (front, behind, is, others) = knows.first in
       let l : Listed = record { reference = known.reference; made = Some (made.Histogram known.name knows.first_spec) } in
       let (r, stands, named, same) = All-contains (λ l. StandsAs kept.anatomy.pieces l l.made) kept.anatomy.records l kept.list.standing
       (subst (λ (records : List Listed). Contains records l) (sym is) (Contains-append_right front (l ∷ behind) l (0, omega arith, refl))) in
       (r, stands)
 
-  pub loaded_record : (id : ℕ) (x : Actor) (reference : ℕ) (sum : ℤ) → get_elem? state.actors id ≡ some x → x.place ≡ SumLoaded reference sum
+  pub loaded_record : (id : ℕ) (x : Actor) (reference : ℕ) (sum : ℤ) → get_elem? state.actors id ≡ some x → x.hand.place ≡ SumLoaded reference sum
       → (r : Record) × HasRecord kept.anatomy.pieces reference r
   loaded_record id x reference sum there is =
       let (known, has, same) = subst (StandsRight shape kept.anatomy id x) is (kept.standing id x there) in
@@ -97,8 +97,8 @@ module _ (shape : Dimensions) (opened : Anatomy) (state : State) (kept : Invaria
 
   -- running calls, and what was seen since a delta or a snapshot began, where one actor goes on and the segment grows
   module _ (new : Anatomy) (added : ℕ → Body → Type 0) (grows : Grows kept.anatomy new added) where
-    pub fits_on : (id : ℕ) (x : Actor) (d : Doing) → get_elem? state.actors id ≡ some x → x.place ≢ Spent → SawMore x d
-        → Sees new state.cursors (doing x d).seen → IsAhead (order_of new) new.tail state.cursors d.place d.beaten x.lost
+    pub fits_on : (id : ℕ) (x : Actor) (d : Doing) → get_elem? state.actors id ≡ some x → x.hand.place ≢ Spent → SawMore x d
+        → Sees new state.cursors (doing x d).seen → IsAhead (order_of new) new.tail state.cursors d.place d.beaten x.done.lost
         → All (HoldsOwn shape new.pieces id) d.own
         → ((i j : ℕ) (y z : Own) → get_elem? d.own i ≡ some y → get_elem? d.own j ≡ some z → y.at ≡ z.at → i ≡ j)
         → OwesPublished d.published d.owed

@@ -12,6 +12,16 @@ off_leads version n old new off (inl same) = same
 off_leads version n old new off (inr (inl empty)) = absurd (cc (sym (ap is_off empty) ∙ off))
 off_leads version n old new off (inr (inr (on, same, fewer))) = absurd (cc (sym on ∙ off))
 
+-- one that names a bucket leads to words that name the same; those that are on have no fewer units
+pub on_leads : (version n old new bucket : ℕ) → old ≢ 0 → packed_bucket (single_of version n old) ≡ Some bucket → Leads version n old new
+    → (packed_bucket (single_of version n new) ≡ Some bucket) × (is_off new ≡ false → units_in (single_of version n old) ≤ units_in (single_of version n new))
+on_leads version n old new bucket some_there names (inl same) = subst
+    (λ (w : ℕ). (packed_bucket (single_of version n w) ≡ Some bucket) × (is_off w ≡ false → units_in (single_of version n old) ≤ units_in (single_of version n w))) same
+    (names, λ still. omega arith)
+on_leads version n old new bucket some_there names (inr (inl empty)) = absurd (some_there empty)
+on_leads version n old new bucket some_there names (inr (inr (on, same, inl few))) = (same ∙ names, λ still. few)
+on_leads version n old new bucket some_there names (inr (inr (on, same, inr (one, off)))) = (same ∙ names, λ still. absurd (cc (sym off ∙ still)))
+
 -- a form of a word below 2^63 that packs nothing is the empty one
 empty_by : (n word : ℕ) (empty low : Bool) (rest : Option SingleWord) → low ≡ true
     → (if empty then Some Empty else (if low then packed_of n word else rest)) ≢ None

@@ -1,5 +1,5 @@
 -- Actors together, where one goes on with a call and neither counts, takes nor gives back anything: what all of them did is the same.
-use Rattle.std.proofs.Common.{◌⊎◌, ◌≡◌, ◌≢◌, ℕ, ◌+◌, ◌≤◌, ℤ, Bool, true, false, ◌&&◌, List, set, sum_by, inl, inr, ⊎_elim, refl, sym, ap, ◌∙◌, arith, eq-eqb}
+use Rattle.std.proofs.Common.{◌⊎◌, ◌≡◌, ◌≢◌, ℕ, ◌+◌, ◌≤◌, ℤ, Bool, true, false, ◌&&◌, List, set, sum_by, inl, inr, ⊎_elim, refl, sym, ap, ◌∙◌, arith, not}
 use Rattle.std.specs.Prelude.{if◌then◌else◌, ◌==◌, length}
 use Rattle.std.specs.List.{filter}
 use mathlib.Core.Option.{some}
@@ -9,7 +9,6 @@ use Rattle.segment_image.specs.Shape.{Dimensions}
 use Rattle.segment_machine.specs.declared.actor.Known.{Known}
 use Rattle.segment_machine.specs.declared.actor.Actor.{Actor}
 use Rattle.segment_machine.specs.declared.actor.Claim.{Claim}
-use Rattle.segment_machine.specs.declared.actor.Moment.{Moment}
 use Rattle.segment_machine.specs.declared.actor.Own.{Own}
 use Rattle.segment_machine.specs.declared.actor.Published.{Published}
 use Rattle.segment_machine.specs.declared.seen.Sighting.{Sighting}
@@ -17,9 +16,9 @@ use Rattle.segment_machine.specs.declared.place.Look.{Look}
 use Rattle.segment_machine.specs.declared.place.Place.{Place}
 use Rattle.segment_machine.specs.declared.place.Place.TheVariants.{Spent, Idle, FlagsLoaded, FreeLoaded, Raised, Sized, Marked, TailLoaded, Beaten, Linked, Looking, Losing, Moving, CountLoaded, SampleLoaded, SumLoaded, CursorLoaded, BehindCursor}
 use Rattle.segment_machine.specs.Entry.{tally_units, tally_sum, tally_noted}
-use Rattle.segment_machine.specs.Actor.{is_bound, cost_of, counted_of, summed_of, noted_of, units_of, all_counted, all_summed, all_noted, all_taken, taken_units, taken_sum, transit_at}
+use Rattle.segment_machine.specs.Actor.{is_bound, cost_of, counted_of, summed_of, noted_of, units_of, all_counted, all_summed, all_noted, all_taken, taken_units, taken_sum, transit_at, taken_of, is_opener}
 use Rattle.segment_invariant.specs.Ledger.{moving_at, all_moving}
-use Rattle.segment_invariant.specs.Invariant.{summed_cost, summed_costs, is_living, IsMoment, FinalsAreExact, Fits}
+use Rattle.segment_invariant.specs.Invariant.{summed_cost, summed_costs, is_living, Fits}
 use Rattle.segment_invariant.specs.Body.{Anatomy}
 use Rattle.segment_invariant.proofs.Lists.Elements.{rows, sum_same}
 use Rattle.segment_invariant.proofs.Frames.Deeds.{SameSums}
@@ -47,28 +46,29 @@ pub record Doing : Type 0 where
 -- the actor with that
 abbrev pub doing : Actor → Doing → Actor
 doing a d = record a {
-  place = d.place;
-  own = d.own;
-  claimed = d.claimed;
-  published = d.published;
-  owed = d.owed;
-  spoiled = d.spoiled;
-  filled = d.filled;
-  beaten = d.beaten;
+  hand = record { place = d.place; own = d.own };
+  done = record a.done {
+    claimed = d.claimed;
+    published = d.published;
+    spoiled = d.spoiled;
+    filled = d.filled;
+    beaten = d.beaten;
+  };
+  answers = record a.answers { owed = d.owed };
   seen = record a.seen { free = d.seen_free; chain = d.seen_chain; tails = d.seen_tails; words = d.seen_words };
 }
 
 -- what it has of that
 abbrev pub doing_of : Actor → Doing
 doing_of a = record {
-  place = a.place;
-  own = a.own;
-  claimed = a.claimed;
-  published = a.published;
-  owed = a.owed;
-  spoiled = a.spoiled;
-  filled = a.filled;
-  beaten = a.beaten;
+  place = a.hand.place;
+  own = a.hand.own;
+  claimed = a.done.claimed;
+  published = a.done.published;
+  owed = a.answers.owed;
+  spoiled = a.done.spoiled;
+  filled = a.done.filled;
+  beaten = a.done.beaten;
   seen_free = a.seen.free;
   seen_chain = a.seen.chain;
   seen_tails = a.seen.tails;
@@ -77,10 +77,10 @@ doing_of a = record {
 
 -- the actor may stand there next: it lives on, moves no units but those that it moved, and has loaded no sum but the one that it had
 pub record TurnsTo (a : Actor) (p : Place) : Type 0 where
-  pub lived : a.place ≢ Spent
+  pub lived : a.hand.place ≢ Spent
   pub lives : p ≢ Spent
-  pub moves : (name : List ℕ) (key : ℤ) → moving_at a name key p ≡ moving_at a name key a.place
-  pub sums : (at : ℕ) (sum : ℤ) → p ≡ SumLoaded at sum → a.place ≡ SumLoaded at sum
+  pub moves : (name : List ℕ) (key : ℤ) → moving_at a name key p ≡ moving_at a name key a.hand.place
+  pub sums : (at : ℕ) (sum : ℤ) → p ≡ SumLoaded at sum → a.hand.place ≡ SumLoaded at sum
 
 -- whether there is neither a sum nor units on their way, at a place where an actor lives
 abbrev pub is_plain : Place → Bool
@@ -126,31 +126,31 @@ plain_sums : (p : Place) (at : ℕ) (sum : ℤ) → is_plain p ≡ true → p �
 plain_sums p at sum plain is = cc (plain, ap is_plain is)
 
 -- to a plain place it may turn from one where it lives and moves nothing: from another plain one, and from any where it is free to go on
-turns_to : (a : Actor) (p : Place) → a.place ≢ Spent → ((look : Look) (bucket units : ℕ) → a.place ≢ Moving look bucket units)
+turns_to : (a : Actor) (p : Place) → a.hand.place ≢ Spent → ((look : Look) (bucket units : ℕ) → a.hand.place ≢ Moving look bucket units)
     → is_plain p ≡ true → TurnsTo a p
 turns_to a p lived rests plain = record {
   lived = lived;
   lives = plain_lives p plain;
-  moves = λ name key. rests_at a name key p (plain_rests p plain) ∙ sym (rests_at a name key a.place rests);
+  moves = λ name key. rests_at a name key p (plain_rests p plain) ∙ sym (rests_at a name key a.hand.place rests);
   sums = λ at sum is. absurd (plain_sums p at sum plain is);
 }
 
-pub turns_plain : (a : Actor) (p : Place) → is_plain a.place ≡ true → is_plain p ≡ true → TurnsTo a p
-turns_plain a p was = turns_to a p (plain_lives a.place was) (plain_rests a.place was)
+pub turns_plain : (a : Actor) (p : Place) → is_plain a.hand.place ≡ true → is_plain p ≡ true → TurnsTo a p
+turns_plain a p was = turns_to a p (plain_lives a.hand.place was) (plain_rests a.hand.place was)
 
-pub turns_unbound : (a : Actor) (p : Place) → is_bound a.place ≡ false → is_plain p ≡ true → TurnsTo a p
+pub turns_unbound : (a : Actor) (p : Place) → is_bound a.hand.place ≡ false → is_plain p ≡ true → TurnsTo a p
 turns_unbound a p unbound =
     turns_to a p (λ spent. cc (unbound, ap is_bound spent)) (λ look bucket units moving. cc (unbound, ap is_bound moving))
 
 -- it stays where it stands
-pub turns_not : (a : Actor) → a.place ≢ Spent → TurnsTo a a.place
+pub turns_not : (a : Actor) → a.hand.place ≢ Spent → TurnsTo a a.hand.place
 turns_not a lived = record { lived = lived; lives = lived; moves = λ name key. refl; sums = λ at sum is. is }
 
 -- what its sums have grown by it has spent, or holds
-pub summed_most : (name : List ℕ) (a : Actor) → summed_cost name a ≤ cost_of a.costs name + cost_of a.held name
-summed_most name a = by_test (length (filter (λ c. c.summed) a.running) == 0)
+pub summed_most : (name : List ℕ) (a : Actor) → summed_cost name a ≤ cost_of a.units.costs name + cost_of a.units.held name
+summed_most name a = by_test (length (filter (λ c. c.summed) a.entries.running) == 0)
   where
-    by_test : (b : Bool) → cost_of a.costs name + (if b then 0 else cost_of a.held name) ≤ cost_of a.costs name + cost_of a.held name
+    by_test : (b : Bool) → cost_of a.units.costs name + (if b then 0 else cost_of a.units.held name) ≤ cost_of a.units.costs name + cost_of a.units.held name
     by_test true = omega arith
     by_test false = omega arith
 
@@ -170,7 +170,7 @@ pub record SameDeeds (old new : List Actor) : Type 0 where
   pub opener : get_elem? new 0 ≡ get_elem? old 0
 
 -- of an actor that lives it is no matter where it stands
-pub living_at : (a : Actor) (p : Place) → p ≢ Spent → is_living (record a { place = p }) ≡ is_living (record a { place = Idle })
+pub living_at : (a : Actor) (p : Place) → p ≢ Spent → is_living (record a { hand = record a.hand { place = p } }) ≡ is_living (record a { hand = record a.hand { place = Idle } })
 living_at a Spent lives = absurd (lives refl)
 living_at a Idle lives = refl
 living_at a FlagsLoaded lives = refl
@@ -191,16 +191,17 @@ living_at a (CursorLoaded cursor at) lives = refl
 living_at a (BehindCursor cursor at behind) lives = refl
 
 -- a recorder that is not spent lives
-pub lives_on : (a : Actor) → a.opener ≡ 0 → a.place ≢ Spent → is_living a ≡ true
-lives_on a records lives = living_at a a.place lives ∙ ap (λ (b : Bool). b && true) (eq-eqb a.opener 0 records)
+pub lives_on : (a : Actor) → is_opener a.role ≡ false → a.hand.place ≢ Spent → is_living a ≡ true
+lives_on a records lives = living_at a a.hand.place lives ∙ ap (λ (b : Bool). b && true) (ap not records)
 
 -- the actor that goes on has the role that it had
 pub same_role : (a : Actor) (d : Doing) → TurnsTo a d.place → SameRole (doing a d) a
 same_role a d turns = record {
-  living = living_at a d.place turns.lives ∙ sym (living_at a a.place turns.lived);
+  living = living_at a d.place turns.lives ∙ sym (living_at a a.hand.place turns.lived);
   opener = refl;
   first = refl;
   first_noted = refl;
+  first_taken = refl;
   made = refl;
   outstanding = refl;
   inherited = refl;
@@ -214,10 +215,10 @@ module _ (actors : List Actor) (id : ℕ) (a : Actor) (mine : get_elem? actors i
     counted = rows counted_of actors id a (doing a d) mine refl;
     summed = rows summed_of actors id a (doing a d) mine refl;
     noted = rows noted_of actors id a (doing a d) mine refl;
-    taken = rows (λ (a : Actor). a.taken) actors id a (doing a d) mine refl;
+    taken = rows taken_of actors id a (doing a d) mine refl;
     units = sum_same units_of actors id a (doing a d) mine refl;
     costs = λ name. sum_same (summed_cost name) actors id a (doing a d) mine refl;
-    moving = λ name key. sum_same (λ a. moving_at a name key a.place) actors id a (doing a d) mine (turns.moves name key);
+    moving = λ name key. sum_same (λ a. moving_at a name key a.hand.place) actors id a (doing a d) mine (turns.moves name key);
     loaded = loaded_set actors id a (doing a d) mine turns.sums;
     stood = stood_set actors id a (doing a d) mine (same_role a d turns);
     opener = set_else actors id 0 (doing a d) (λ same. records (sym same));
@@ -242,17 +243,3 @@ module _ (old new : List Actor) (same : SameDeeds old new) where
       → Fits shape anatomy cursors old opener id a → Fits shape anatomy cursors new opener id a
   fits_same shape anatomy cursors opener id a first =
       fits_beside shape anatomy cursors old new opener opener id a first (same.opener ∙ first) refl (refl, refl) same_sums same.stood
-
--- the actor that goes on has the deltas, the snapshots and the log that it had
-moment_of_doing : (actors : List Actor) (opener : Actor) (id : ℕ) (a : Actor) (d : Doing) (m : Moment)
-    → IsMoment actors opener id a m → IsMoment actors opener id (doing a d) m
-moment_of_doing actors opener id a d m is = record { logged = is.logged; before = is.before; mine = is.mine; eldest = is.eldest }
-
-pub finals_doing : (actors : List Actor) (opener : Actor) (id : ℕ) (a : Actor) (d : Doing)
-    → FinalsAreExact actors opener id a → FinalsAreExact actors opener id (doing a d)
-finals_doing actors opener id a d finals = record {
-  deltas = finals.deltas;
-  snapshots = finals.snapshots;
-  moments = λ m is. moment_of_doing actors opener id a d m (finals.moments m is);
-  swapped = finals.swapped;
-}

@@ -22,6 +22,7 @@ use Rattle.segment_invariant.specs.Invariant.{StandsAs, IsListed}
 use Rattle.segment_invariant.proofs.Blocks.Places.{counter_within}
 use Rattle.segment_invariant.proofs.Lists.Elements.{all_of}
 use Rattle.segment_invariant.proofs.Frames.Leads.{off_leads, leads_on}
+use Rattle.segment_image.specs.declared.layout.TheConstants.{CLAIMED_COOKIE}
 
 -- ---- a block that goes on
 
@@ -146,7 +147,14 @@ fixed_goes version (sample s) y i (t, is, goes) fixed =
     same (inr (inr five)) = word 5 five (ap (λ (z : Sample). slice_index (words_of (sample z)) 5) goes.is)
 fixed_goes version (other size tag next payload) y i (n, is) fixed =
     subst (λ (body : Body). IsFixedIn body i × (slice_index (words_of body) i ≡ slice_index (words_of (other size tag next payload)) i)) (sym is)
-    (fixed, ap (slice_index (words_of (other size tag n payload))) fixed ∙ sym (ap (slice_index (words_of (other size tag next payload))) fixed))
+    (fixed, same fixed)
+  where
+    same : IsFixedIn (other size tag next payload) i
+        → slice_index (words_of (other size tag n payload)) i ≡ slice_index (words_of (other size tag next payload)) i
+    same (inl two) = ap (slice_index (words_of (other size tag n payload))) two ∙ sym (ap (slice_index (words_of (other size tag next payload))) two)
+    same (inr (from, below)) =
+        get_or-append_right (size ∷ CLAIMED_COOKIE ∷ tag ∷ n ∷ []) payload 4 i 0 refl from
+        ∙ sym (get_or-append_right (size ∷ CLAIMED_COOKIE ∷ tag ∷ next ∷ []) payload 4 i 0 refl from)
 fixed_goes version (queue next) y i goes fixed = absurd fixed
 fixed_goes version (plain words) y i goes fixed = absurd fixed
 fixed_goes version (held block) y i goes fixed = absurd fixed
@@ -338,9 +346,9 @@ module _ (old new : Anatomy) (added : ℕ → Body → Type 0) (onward : Onward 
   stands_as_on l (Some (made.Sample of value)) (s, stands, of_it, valued) =
       let (z, still, goes) = sample_on l.reference s stands in
       (z, still, ap (λ (q : Sample). q.of) goes.is ∙ of_it, ap (λ (q : Sample). q.value) goes.is ∙ valued)
-  stands_as_on l None (size, tag, next, payload, stands, first, third, long) =
+  stands_as_on l None (size, tag, next, payload, stands, third, long) =
       let (body, still, (n, is)) = onward.goes l.reference (other size tag next payload) refl stands in
-      (size, tag, n, payload, subst (Stands new.pieces l.reference none) is still, first, third, long)
+      (size, tag, n, payload, subst (Stands new.pieces l.reference none) is still, third, long)
 
   -- and what stands is on the list
   pub listed_on : (records : List Listed) (at : ℕ) (before body : Body) → GoesAs old.version before body → IsListed records at before → IsListed records at body

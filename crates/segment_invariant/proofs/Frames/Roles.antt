@@ -8,35 +8,44 @@ use Rattle.atomic_table.proofs.Lists.{at_set, set_else}
 use Rattle.segment_image.specs.Shape.{Dimensions}
 use Rattle.segment_machine.specs.declared.entry.Entry.{Entry}
 use Rattle.segment_machine.specs.declared.actor.Actor.{Actor}
-use Rattle.segment_machine.specs.Actor.{log_of}
+use Rattle.segment_machine.specs.Actor.{log_of, is_opener, made_of, offered_of, outstanding_of}
 use Rattle.segment_invariant.specs.Body.{Anatomy}
 use Rattle.segment_invariant.specs.Invariant.{is_living, RolesAreKept, IsAlone, Fits}
 use Rattle.segment_invariant.proofs.Lists.Elements.{sum_same}
 use Rattle.segment_invariant.proofs.Frames.Deeds.{SameSums}
 use Rattle.segment_invariant.proofs.Frames.Together.{fits}
 use Rattle.segment_invariant.proofs.Lists.Maps.{one_at}
+use Rattle.segment_machine.specs.declared.actor.Role.TheVariants.{Opener, Recorder}
+use Rattle.segment_machine.specs.declared.actor.Role.{Role}
+
+-- of two actors that differ in their roles alone, either both live or none, where their roles are of one kind
+pub same_living : (a : Actor) (now was : Role) → is_opener now ≡ is_opener was → is_living (record a { role = now }) ≡ is_living (record a { role = was })
+same_living a (Opener m o f) (Opener n p g) same = refl
+same_living a (Opener m o f) (Recorder n p) same = absurd (true≢false same)
+same_living a (Recorder m o) (Opener n p g) same = absurd (true≢false (sym same))
+same_living a (Recorder m o) (Recorder n p) same = refl
 
 -- an opener is no recorder that lives
-pub opens_nothing : (a : Actor) → a.opener ≡ 1 → is_living a ≡ true → ⊥
-opens_nothing a opens lives = absurd (true≢false (sym lives ∙ no_recorder a.opener opens))
-  where
-    no_recorder : (n : ℕ) → n ≡ 1 → is_living (record a { opener = n }) ≡ false
-    no_recorder n e = subst (λ (k : ℕ). is_living (record a { opener = k }) ≡ false) (sym e) refl
+pub no_recorder : (a : Actor) → is_opener a.role ≡ true → is_living a ≡ false
+no_recorder a opens = same_living a a.role (Opener 0 0 0) opens
+
+pub opens_nothing : (a : Actor) → is_opener a.role ≡ true → is_living a ≡ true → ⊥
+opens_nothing a opens lives = absurd (true≢false (sym lives ∙ no_recorder a opens))
 
 -- a recorder that lives has lived, made when it is said to be, with what it is said to have inherited
 pub record Stood (old : List Actor) (k : ℕ) (c : Actor) : Type 0 where
   pub was : Actor
   pub at : get_elem? old k ≡ some was
   pub lives : is_living was ≡ true
-  pub made : was.made ≡ c.made
-  pub outstanding : was.outstanding ≡ c.outstanding
-  pub inherited : was.inherited ≡ c.inherited
+  pub made : made_of was.role ≡ made_of c.role
+  pub outstanding : outstanding_of was.role ≡ outstanding_of c.role
+  pub inherited : was.entries.inherited ≡ c.entries.inherited
 
 abbrev pub AllStood : List Actor → List Actor → Type 0
 AllStood old new = (k : ℕ) (c : Actor) → get_elem? new k ≡ some c → is_living c ≡ true → Stood old k c
 
 module _ (old new : List Actor) (roles : RolesAreKept old) (stood : AllStood old new) where
-  pub still_younger : (made : ℕ) → roles.opener.made ≤ made → (id : ℕ) (a : Actor) → get_elem? new id ≡ some a → is_living a ≡ true → a.made < made
+  pub still_younger : (made : ℕ) → made_of roles.opener.role ≤ made → (id : ℕ) (a : Actor) → get_elem? new id ≡ some a → is_living a ≡ true → made_of a.role < made
   still_younger made more id a at lives =
       let s = stood id a at lives in
       let younger = roles.younger id s.was s.at s.lives in
@@ -44,14 +53,14 @@ module _ (old new : List Actor) (roles : RolesAreKept old) (stood : AllStood old
       omega (arith, younger, e, more)
 
   pub still_apart : (i j : ℕ) (a b : Actor) → get_elem? new i ≡ some a → get_elem? new j ≡ some b → is_living a ≡ true → is_living b ≡ true
-      → i ≢ j → a.made ≢ b.made
+      → i ≢ j → made_of a.role ≢ made_of b.role
   still_apart i j a b first last lives alive ne same =
       let s = stood i a first lives in
       let t = stood j b last alive in
       roles.apart i j s.was t.was s.at t.at s.lives t.lives ne (s.made ∙ same ∙ sym t.made)
 
   pub still_eldest : (i j : ℕ) (a b : Actor) → get_elem? new i ≡ some a → get_elem? new j ≡ some b → is_living a ≡ true → is_living b ≡ true
-      → i ≢ j → a.outstanding ≡ 0 → a.made < b.made
+      → i ≢ j → outstanding_of a.role ≡ 0 → made_of a.role < made_of b.role
   still_eldest i j a b first last lives alive ne none =
       let s = stood i a first lives in
       let t = stood j b last alive in
@@ -61,9 +70,9 @@ module _ (old new : List Actor) (roles : RolesAreKept old) (stood : AllStood old
       omega (arith, below, e, f)
 
   -- of another opener with the same log, who made as many, they are heirs too
-  pub still_heirs : (later : Actor) → log_of later ≡ log_of roles.opener → later.made ≡ roles.opener.made → (id : ℕ) (a : Actor) → get_elem? new id ≡ some a
+  pub still_heirs : (later : Actor) → log_of later ≡ log_of roles.opener → made_of later.role ≡ made_of roles.opener.role → (id : ℕ) (a : Actor) → get_elem? new id ≡ some a
       → is_living a ≡ true
-      → (more : List Entry) × (log_of later ≡ a.inherited ++ more) × (a.outstanding ≡ 0 → a.made + 1 ≡ later.made → more ≡ [])
+      → (more : List Entry) × (log_of later ≡ a.entries.inherited ++ more) × (outstanding_of a.role ≡ 0 → made_of a.role + 1 ≡ made_of later.role → more ≡ [])
   still_heirs later log made id a at lives =
       let s = stood id a at lives in
       let was = roles.heirs id s.was s.at s.lives in (
@@ -74,15 +83,15 @@ module _ (old new : List Actor) (roles : RolesAreKept old) (stood : AllStood old
 
 -- what is said of the opener where only one is alone is said of it as it was
 pub alone_before : (old new : List Actor) (opener later a : Actor) → get_elem? old 0 ≡ some opener → get_elem? new 0 ≡ some later
-    → later.made ≡ opener.made → IsAlone new a → IsAlone old a
+    → made_of later.role ≡ made_of opener.role → IsAlone new a → IsAlone old a
 alone_before old new opener later a first last e alone =
     let same = one_at new 0 alone.0 later alone.1 last in
-    (opener, first, alone.2, alone.3 ∙ ap (λ (c : Actor). c.made) same ∙ e)
+    (opener, first, alone.2, alone.3 ∙ ap (λ (c : Actor). made_of c.role) same ∙ e)
 
 -- who fitted beside the others fits still
 pub fits_beside : (shape : Dimensions) (anatomy : Anatomy) (cursors : List ℕ) (old new : List Actor) (opener later : Actor) (id : ℕ) (a : Actor)
-    → get_elem? old 0 ≡ some opener → get_elem? new 0 ≡ some later → later.made ≡ opener.made
-    → (later.first ≡ opener.first) × (later.first_noted ≡ opener.first_noted) → SameSums old new → AllStood old new
+    → get_elem? old 0 ≡ some opener → get_elem? new 0 ≡ some later → made_of later.role ≡ made_of opener.role
+    → (later.entries.first ≡ opener.entries.first) × (later.entries.first_noted ≡ opener.entries.first_noted) → SameSums old new → AllStood old new
     → Fits shape anatomy cursors old opener id a → Fits shape anatomy cursors new later id a
 fits_beside shape anatomy cursors old new opener later id a first last made begins sums stood = fits shape anatomy cursors old new opener later id a sums
     (record {
@@ -98,13 +107,14 @@ fits_beside shape anatomy cursors old new opener later id a first last made begi
 -- two actors have the same role
 pub record SameRole (b c : Actor) : Type 0 where
   pub living : is_living b ≡ is_living c
-  pub opener : b.opener ≡ c.opener
-  pub first : b.first ≡ c.first
-  pub first_noted : b.first_noted ≡ c.first_noted
-  pub made : b.made ≡ c.made
-  pub outstanding : b.outstanding ≡ c.outstanding
-  pub inherited : b.inherited ≡ c.inherited
-  pub offered : b.offered ≡ c.offered
+  pub opener : is_opener b.role ≡ is_opener c.role
+  pub first : b.entries.first ≡ c.entries.first
+  pub first_noted : b.entries.first_noted ≡ c.entries.first_noted
+  pub first_taken : b.deltas.first_taken ≡ c.deltas.first_taken
+  pub made : made_of b.role ≡ made_of c.role
+  pub outstanding : outstanding_of b.role ≡ outstanding_of c.role
+  pub inherited : b.entries.inherited ≡ c.entries.inherited
+  pub offered : offered_of b.role ≡ offered_of c.role
 
 module _ (actors : List Actor) (id : ℕ) (a b : Actor) (mine : get_elem? actors id ≡ some a) (same : SameRole b a) where
   pub stood_set : AllStood actors (set actors id b)
@@ -113,9 +123,9 @@ module _ (actors : List Actor) (id : ℕ) (a b : Actor) (mine : get_elem? actors
       was = a;
       at = ap (get_elem? actors) t.0 ∙ mine;
       lives = sym same.living ∙ (ap is_living t.1 ∙ lives);
-      made = sym same.made ∙ ap (λ (c : Actor). c.made) t.1;
-      outstanding = sym same.outstanding ∙ ap (λ (c : Actor). c.outstanding) t.1;
-      inherited = sym same.inherited ∙ ap (λ (c : Actor). c.inherited) t.1;
+      made = sym same.made ∙ ap (λ (c : Actor). made_of c.role) t.1;
+      outstanding = sym same.outstanding ∙ ap (λ (c : Actor). outstanding_of c.role) t.1;
+      inherited = sym same.inherited ∙ ap (λ (c : Actor). c.entries.inherited) t.1;
     }
     | inr t ↦ record { was = c; at = t.1; lives = lives; made = refl; outstanding = refl; inherited = refl }
   ]
@@ -130,14 +140,14 @@ module _ (actors : List Actor) (id : ℕ) (a b : Actor) (mine : get_elem? actors
     only = λ k c at away. elim (at_set actors id k b c at) [
       | inl t ↦
           let was = roles.only id a mine records in
-          subst (λ (c : Actor). (c.opener ≡ 0) × (c.first ≡ []) × (c.first_noted ≡ []) × (c.offered ≡ 0)) t.1
-          (same.opener ∙ was.0, same.first ∙ was.1, same.first_noted ∙ was.2, same.offered ∙ was.3)
+          subst (λ (c : Actor). (is_opener c.role ≡ false) × (c.entries.first ≡ []) × (c.entries.first_noted ≡ []) × (c.deltas.first_taken ≡ []) × (offered_of c.role ≡ 0)) t.1
+          (same.opener ∙ was.0, same.first ∙ was.1, same.first_noted ∙ was.2, same.first_taken ∙ was.3, same.offered ∙ was.4)
       | inr t ↦ roles.only k c t.1 away
     ];
     offers = roles.offers;
     living = sum_same (λ c. if is_living c then 1 else 0) actors id a b mine (ap (λ lives. if lives then 1 else 0) same.living) ∙ roles.living;
     few = roles.few;
-    younger = still_younger actors (set actors id b) roles stood_set roles.opener.made (omega arith);
+    younger = still_younger actors (set actors id b) roles stood_set (made_of roles.opener.role) (omega arith);
     apart = still_apart actors (set actors id b) roles stood_set;
     eldest = still_eldest actors (set actors id b) roles stood_set;
     heirs = still_heirs actors (set actors id b) roles stood_set roles.opener refl refl;
@@ -146,7 +156,7 @@ module _ (actors : List Actor) (id : ℕ) (a b : Actor) (mine : get_elem? actors
 -- ---- who opens
 
 -- whoever opens is the first
-pub opens_first : (actors : List Actor) (roles : RolesAreKept actors) (id : ℕ) (a : Actor) → get_elem? actors id ≡ some a → a.opener ≡ 1
+pub opens_first : (actors : List Actor) (roles : RolesAreKept actors) (id : ℕ) (a : Actor) → get_elem? actors id ≡ some a → is_opener a.role ≡ true
     → (id ≡ 0) × (roles.opener ≡ a)
 opens_first actors roles id a at opens =
     let front = front_of (ℕ_discrete id 0) in
@@ -154,4 +164,4 @@ opens_first actors roles id a at opens =
   where
     front_of : Dec (id ≡ 0) → id ≡ 0
     front_of (yes e) = e
-    front_of (no ne) = let records = (roles.only id a at ne).0 in absurd (omega (arith, records, opens))
+    front_of (no ne) = let records = (roles.only id a at ne).0 in absurd (true≢false (sym opens ∙ records))

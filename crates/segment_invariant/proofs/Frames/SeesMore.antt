@@ -1,5 +1,5 @@
 -- A state is kept where one actor goes on to a place, sees more, and no word of the segment changes.
-use Rattle.std.proofs.Common.{◌≡◌, ◌≢◌, ℕ, ◌+◌, ◌-◌, ◌<◌, ◌≤◌, ℤ, List, ◌++◌, length, set, take, drop, Contains, inl, inr, refl, sym, ap, ◌∙◌, subst, arith}
+use Rattle.std.proofs.Common.{◌≡◌, ◌≢◌, ℕ, ◌+◌, ◌-◌, ◌<◌, ◌≤◌, ℤ, List, ◌++◌, length, set, take, drop, Contains, inl, inr, refl, sym, ap, ◌∙◌, subst, arith, false}
 use Rattle.std.proofs.Math.Seq.{take-append_seam, drop-append_seam}
 use Rattle.std.specs.Prelude.{slice_index, IsPermutation, Some}
 use Rattle.std.proofs.lemmas.List.{set-append_right, get_or-append_right}
@@ -10,23 +10,22 @@ use Rattle.atomic_table.proofs.Lists.{at_set, set_else}
 use Rattle.segment_image.specs.Shape.{Dimensions}
 use Rattle.list_core.specs.Chain.{IsLinked}
 use Rattle.segment_machine.specs.declared.actor.Actor.{Actor}
+use Rattle.segment_machine.specs.declared.actor.Portion.{Portion}
 use Rattle.segment_machine.specs.declared.actor.Claim.{Claim}
 use Rattle.segment_machine.specs.declared.actor.Given.{Given}
-use Rattle.segment_machine.specs.declared.actor.Moment.{Moment}
-use Rattle.segment_machine.specs.declared.actor.Taken.{Taken}
 use Rattle.segment_machine.specs.declared.entry.Entry.{Entry}
 use Rattle.segment_machine.specs.declared.place.Place.{Place}
 use Rattle.segment_machine.specs.declared.place.Place.TheVariants.{Spent, SumLoaded}
 use Rattle.segment_machine.specs.declared.seen.Seen.{Seen}
 use Rattle.segment_machine.specs.Entry.{tally_units, tally_sum, tally_noted}
-use Rattle.segment_machine.specs.Actor.{counted_of, summed_of, noted_of, units_of, all_counted, all_taken, taken_units, taken_sum, word_seen}
+use Rattle.segment_machine.specs.Actor.{counted_of, summed_of, noted_of, units_of, all_counted, all_taken, taken_units, taken_sum, word_seen, taken_of, is_opener}
 use Rattle.segment_machine.specs.State.{State, memory}
 use Rattle.segment_machine.specs.Event.{Event, spot, change, next, Learned}
 use Rattle.segment_invariant.specs.Keeps.{found_at, happened}
 use Rattle.segment_invariant.specs.Body.{Anatomy, order_of, claims_of}
 use Rattle.segment_invariant.specs.Ledger.{moving_at}
 use Rattle.segment_invariant.specs.Seen.{IsNoLater, Sees}
-use Rattle.segment_invariant.specs.Invariant.{CursorsAreKept, SumsAreNear, CallsRight, LooksBack, IsMoment, FinalsAreExact, IsSetBy, StandsRight, IsAhead, Fits, Invariant, summed_cost}
+use Rattle.segment_invariant.specs.Invariant.{CursorsAreKept, SumsAreNear, CallsRight, LooksBack, IsSetBy, StandsRight, IsAhead, Fits, Invariant, summed_cost}
 use Rattle.segment_invariant.proofs.Lists.Elements.{rows, column, sum_same}
 use Rattle.segment_invariant.proofs.Frames.Ahead.{reached_later}
 use Rattle.segment_invariant.proofs.Frames.Answers.{answered_set}
@@ -36,43 +35,23 @@ use Rattle.segment_invariant.proofs.Frames.GoesOn.{not_opener}
 use Rattle.segment_invariant.proofs.Frames.OneActor.{living_at}
 use Rattle.segment_invariant.proofs.Frames.Roles.{SameRole, stood_set, roles_set, fits_beside}
 use Rattle.segment_invariant.proofs.Frames.Together.{balanced, sums_near, loaded_set}
+use Rattle.segment_invariant.proofs.Frames.Anew.{calls_anew}
 
 -- ---- the actor
 
 -- it stands there, has seen that, was given that by shared cursors, and came too late there so often
 abbrev pub seer : Actor → Place → Seen → List Given → List ℕ → Actor
-seer a place seen given lost = record a { place = place; seen = seen; given = given; lost = lost }
+seer a place seen given lost = record a { hand = record a.hand { place = place }; seen = seen; done = record a.done { given = given; lost = lost } }
 
 -- its calls are right, where it has walked no less and has seen no other words
 pub calls_more : (anatomy : Anatomy) (a : Actor) (place : Place) (seen : Seen) (given : List Given) (lost : List ℕ)
     → ((at : ℕ) → Contains a.seen.chain at → Contains seen.chain at)
     → ((at word : ℕ) → word_seen a.seen.words at ≡ Some word → word_seen seen.words at ≡ Some word)
     → CallsRight anatomy a → CallsRight anatomy (seer a place seen given lost)
-calls_more anatomy a place seen given lost chain words calls = record {
-  ordered = calls.ordered;
-  within = calls.within;
-  held = calls.held;
-  ended = calls.ended;
-  spent = calls.spent;
-  met = λ entry of counted units first.
-      let (at, sampled, met, (tag, of_it, value, small)) = calls.met entry of counted units first in
-      (at, sampled, chain at met, (words _ _ tag, words _ _ of_it, words _ _ value, small));
-  taking = calls.taking;
-}
-
--- it has the deltas, the snapshots and the log that it had
-seer_moment : (actors : List Actor) (opener : Actor) (id : ℕ) (a : Actor) (place : Place) (seen : Seen) (given : List Given) (lost : List ℕ) (m : Moment)
-    → IsMoment actors opener id a m → IsMoment actors opener id (seer a place seen given lost) m
-seer_moment actors opener id a place seen given lost m is = record { logged = is.logged; before = is.before; mine = is.mine; eldest = is.eldest }
-
-seer_finals : (actors : List Actor) (opener : Actor) (id : ℕ) (a : Actor) (place : Place) (seen : Seen) (given : List Given) (lost : List ℕ)
-    → FinalsAreExact actors opener id a → FinalsAreExact actors opener id (seer a place seen given lost)
-seer_finals actors opener id a place seen given lost finals = record {
-  deltas = finals.deltas;
-  snapshots = finals.snapshots;
-  moments = λ m is. seer_moment actors opener id a place seen given lost m (finals.moments m is);
-  swapped = finals.swapped;
-}
+calls_more anatomy a place seen given lost chain words calls = calls_anew anatomy anatomy a seen calls
+    (λ entry of counted units first.
+    let (at, sampled, met, (tag, of_it, value, small)) = calls.met entry of counted units first in
+    (at, sampled, chain at met, (words _ _ tag, words _ _ of_it, words _ _ value, small)))
 
 -- ---- the shared cursors
 
@@ -120,7 +99,7 @@ fits_later shape words anatomy old new actors opener id a linked are fits = reco
   versioned = fits.versioned;
   numbered = fits.numbered ∙ sym are.many;
   sees = sees_later anatomy old new a.seen are fits.sees;
-  ahead = ahead_behind words (order_of anatomy) anatomy.tail old new a.place a.beaten a.lost linked are fits.ahead;
+  ahead = ahead_behind words (order_of anatomy) anatomy.tail old new a.hand.place a.done.beaten a.done.lost linked are fits.ahead;
   names = fits.names;
   own = fits.own;
   apart = fits.apart;
@@ -134,8 +113,8 @@ fits_later shape words anatomy old new actors opener id a linked are fits = reco
 -- ---- the state
 
 module _ (shape : Dimensions) (opened : Anatomy) (state : State) (kept : Invariant shape opened state) (id : ℕ) (a : Actor)
-    (mine : get_elem? state.actors id ≡ some a) (records : a.opener ≡ 0) (place : Place) (seen : Seen) (given : List Given) (lost : List ℕ)
-    (lived : a.place ≢ Spent) (lives : place ≢ Spent) (moves : (name : List ℕ) (key : ℤ) → moving_at a name key place ≡ moving_at a name key a.place) where
+    (mine : get_elem? state.actors id ≡ some a) (records : is_opener a.role ≡ false) (place : Place) (seen : Seen) (given : List Given) (lost : List ℕ)
+    (lived : a.hand.place ≢ Spent) (lives : place ≢ Spent) (moves : (name : List ℕ) (key : ℤ) → moving_at a name key place ≡ moving_at a name key a.hand.place) where
   abbrev b : Actor
   b = seer a place seen given lost
 
@@ -144,10 +123,11 @@ module _ (shape : Dimensions) (opened : Anatomy) (state : State) (kept : Invaria
 
   role : SameRole b a
   role = record {
-    living = living_at a place lives ∙ sym (living_at a a.place lived);
+    living = living_at a place lives ∙ sym (living_at a a.hand.place lived);
     opener = refl;
     first = refl;
     first_noted = refl;
+    first_taken = refl;
     made = refl;
     outstanding = refl;
     inherited = refl;
@@ -158,7 +138,7 @@ module _ (shape : Dimensions) (opened : Anatomy) (state : State) (kept : Invaria
   counted = rows counted_of state.actors id a b mine refl
 
   taken : all_taken actors ≡ all_taken state.actors
-  taken = rows (λ (a : Actor). a.taken) state.actors id a b mine refl
+  taken = rows taken_of state.actors id a b mine refl
 
   same : SameSums state.actors actors
   same = record {
@@ -167,7 +147,7 @@ module _ (shape : Dimensions) (opened : Anatomy) (state : State) (kept : Invaria
     noted = λ name. ap (λ entries. tally_noted entries name) (rows noted_of state.actors id a b mine refl);
     taken = λ name key. ap (λ taken. taken_units taken name key) taken;
     taken_sums = λ name. ap (λ taken. taken_sum taken name) taken;
-    moving = λ name key. sum_same (λ a. moving_at a name key a.place) state.actors id a b mine (moves name key);
+    moving = λ name key. sum_same (λ a. moving_at a name key a.hand.place) state.actors id a b mine (moves name key);
     costs = λ name. let costs = sum_same (summed_cost name) state.actors id a b mine refl in omega (arith, costs);
   }
 
@@ -175,16 +155,16 @@ module _ (shape : Dimensions) (opened : Anatomy) (state : State) (kept : Invaria
   not_first = not_opener shape opened state kept id a mine records
 
   -- sums are near on, where it has loaded none but the one that it had
-  pub near_on : ((at : ℕ) (sum : ℤ) → place ≡ SumLoaded at sum → a.place ≡ SumLoaded at sum) → SumsAreNear kept.anatomy.pieces actors
+  pub near_on : ((at : ℕ) (sum : ℤ) → place ≡ SumLoaded at sum → a.hand.place ≡ SumLoaded at sum) → SumsAreNear kept.anatomy.pieces actors
   near_on sums = sums_near kept.anatomy.pieces state.actors actors same (loaded_set state.actors id a b mine sums) kept.sums
 
   -- cursors are kept on, where it was given nothing
-  pub given_on : given ≡ a.given → CursorsAreKept (order_of kept.anatomy) state.cursors actors
+  pub given_on : given ≡ a.done.given → CursorsAreKept (order_of kept.anatomy) state.cursors actors
   given_on none_more = cursors_set (order_of kept.anatomy) state.cursors state.actors id a b mine records none_more kept.cursors
 
   module _ (cursors : List ℕ) (are : AreLater (order_of kept.anatomy) state.cursors cursors) (near : SumsAreNear kept.anatomy.pieces actors)
       (gave : CursorsAreKept (order_of kept.anatomy) cursors actors) (sees : Sees kept.anatomy cursors seen)
-      (ahead : IsAhead (order_of kept.anatomy) kept.anatomy.tail cursors place a.beaten lost) (stands : StandsRight shape kept.anatomy id b place)
+      (ahead : IsAhead (order_of kept.anatomy) kept.anatomy.tail cursors place a.done.beaten lost) (stands : StandsRight shape kept.anatomy id b place)
       (calls : CallsRight kept.anatomy b) (looks : LooksBack kept.anatomy state.actors kept.roles.opener b) where
     fits_mine : Fits shape kept.anatomy cursors state.actors kept.roles.opener id b
     fits_mine =
@@ -200,11 +180,11 @@ module _ (shape : Dimensions) (opened : Anatomy) (state : State) (kept : Invaria
           owes = fits.owes;
           calls = calls;
           looks = λ recorder. looks;
-          finals = seer_finals state.actors kept.roles.opener id a place seen given lost fits.finals;
+          finals = fits.finals;
           snapshots = fits.snapshots;
         }
 
-    fits_all : (other : ℕ) (c : Actor) → get_elem? actors other ≡ some c → c.place ≢ Spent → Fits shape kept.anatomy cursors actors kept.roles.opener other c
+    fits_all : (other : ℕ) (c : Actor) → get_elem? actors other ≡ some c → c.hand.place ≢ Spent → Fits shape kept.anatomy cursors actors kept.roles.opener other c
     fits_all other c there alive =
         fits_beside shape kept.anatomy cursors state.actors actors kept.roles.opener kept.roles.opener other c kept.roles.stands
         (set_else state.actors id 0 b (λ first. not_first (sym first)) ∙ kept.roles.stands) refl (refl, refl) same (stood_set state.actors id a b mine role)
@@ -213,9 +193,9 @@ module _ (shape : Dimensions) (opened : Anatomy) (state : State) (kept : Invaria
           | inr t ↦ fits_later shape state.words kept.anatomy state.cursors cursors state.actors kept.roles.opener other c kept.list.linked are (kept.each other c t.1 alive)
         ])
 
-    stands_all : (other : ℕ) (c : Actor) → get_elem? actors other ≡ some c → StandsRight shape kept.anatomy other c c.place
+    stands_all : (other : ℕ) (c : Actor) → get_elem? actors other ≡ some c → StandsRight shape kept.anatomy other c c.hand.place
     stands_all other c there = elim (at_set state.actors id other b c there) [
-      | inl t ↦ subst (λ (p : ℕ × Actor). StandsRight shape kept.anatomy p.0 p.1 p.1.place) (λ i. (sym t.0 i, t.1 i)) stands
+      | inl t ↦ subst (λ (p : ℕ × Actor). StandsRight shape kept.anatomy p.0 p.1 p.1.hand.place) (λ i. (sym t.0 i, t.1 i)) stands
       | inr t ↦ kept.standing other c t.1
     ]
 
@@ -230,15 +210,16 @@ module _ (shape : Dimensions) (opened : Anatomy) (state : State) (kept : Invaria
       blocks = kept.blocks;
       list = listed_set state.words opened kept.anatomy state.actors id a b mine refl kept.list;
       claims = subst (λ (claims : List Claim). IsPermutation (claims_of kept.anatomy.pieces) (claims_of opened.pieces ++ claims))
-          (sym (rows (λ (a : Actor). a.claimed) state.actors id a b mine refl)) kept.claims;
+          (sym (rows (λ (a : Actor). a.done.claimed) state.actors id a b mine refl)) kept.claims;
       records = kept.records;
+      passed_over = kept.passed_over;
       balanced = balanced kept.anatomy.version opened.pieces kept.anatomy.pieces state.actors actors same kept.balanced;
       keys = λ entry there. kept.keys entry (subst (λ (entries : List Entry). Contains entries entry) counted there);
-      taken_keys = λ t count there. kept.taken_keys t count (subst (λ (list : List Taken). Contains list t) taken there);
+      taken_keys = λ t count there. kept.taken_keys t count (subst (λ (list : List Portion). Contains list t) taken there);
       sums = near;
       pool = sum_same units_of state.actors id a b mine refl ∙ kept.pool;
-      corrupt = subst (IsSetBy kept.anatomy.corrupt opened.corrupt) (sym (column (λ (a : Actor). a.spoiled) state.actors id a b mine refl)) kept.corrupt;
-      full = subst (IsSetBy kept.anatomy.full opened.full) (sym (column (λ (a : Actor). a.filled) state.actors id a b mine refl)) kept.full;
+      corrupt = subst (IsSetBy kept.anatomy.corrupt opened.corrupt) (sym (column (λ (a : Actor). a.done.spoiled) state.actors id a b mine refl)) kept.corrupt;
+      full = subst (IsSetBy kept.anatomy.full opened.full) (sym (column (λ (a : Actor). a.done.filled) state.actors id a b mine refl)) kept.full;
       roles = roles_set state.actors id a b mine role not_first kept.roles;
       first_noted = kept.first_noted;
       answered = answered_set kept.anatomy.records state.actors id a b mine refl refl kept.answered;

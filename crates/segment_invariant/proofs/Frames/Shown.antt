@@ -1,5 +1,5 @@
 -- What is to be shown of an event of a recorder, and of one that loads a word.
-use Rattle.std.proofs.Common.{◌≡◌, ℕ, List, set, sym, subst}
+use Rattle.std.proofs.Common.{◌≡◌, ℕ, List, set, sym, subst, false}
 use mathlib.Core.Option.{some}
 use lib.ListN.{get_elem?}
 use lib.Seq.{set-get_or}
@@ -11,9 +11,10 @@ use Rattle.segment_machine.specs.Event.{Event, Learned}
 use Rattle.segment_invariant.specs.Keeps.{happened, found_at}
 use Rattle.segment_invariant.specs.Body.{Anatomy}
 use Rattle.segment_invariant.specs.Invariant.{Invariant}
+use Rattle.segment_machine.specs.Actor.{is_opener}
 
 module _ (shape : Dimensions) (opened : Anatomy) (state : State) (kept : Invariant shape opened state) (id : ℕ) (a : Actor)
-    (mine : get_elem? state.actors id ≡ some a) (records : a.opener ≡ 0) where
+    (mine : get_elem? state.actors id ≡ some a) (records : is_opener a.role ≡ false) where
   -- what is to be shown of an event
   abbrev pub Goes : Event → Type 0
   Goes event = Invariant shape opened (happened opened.version state id a event) × Learned a event (found_at state event)

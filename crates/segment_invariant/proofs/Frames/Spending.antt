@@ -68,47 +68,40 @@ some_of test name (c ∷ cs) =
 
 module _ (anatomy : Anatomy) (a : Actor) (calls : CallsRight anatomy a) where
   -- the entries of a running call are within what is held, for each name
-  pub held_covers : (name : List ℕ) → tally_noted (map entry_of a.running) name ≤ cost_of a.held name
-  held_covers name = by_running a.running refl
+  pub held_covers : (name : List ℕ) → tally_noted (map entry_of a.entries.running) name ≤ cost_of a.units.held name
+  held_covers name = by_running a.entries.running refl
     where
-      by_running : (r : List Counting) → a.running ≡ r → tally_noted (map entry_of a.running) name ≤ cost_of a.held name
+      by_running : (r : List Counting) → a.entries.running ≡ r → tally_noted (map entry_of a.entries.running) name ≤ cost_of a.units.held name
       by_running [] runs = let none = ap (λ (list : List Counting). tally_noted (map entry_of list) name) runs in omega (arith, none)
       by_running (c ∷ cs) runs =
           let (other, cost, holds, within, known) = calls.within (λ none. cc (sym runs ∙ none)) in
-          subst (λ (held : List Cost). tally_noted (map entry_of a.running) name ≤ cost_of held name) (sym holds)
-          (by_name other name (map entry_of a.running) cost within.of_name within.units)
+          subst (λ (held : List Cost). tally_noted (map entry_of a.entries.running) name ≤ cost_of held name) (sym holds)
+          (by_name other name (map entry_of a.entries.running) cost within.of_name within.units)
 
   -- so what passes a test, behind its first entries, it has spent, or holds
   pub among_spent : (test : Counting → Bool) (name : List ℕ)
-      → tally_noted (a.first ++ map entry_of (filter test (a.log ++ a.running))) name ≤ cost_of a.costs name + cost_of a.held name
+      → tally_noted (a.entries.first ++ map entry_of (filter test (a.entries.log ++ a.entries.running))) name ≤ cost_of a.units.costs name + cost_of a.units.held name
   among_spent test name =
       let logged = calls.spent name in
       let held = held_covers name in
-      let some_there = some_of test name (a.log ++ a.running) in
-      let all = noted_total name a.first (map entry_of (filter test (a.log ++ a.running))) in
-      let both = ap (λ (entries : List Entry). tally_noted entries name) (map-append entry_of a.log a.running)
-      ∙ noted_total name (map entry_of a.log) (map entry_of a.running) in
+      let some_there = some_of test name (a.entries.log ++ a.entries.running) in
+      let all = noted_total name a.entries.first (map entry_of (filter test (a.entries.log ++ a.entries.running))) in
+      let both = ap (λ (entries : List Entry). tally_noted entries name) (map-append entry_of a.entries.log a.entries.running)
+      ∙ noted_total name (map entry_of a.entries.log) (map entry_of a.entries.running) in
       omega (arith, logged, held, some_there, all, both)
 
   -- what it has counted
-  pub counted_spent : (name : List ℕ) → tally_noted (counted_of a) name ≤ cost_of a.costs name + cost_of a.held name
+  pub counted_spent : (name : List ℕ) → tally_noted (counted_of a) name ≤ cost_of a.units.costs name + cost_of a.units.held name
   counted_spent name = among_spent is_counted name
 
-  -- and what it has noted
-  pub noted_spent : (name : List ℕ) → tally_noted (noted_of a) name ≤ cost_of a.costs name + cost_of a.held name
-  noted_spent name =
-      let whole = among_spent is_noted name in
-      let parts = noted_total name a.first (noted_of a) in
-      omega (arith, whole, parts)
-
-  -- with what its redundant counts were at the opening
-  pub noted_within : (name : List ℕ) → cost_of a.first_noted name + tally_noted (noted_of a) name ≤ cost_of a.costs name + cost_of a.held name
+  -- and what it has noted, with what its redundant counts were at the opening
+  pub noted_within : (name : List ℕ) → cost_of a.entries.first_noted name + tally_noted (noted_of a) name ≤ cost_of a.units.costs name + cost_of a.units.held name
   noted_within name =
       let logged = calls.spent name in
       let held = held_covers name in
-      let some_there = some_of is_noted name (a.log ++ a.running) in
-      let both = ap (λ (entries : List Entry). tally_noted entries name) (map-append entry_of a.log a.running)
-      ∙ noted_total name (map entry_of a.log) (map entry_of a.running) in
+      let some_there = some_of is_noted name (a.entries.log ++ a.entries.running) in
+      let both = ap (λ (entries : List Entry). tally_noted entries name) (map-append entry_of a.entries.log a.entries.running)
+      ∙ noted_total name (map entry_of a.entries.log) (map entry_of a.entries.running) in
       omega (arith, logged, held, some_there, both)
 
 -- ---- all actors
@@ -119,12 +112,12 @@ spent_or_not p = inr (λ is. cc is)
 
 -- what each has spent or holds, all have
 pub all_spent : (did : Actor → List Entry) (actors : List Actor) (name : List ℕ)
-    → ((a : Actor) → Contains actors a → tally_noted (did a) name ≤ cost_of a.costs name + cost_of a.held name)
+    → ((a : Actor) → Contains actors a → tally_noted (did a) name ≤ cost_of a.units.costs name + cost_of a.units.held name)
     → tally_noted (flat_map did actors) name ≤ all_costs actors name
 all_spent did [] name each = omega arith
 all_spent did (a ∷ rest) name each =
     let first = each a (0, omega arith, refl) in
     let others = all_spent did rest name (λ b there. each b (Contains-append_right (a ∷ []) rest b there)) in
     let done = noted_total name (did a) (flat_map did rest) in
-    let costs = sum_by-cons (λ (a : Actor). cost_of a.costs name + cost_of a.held name) a rest in
+    let costs = sum_by-cons (λ (a : Actor). cost_of a.units.costs name + cost_of a.units.held name) a rest in
     omega (arith, first, others, done, costs)

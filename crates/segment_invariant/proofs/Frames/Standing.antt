@@ -44,12 +44,12 @@ grounds_itself anatomy id = record {
 pub record Follows (x y : Actor) : Type 0 where
   pub saw : (y.seen.free ≡ x.seen.free) × (y.seen.tails ≡ x.seen.tails) × (y.seen.singles ≡ x.seen.singles)
       × (y.seen.counts ≡ x.seen.counts) × (y.seen.cursors ≡ x.seen.cursors)
-  pub late : (y.beaten ≡ x.beaten) × (y.lost ≡ x.lost)
-  pub names : (known : Known) → Contains x.names known → Contains y.names known
+  pub late : (y.done.beaten ≡ x.done.beaten) × (y.done.lost ≡ x.done.lost)
+  pub names : (known : Known) → Contains x.answers.names known → Contains y.answers.names known
   pub words : (s : Sighting) → Contains x.seen.words s → Contains y.seen.words s
   pub seen : (at word : ℕ) → word_seen x.seen.words at ≡ Some word → word_seen y.seen.words at ≡ Some word
   pub chain : (at : ℕ) → Contains x.seen.chain at → Contains y.seen.chain at
-  pub own : (block : Own) → Contains x.own block → (still : Own) × Contains y.own still × (still.at ≡ block.at) × (still.tag ≡ block.tag)
+  pub own : (block : Own) → Contains x.hand.own block → (still : Own) × Contains y.hand.own still × (still.at ≡ block.at) × (still.tag ≡ block.tag)
   pub spent : x ≡ spent → y ≡ spent
 
 pub follows_itself : (x : Actor) → Follows x x
@@ -82,12 +82,12 @@ module _ (shape : Dimensions) (old new : Anatomy) (id : ℕ) (x y : Actor) (grou
   tails_on : (tail : ℕ) → Contains x.seen.tails tail → Contains y.seen.tails tail
   tails_on tail = subst (λ tails. Contains tails tail) (sym follows.saw.1)
 
-  beaten_on : (at : ℕ) → IsReachedAt (order_of old) x.beaten at → IsReachedAt (order_of new) y.beaten at
-  beaten_on at reached = subst (λ n. IsReachedAt (order_of new) n at) (sym follows.late.0) (grounds.reached x.beaten at reached)
+  beaten_on : (at : ℕ) → IsReachedAt (order_of old) x.done.beaten at → IsReachedAt (order_of new) y.done.beaten at
+  beaten_on at reached = subst (λ n. IsReachedAt (order_of new) n at) (sym follows.late.0) (grounds.reached x.done.beaten at reached)
 
-  lost_on : (cursor at : ℕ) → IsReachedAt (order_of old) (slice_index x.lost cursor) at → IsReachedAt (order_of new) (slice_index y.lost cursor) at
+  lost_on : (cursor at : ℕ) → IsReachedAt (order_of old) (slice_index x.done.lost cursor) at → IsReachedAt (order_of new) (slice_index y.done.lost cursor) at
   lost_on cursor at reached =
-      subst (λ lost. IsReachedAt (order_of new) (slice_index lost cursor) at) (sym follows.late.1) (grounds.reached (slice_index x.lost cursor) at reached)
+      subst (λ lost. IsReachedAt (order_of new) (slice_index lost cursor) at) (sym follows.late.1) (grounds.reached (slice_index x.done.lost cursor) at reached)
 
   pub stands_on : (place : Place) → StandsRight shape old id x place → StandsRight shape new id y place
   stands_on Spent stands = follows.spent stands

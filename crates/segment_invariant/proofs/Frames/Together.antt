@@ -1,5 +1,5 @@
 -- What holds of actors together, and of one beside the others, holds on where others did the same together.
-use Rattle.std.proofs.Common.{set, ◌≡◌, ◌⊎◌, ℕ, ◌+◌, ◌<◌, ◌≤◌, Some, ℤ, Bool, true, false, List, ◌-◌, ◌++◌, map, drop, length, take, inl, inr, ⊎_elim, sym, refl, ap, ◌∙◌, subst, arith}
+use Rattle.std.proofs.Common.{set, ◌≡◌, ◌⊎◌, ℕ, ◌+◌, ◌<◌, ◌≤◌, Some, ℤ, Bool, true, false, List, ◌-◌, ◌++◌, map, drop, length, take, inl, inr, ⊎_elim, sym, refl, ap, ◌∙◌, arith}
 use Rattle.std.specs.List.{Contains}
 use Rattle.std.specs.Prelude.{if◌then◌else◌}
 use mathlib.Core.Option.{some}
@@ -12,18 +12,20 @@ use Rattle.segment_machine.specs.declared.entry.Entry.{Entry}
 use Rattle.segment_machine.specs.declared.entry.Counting.{Counting}
 use Rattle.segment_machine.specs.declared.place.Place.TheVariants.{SumLoaded}
 use Rattle.segment_machine.specs.declared.actor.Actor.{Actor}
+use Rattle.segment_machine.specs.declared.actor.Portion.{Portion}
 use Rattle.segment_machine.specs.declared.actor.Answered.{Answered}
 use Rattle.segment_machine.specs.declared.actor.Cost.{Cost}
 use Rattle.segment_machine.specs.declared.actor.Moment.{Moment}
 use Rattle.segment_machine.specs.declared.actor.Taken.{Taken}
 use Rattle.segment_machine.specs.Entry.{tally_units, tally_noted}
-use Rattle.segment_machine.specs.Actor.{bucket_key, cost_of, all_counted, all_taken}
+use Rattle.segment_machine.specs.Actor.{bucket_key, cost_of, all_counted, all_taken, is_opener, made_of}
 use Rattle.segment_invariant.specs.Consistent.{IsWithinCounts}
 use Rattle.segment_invariant.specs.Body.{Record, Anatomy, Piece, Listed}
 use Rattle.segment_invariant.specs.Ledger.{IsBalanced}
 use Rattle.segment_invariant.specs.Invariant.{ended_deltas, is_living, IsMoment, IsMomentOf, IsAlone, IsSumOf, LooksBack, FinalsAreExact, Fits, HasKey, SumsAreNear}
-use Rattle.segment_invariant.proofs.Lists.Maps.{contains_map, contains_mapped, contains_take}
-use Rattle.segment_invariant.proofs.Frames.Deeds.{Deeds, SameSums, timeless, took_all}
+use Rattle.segment_invariant.proofs.Lists.Maps.{contains_take}
+use Rattle.segment_invariant.proofs.Frames.Deeds.{Deeds, SameSums}
+use Rattle.segment_invariant.proofs.Frames.Anew.{fits_anew}
 
 -- ---- all actors together
 
@@ -51,14 +53,14 @@ balanced version opened pieces old new same books = record {
 
 -- each sum that is loaded now was loaded before
 abbrev pub LoadedBefore : List Actor → List Actor → Type 0
-LoadedBefore old new = (at : ℕ) (sum : ℤ) (id : ℕ) (a : Actor) → get_elem? new id ≡ some a → a.place ≡ SumLoaded at sum
-    → (k : ℕ) × (b : Actor) × (get_elem? old k ≡ some b) × (b.place ≡ SumLoaded at sum)
+LoadedBefore old new = (at : ℕ) (sum : ℤ) (id : ℕ) (a : Actor) → get_elem? new id ≡ some a → a.hand.place ≡ SumLoaded at sum
+    → (k : ℕ) × (b : Actor) × (get_elem? old k ≡ some b) × (b.hand.place ≡ SumLoaded at sum)
 
 -- so it is where one actor becomes another that has loaded none but the one that it had
 pub loaded_set : (actors : List Actor) (id : ℕ) (a b : Actor) → get_elem? actors id ≡ some a
-    → ((at : ℕ) (sum : ℤ) → b.place ≡ SumLoaded at sum → a.place ≡ SumLoaded at sum) → LoadedBefore actors (set actors id b)
+    → ((at : ℕ) (sum : ℤ) → b.hand.place ≡ SumLoaded at sum → a.hand.place ≡ SumLoaded at sum) → LoadedBefore actors (set actors id b)
 loaded_set actors id a b mine same at sum k c there stands = elim (at_set actors id k b c there) [
-  | inl t ↦ (id, a, mine, same at sum (ap (λ (c : Actor). c.place) t.1 ∙ stands))
+  | inl t ↦ (id, a, mine, same at sum (ap (λ (c : Actor). c.hand.place) t.1 ∙ stands))
   | inr t ↦ (k, c, t.1, stands)
 ]
 
@@ -76,35 +78,21 @@ sums_near pieces old new same loaded near at r x y there first last =
     before at r sum (inr (inr (inr (id, a, is, stands)))) = inr (inr (inr (loaded at sum id a is stands)))
 
 -- what was taken in all has the names and counts that it had
-pub takings : (old new : List Actor) (t : Taken) → Deeds old new → Contains (all_taken new) t
-    → (s : Taken) × Contains (all_taken old) s × (timeless s ≡ timeless t)
-takings old new t same there =
-    let now = subst (λ (list : List Taken). Contains list (timeless t)) (sym (took_all new)) (contains_map timeless (all_taken new) t there) in
-    let before = Contains-permutation _ _ (timeless t) same.taken now in
-    contains_mapped timeless (all_taken old) (timeless t) (subst (λ (list : List Taken). Contains list (timeless t)) (took_all old) before)
-
 pub taken_keys : (records : List Listed) (old new : List Actor) → Deeds old new
-    → ((t : Taken) (count : ℤ × ℕ) → Contains (all_taken old) t → Contains t.counts count → HasKey records t.name count.0)
-    → (t : Taken) (count : ℤ × ℕ) → Contains (all_taken new) t → Contains t.counts count → HasKey records t.name count.0
-taken_keys records old new same keys t count there listed =
-    let found = takings old new t same there in
-    let s = found.0 in
-    let is = found.1 in
-    let e = found.2 in
-    let counts = ap (λ (u : Taken). u.counts) e in
-    let name = ap (λ (u : Taken). u.name) e in
-    subst (λ (n : List ℕ). HasKey records n count.0) name (keys s count is (subst (λ (list : List (ℤ × ℕ)). Contains list count) (sym counts) listed))
+    → ((t : Portion) (count : ℤ × ℕ) → Contains (all_taken old) t → Contains t.counts count → HasKey records t.name count.0)
+    → (t : Portion) (count : ℤ × ℕ) → Contains (all_taken new) t → Contains t.counts count → HasKey records t.name count.0
+taken_keys records old new same keys t count there = keys t count (Contains-permutation _ _ t same.taken there)
 
 -- ---- one beside the others
 
 -- Of two openers, of one opening, the later one has made no fewer recorders, and the last of the earlier one's is not the last any more where it
 -- has made more; who lives then lived before, or was made since.
 pub record IsLater (old new : List Actor) (opener later : Actor) : Type 0 where
-  pub first : (later.first ≡ opener.first) × (later.first_noted ≡ opener.first_noted)
-  pub more : opener.made ≤ later.made
-  pub last : (n : ℕ) → n < opener.made → n + 1 ≡ later.made → n + 1 ≡ opener.made
+  pub first : (later.entries.first ≡ opener.entries.first) × (later.entries.first_noted ≡ opener.entries.first_noted)
+  pub more : made_of opener.role ≤ made_of later.role
+  pub last : (n : ℕ) → n < made_of opener.role → n + 1 ≡ made_of later.role → n + 1 ≡ made_of opener.role
   pub lives : (k : ℕ) (c : Actor) → get_elem? new k ≡ some c → is_living c ≡ true
-      → ((b : Actor) × (get_elem? old k ≡ some b) × (is_living b ≡ true) × (b.made ≡ c.made)) ⊎ (opener.made ≤ c.made)
+      → ((b : Actor) × (get_elem? old k ≡ some b) × (is_living b ≡ true) × (made_of b.role ≡ made_of c.role)) ⊎ (made_of opener.role ≤ made_of c.role)
 
 pub within : (old new : List Actor) (s : Answered) → SameSums old new → IsWithinCounts old s → IsWithinCounts new s
 within old new s same = All-weaker
@@ -129,7 +117,7 @@ looks_back anatomy old new opener later a same since alone looks = record {
   begun = looks.begun;
   noted = λ known count has saw.
       let was = looks.noted known count has saw in
-      let first = ap (λ (list : List Entry). tally_noted (drop (length list) a.inherited ++ map (λ (c : Counting). c.entry) a.log) known.name) since.first.0 in
+      let first = ap (λ (list : List Entry). tally_noted (drop (length list) a.entries.inherited ++ map (λ (c : Counting). c.entry) a.entries.log) known.name) since.first.0 in
       let noted = ap (λ (list : List Cost). cost_of list known.name) since.first.1 in
       omega (arith, was, first, noted);
   sum = λ reference sum r stands only there. looks.sum reference sum r stands (alone only) there;
@@ -142,7 +130,7 @@ ended_among false list t there = there
 
 -- a delta that has ended began at a moment of its actor's
 pub ended_began : (a : Actor) (t : Taken) → Contains (ended_deltas a) t → IsMomentOf a t.moment
-ended_began a t there = inl (t, ended_among a.taking a.taken t there, refl)
+ended_began a t there = inl (t, ended_among a.deltas.taking a.deltas.taken t there, refl)
 
 pub moment : (old new : List Actor) (opener later : Actor) (id : ℕ) (a : Actor) (m : Moment) → IsLater old new opener later
     → IsMoment old opener id a m → IsMoment new later id a m
@@ -157,7 +145,7 @@ moment old new opener later id a m since is = record {
 }
 
 pub finals : (old new : List Actor) (opener later : Actor) (id : ℕ) (a : Actor) → SameSums old new → IsLater old new opener later
-    → (a.taking ≡ true → IsAlone new a → IsAlone old a) → FinalsAreExact old opener id a → FinalsAreExact new later id a
+    → (a.deltas.taking ≡ true → IsAlone new a → IsAlone old a) → FinalsAreExact old opener id a → FinalsAreExact new later id a
 finals old new opener later id a same since alone exact = record {
   deltas = λ t there none youngest quiet.
       let began = exact.moments t.moment (ended_began a t there) in
@@ -183,20 +171,9 @@ finals old new opener later id a same since alone exact = record {
 
 -- an actor that fits beside some fits beside others that did the same; a recorder, or one that takes, may not be alone only since
 pub fits : (shape : Dimensions) (anatomy : Anatomy) (cursors : List ℕ) (old new : List Actor) (opener later : Actor) (id : ℕ) (a : Actor)
-    → SameSums old new → IsLater old new opener later → ((a.opener ≡ 0) ⊎ (a.taking ≡ true) → IsAlone new a → IsAlone old a)
+    → SameSums old new → IsLater old new opener later → ((is_opener a.role ≡ false) ⊎ (a.deltas.taking ≡ true) → IsAlone new a → IsAlone old a)
     → Fits shape anatomy cursors old opener id a → Fits shape anatomy cursors new later id a
-fits shape anatomy cursors old new opener later id a same since alone fit = record {
-  shaped = fit.shaped;
-  versioned = fit.versioned;
-  numbered = fit.numbered;
-  sees = fit.sees;
-  ahead = fit.ahead;
-  names = fit.names;
-  own = fit.own;
-  apart = fit.apart;
-  owes = fit.owes;
-  calls = fit.calls;
-  looks = λ records. looks_back anatomy old new opener later a same since (alone (inl records)) (fit.looks records);
-  finals = finals old new opener later id a same since (λ taking. alone (inr taking)) fit.finals;
-  snapshots = All-weaker (IsWithinCounts old) (IsWithinCounts new) (λ s. within old new s same) a.snapshots fit.snapshots;
-}
+fits shape anatomy cursors old new opener later id a same since alone fit = fits_anew shape anatomy cursors old new opener later id a a.units.share a.role fit
+    (λ records. looks_back anatomy old new opener later a same since (alone (inl records)) (fit.looks records))
+    (finals old new opener later id a same since (λ taking. alone (inr taking)) fit.finals)
+    (All-weaker (IsWithinCounts old) (IsWithinCounts new) (λ s. within old new s same) a.deltas.snapshots fit.snapshots)

@@ -22,7 +22,7 @@ use Rattle.segment_invariant.proofs.Notes.Notes.{Noting, noting, SameCounts, cou
 -- ---- it fits
 
 module _ (shape : Dimensions) (anatomy : Anatomy) (cursors : List ℕ) (actors : List Actor) (opener : Actor) (id : ℕ) (a : Actor) (n : Noting) where
-  pub noting_fits : Fits shape anatomy cursors actors opener id a → All (Knows anatomy) n.names → OwesPublished a.published n.owed → CallsRight anatomy (noting a n)
+  pub noting_fits : Fits shape anatomy cursors actors opener id a → All (Knows anatomy) n.names → OwesPublished a.done.published n.owed → CallsRight anatomy (noting a n)
       → LooksBack anatomy actors opener (noting a n) → FinalsAreExact actors opener id (noting a n) → All (IsWithinCounts actors) n.snapshots
       → Fits shape anatomy cursors actors opener id (noting a n)
   noting_fits fit names owes calls looks finals snapshots = record {
@@ -45,27 +45,13 @@ module _ (shape : Dimensions) (anatomy : Anatomy) (cursors : List ℕ) (actors :
 
 -- it has the log that it had, knows what it knew, and looks at what it looked at
 abbrev pub looking_on : Actor → Noting → Noting
-looking_on a n = record n { log = a.log; names = a.names; since_singles = a.since_singles; since_counts = a.since_counts }
+looking_on a n = record n { log = a.entries.log; names = a.answers.names; since_singles = a.since.singles; since_counts = a.since.counts }
 
 -- or it looks anew
 abbrev pub looking_anew : Actor → Noting → Noting
 looking_anew a n = record n { since_singles = length a.seen.singles; since_counts = length a.seen.counts }
 
 module _ (anatomy : Anatomy) (actors : List Actor) (opener a : Actor) (n : Noting) where
-  pub looks_on : LooksBack anatomy actors opener a → LooksBack anatomy actors opener (noting a (looking_on a n))
-  looks_on looks = record {
-    most = looks.most;
-    packed = looks.packed;
-    counted = looks.counted;
-    samples = looks.samples;
-    rising = looks.rising;
-    leading = looks.leading;
-    closed = looks.closed;
-    begun = looks.begun;
-    noted = looks.noted;
-    sum = looks.sum;
-  }
-
   nothing_single : (s : Sighting) → Contains (drop (length a.seen.singles) a.seen.singles) s → ⊥
   nothing_single s there = none_in s (subst (λ (list : List Sighting). Contains list s) (drop_all (length a.seen.singles) a.seen.singles (omega arith)) there)
 
@@ -90,7 +76,7 @@ module _ (anatomy : Anatomy) (actors : List Actor) (opener a : Actor) (n : Notin
 
 -- it takes and answers nothing more
 abbrev pub taking_on : Actor → Noting → Noting
-taking_on a n = record n { taken = a.taken; taking = a.taking; snapshots = a.snapshots }
+taking_on a n = record n { taken = a.deltas.taken; taking = a.deltas.taking; snapshots = a.deltas.snapshots }
 
 module _ (actors : List Actor) (opener : Actor) (id : ℕ) (a : Actor) (n : Noting) where
   abbrev later : Actor
@@ -125,7 +111,7 @@ module _ (anatomy : Anatomy) (a : Actor) (n : Noting) where
       × (n.held ≡ record { name = name; units = cost } ∷ []) × AreWithin name cost (map (λ c. c.entry) n.running)
       × Contains (map (λ known. known.name) n.names) name)
       → length n.held ≤ 1 → All (λ c. has_ended c ≡ true) n.log → ((name : List ℕ)
-      → max (tally_noted a.first name) (cost_of a.first_noted name) + tally_noted (map (λ c. c.entry) n.log) name ≤ cost_of n.costs name)
+      → max (tally_noted a.entries.first name) (cost_of a.entries.first_noted name) + tally_noted (map (λ c. c.entry) n.log) name ≤ cost_of n.costs name)
       → (n.taking ≡ true → (n.running ≡ []) × ((before : List Taken) × (last : Taken) × (n.taken ≡ before ++ last ∷ [])))
       → CallsRight anatomy (noting a n)
   calls_by calls same ordered within held ended spent taking = record {
@@ -135,12 +121,12 @@ module _ (anatomy : Anatomy) (a : Actor) (n : Noting) where
     ended = ended;
     spent = spent;
     met = λ entry of there some_units first. ⊎_elim
-        (λ before. calls.met entry of (Contains-append_left a.inherited (counted_of a) entry before) some_units first)
+        (λ before. calls.met entry of (Contains-append_left a.entries.inherited (counted_of a) entry before) some_units first)
         (λ counted.
         let (e, was, named, keyed, units) = counted_before a (noting a n) same entry counted some_units in
         subst (λ key. (at : ℕ) × IsFirstOf anatomy.records of key at × Contains a.seen.chain at × SawSample a.seen of key at) keyed
-        (calls.met e of (Contains-append_right a.inherited (counted_of a) e was) units
+        (calls.met e of (Contains-append_right a.entries.inherited (counted_of a) e was) units
         (subst (λ name. IsFirst anatomy.records name spec.Sparse of) (sym named) first)))
-        (Contains-append_cases a.inherited (counted_of (noting a n)) entry there);
+        (Contains-append_cases a.entries.inherited (counted_of (noting a n)) entry there);
     taking = taking;
   }

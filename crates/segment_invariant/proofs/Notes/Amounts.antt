@@ -25,7 +25,7 @@ use Rattle.segment_invariant.proofs.Lists.Elements.{not_empty, one_in, below_len
 use Rattle.segment_invariant.proofs.Lists.Maps.{contains_mapped, all_left}
 use Rattle.segment_invariant.proofs.Lists.Countings.{among, beside_same, nothing_among, units_total, sum_total, noted_total, no_amount, or_false}
 use Rattle.segment_invariant.proofs.Notes.Notes.{Noting, noting, noting_of, SameCounts, notes_on}
-use Rattle.segment_invariant.proofs.Notes.Actors.{noting_fits, looks_on, finals_on, calls_by}
+use Rattle.segment_invariant.proofs.Notes.Actors.{noting_fits, finals_on, calls_by}
 use Rattle.segment_invariant.proofs.Notes.Begins.{takes_nothing}
 
 -- the last of a list, changed
@@ -56,8 +56,8 @@ one_at_most true x = omega arith
 one_at_most false x = omega arith
 
 -- The last of the running entries gets its amount.
-module _ (a : Actor) (amount : ℤ) (before : List Counting) (last : Counting) (runs : a.running ≡ before ++ last ∷ [])
-    (unsummed : last.summed ≡ false) (unnoted : last.noted ≡ false) (nothing : All (λ c. c.entry.amount ≡ pos 0) a.running) where
+module _ (a : Actor) (amount : ℤ) (before : List Counting) (last : Counting) (runs : a.entries.running ≡ before ++ last ∷ [])
+    (unsummed : last.summed ≡ false) (unnoted : last.noted ≡ false) (nothing : All (λ c. c.entry.amount ≡ pos 0) a.entries.running) where
   abbrev told : Counting
   told = record last { entry = record last.entry { amount = amount } }
 
@@ -68,7 +68,7 @@ module _ (a : Actor) (amount : ℤ) (before : List Counting) (last : Counting) (
   teller = record (noting_of a) { running = behind }
 
   zero_in : (c : Counting) → Contains (before ++ last ∷ []) c → c.entry.amount ≡ pos 0
-  zero_in c has = All-contains (λ (c : Counting). c.entry.amount ≡ pos 0) a.running c nothing (subst (λ (list : List Counting). Contains list c) (sym runs) has)
+  zero_in c has = All-contains (λ (c : Counting). c.entry.amount ≡ pos 0) a.entries.running c nothing (subst (λ (list : List Counting). Contains list c) (sym runs) has)
 
   last_zero : last.entry.amount ≡ pos 0
   last_zero = zero_in last (Contains-append_right before (last ∷ []) last (0, omega arith, refl))
@@ -109,22 +109,22 @@ module _ (a : Actor) (amount : ℤ) (before : List Counting) (last : Counting) (
   amounts_counts = record {
     counted = λ name key.
         let total : List Entry → ℕ = λ entries. tally_units entries name key in
-        beside_same ◌+◌ total (units_total name key) is_counted a.first a.log behind (before ++ last ∷ [])
+        beside_same ◌+◌ total (units_total name key) is_counted a.entries.first a.entries.log behind (before ++ last ∷ [])
         (beside_same ◌+◌ total (units_total name key) is_counted [] before (told ∷ []) (last ∷ []) (counted_one name key (is_counted last)))
-        ∙ ap (λ running. total (a.first ++ among ◌+◌ total (units_total name key) is_counted (a.log ++ running))) (sym runs);
+        ∙ ap (λ running. total (a.entries.first ++ among ◌+◌ total (units_total name key) is_counted (a.entries.log ++ running))) (sym runs);
     summed = λ name.
         let total : List Entry → ℤ = λ entries. tally_sum entries name in
-        beside_same ◌+ℤ◌ total (sum_total name) is_summed a.first a.log behind (before ++ last ∷ [])
+        beside_same ◌+ℤ◌ total (sum_total name) is_summed a.entries.first a.entries.log behind (before ++ last ∷ [])
         (beside_same ◌+ℤ◌ total (sum_total name) is_summed [] before (told ∷ []) (last ∷ []) (summed_none name told unsummed ∙ sym (summed_none name last unsummed)))
-        ∙ ap (λ running. total (a.first ++ among ◌+ℤ◌ total (sum_total name) is_summed (a.log ++ running))) (sym runs);
+        ∙ ap (λ running. total (a.entries.first ++ among ◌+ℤ◌ total (sum_total name) is_summed (a.entries.log ++ running))) (sym runs);
     noted = λ name.
         let total : List Entry → ℕ = λ entries. tally_noted entries name in
-        beside_same ◌+◌ total (noted_total name) is_noted [] a.log behind (before ++ last ∷ [])
+        beside_same ◌+◌ total (noted_total name) is_noted [] a.entries.log behind (before ++ last ∷ [])
         (beside_same ◌+◌ total (noted_total name) is_noted [] before (told ∷ []) (last ∷ []) (noted_one name (is_noted last)))
-        ∙ ap (λ running. total (among ◌+◌ total (noted_total name) is_noted (a.log ++ running))) (sym runs);
+        ∙ ap (λ running. total (among ◌+◌ total (noted_total name) is_noted (a.entries.log ++ running))) (sym runs);
     costs = λ name.
         let same : summed_cost name (noting a teller) ≡ summed_cost name a =
-        ap (λ (n : ℕ). cost_of a.costs name + (if n == 0 then 0 else cost_of a.held name))
+        ap (λ (n : ℕ). cost_of a.units.costs name + (if n == 0 then 0 else cost_of a.units.held name))
         (summed_long ∙ ap (λ (list : List Counting). length (filter (λ (c : Counting). c.summed) list)) (sym runs)) in
         omega (arith, same);
     units = refl;
@@ -139,7 +139,7 @@ module _ (a : Actor) (amount : ℤ) (before : List Counting) (last : Counting) (
   ran : (i : ℕ) (x : Counting) → get_elem? behind i ≡ some x → (get_elem? old i ≡ some x) ⊎ ((i ≡ length before) × (told ≡ x))
   ran i x there = ⊎_elim (λ was. inl (at_longer before (last ∷ []) i x was)) (λ new. inr new) (at_snoc_index before told x i there)
 
-  old_ordered : AreInOrder a.running → AreInOrder old
+  old_ordered : AreInOrder a.entries.running → AreInOrder old
   old_ordered ordered = subst AreInOrder runs ordered
 
   each_still : (P : Counting → Type 0) → All P old → P told → All P behind
@@ -219,15 +219,15 @@ amounts_kept amount shape opened state id a kept mine records ((before, last, ru
     let n : Noting = teller a amount before last runs unsummed unnoted nothing in
     let counts = amounts_counts a amount before last runs unsummed unnoted nothing in
     let f : Counting → Counting = λ c. let entry = c.entry in record c { entry = record entry { amount = amount } } in
-    let changed : change_last f a.running ≡ n.running = ap (change_last f) runs ∙ last_changed f before last in
-    let lived : a.place ≢ Spent = λ is_spent.
-    not_empty before [] last (sym runs ∙ ap (λ (a : Actor). a.running) (subst (StandsRight shape kept.anatomy id a) is_spent (kept.standing id a mine))) in
-    subst (λ (running : List Counting). Invariant shape opened (record state { actors = set state.actors id (record a { running = running }) })) (sym changed)
+    let changed : change_last f a.entries.running ≡ n.running = ap (change_last f) runs ∙ last_changed f before last in
+    let lived : a.hand.place ≢ Spent = λ is_spent.
+    not_empty before [] last (sym runs ∙ ap (λ (a : Actor). a.entries.running) (subst (StandsRight shape kept.anatomy id a) is_spent (kept.standing id a mine))) in
+    subst (λ (running : List Counting). Invariant shape opened (record state { actors = set state.actors id (record a { entries = record a.entries { running = running } }) })) (sym changed)
     (notes_on shape opened state kept id a mine records n lived counts (takes_nothing a n) (λ name key. refl) (λ known has. has)
     (answered_set kept.anatomy.records state.actors id a (noting a n) mine refl refl)
     (λ fit.
     let (name, cost, holds, within, known) = fit.calls.within (λ none. not_empty before [] last (sym runs ∙ none)) in
-    let held_is : cost_total a.held ≡ 0 + cost = ap cost_total holds in
+    let held_is : cost_total a.units.held ≡ 0 + cost = ap cost_total holds in
     noting_fits shape kept.anatomy state.cursors _ kept.roles.opener id a n fit fit.names fit.owes
     (calls_by kept.anatomy a n fit.calls counts
     (amounts_ordered a amount before last runs unsummed unnoted nothing (subst AreInOrder runs fit.calls.ordered))
@@ -243,7 +243,7 @@ amounts_kept amount shape opened state id a kept mine records ((before, last, ru
     ))
     fit.calls.held fit.calls.ended fit.calls.spent
     (λ taking. absurd (not_empty before [] last (sym runs ∙ (fit.calls.taking taking).0))))
-    (looks_on kept.anatomy _ kept.roles.opener a n (fit.looks records))
+    (fit.looks records)
     (finals_on _ kept.roles.opener id a n (omega arith)
     (λ name k low quiet. amounts_quiet a amount before last runs unsummed unnoted nothing name k quiet) fit.finals)
     fit.snapshots))

@@ -1,5 +1,5 @@
 -- Notes keep what holds one after the other, and so does an announcement of them.
-use Rattle.std.proofs.Common.{◌≡◌, ℕ, List, [], ◌∷◌, set, refl, sym, ap, subst, ◌∙◌}
+use Rattle.std.proofs.Common.{◌≡◌, ℕ, List, [], ◌∷◌, set, refl, sym, ap, subst, ◌∙◌, false}
 use Rattle.std.proofs.lemmas.List.{set-set}
 use mathlib.Core.Option.{some}
 use lib.ListN.{get_elem?}
@@ -13,9 +13,10 @@ use Rattle.segment_invariant.specs.Body.{Anatomy}
 use Rattle.segment_invariant.specs.Invariant.{Invariant}
 use Rattle.segment_invariant.specs.Keeps.{AnnouncementsKeep}
 use Rattle.segment_invariant.proofs.Notes.Keeps.{notes_keep}
+use Rattle.segment_machine.specs.Actor.{is_opener}
 
 -- a note makes no opener of a recorder
-still_records : (a : Actor) (note : Note) → (noted a note).opener ≡ a.opener
+still_records : (a : Actor) (note : Note) → is_opener (noted a note).role ≡ is_opener a.role
 still_records a (begins name cost entries) = refl
 still_records a (goes_on entry cost) = refl
 still_records a (amounts amount) = refl
@@ -35,12 +36,12 @@ with_actor state id a = record state { actors = set state.actors id a }
 
 -- notes keep what holds one after the other
 pub notes_follow : (shape : Dimensions) (opened : Anatomy) (notes : List Note) (state : State) (id : ℕ) (a b : Actor) → Invariant shape opened state
-    → get_elem? state.actors id ≡ some a → a.opener ≡ 0 → Notes a notes b
-    → Invariant shape opened (with_actor state id b) × (b.opener ≡ 0)
+    → get_elem? state.actors id ≡ some a → is_opener a.role ≡ false → Notes a notes b
+    → Invariant shape opened (with_actor state id b) × (is_opener b.role ≡ false)
 notes_follow shape opened [] state id a b kept there records same = (
   subst (λ actors. Invariant shape opened (record state { actors = actors }))
       (sym (set_again state.actors id a there) ∙ ap (λ x. set state.actors id x) same) kept,
-  sym (ap (λ (x : Actor). x.opener) same) ∙ records,
+  sym (ap (λ (x : Actor). is_opener x.role) same) ∙ records,
 )
 notes_follow shape opened (note ∷ notes) state id a b kept there records (may, more) =
     let first = notes_keep note shape opened state id a kept there records may in

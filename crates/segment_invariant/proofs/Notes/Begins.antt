@@ -18,10 +18,10 @@ use Rattle.segment_invariant.proofs.Lists.Elements.{from_map, all_of}
 use Rattle.segment_invariant.proofs.Lists.Maps.{contains_mapped}
 use Rattle.segment_invariant.proofs.Lists.Countings.{untouched_counts, untouched_sums, untouched_notes}
 use Rattle.segment_invariant.proofs.Notes.Notes.{Noting, noting, noting_of, SameCounts, SameTakes, notes_on}
-use Rattle.segment_invariant.proofs.Notes.Actors.{noting_fits, looks_on, looks_anew, finals_on, calls_by}
+use Rattle.segment_invariant.proofs.Notes.Actors.{noting_fits, looks_anew, finals_on, calls_by}
 
 -- it takes nothing
-pub takes_nothing : (a : Actor) (n : Noting) → SameTakes a (noting a (record n { taken = a.taken }))
+pub takes_nothing : (a : Actor) (n : Noting) → SameTakes a (noting a (record n { taken = a.deltas.taken }))
 takes_nothing a n = record { taken = λ name key. refl; taken_sums = λ name. refl; from = λ t there. inl there }
 
 -- ---- it looks anew
@@ -68,7 +68,7 @@ fresh_unsummed : (entries : List Entry) → filter (λ (c : Counting). c.summed)
 fresh_unsummed [] = refl
 fresh_unsummed (e ∷ es) = fresh_unsummed es
 
-module _ (a : Actor) (name : List ℕ) (cost : ℕ) (entries : List Entry) (runs : a.running ≡ []) (holds : a.held ≡ []) (enough : cost ≤ a.share) where
+module _ (a : Actor) (name : List ℕ) (cost : ℕ) (entries : List Entry) (runs : a.entries.running ≡ []) (holds : a.units.held ≡ []) (enough : cost ≤ a.units.share) where
   abbrev begun : Actor
   begun = noted a (begins name cost entries)
 
@@ -77,24 +77,24 @@ module _ (a : Actor) (name : List ℕ) (cost : ℕ) (entries : List Entry) (runs
 
   begins_counts : SameCounts a begun
   begins_counts = record {
-    counted = λ name key. untouched_counts a.first a.log (map fresh entries) untouched name key
-        ∙ ap (λ running. tally_units (a.first ++ counted_among (a.log ++ running)) name key) (sym runs);
-    summed = λ name. untouched_sums a.first a.log (map fresh entries) untouched name
-        ∙ ap (λ running. tally_sum (a.first ++ summed_among (a.log ++ running)) name) (sym runs);
-    noted = λ name. untouched_notes [] a.log (map fresh entries) untouched name
-        ∙ ap (λ running. tally_noted (noted_among (a.log ++ running)) name) (sym runs);
+    counted = λ name key. untouched_counts a.entries.first a.entries.log (map fresh entries) untouched name key
+        ∙ ap (λ running. tally_units (a.entries.first ++ counted_among (a.entries.log ++ running)) name key) (sym runs);
+    summed = λ name. untouched_sums a.entries.first a.entries.log (map fresh entries) untouched name
+        ∙ ap (λ running. tally_sum (a.entries.first ++ summed_among (a.entries.log ++ running)) name) (sym runs);
+    noted = λ name. untouched_notes [] a.entries.log (map fresh entries) untouched name
+        ∙ ap (λ running. tally_noted (noted_among (a.entries.log ++ running)) name) (sym runs);
     costs = λ of.
-        let now : summed_cost of begun ≡ cost_of a.costs of + 0 =
-        ap (λ (list : List Counting). cost_of a.costs of + (if length list == 0 then 0 else cost_of begun.held of)) (fresh_unsummed entries) in
-        let before : summed_cost of a ≡ cost_of a.costs of + 0 =
-        ap (λ (list : List Counting). cost_of a.costs of + (if length (filter (λ (c : Counting). c.summed) list) == 0 then 0 else cost_of a.held of)) runs in
+        let now : summed_cost of begun ≡ cost_of a.units.costs of + 0 =
+        ap (λ (list : List Counting). cost_of a.units.costs of + (if length list == 0 then 0 else cost_of begun.units.held of)) (fresh_unsummed entries) in
+        let before : summed_cost of a ≡ cost_of a.units.costs of + 0 =
+        ap (λ (list : List Counting). cost_of a.units.costs of + (if length (filter (λ (c : Counting). c.summed) list) == 0 then 0 else cost_of a.units.held of)) runs in
         omega (arith, now, before);
     units =
-        let none : cost_total a.held ≡ 0 = ap cost_total holds in
+        let none : cost_total a.units.held ≡ 0 = ap cost_total holds in
         omega (arith, none, enough);
   }
 
-begins_quiet : (a : Actor) (name of : List ℕ) (cost k : ℕ) (entries : List Entry) → a.running ≡ []
+begins_quiet : (a : Actor) (name of : List ℕ) (cost k : ℕ) (entries : List Entry) → a.entries.running ≡ []
     → IsQuiet (noted a (begins name cost entries)) of k → IsQuiet a of k
 begins_quiet a name of cost k entries runs quiet = (
   quiet.0,
@@ -103,7 +103,7 @@ begins_quiet a name of cost k entries runs quiet = (
 
 pub begins_kept : (name : List ℕ) (cost : ℕ) (entries : List Entry) → NoteKeeps (begins name cost entries)
 begins_kept name cost entries shape opened state id a kept mine records (lived, recorder, runs, holds, takes, enough, known, within) =
-    let n : Noting = record (noting_of a) { share = a.share - cost; held = record { name = name; units = cost } ∷ []; running = map fresh entries } in
+    let n : Noting = record (noting_of a) { share = a.units.share - cost; held = record { name = name; units = cost } ∷ []; running = map fresh entries } in
     let counts = begins_counts a name cost entries runs holds enough in
     notes_on shape opened state kept id a mine records n lived counts (takes_nothing a n) (λ name key. refl) (λ known has. has)
     (answered_set kept.anatomy.records state.actors id a (noting a n) mine refl refl)
@@ -111,6 +111,6 @@ begins_kept name cost entries shape opened state id a kept mine records (lived, 
     (calls_by kept.anatomy a n fit.calls counts (fresh_ordered entries)
     (λ some_run. (name, cost, refl, subst (AreWithin name cost) (sym (fresh_entries entries)) within, known))
     (omega arith) fit.calls.ended fit.calls.spent (λ taking. absurd (true≢false (sym taking ∙ takes))))
-    (looks_on kept.anatomy _ kept.roles.opener a n (fit.looks records))
+    (fit.looks records)
     (finals_on _ kept.roles.opener id a n (omega arith) (λ of k within quiet. begins_quiet a name of cost k entries runs quiet) fit.finals)
     fit.snapshots)

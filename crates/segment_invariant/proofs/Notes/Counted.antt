@@ -14,7 +14,7 @@ use Rattle.segment_machine.specs.declared.actor.Actor.{Actor}
 use Rattle.segment_machine.specs.declared.actor.Known.{Known}
 use Rattle.segment_machine.specs.declared.place.Place.TheVariants.{Spent}
 use Rattle.segment_machine.specs.Entry.{is_of, tally_units}
-use Rattle.segment_machine.specs.Actor.{log_of, counted_of, has_buckets, bucket_key, accepted_by, all_counted}
+use Rattle.segment_machine.specs.Actor.{log_of, counted_of, has_buckets, bucket_key, accepted_by, all_counted, is_opener}
 use Rattle.segment_machine.specs.Made.{SawSample}
 use Rattle.segment_machine.specs.Note.{is_untouched}
 use Rattle.segment_machine.specs.State.{State}
@@ -47,8 +47,8 @@ IsBucketKey known key =
     (has_buckets known.spec ≡ true) × ((bucket : ℕ) × (bucket < buckets_of known.spec) × (key ≡ bucket_key (Some known) bucket))
 
 module _ (shape : Dimensions) (opened : Anatomy) (state : State) (kept : Invariant shape opened state) (id : ℕ) (a : Actor)
-    (mine : get_elem? state.actors id ≡ some a) (records : a.opener ≡ 0) (lives : a.place ≢ Spent) (alone : IsAlone state.actors a)
-    (known : Known) (has : Contains a.names known) (quiet : All (λ c. (is_of known.name c.entry ≡ false) ⊎ (is_untouched c ≡ true)) a.running) where
+    (mine : get_elem? state.actors id ≡ some a) (records : is_opener a.role ≡ false) (lives : a.hand.place ≢ Spent) (alone : IsAlone state.actors a)
+    (known : Known) (has : Contains a.answers.names known) (quiet : All (λ c. (is_of known.name c.entry ≡ false) ⊎ (is_untouched c ≡ true)) a.entries.running) where
   -- or the value of a sample that it met
   abbrev pub IsMet : ℤ → Type 0
   IsMet key = (known.spec ≡ spec.Sparse)
@@ -57,7 +57,7 @@ module _ (shape : Dimensions) (opened : Anatomy) (state : State) (kept : Invaria
   pub counted_at : (key : ℤ) → 0 < tally_units (all_counted state.actors) known.name key → IsBucketKey known key ⊎ IsMet key
   counted_at key some_units =
       let fits = kept.each id a mine lives in
-      let knows = All-contains (Knows kept.anatomy) a.names known fits.names has in
+      let knows = All-contains (Knows kept.anatomy) a.answers.names known fits.names has in
       let (entry, among, named, keyed, units) = tally_at (all_counted state.actors) known.name key some_units in
       let (kind, at, first, place) = subst₂ (HasKey kept.anatomy.records) named keyed (kept.keys entry among units) in
       let (at_is, kind_is) = one_first shape opened state kept known.name kind knows.first_spec at known.reference first knows.first in
@@ -72,10 +72,10 @@ module _ (shape : Dimensions) (opened : Anatomy) (state : State) (kept : Invaria
       let fields : spec_fields known.spec ≡ spec_fields spec.Sparse = sym knows.same.0 ∙ ap spec_fields (sym kind_is ∙ sparse) in
       let accepted = counted_accepted shape opened state kept id a mine records lives alone known.name quiet key in
       let (e, there, of_name, of_key, more) = tally_at (accepted_by a) known.name key (omega (arith, accepted, some_units)) in
-      let counted : Contains (a.inherited ++ counted_of a) e = ⊎_elim
-      (λ before. Contains-append_left a.inherited (counted_of a) e before)
+      let counted : Contains (a.entries.inherited ++ counted_of a) e = ⊎_elim
+      (λ before. Contains-append_left a.entries.inherited (counted_of a) e before)
       (λ since. logged_counted a e fits.calls.ended since)
-      (Contains-append_cases a.inherited (log_of a) e there) in
+      (Contains-append_cases a.entries.inherited (log_of a) e there) in
       let met = fits.calls.met e known.reference counted more
       (subst₂ (λ name at. IsFirst kept.anatomy.records name spec.Sparse at) (sym of_name) at_is
       (subst (λ kind. IsFirst kept.anatomy.records known.name kind at) sparse first)) in

@@ -12,19 +12,19 @@ use lib.ListN.{get_elem?}
 use Rattle.atomic_table.proofs.Lists.{set_else}
 use Rattle.segment_invariant.proofs.Frames.Answers.{answered_set}
 use Rattle.segment_machine.specs.declared.actor.Actor.{Actor}
-use Rattle.segment_machine.specs.declared.actor.Moment.{Moment}
+use Rattle.segment_machine.specs.declared.actor.Portion.{Portion}
 use Rattle.segment_machine.specs.declared.actor.Taken.{Taken}
-use Rattle.segment_machine.specs.Actor.{units_listed, taken_sum}
+use Rattle.segment_machine.specs.Actor.{units_listed, taken_sum, taken_of, portion_of, taken_units, taken_sum, made_of, outstanding_of}
 use Rattle.segment_machine.specs.Note.{takes, moment_of, nothing_taken}
 use Rattle.segment_invariant.specs.Invariant.{is_living, ended_deltas, IsMoment, FinalsAreExact}
 use Rattle.segment_invariant.specs.Keeps.{NoteKeeps}
 use Rattle.segment_invariant.proofs.Lists.Elements.{one_in}
 use Rattle.segment_invariant.proofs.Lists.FewTerms.{if_nothing}
-use Rattle.segment_invariant.proofs.Lists.Sums.{amounts_total}
 use Rattle.segment_invariant.proofs.Frames.OneActor.{lives_on}
 use Rattle.segment_invariant.proofs.Frames.GoesOn.{not_opener}
 use Rattle.segment_invariant.proofs.Notes.Notes.{Noting, noting, noting_of, SameCounts, SameTakes, notes_on}
 use Rattle.segment_invariant.proofs.Notes.Actors.{noting_fits, looks_anew, calls_by}
+use Rattle.segment_invariant.proofs.Lists.Portions.{taken_sum_total, portions_push}
 
 module _ (a : Actor) (name : List ℕ) where
   abbrev begun : Taken
@@ -35,7 +35,7 @@ module _ (a : Actor) (name : List ℕ) where
     since_singles = length a.seen.singles;
     since_counts = length a.seen.counts;
     taking = true;
-    taken = a.taken ++ begun ∷ [];
+    taken = a.deltas.taken ++ begun ∷ [];
   }
 
   takes_counts : SameCounts a (noting a taker)
@@ -44,31 +44,31 @@ module _ (a : Actor) (name : List ℕ) where
   takes_same : SameTakes a (noting a taker)
   takes_same = record {
     taken = λ of key.
-        let all = sum_by_push (λ (t : Taken). if bytes_eq t.name of then units_listed t.counts key else 0) a.taken begun in
+        let more = ap (λ list. taken_units list of key) (portions_push a.deltas.first_taken a.deltas.taken begun) in
+        let all = sum_by_push (λ (t : Portion). if bytes_eq t.name of then units_listed t.counts key else 0) (taken_of a) (portion_of begun) in
         let none = if_nothing {X = ℕ} (bytes_eq name of) 0 0 refl in
-        omega (arith, all, none);
+        omega (arith, more, all, none);
     taken_sums = λ of.
-        amounts_total (λ (t : Taken). if bytes_eq t.name of then t.sum else pos 0) a.taken (begun ∷ [])
-        ∙ (ap (λ (z : ℤ). taken_sum a.taken of +ℤ (pos 0 +ℤ z)) (if_nothing (bytes_eq name of) (pos 0) (pos 0) refl) ∙ +ℤ_idr (taken_sum a.taken of));
-    from = λ t has. ⊎_elim (λ old. inl old) (λ new. inr (ap (λ (t : Taken). t.counts) (sym (one_in begun t new)))) (Contains-append_cases a.taken (begun ∷ []) t has);
+        ap (λ list. taken_sum list of) (portions_push a.deltas.first_taken a.deltas.taken begun)
+        ∙ (taken_sum_total of (taken_of a) (portion_of begun ∷ [])
+        ∙ (ap (λ (z : ℤ). taken_sum (taken_of a) of +ℤ (pos 0 +ℤ z)) (if_nothing (bytes_eq name of) (pos 0) (pos 0) refl) ∙ +ℤ_idr (taken_sum (taken_of a) of)));
+    from = λ t has. ⊎_elim (λ old. inl old) (λ new. inr (ap (λ (t : Portion). t.counts) (sym (one_in (portion_of begun) t new))))
+        (Contains-append_cases (taken_of a) (portion_of begun ∷ []) t (subst (λ list. Contains list t) (portions_push a.deltas.first_taken a.deltas.taken begun) has));
   }
 
   -- the deltas that have ended are all that it had
-  ended_before : a.taking ≡ false → (t : Taken) → Contains (ended_deltas (noting a taker)) t → Contains (ended_deltas a) t
+  ended_before : a.deltas.taking ≡ false → (t : Taken) → Contains (ended_deltas (noting a taker)) t → Contains (ended_deltas a) t
   ended_before rests t has =
-      let long = length_push a.taken begun in
-      let count : length (a.taken ++ begun ∷ []) - 1 ≡ length a.taken = omega (arith, long) in
-      let same : take (length (a.taken ++ begun ∷ []) - 1) (a.taken ++ begun ∷ []) ≡ a.taken =
-      ap (λ (k : ℕ). take k (a.taken ++ begun ∷ [])) count ∙ take-append_seam a.taken (begun ∷ []) in
-      subst (λ (b : Bool). Contains (if b then take (length a.taken - 1) a.taken else a.taken) t) (sym rests) (subst (λ (list : List Taken). Contains list t) same has)
+      let long = length_push a.deltas.taken begun in
+      let count : length (a.deltas.taken ++ begun ∷ []) - 1 ≡ length a.deltas.taken = omega (arith, long) in
+      let same : take (length (a.deltas.taken ++ begun ∷ []) - 1) (a.deltas.taken ++ begun ∷ []) ≡ a.deltas.taken =
+      ap (λ (k : ℕ). take k (a.deltas.taken ++ begun ∷ [])) count ∙ take-append_seam a.deltas.taken (begun ∷ []) in
+      subst (λ (b : Bool). Contains (if b then take (length a.deltas.taken - 1) a.deltas.taken else a.deltas.taken) t) (sym rests) (subst (λ (list : List Taken). Contains list t) same has)
 
-  module _ (actors : List Actor) (opener : Actor) (id : ℕ) (rests : a.taking ≡ false) (younger : a.made < opener.made)
-      (eldest : a.outstanding ≡ 0 → (other : ℕ) (c : Actor) → get_elem? actors other ≡ some c → is_living c ≡ true → other ≢ id → a.made < c.made) where
+  module _ (actors : List Actor) (opener : Actor) (id : ℕ) (rests : a.deltas.taking ≡ false) (younger : made_of a.role < made_of opener.role)
+      (eldest : outstanding_of a.role ≡ 0 → (other : ℕ) (c : Actor) → get_elem? actors other ≡ some c → is_living c ≡ true → other ≢ id → made_of a.role < made_of c.role) where
     begins_now : IsMoment actors opener id (noting a taker) (moment_of a)
     begins_now = record { logged = omega arith; before = younger; mine = λ records. (refl, refl); eldest = eldest }
-
-    moment_still : (m : Moment) → IsMoment actors opener id a m → IsMoment actors opener id (noting a taker) m
-    moment_still m is = record { logged = is.logged; before = is.before; mine = is.mine; eldest = is.eldest }
 
     takes_finals : FinalsAreExact actors opener id a → FinalsAreExact actors opener id (noting a taker)
     takes_finals exact = record {
@@ -76,13 +76,13 @@ module _ (a : Actor) (name : List ℕ) where
       snapshots = exact.snapshots;
       moments = λ m of. ⊎_elim
           (λ took. ⊎_elim
-          (λ old. moment_still m (exact.moments m (inl (took.0, old, took.2))))
+          (λ old. exact.moments m (inl (took.0, old, took.2)))
           (λ new. subst (IsMoment actors opener id (noting a taker)) (ap (λ (t : Taken). t.moment) (one_in begun took.0 new) ∙ took.2) begins_now)
-          (Contains-append_cases a.taken (begun ∷ []) took.0 took.1))
-          (λ answered. moment_still m (exact.moments m (inr answered)))
+          (Contains-append_cases a.deltas.taken (begun ∷ []) took.0 took.1))
+          (λ answered. exact.moments m (inr answered))
           of;
       swapped = λ before last goes is swapped alone.
-          absurd (true≢false (sym swapped ∙ ap (λ (t : Taken). t.swapped) (sym (same_from_push a.taken before begun last is).1)));
+          absurd (true≢false (sym swapped ∙ ap (λ (t : Taken). t.swapped) (sym (same_from_push a.deltas.taken before begun last is).1)));
     }
 
 pub takes_kept : (name : List ℕ) → NoteKeeps (takes name)
@@ -94,7 +94,7 @@ takes_kept name shape opened state id a kept mine records (lived, recorder, runs
     (answered_set kept.anatomy.records state.actors id a (noting a n) mine refl refl)
     (λ fit. noting_fits shape kept.anatomy state.cursors _ kept.roles.opener id a n fit fit.names fit.owes
     (calls_by kept.anatomy a n fit.calls (takes_counts a name) fit.calls.ordered fit.calls.within fit.calls.held fit.calls.ended fit.calls.spent
-    (λ taking. (runs, (a.taken, nothing_taken a name, refl))))
+    (λ taking. (runs, (a.deltas.taken, nothing_taken a name, refl))))
     (looks_anew kept.anatomy _ kept.roles.opener a n (fit.looks records))
     (takes_finals a name _ kept.roles.opener id rests (kept.roles.younger id a mine lives)
     (λ none other c there alive ne. kept.roles.eldest id other a c mine (sym (set_else state.actors id other (noting a n) ne) ∙ there) lives alive (λ same. ne (sym same)) none)

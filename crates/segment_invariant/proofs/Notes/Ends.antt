@@ -17,7 +17,7 @@ use Rattle.segment_machine.specs.declared.place.Place.TheVariants.{Spent}
 use Rattle.segment_machine.specs.declared.actor.Actor.{Actor}
 use Rattle.segment_machine.specs.declared.actor.Cost.{Cost}
 use Rattle.segment_machine.specs.Entry.{is_counted, is_summed, has_ended, is_of, tally_units, tally_sum, tally_noted, counted_among, summed_among, noted_among}
-use Rattle.segment_machine.specs.Actor.{log_of, cost_of, cost_total, is_bound}
+use Rattle.segment_machine.specs.Actor.{log_of, cost_of, cost_total, is_bound, is_opener}
 use Rattle.segment_machine.specs.Note.{ends, refused, is_untouched, units_running, spent_by, noted}
 use Rattle.segment_machine.specs.State.{State}
 use Rattle.segment_invariant.specs.Body.{Anatomy}
@@ -34,14 +34,14 @@ use Rattle.segment_invariant.proofs.Frames.Spending.{by_name, held_covers}
 
 -- ---- its log is longer
 
-log_more : (a : Actor) (ended : List Counting) → a.first ++ map (λ (c : Counting). c.entry) (a.log ++ ended) ≡ log_of a ++ map (λ (c : Counting). c.entry) ended
+log_more : (a : Actor) (ended : List Counting) → a.entries.first ++ map (λ (c : Counting). c.entry) (a.entries.log ++ ended) ≡ log_of a ++ map (λ (c : Counting). c.entry) ended
 log_more a ended =
-    ap (λ (list : List Entry). a.first ++ list) (map-append (λ (c : Counting). c.entry) a.log ended)
-    ∙ sym (append_assoc a.first (map (λ (c : Counting). c.entry) a.log) (map (λ (c : Counting). c.entry) ended))
+    ap (λ (list : List Entry). a.entries.first ++ list) (map-append (λ (c : Counting). c.entry) a.entries.log ended)
+    ∙ sym (append_assoc a.entries.first (map (λ (c : Counting). c.entry) a.entries.log) (map (λ (c : Counting). c.entry) ended))
 
 -- it was quiet where nothing was counted since, neither before nor by the call that ended
-quiet_before : (a : Actor) (ended : List Counting) (name : List ℕ) (k : ℕ) → ((c : Counting) → Contains a.running c → Contains ended c ⊎ (is_untouched c ≡ true))
-    → k ≤ length (log_of a) → All (λ entry. is_of name entry ≡ false) (drop k (a.first ++ map (λ (c : Counting). c.entry) (a.log ++ ended))) → IsQuiet a name k
+quiet_before : (a : Actor) (ended : List Counting) (name : List ℕ) (k : ℕ) → ((c : Counting) → Contains a.entries.running c → Contains ended c ⊎ (is_untouched c ≡ true))
+    → k ≤ length (log_of a) → All (λ entry. is_of name entry ≡ false) (drop k (a.entries.first ++ map (λ (c : Counting). c.entry) (a.entries.log ++ ended))) → IsQuiet a name k
 quiet_before a ended name k running low quiet =
     let rests : Entry → Type 0 = λ entry. is_of name entry ≡ false in
     let entries = map (λ (c : Counting). c.entry) ended in
@@ -49,7 +49,7 @@ quiet_before a ended name k running low quiet =
     subst (All rests) (ap (drop k) (log_more a ended) ∙ drop-append-le k (log_of a) entries low) quiet in
     let holds : Counting → Type 0 = λ c. (is_of name c.entry ≡ false) ⊎ (is_untouched c ≡ true) in (
       all_left rests (drop k (log_of a)) entries all,
-      all_of holds a.running (λ c has. ⊎_elim
+      all_of holds a.entries.running (λ c has. ⊎_elim
           (λ done. inl (All-contains rests (drop k (log_of a) ++ entries) c.entry all
           (Contains-append_right (drop k (log_of a)) entries c.entry (contains_map (λ (c : Counting). c.entry) ended c done))))
           (λ nothing. inr nothing)
@@ -65,7 +65,7 @@ none_ordered = record {
   amounted = All-nil (λ (c : Counting). c.summed ≡ true → c.entry.amount ≢ pos 0);
 }
 
-unbound_lives : (a : Actor) → is_bound a.place ≡ false → a.place ≢ Spent
+unbound_lives : (a : Actor) → is_bound a.hand.place ≡ false → a.hand.place ≢ Spent
 unbound_lives a unbound spent = cc (unbound, ap is_bound spent)
 
 -- A call that has ended so many of its entries, and spent so much, is gone: what holds is kept.
@@ -75,17 +75,17 @@ module _ (a : Actor) (share : ℕ) (spent : List Cost) (ended : List Counting) w
     since_singles = length a.seen.singles;
     since_counts = length a.seen.counts;
     share = share;
-    log = a.log ++ ended;
+    log = a.entries.log ++ ended;
     running = [];
-    costs = a.costs ++ spent;
+    costs = a.units.costs ++ spent;
     held = [];
   }
 
   module _ (counts : SameCounts a (noting a gone)) (done : All (λ c. has_ended c ≡ true) ended)
-      (running : (c : Counting) → Contains a.running c → Contains ended c ⊎ (is_untouched c ≡ true))
+      (running : (c : Counting) → Contains a.entries.running c → Contains ended c ⊎ (is_untouched c ≡ true))
       (pays : (anatomy : Anatomy) → CallsRight anatomy a → (name : List ℕ) → tally_noted (map (λ (c : Counting). c.entry) ended) name ≤ cost_of spent name) where
     ends_with : (shape : Dimensions) (opened : Anatomy) (state : State) (id : ℕ) (kept : Invariant shape opened state) (mine : get_elem? state.actors id ≡ some a)
-        → a.opener ≡ 0 → a.place ≢ Spent → Invariant shape opened (record state { actors = set state.actors id (noting a gone) })
+        → is_opener a.role ≡ false → a.hand.place ≢ Spent → Invariant shape opened (record state { actors = set state.actors id (noting a gone) })
     ends_with shape opened state id kept mine records lived =
         let longer = ap length (log_more a ended) in
         let long = length-append (log_of a) (map (λ (c : Counting). c.entry) ended) in
@@ -93,11 +93,11 @@ module _ (a : Actor) (share : ℕ) (spent : List Cost) (ended : List Counting) w
         (answered_set kept.anatomy.records state.actors id a (noting a gone) mine refl refl)
         (λ fit. noting_fits shape kept.anatomy state.cursors _ kept.roles.opener id a gone fit fit.names fit.owes
         (calls_by kept.anatomy a gone fit.calls counts none_ordered (λ some_run. absurd (some_run refl)) (omega arith)
-        (All-append (λ (c : Counting). has_ended c ≡ true) a.log ended fit.calls.ended done)
+        (All-append (λ (c : Counting). has_ended c ≡ true) a.entries.log ended fit.calls.ended done)
         (λ name.
-        let logs = ap (λ (entries : List Entry). tally_noted entries name) (map-append (λ (c : Counting). c.entry) a.log ended) in
-        let both = noted_total name (map (λ (c : Counting). c.entry) a.log) (map (λ (c : Counting). c.entry) ended) in
-        let costs = sum_by-append (λ (cost : Cost). if bytes_eq cost.name name then cost.units else 0) a.costs spent in
+        let logs = ap (λ (entries : List Entry). tally_noted entries name) (map-append (λ (c : Counting). c.entry) a.entries.log ended) in
+        let both = noted_total name (map (λ (c : Counting). c.entry) a.entries.log) (map (λ (c : Counting). c.entry) ended) in
+        let costs = sum_by-append (λ (cost : Cost). if bytes_eq cost.name name then cost.units else 0) a.units.costs spent in
         let before = fit.calls.spent name in
         let now = pays kept.anatomy fit.calls name in
         omega (arith, logs, both, costs, before, now))
@@ -110,35 +110,35 @@ module _ (a : Actor) (share : ℕ) (spent : List Cost) (ended : List Counting) w
 
 ends_counts : (a : Actor) → SameCounts a (noted a ends)
 ends_counts a = record {
-  counted = λ name key. ap (λ list. tally_units (a.first ++ counted_among list) name key) (append-nil (a.log ++ a.running));
-  summed = λ name. ap (λ list. tally_sum (a.first ++ summed_among list) name) (append-nil (a.log ++ a.running));
-  noted = λ name. ap (λ list. tally_noted (noted_among list) name) (append-nil (a.log ++ a.running));
+  counted = λ name key. ap (λ list. tally_units (a.entries.first ++ counted_among list) name key) (append-nil (a.entries.log ++ a.entries.running));
+  summed = λ name. ap (λ list. tally_sum (a.entries.first ++ summed_among list) name) (append-nil (a.entries.log ++ a.entries.running));
+  noted = λ name. ap (λ list. tally_noted (noted_among list) name) (append-nil (a.entries.log ++ a.entries.running));
   costs = λ name.
-      let all : cost_of (a.costs ++ a.held) name ≡ cost_of a.costs name + cost_of a.held name =
-      sum_by-append (λ (cost : Cost). if bytes_eq cost.name name then cost.units else 0) a.costs a.held in
+      let all : cost_of (a.units.costs ++ a.units.held) name ≡ cost_of a.units.costs name + cost_of a.units.held name =
+      sum_by-append (λ (cost : Cost). if bytes_eq cost.name name then cost.units else 0) a.units.costs a.units.held in
       let most = summed_most name a in
       omega (arith, all, most);
   units =
-      let all = sum_by-append (λ (cost : Cost). cost.units) a.costs a.held in
+      let all = sum_by-append (λ (cost : Cost). cost.units) a.units.costs a.units.held in
       omega (arith, all);
 }
 
 pub ends_kept : NoteKeeps ends
 ends_kept shape opened state id a kept mine records (unbound, done) =
-    ends_with a a.share a.held a.running (ends_counts a) done (λ c has. inl has) (λ anatomy calls. held_covers anatomy a calls) shape opened state id kept mine records (unbound_lives a unbound)
+    ends_with a a.units.share a.units.held a.entries.running (ends_counts a) done (λ c has. inl has) (λ anatomy calls. held_covers anatomy a calls) shape opened state id kept mine records (unbound_lives a unbound)
 
 -- ---- it is refused
 
 module _ (a : Actor) (added : ℕ) where
   abbrev done : List Counting
-  done = take added a.running
+  done = take added a.entries.running
 
   abbrev left : List Counting
-  left = drop added a.running
+  left = drop added a.entries.running
 
   -- all that ran is what has ended, and what nothing has happened of
-  ran : (a.log ++ done) ++ left ≡ a.log ++ a.running
-  ran = append_assoc a.log done left ∙ ap (λ (list : List Counting). a.log ++ list) (take-append-drop added a.running)
+  ran : (a.entries.log ++ done) ++ left ≡ a.entries.log ++ a.entries.running
+  ran = append_assoc a.entries.log done left ∙ ap (λ (list : List Counting). a.entries.log ++ list) (take-append-drop added a.entries.running)
 
   -- a call of which nothing runs has spent nothing
   none_spent : (held : List Cost) → cost_total (map (λ (cost : Cost). record cost { units = units_running [] cost.name }) held) ≡ 0
@@ -150,22 +150,22 @@ module _ (a : Actor) (added : ℕ) where
       omega (arith, all, rest)
 
   -- it has spent no more than it held
-  spends : (anatomy : Anatomy) → CallsRight anatomy a → cost_total (spent_by added a) ≤ cost_total a.held
-  spends anatomy calls = by_running a.running refl
+  spends : (anatomy : Anatomy) → CallsRight anatomy a → cost_total (spent_by added a) ≤ cost_total a.units.held
+  spends anatomy calls = by_running a.entries.running refl
     where
-      by_running : (r : List Counting) → a.running ≡ r → cost_total (spent_by added a) ≤ cost_total a.held
+      by_running : (r : List Counting) → a.entries.running ≡ r → cost_total (spent_by added a) ≤ cost_total a.units.held
       by_running [] runs =
           let nothing : done ≡ [] = ap (take added) runs ∙ take-nil added in
-          let same = ap (λ (list : List Counting). cost_total (map (λ (cost : Cost). record cost { units = units_running list cost.name }) a.held)) nothing in
-          let none = none_spent a.held in
+          let same = ap (λ (list : List Counting). cost_total (map (λ (cost : Cost). record cost { units = units_running list cost.name }) a.units.held)) nothing in
+          let none = none_spent a.units.held in
           omega (arith, same, none)
       by_running (c ∷ cs) runs =
           let (name, cost, holds, within, known) = calls.within (λ none. cc (sym runs ∙ none)) in
-          let held_is : cost_total a.held ≡ 0 + cost = ap cost_total holds in
+          let held_is : cost_total a.units.held ≡ 0 + cost = ap cost_total holds in
           let spent_is : cost_total (spent_by added a) ≡ 0 + units_running done name =
           ap (λ (held : List Cost). cost_total (map (λ (cost : Cost). record cost { units = units_running done cost.name }) held)) holds in
-          let all : units_running a.running name ≡ units_running done name + units_running left name =
-          ap (λ (list : List Counting). units_running list name) (sym (take-append-drop added a.running))
+          let all : units_running a.entries.running name ≡ units_running done name + units_running left name =
+          ap (λ (list : List Counting). units_running list name) (sym (take-append-drop added a.entries.running))
           ∙ (ap (λ (list : List Entry). tally_noted list name) (map-append (λ (c : Counting). c.entry) done left)
           ∙ noted_total name (map (λ (c : Counting). c.entry) done) (map (λ (c : Counting). c.entry) left)) in
           let most = within.units in
@@ -173,9 +173,9 @@ module _ (a : Actor) (added : ℕ) where
 
   -- what it has spent covers what has ended, for each name
   pays : (anatomy : Anatomy) → CallsRight anatomy a → (name : List ℕ) → tally_noted (map (λ (c : Counting). c.entry) done) name ≤ cost_of (spent_by added a) name
-  pays anatomy calls name = by_running a.running refl
+  pays anatomy calls name = by_running a.entries.running refl
     where
-      by_running : (r : List Counting) → a.running ≡ r → tally_noted (map (λ (c : Counting). c.entry) done) name ≤ cost_of (spent_by added a) name
+      by_running : (r : List Counting) → a.entries.running ≡ r → tally_noted (map (λ (c : Counting). c.entry) done) name ≤ cost_of (spent_by added a) name
       by_running [] runs =
           let none = ap (λ (list : List Counting). tally_noted (map (λ (c : Counting). c.entry) list) name) (ap (take added) runs ∙ take-nil added) in
           omega (arith, none)
@@ -184,7 +184,7 @@ module _ (a : Actor) (added : ℕ) where
           let named : Entry → Type 0 = λ e. e.name ≡ other in
           let entries : List Entry = map (λ (c : Counting). c.entry) done in
           let all : All named entries = all_left named entries (map (λ (c : Counting). c.entry) left)
-          (subst (All named) (ap (map (λ (c : Counting). c.entry)) (sym (take-append-drop added a.running)) ∙ map-append (λ (c : Counting). c.entry) done left) within.of_name) in
+          (subst (All named) (ap (map (λ (c : Counting). c.entry)) (sym (take-append-drop added a.entries.running)) ∙ map-append (λ (c : Counting). c.entry) done left) within.of_name) in
           subst (λ (held : List Cost). tally_noted entries name ≤ cost_of (map (λ (cost : Cost). record cost { units = units_running done cost.name }) held) name)
           (sym holds) (by_name other name entries (units_running done other) all (omega arith))
 
@@ -192,13 +192,13 @@ module _ (a : Actor) (added : ℕ) where
     each_left : (c : Counting) → Contains left c → is_untouched c ≡ true
     each_left c has = All-contains (λ (c : Counting). is_untouched c ≡ true) left c untouched has
 
-    each : (c : Counting) → Contains a.running c → Contains done c ⊎ (is_untouched c ≡ true)
+    each : (c : Counting) → Contains a.entries.running c → Contains done c ⊎ (is_untouched c ≡ true)
     each c has = ⊎_elim (λ first. inl first) (λ rest. inr (each_left c rest))
-        (Contains-append_cases done left c (subst (λ (list : List Counting). Contains list c) (sym (take-append-drop added a.running)) has))
+        (Contains-append_cases done left c (subst (λ (list : List Counting). Contains list c) (sym (take-append-drop added a.entries.running)) has))
 
     -- no amount was added
-    none_summed : filter (λ (c : Counting). c.summed) a.running ≡ []
-    none_summed = filter_none a.running (λ c has. ⊎_elim
+    none_summed : filter (λ (c : Counting). c.summed) a.entries.running ≡ []
+    none_summed = filter_none a.entries.running (λ c has. ⊎_elim
         (λ first. All-contains (λ (c : Counting). c.summed ≡ false) done c unsummed first)
         (λ rest. untouched_summed c rest)
         (each c has))
@@ -209,28 +209,28 @@ module _ (a : Actor) (added : ℕ) where
             ap (λ (b : Bool). cond b (c ∷ filter (λ (c : Counting). c.summed) cs) (filter (λ (c : Counting). c.summed) cs)) (off c (0, omega arith, refl))
             ∙ filter_none cs (λ d has. off d (Contains-append_right (c ∷ []) cs d has))
 
-    refused_counts : cost_total (spent_by added a) ≤ cost_total a.held → SameCounts a (noted a (refused added))
+    refused_counts : cost_total (spent_by added a) ≤ cost_total a.units.held → SameCounts a (noted a (refused added))
     refused_counts spent = record {
-      counted = λ name key. sym (untouched_counts a.first (a.log ++ done) left each_left name key)
-          ∙ ap (λ list. tally_units (a.first ++ counted_among list) name key) ran;
-      summed = λ name. sym (untouched_sums a.first (a.log ++ done) left each_left name)
-          ∙ ap (λ list. tally_sum (a.first ++ summed_among list) name) ran;
-      noted = λ name. sym (untouched_notes [] (a.log ++ done) left each_left name)
+      counted = λ name key. sym (untouched_counts a.entries.first (a.entries.log ++ done) left each_left name key)
+          ∙ ap (λ list. tally_units (a.entries.first ++ counted_among list) name key) ran;
+      summed = λ name. sym (untouched_sums a.entries.first (a.entries.log ++ done) left each_left name)
+          ∙ ap (λ list. tally_sum (a.entries.first ++ summed_among list) name) ran;
+      noted = λ name. sym (untouched_notes [] (a.entries.log ++ done) left each_left name)
           ∙ ap (λ list. tally_noted (noted_among list) name) ran;
       costs = λ name.
-          let all : cost_of (a.costs ++ spent_by added a) name ≡ cost_of a.costs name + cost_of (spent_by added a) name =
-          sum_by-append (λ (cost : Cost). if bytes_eq cost.name name then cost.units else 0) a.costs (spent_by added a) in
-          let before : summed_cost name a ≡ cost_of a.costs name + 0 =
-          ap (λ (list : List Counting). cost_of a.costs name + (if length list == 0 then 0 else cost_of a.held name)) none_summed in
+          let all : cost_of (a.units.costs ++ spent_by added a) name ≡ cost_of a.units.costs name + cost_of (spent_by added a) name =
+          sum_by-append (λ (cost : Cost). if bytes_eq cost.name name then cost.units else 0) a.units.costs (spent_by added a) in
+          let before : summed_cost name a ≡ cost_of a.units.costs name + 0 =
+          ap (λ (list : List Counting). cost_of a.units.costs name + (if length list == 0 then 0 else cost_of a.units.held name)) none_summed in
           omega (arith, all, before);
       units =
-          let all = sum_by-append (λ (cost : Cost). cost.units) a.costs (spent_by added a) in
+          let all = sum_by-append (λ (cost : Cost). cost.units) a.units.costs (spent_by added a) in
           omega (arith, all, spent);
     }
 
 pub refused_kept : (added : ℕ) → NoteKeeps (refused added)
 refused_kept added shape opened state id a kept mine records (unbound, ended, untouched, unsummed) =
     let lived = unbound_lives a unbound in
-    ends_with a (a.share + (cost_total a.held - cost_total (spent_by added a))) (spent_by added a) (take added a.running)
+    ends_with a (a.units.share + (cost_total a.units.held - cost_total (spent_by added a))) (spent_by added a) (take added a.entries.running)
     (refused_counts a added untouched unsummed (spends a added kept.anatomy (kept.each id a mine lived).calls))
     ended (each a added untouched unsummed) (pays a added) shape opened state id kept mine records lived

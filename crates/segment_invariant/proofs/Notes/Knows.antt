@@ -1,5 +1,5 @@
 -- An actor may note that a `hist` was answered, where that is a histogram of the segment: what holds is kept.
-use Rattle.std.proofs.Common.{⊎_elim, ◌≡◌, ◌≢◌, ℕ, ◌==◌, ℤ, Bool, not, List, [], ◌∷◌, ◌++◌, map, length, set, Contains, refl, sym, ap, ◌∙◌, subst, eq-eqb, arith}
+use Rattle.std.proofs.Common.{⊎_elim, ◌≡◌, ◌≢◌, ℕ, ◌==◌, ℤ, Bool, not, List, [], ◌∷◌, ◌++◌, map, length, set, Contains, refl, sym, ap, ◌∙◌, subst, eq-eqb, arith, false}
 use Rattle.std.specs.Prelude.{if◌then◌else◌, Option, Some}
 use Rattle.std.proofs.lemmas.List.{map-append}
 use Rattle.std.proofs.lemmas.List.Elements.{All-push, All-filter, Contains-append_left}
@@ -16,7 +16,7 @@ use Rattle.segment_machine.specs.declared.place.Place.{Place}
 use Rattle.segment_machine.specs.declared.place.Place.TheVariants.{Spent}
 use Rattle.segment_machine.specs.declared.actor.Actor.{Actor}
 use Rattle.segment_machine.specs.declared.actor.Known.{Known}
-use Rattle.segment_machine.specs.Actor.{known_at}
+use Rattle.segment_machine.specs.Actor.{known_at, is_opener}
 use Rattle.segment_machine.specs.State.{State}
 use Rattle.segment_machine.specs.Note.{knows, noted}
 use Rattle.segment_invariant.specs.Body.{Anatomy}
@@ -44,8 +44,8 @@ module _ (a : Actor) (known : Known) where
   knower = record (noting_of a) {
     since_singles = length a.seen.singles;
     since_counts = length a.seen.counts;
-    names = a.names ++ known ∷ [];
-    owed = filter (λ (mine : Known). not (bytes_eq mine.name known.name)) a.owed;
+    names = a.answers.names ++ known ∷ [];
+    owed = filter (λ (mine : Known). not (bytes_eq mine.name known.name)) a.answers.owed;
   }
 
   -- so its units on their way are those of the key that they were of
@@ -55,7 +55,7 @@ module _ (a : Actor) (known : Known) where
       (λ (look, bucket, units, is).
       let looks = (subst (StandsRight shape anatomy id a) is right).0 in
       ap (moving_at (noting a knower) name key) is
-      ∙ (ap (λ (k : Option Known). moving_of name key k bucket units) (known_still a.names (known ∷ []) look.histogram looks.known looks.knows.0 looks.knows.1)
+      ∙ (ap (λ (k : Option Known). moving_of name key k bucket units) (known_still a.answers.names (known ∷ []) look.histogram looks.known looks.knows.0 looks.knows.1)
       ∙ sym (ap (moving_at a name key) is)))
       (λ still. still.0 (noting a knower) name key ∙ sym (still.0 a name key))
       (moves_or_not p)
@@ -64,16 +64,16 @@ module _ (a : Actor) (known : Known) where
   knows_counts = record { counted = λ name key. refl; summed = λ name. refl; noted = λ name. refl; costs = λ name. omega arith; units = refl }
 
   pub knows_one_more : (shape : Dimensions) (opened : Anatomy) (state : State) (id : ℕ) (kept : Invariant shape opened state) → get_elem? state.actors id ≡ some a
-      → a.opener ≡ 0 → a.place ≢ Spent → Knows kept.anatomy known
+      → is_opener a.role ≡ false → a.hand.place ≢ Spent → Knows kept.anatomy known
       → Invariant shape opened (record state { actors = set state.actors id (noted a (knows known)) })
   knows_one_more shape opened state id kept mine records lived right =
       notes_on shape opened state kept id a mine records knower lived knows_counts (takes_nothing a knower)
-      (λ name key. moves_still shape kept.anatomy id name key a.place (kept.standing id a mine))
-      (λ k has. Contains-append_left a.names (known ∷ []) k has)
+      (λ name key. moves_still shape kept.anatomy id name key a.hand.place (kept.standing id a mine))
+      (λ k has. Contains-append_left a.answers.names (known ∷ []) k has)
       (answered_knows kept.anatomy.records state.actors id a (noting a knower) mine known refl refl)
       (λ fit. noting_fits shape kept.anatomy state.cursors _ kept.roles.opener id a knower fit
-      (All-push (Knows kept.anatomy) a.names known fit.names right)
-      (All-filter (λ (mine : Known). not (bytes_eq mine.name known.name)) (HasPublished a.published) a.owed fit.owes)
+      (All-push (Knows kept.anatomy) a.answers.names known fit.names right)
+      (All-filter (λ (mine : Known). not (bytes_eq mine.name known.name)) (HasPublished a.done.published) a.answers.owed fit.owes)
       (calls_by kept.anatomy a knower fit.calls knows_counts fit.calls.ordered
       (λ some_run.
       let (name, cost, holds, within, named) = fit.calls.within some_run in (
@@ -81,8 +81,8 @@ module _ (a : Actor) (known : Known) where
         cost,
         holds,
         within,
-        subst (λ (names : List (List ℕ)). Contains names name) (sym (map-append (λ (k : Known). k.name) a.names (known ∷ [])))
-            (Contains-append_left (map (λ (k : Known). k.name) a.names) (known.name ∷ []) name named),
+        subst (λ (names : List (List ℕ)). Contains names name) (sym (map-append (λ (k : Known). k.name) a.answers.names (known ∷ [])))
+            (Contains-append_left (map (λ (k : Known). k.name) a.answers.names) (known.name ∷ []) name named),
       ))
       fit.calls.held fit.calls.ended fit.calls.spent fit.calls.taking)
       (looks_anew kept.anatomy _ kept.roles.opener a knower (fit.looks records))

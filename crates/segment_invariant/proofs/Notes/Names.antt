@@ -7,7 +7,7 @@ use Rattle.std.proofs.lemmas.List.{get_or_append_left, get_or-append-add}
 use Rattle.std.proofs.lemmas.List.Elements.{All-contains, All-filter, Contains-append_left, Contains-append_right}
 use Rattle.std.proofs.lemmas.List.Sorted.{IsPermutation-sym, Contains-permutation}
 use mathlib.Core.Logic.{dite}
-use mathlib.Core.Option.{some}
+use mathlib.Core.Option.{some, none}
 use native.Mathlib.Decide.{ℕ_discrete}
 use lib.ListN.{get_elem?}
 use Rattle.segment_image.specs.Shape.{Dimensions}
@@ -20,7 +20,7 @@ use Rattle.std.specs.Str.{bytes_eq}
 use Rattle.std.specs.List.{filter}
 use Rattle.segment_invariant.proofs.Frames.Answers.{answered_declines}
 use Rattle.segment_invariant.proofs.Notes.Begins.{takes_nothing}
-use Rattle.segment_invariant.proofs.Notes.Actors.{noting_fits, looks_on, finals_on, calls_by}
+use Rattle.segment_invariant.proofs.Notes.Actors.{noting_fits, finals_on, calls_by}
 use Rattle.segment_invariant.proofs.Notes.Notes.{Noting, noting, noting_of, SameCounts, notes_on}
 use Rattle.segment_machine.specs.declared.place.Place.TheVariants.{Spent}
 use Rattle.segment_machine.specs.declared.actor.Actor.{Actor}
@@ -35,13 +35,14 @@ use Rattle.segment_invariant.proofs.Lists.Elements.{all_of, split_map, row_in}
 use Rattle.segment_invariant.proofs.Lists.Maps.{contains_map}
 use Rattle.segment_machine.specs.Made.{AreNameWords, SawName, SawOtherName, SawSpec, SawOtherSpec, IsFirstNamed}
 use Rattle.segment_machine.specs.Note.{knows, MayNote, declines}
-use Rattle.segment_invariant.specs.Body.{Record, Listed, spec_field, record_words, histogram, sample, other, Anatomy, order_of, listed}
-use Rattle.segment_invariant.specs.Seen.{HasRecord, IsNamed, Knows, IsFirst}
-use Rattle.segment_invariant.specs.Invariant.{StandsAs, StandsRight, HasPublished, Invariant}
+use Rattle.segment_invariant.specs.Body.{Record, Listed, spec_field, record_words, histogram, sample, other, Anatomy, order_of, listed, Body, words_of}
+use Rattle.segment_invariant.specs.Seen.{HasRecord, IsNamed, Knows, IsFirst, Stands}
+use Rattle.segment_invariant.specs.Invariant.{StandsAs, StandsRight, HasPublished, Invariant, IsLawfulRecord}
 use Rattle.segment_invariant.specs.Keeps.{NoteKeeps}
 use Rattle.segment_invariant.proofs.Walking.Words.{letters_long, record_long, ranges_long, sighted}
 use Rattle.segment_invariant.proofs.Notes.Letters.{names_same, bytes_same, word_bytes}
 use Rattle.segment_invariant.proofs.Notes.Knows.{knows_one_more}
+use Rattle.segment_invariant.proofs.Frames.PassedOver.{none_given}
 
 -- ---- the words of a record
 
@@ -89,33 +90,48 @@ field_word : (r : Record) (i : ℕ) → i < 4 → slice_index (record_words r) (
 field_word r i below = below_four (λ i. slice_index (record_words r) (4 + i) ≡ spec_field r.spec i) refl refl refl refl i below
 
 module _ (shape : Dimensions) (opened : Anatomy) (state : State) (kept : Invariant shape opened state) (id : ℕ) (a : Actor)
-    (mine : get_elem? state.actors id ≡ some a) (lives : a.place ≢ Spent) where
+    (mine : get_elem? state.actors id ≡ some a) (lives : a.hand.place ≢ Spent) where
+  -- a block has the words of a record
+  abbrev IsAs : ℕ → Record → Type 0
+  IsAs at r = (body : Body) × Stands kept.anatomy.pieces at none body × (record_words r ≡ words_of body)
+
+  -- a word that it saw of such a block
+  word_as : (at j word : ℕ) (r : Record) → IsAs at r → j < length (record_words r) → word_seen a.seen.words (at + j) ≡ Some word → slice_index (record_words r) j ≡ word
+  word_as at j word r (body, stands, holds) below seen =
+      let many = ap length holds in
+      ap (λ (words : List ℕ). slice_index words j) holds ∙ sighted shape opened state kept id a mine lives at j word body stands (omega (arith, below, many)) seen
+
   -- a word that it saw of a record
   record_seen : (at j word : ℕ) (r : Record) → HasRecord kept.anatomy.pieces at r → j < length (record_words r)
       → word_seen a.seen.words (at + j) ≡ Some word → slice_index (record_words r) j ≡ word
   record_seen at j word r has below seen = sighted shape opened state kept id a mine lives at j word (histogram r) has below seen
 
   -- a letter that it saw
-  letter_seen : (at i word : ℕ) (r : Record) → HasRecord kept.anatomy.pieces at r → i < length r.letters
-      → word_seen a.seen.words (at + 15 + i) ≡ Some word → slice_index r.letters i ≡ word
-  letter_seen at i word r has below seen =
+  letter_as : (at i word : ℕ) (r : Record) → IsAs at r → i < length r.letters → word_seen a.seen.words (at + 15 + i) ≡ Some word → slice_index r.letters i ≡ word
+  letter_as at i word r has below seen =
       let long = record_long r in
       let place : at + 15 + i ≡ at + (15 + i) = omega arith in
       sym (letter_word r i below)
-      ∙ record_seen at (15 + i) word r has (omega (arith, long, below)) (subst (λ n. word_seen a.seen.words n ≡ Some word) place seen)
+      ∙ word_as at (15 + i) word r has (omega (arith, long, below)) (subst (λ n. word_seen a.seen.words n ≡ Some word) place seen)
+
+  letter_seen : (at i word : ℕ) (r : Record) → HasRecord kept.anatomy.pieces at r → i < length r.letters
+      → word_seen a.seen.words (at + 15 + i) ≡ Some word → slice_index r.letters i ≡ word
+  letter_seen at i word r has below seen = letter_as at i word r (histogram r, has, refl) below seen
 
   -- it saw the name of the record
-  name_seen : (name : List ℕ) (at : ℕ) (r : Record) → HasRecord kept.anatomy.pieces at r → SawName a.seen name at → r.name ≡ name
-  name_seen name at r has (tag, len, letters, are, words) =
-      let lawful = kept.records.lawful at r has in
+  name_as : (version : ℕ) (name : List ℕ) (at : ℕ) (r : Record) → IsAs at r → IsLawfulRecord version shape.page r → SawName a.seen name at → r.name ≡ name
+  name_as version name at r has lawful (tag, len, letters, are, words) =
       let all = record_long r in
-      let length_is : length r.name ≡ length name = record_seen at 14 (length name) r has (omega (arith, all)) len in
+      let length_is : length r.name ≡ length name = word_as at 14 (length name) r has (omega (arith, all)) len in
       let long = letters_long name letters are in
       let as_long = letters_long r.name r.letters lawful.lettered in
       let many : length r.letters ≡ length letters = sym as_long ∙ (ap name_words length_is ∙ long) in
       let same : r.letters ≡ letters = same_number_lists r.letters letters many
-      (λ i below. letter_seen at i (slice_index letters i) r has below (words i (omega (arith, many, below)))) in
+      (λ i below. letter_as at i (slice_index letters i) r has below (words i (omega (arith, many, below)))) in
       names_same r.name name letters (subst (AreNameWords r.name) same lawful.lettered) are length_is
+
+  name_seen : (name : List ℕ) (at : ℕ) (r : Record) → HasRecord kept.anatomy.pieces at r → SawName a.seen name at → r.name ≡ name
+  name_seen name at r has = name_as kept.anatomy.version name at r (histogram r, has, refl) (kept.records.lawful at r has)
 
   -- it saw the spec of the record
   spec_seen : (s : Spec) (at : ℕ) (r : Record) → HasRecord kept.anatomy.pieces at r → SawSpec a.seen s (length r.letters) at → SameSpec r.spec s
@@ -203,9 +219,22 @@ module _ (shape : Dimensions) (opened : Anatomy) (state : State) (kept : Invaria
           let three : 3 ≡ 1 = sighted shape opened state kept id a mine lives l.reference 2 1 (sample s) is (omega arith)
           (subst (λ at. word_seen a.seen.words (at + 2) ≡ Some 1) (sym place) saw.0) in
           absurd (omega (arith, three))
-      by_given name at before l after None given_is (size, tag, next, payload, is, first, third, long) place saw records_are absent =
-          absurd (first (sighted shape opened state kept id a mine lives l.reference 2 1 (other size tag next payload) is (omega arith)
-          (subst (λ at. word_seen a.seen.words (at + 2) ≡ Some 1) (sym place) saw.0)))
+      by_given name at before l after None given_is standing place saw records_are absent =
+          elim (none_given shape opened state kept before after l.reference
+          (records_are ∙ ap (λ (m : Option Made). before ++ record { reference = l.reference; made = m } ∷ after) given_is)) [
+            | inl (size, tag, next, payload, is, first) ↦
+                absurd (first (sighted shape opened state kept id a mine lives l.reference 2 1 (other size tag next payload) is (omega arith)
+                (subst (λ at. word_seen a.seen.words (at + 2) ≡ Some 1) (sym place) saw.0)))
+            | inr (r, (over, n, from)) ↦
+                let (size, tag, next, payload, is, holds) = over.stands in
+                let named : r.name ≡ name =
+                name_as kept.anatomy.version name l.reference r (other size tag next payload, is, holds) over.lawful (subst (SawName a.seen name) (sym place) saw) in
+                let (kind, first, (xs, ys, split, none_before)) = over.named in
+                let y : Listed = record { reference = first; made = Some (made.Histogram r.name kind) } in
+                absurd (All-contains (λ x. ¬ (IsNamed name x)) before y absent
+                (subst (λ (list : List Listed). Contains list y) (sym split) (Contains-append_right xs (y ∷ ys) y (0, omega arith, refl)))
+                (kind, ap (λ (name : List ℕ). Some (made.Histogram name kind)) named))
+          ]
 
   -- so is a histogram that a `hist` is answered with
   known_right : (known : Known) → MayNote a (knows known) → Knows kept.anatomy known
@@ -235,15 +264,15 @@ module _ (shape : Dimensions) (opened : Anatomy) (state : State) (kept : Invaria
       )
 
   -- a record whose answer it owes has the spec that it was given, so the first of the name, which has another, is another record
-  pub declined_apart : (owes : Known) (at : ℕ) (letters : List ℕ) → Contains a.owed owes → IsFirstNamed a.seen owes.name at → AreNameWords owes.name letters
+  pub declined_apart : (owes : Known) (at : ℕ) (letters : List ℕ) → Contains a.answers.owed owes → IsFirstNamed a.seen owes.name at → AreNameWords owes.name letters
       → SawOtherSpec a.seen owes.spec (length letters) at → at ≢ owes.reference
   declined_apart owes at letters there named are unlike here =
       let fits = kept.each id a mine lives in
       let entry : Published = record { reference = owes.reference; made = made.Histogram owes.name owes.spec } in
-      let published = All-contains (HasPublished a.published) a.owed owes fits.owes there in
+      let published = All-contains (HasPublished a.done.published) a.answers.owed owes fits.owes there in
       let (front, all, permuted) = kept.list.once in
       let among = Contains-permutation (map listed (all_published state.actors)) front (listed entry) (IsPermutation-sym _ _ permuted)
-      (contains_map listed (all_published state.actors) entry (row_in (λ (c : Actor). c.published) state.actors id a entry mine published)) in
+      (contains_map listed (all_published state.actors) entry (row_in (λ (c : Actor). c.done.published) state.actors id a entry mine published)) in
       let on_list : Contains kept.anatomy.records (listed entry) = subst (λ (list : List Listed). Contains list (listed entry)) (sym all)
       (Contains-append_right opened.records front (listed entry) among) in
       let (r, has, name_is, same) = All-contains (λ (l : Listed). StandsAs kept.anatomy.pieces l l.made) kept.anatomy.records (listed entry) kept.list.standing on_list in
@@ -255,7 +284,7 @@ module _ (shape : Dimensions) (opened : Anatomy) (state : State) (kept : Invaria
 
 -- who saw the chain is not spent
 saw_lives : (shape : Dimensions) (opened : Anatomy) (state : State) (id : ℕ) (a : Actor) (kept : Invariant shape opened state)
-    → get_elem? state.actors id ≡ some a → (name : List ℕ) (at : ℕ) → IsFirstNamed a.seen name at → a.place ≢ Spent
+    → get_elem? state.actors id ≡ some a → (name : List ℕ) (at : ℕ) → IsFirstNamed a.seen name at → a.hand.place ≢ Spent
 saw_lives shape opened state id a kept mine name at named is_spent =
     let nobody : a ≡ spent = subst (StandsRight shape kept.anatomy id a) is_spent (kept.standing id a mine) in
     let none : named.0 ++ at ∷ named.1 ≡ [] = sym named.2 ∙ ap (λ (a : Actor). a.seen.chain) nobody in
@@ -274,15 +303,15 @@ declines_kept owes shape opened state id a kept mine records (there, (at, letter
     let (kind, r, has, name_is, same, first) = first_right shape opened state kept id a mine lived owes.name at named in
     let apart = declined_apart shape opened state kept id a mine lived owes at letters there named are unlike in
     let n : Noting = record (noting_of a) {
-      owed = filter (λ (debt : Known). not (bytes_eq debt.name owes.name && (debt.reference == owes.reference))) a.owed;
+      owed = filter (λ (debt : Known). not (bytes_eq debt.name owes.name && (debt.reference == owes.reference))) a.answers.owed;
     } in
     let counts : SameCounts a (noting a n) =
     record { counted = λ name key. refl; summed = λ name. refl; noted = λ name. refl; costs = λ name. omega arith; units = refl } in
     notes_on shape opened state kept id a mine records n lived counts (takes_nothing a n) (λ name key. refl) (λ known has. has)
     (answered_declines kept.anatomy.records state.actors id a (noting a n) mine owes kind at first apart refl refl)
     (λ fit. noting_fits shape kept.anatomy state.cursors _ kept.roles.opener id a n fit fit.names
-    (All-filter (λ (debt : Known). not (bytes_eq debt.name owes.name && (debt.reference == owes.reference))) (HasPublished a.published) a.owed fit.owes)
+    (All-filter (λ (debt : Known). not (bytes_eq debt.name owes.name && (debt.reference == owes.reference))) (HasPublished a.done.published) a.answers.owed fit.owes)
     (calls_by kept.anatomy a n fit.calls counts fit.calls.ordered fit.calls.within fit.calls.held fit.calls.ended fit.calls.spent fit.calls.taking)
-    (looks_on kept.anatomy _ kept.roles.opener a n (fit.looks records))
+    (fit.looks records)
     (finals_on _ kept.roles.opener id a n (omega arith) (λ name k within quiet. quiet) fit.finals)
     fit.snapshots)

@@ -1,7 +1,6 @@
 -- A state is kept where an actor notes something in its own record, and the words stay.
 use Rattle.std.proofs.Common.{◌≡◌, ◌≢◌, ◌⊎◌, ℕ, ◌+◌, ◌<◌, ◌≤◌, ℤ, Bool, false, ◌||◌, fold, List, [], ◌++◌, set, Contains, inl, inr, refl, sym, ap, ◌∙◌, subst, subst₂, arith}
-use Rattle.std.specs.Prelude.{if◌then◌else◌, IsPermutation}
-use Rattle.std.proofs.lemmas.List.Sums.{sum_by-append}
+use Rattle.std.specs.Prelude.{IsPermutation}
 use mathlib.Core.Option.{some}
 use lib.ListN.{get_elem?}
 use Rattle.atomic_table.proofs.Lists.{at_set, set_else}
@@ -10,15 +9,15 @@ use Rattle.segment_machine.specs.declared.entry.Entry.{Entry}
 use Rattle.segment_machine.specs.declared.entry.Counting.{Counting}
 use Rattle.segment_machine.specs.declared.place.Place.TheVariants.{Spent}
 use Rattle.segment_machine.specs.declared.actor.Actor.{Actor}
+use Rattle.segment_machine.specs.declared.actor.Portion.{Portion}
 use Rattle.segment_machine.specs.declared.actor.Answered.{Answered}
 use Rattle.segment_machine.specs.declared.actor.Claim.{Claim}
 use Rattle.segment_machine.specs.declared.actor.Cost.{Cost}
 use Rattle.segment_machine.specs.declared.actor.Known.{Known}
 use Rattle.segment_machine.specs.declared.actor.Taken.{Taken}
 use Rattle.segment_machine.specs.Entry.{tally_units, tally_sum, tally_noted}
-use Rattle.std.specs.Str.{bytes_eq}
-use Rattle.std.specs.Prelude.{pos, ◌+ℤ◌}
-use Rattle.segment_machine.specs.Actor.{counted_of, summed_of, noted_of, units_of, units_listed, taken_units, taken_sum, all_counted, all_taken}
+use Rattle.std.specs.Prelude.{◌+ℤ◌}
+use Rattle.segment_machine.specs.Actor.{counted_of, summed_of, noted_of, units_of, taken_units, taken_sum, all_counted, all_taken, taken_of, is_opener}
 use Rattle.segment_machine.specs.State.{State}
 use Rattle.segment_invariant.specs.Body.{Anatomy, order_of, claims_of}
 use Rattle.segment_invariant.specs.Ledger.{moving_at}
@@ -27,12 +26,12 @@ use Rattle.segment_invariant.proofs.Lists.Elements.{none_in, rows_total, rows, r
 use Rattle.segment_invariant.proofs.Lists.Countings.{units_total, sum_total, noted_total}
 use Rattle.segment_invariant.proofs.Lists.Tallies.{HasUnits, tally_from, tally_at}
 use Rattle.segment_invariant.proofs.Frames.GoesOn.{not_opener}
-use Rattle.segment_invariant.proofs.Lists.Sums.{amounts_total}
 use Rattle.segment_invariant.proofs.Frames.Books.{cursors_set, listed_set}
 use Rattle.segment_invariant.proofs.Frames.Deeds.{SameSums}
 use Rattle.segment_invariant.proofs.Frames.Standing.{grounds_itself, stands_on}
 use Rattle.segment_invariant.proofs.Frames.Together.{loaded_set, balanced, sums_near}
 use Rattle.segment_invariant.proofs.Frames.Roles.{SameRole, stood_set, roles_set, fits_beside}
+use Rattle.segment_invariant.proofs.Lists.Portions.{taken_total, taken_sum_total}
 
 -- ---- what changes of an actor that notes something
 
@@ -53,35 +52,28 @@ pub record Noting : Type 0 where
 -- the actor with that
 abbrev pub noting : Actor → Noting → Actor
 noting a n = record a {
-  share = n.share;
-  costs = n.costs;
-  held = n.held;
-  log = n.log;
-  running = n.running;
-  names = n.names;
-  owed = n.owed;
-  taken = n.taken;
-  taking = n.taking;
-  since_singles = n.since_singles;
-  since_counts = n.since_counts;
-  snapshots = n.snapshots;
+  units = record { share = n.share; costs = n.costs; held = n.held };
+  entries = record a.entries { log = n.log; running = n.running };
+  answers = record { names = n.names; owed = n.owed };
+  deltas = record a.deltas { taken = n.taken; taking = n.taking; snapshots = n.snapshots };
+  since = record { singles = n.since_singles; counts = n.since_counts };
 }
 
 -- what it has of that
 abbrev pub noting_of : Actor → Noting
 noting_of a = record {
-  share = a.share;
-  costs = a.costs;
-  held = a.held;
-  log = a.log;
-  running = a.running;
-  names = a.names;
-  owed = a.owed;
-  taken = a.taken;
-  taking = a.taking;
-  since_singles = a.since_singles;
-  since_counts = a.since_counts;
-  snapshots = a.snapshots;
+  share = a.units.share;
+  costs = a.units.costs;
+  held = a.units.held;
+  log = a.entries.log;
+  running = a.entries.running;
+  names = a.answers.names;
+  owed = a.answers.owed;
+  taken = a.deltas.taken;
+  taking = a.deltas.taking;
+  since_singles = a.since.singles;
+  since_counts = a.since.counts;
+  snapshots = a.deltas.snapshots;
 }
 
 -- What it counted, added, noted and took comes to what it was; its units are as many, and what it spent did not come back.
@@ -93,9 +85,9 @@ pub record SameCounts (a b : Actor) : Type 0 where
   pub units : units_of b ≡ units_of a
 
 pub record SameTakes (a b : Actor) : Type 0 where
-  pub taken : (name : List ℕ) (key : ℤ) → taken_units b.taken name key ≡ taken_units a.taken name key
-  pub taken_sums : (name : List ℕ) → taken_sum b.taken name ≡ taken_sum a.taken name
-  pub from : (t : Taken) → Contains b.taken t → Contains a.taken t ⊎ (t.counts ≡ [])
+  pub taken : (name : List ℕ) (key : ℤ) → taken_units (taken_of b) name key ≡ taken_units (taken_of a) name key
+  pub taken_sums : (name : List ℕ) → taken_sum (taken_of b) name ≡ taken_sum (taken_of a) name
+  pub from : (t : Portion) → Contains (taken_of b) t → Contains (taken_of a) t ⊎ (t.counts ≡ [])
 
 -- an entry of it that has units had them before
 pub counted_before : (a b : Actor) → SameCounts a b → (e : Entry) → Contains (counted_of b) e → 0 < e.units → HasUnits (counted_of a) e.name e.key
@@ -107,8 +99,8 @@ counted_before a b same e there some_units =
 -- ---- all actors
 
 module _ (shape : Dimensions) (opened : Anatomy) (state : State) (kept : Invariant shape opened state) (id : ℕ) (a : Actor)
-    (mine : get_elem? state.actors id ≡ some a) (records : a.opener ≡ 0) where
-  module _ (n : Noting) (lived : a.place ≢ Spent) where
+    (mine : get_elem? state.actors id ≡ some a) (records : is_opener a.role ≡ false) where
+  module _ (n : Noting) (lived : a.hand.place ≢ Spent) where
     abbrev pub later : Actor
     later = noting a n
 
@@ -116,7 +108,7 @@ module _ (shape : Dimensions) (opened : Anatomy) (state : State) (kept : Invaria
     noters = set state.actors id later
 
     module _ (counts : SameCounts a later) (takes : SameTakes a later)
-        (moves : (name : List ℕ) (key : ℤ) → moving_at later name key a.place ≡ moving_at a name key a.place) where
+        (moves : (name : List ℕ) (key : ℤ) → moving_at later name key a.hand.place ≡ moving_at a name key a.hand.place) where
       pub sums : SameSums state.actors noters
       sums = record {
         counted = λ name key. rows_total ◌+◌ (λ entries. tally_units entries name key)
@@ -126,12 +118,12 @@ module _ (shape : Dimensions) (opened : Anatomy) (state : State) (kept : Invaria
         noted = λ name. rows_total ◌+◌ (λ entries. tally_noted entries name)
             (noted_total name) noted_of state.actors id a later mine (counts.noted name);
         taken = λ name key. rows_total ◌+◌ (λ taken. taken_units taken name key)
-            (sum_by-append (λ (t : Taken). if bytes_eq t.name name then units_listed t.counts key else 0))
-            (λ (a : Actor). a.taken) state.actors id a later mine (takes.taken name key);
+            (taken_total name key)
+            taken_of state.actors id a later mine (takes.taken name key);
         taken_sums = λ name. rows_total ◌+ℤ◌ (λ taken. taken_sum taken name)
-            (amounts_total (λ (t : Taken). if bytes_eq t.name name then t.sum else pos 0))
-            (λ (a : Actor). a.taken) state.actors id a later mine (takes.taken_sums name);
-        moving = λ name key. sum_same (λ a. moving_at a name key a.place) state.actors id a later mine (moves name key);
+            (taken_sum_total name)
+            taken_of state.actors id a later mine (takes.taken_sums name);
+        moving = λ name key. sum_same (λ a. moving_at a name key a.hand.place) state.actors id a later mine (moves name key);
         costs = λ name.
             let all = sum_beside (summed_cost name) state.actors id a later mine in
             let more = counts.costs name in
@@ -140,7 +132,7 @@ module _ (shape : Dimensions) (opened : Anatomy) (state : State) (kept : Invaria
 
       -- it has the role that it had
       role : SameRole later a
-      role = record { living = refl; opener = refl; first = refl; first_noted = refl; made = refl; outstanding = refl; inherited = refl; offered = refl }
+      role = record { living = refl; opener = refl; first = refl; first_noted = refl; first_taken = refl; made = refl; outstanding = refl; inherited = refl; offered = refl }
 
       not_first : id ≢ 0
       not_first = not_opener shape opened state kept id a mine records
@@ -151,19 +143,19 @@ module _ (shape : Dimensions) (opened : Anatomy) (state : State) (kept : Invaria
       beside k c = fits_beside shape kept.anatomy state.cursors state.actors noters kept.roles.opener kept.roles.opener k c kept.roles.stands
           (set_else state.actors id 0 later (λ same. not_first (sym same)) ∙ kept.roles.stands) refl (refl, refl) sums (stood_set state.actors id a later mine role)
 
-      module _ (knows : (known : Known) → Contains a.names known → Contains n.names known)
+      module _ (knows : (known : Known) → Contains a.answers.names known → Contains n.names known)
           (answers : AreAnswered kept.anatomy.records state.actors → AreAnswered kept.anatomy.records noters)
           (refits : Fits shape kept.anatomy state.cursors noters kept.roles.opener id a → Fits shape kept.anatomy state.cursors noters kept.roles.opener id later) where
-        each : (k : ℕ) (c : Actor) → get_elem? noters k ≡ some c → c.place ≢ Spent → Fits shape kept.anatomy state.cursors noters kept.roles.opener k c
+        each : (k : ℕ) (c : Actor) → get_elem? noters k ≡ some c → c.hand.place ≢ Spent → Fits shape kept.anatomy state.cursors noters kept.roles.opener k c
         each k c at live = elim (at_set state.actors id k later c at) [
           | inl t ↦ subst₂ (λ k c. Fits shape kept.anatomy state.cursors noters kept.roles.opener k c) (sym t.0) t.1
               (refits (beside id a (kept.each id a mine lived)))
           | inr t ↦ beside k c (kept.each k c t.1 live)
         ]
 
-        standing : (k : ℕ) (c : Actor) → get_elem? noters k ≡ some c → StandsRight shape kept.anatomy k c c.place
+        standing : (k : ℕ) (c : Actor) → get_elem? noters k ≡ some c → StandsRight shape kept.anatomy k c c.hand.place
         standing k c at = elim (at_set state.actors id k later c at) [
-          | inl t ↦ subst₂ (λ k (c : Actor). StandsRight shape kept.anatomy k c c.place) (sym t.0) t.1
+          | inl t ↦ subst₂ (λ k (c : Actor). StandsRight shape kept.anatomy k c c.hand.place) (sym t.0) t.1
               (stands_on shape kept.anatomy kept.anatomy id a later (grounds_itself kept.anatomy id)
               (record {
                 saw = (refl, refl, refl, refl, refl);
@@ -173,9 +165,9 @@ module _ (shape : Dimensions) (opened : Anatomy) (state : State) (kept : Invaria
                 seen = λ at word has. has;
                 chain = λ at has. has;
                 own = λ block has. (block, has, refl, refl);
-                spent = λ is. absurd (lived (ap (λ (b : Actor). b.place) is));
+                spent = λ is. absurd (lived (ap (λ (b : Actor). b.hand.place) is));
               })
-              a.place (kept.standing id a mine))
+              a.hand.place (kept.standing id a mine))
           | inr t ↦ kept.standing k c t.1
         ]
 
@@ -187,11 +179,11 @@ module _ (shape : Dimensions) (opened : Anatomy) (state : State) (kept : Invaria
               subst₂ (HasKey kept.anatomy.records) named keyed (kept.keys e (row_in counted_of state.actors id a e mine was) units)
         ]
 
-        taken_keys : (t : Taken) (count : ℤ × ℕ) → Contains (all_taken noters) t → Contains t.counts count → HasKey kept.anatomy.records t.name count.0
-        taken_keys t count there has = elim (row_from (λ (a : Actor). a.taken) state.actors id later t there) [
+        taken_keys : (t : Portion) (count : ℤ × ℕ) → Contains (all_taken noters) t → Contains t.counts count → HasKey kept.anatomy.records t.name count.0
+        taken_keys t count there has = elim (row_from taken_of state.actors id later t there) [
           | inl old ↦ kept.taken_keys t count old has
           | inr new ↦ elim (takes.from t new) [
-            | inl was ↦ kept.taken_keys t count (row_in (λ (a : Actor). a.taken) state.actors id a t mine was) has
+            | inl was ↦ kept.taken_keys t count (row_in taken_of state.actors id a t mine was) has
             | inr nothing ↦ absurd (none_in count (subst (λ (list : List (ℤ × ℕ)). Contains list count) nothing has))
           ]
         ]
@@ -207,15 +199,16 @@ module _ (shape : Dimensions) (opened : Anatomy) (state : State) (kept : Invaria
           blocks = kept.blocks;
           list = listed_set state.words opened kept.anatomy state.actors id a later mine refl kept.list;
           claims = subst (λ (claimed : List Claim). IsPermutation (claims_of kept.anatomy.pieces) (claims_of opened.pieces ++ claimed))
-              (sym (rows (λ (a : Actor). a.claimed) state.actors id a later mine refl)) kept.claims;
+              (sym (rows (λ (a : Actor). a.done.claimed) state.actors id a later mine refl)) kept.claims;
           records = kept.records;
+          passed_over = kept.passed_over;
           balanced = balanced kept.anatomy.version opened.pieces kept.anatomy.pieces state.actors noters sums kept.balanced;
           keys = keys;
           taken_keys = taken_keys;
           sums = sums_near kept.anatomy.pieces state.actors noters sums (loaded_set state.actors id a later mine (λ at sum is. is)) kept.sums;
           pool = sum_same units_of state.actors id a later mine counts.units ∙ kept.pool;
-          corrupt = kept.corrupt ∙ ap (λ set. opened.corrupt || fold ◌||◌ false set) (sym (column (λ (a : Actor). a.spoiled) state.actors id a later mine refl));
-          full = kept.full ∙ ap (λ set. opened.full || fold ◌||◌ false set) (sym (column (λ (a : Actor). a.filled) state.actors id a later mine refl));
+          corrupt = kept.corrupt ∙ ap (λ set. opened.corrupt || fold ◌||◌ false set) (sym (column (λ (a : Actor). a.done.spoiled) state.actors id a later mine refl));
+          full = kept.full ∙ ap (λ set. opened.full || fold ◌||◌ false set) (sym (column (λ (a : Actor). a.done.filled) state.actors id a later mine refl));
           roles = roles_set state.actors id a later mine role not_first kept.roles;
           first_noted = kept.first_noted;
           answered = answers kept.answered;

@@ -14,10 +14,9 @@ use Rattle.bucket_ranges.specs.Spec.{buckets_of}
 use Rattle.segment_machine.specs.declared.actor.Actor.{Actor}
 use Rattle.segment_machine.specs.declared.actor.Answered.{Answered}
 use Rattle.segment_machine.specs.declared.actor.Known.{Known}
-use Rattle.segment_machine.specs.declared.actor.Moment.{Moment}
 use Rattle.segment_machine.specs.declared.place.Place.TheVariants.{Spent}
 use Rattle.segment_machine.specs.Entry.{is_of, tally_units, tally_sum, tally_noted}
-use Rattle.segment_machine.specs.Actor.{has_buckets, bucket_key, units_listed, cost_of, accepted_by, all_counted, all_summed, all_noted, SawCount}
+use Rattle.segment_machine.specs.Actor.{has_buckets, bucket_key, units_listed, cost_of, accepted_by, all_counted, all_summed, all_noted, SawCount, is_opener}
 use Rattle.segment_machine.specs.declared.seen.Sighting.{Sighting}
 use Rattle.segment_machine.specs.Made.{IsFirstSample}
 use Rattle.segment_machine.specs.Note.{answers, is_untouched, moment_of, SawAll, SawBucket}
@@ -44,7 +43,7 @@ use Rattle.segment_invariant.proofs.Frames.Together.{within}
 use Rattle.segment_invariant.proofs.Recorders.Alone.{counted_accepted, noted_accepted}
 use Rattle.segment_invariant.proofs.Notes.Counted.{bucketed_or_sparse, counted_at}
 use Rattle.segment_invariant.proofs.Notes.Notes.{Noting, noting, noting_of, SameCounts, notes_on, sums}
-use Rattle.segment_invariant.proofs.Notes.Actors.{noting_fits, looks_on, calls_by}
+use Rattle.segment_invariant.proofs.Notes.Actors.{noting_fits, calls_by}
 use Rattle.segment_invariant.proofs.Notes.Begins.{takes_nothing}
 
 -- what is listed of a key is as much as is there, where nothing listed of it is more, and one that is no less stands there alone
@@ -73,7 +72,7 @@ listed_exact counts key (suc n) most there =
     by_test other false none = refl
 
 module _ (shape : Dimensions) (opened : Anatomy) (state : State) (kept : Invariant shape opened state) (id : ℕ) (a : Actor)
-    (mine : get_elem? state.actors id ≡ some a) (records : a.opener ≡ 0) (lived : a.place ≢ Spent) (known : Known) (has : Contains a.names known)
+    (mine : get_elem? state.actors id ≡ some a) (records : is_opener a.role ≡ false) (lived : a.hand.place ≢ Spent) (known : Known) (has : Contains a.answers.names known)
     (answered : Answered) (named : known.name ≡ answered.name) (saw : SawAll a known answered) where
   -- a count of a bucket is that of its place
   bucket_at : has_buckets known.spec ≡ true → (i : ℕ) (count : ℤ × ℕ) → get_elem? answered.counts i ≡ some count
@@ -111,7 +110,7 @@ module _ (shape : Dimensions) (opened : Anatomy) (state : State) (kept : Invaria
       (λ i count there. subst (λ name. count.1 ≤ tally_units (all_counted state.actors) name count.0) named (count_within i count there))
 
   -- where it is alone, and nothing was counted since, it is exact
-  module _ (alone : IsAlone state.actors a) (quiet : All (λ c. (is_of known.name c.entry ≡ false) ⊎ (is_untouched c ≡ true)) a.running) where
+  module _ (alone : IsAlone state.actors a) (quiet : All (λ c. (is_of known.name c.entry ≡ false) ⊎ (is_untouched c ≡ true)) a.entries.running) where
     units_exact : (key : ℤ) → units_listed answered.counts key ≡ tally_units (all_counted state.actors) known.name key
     units_exact key = listed_exact answered.counts key (tally_units (all_counted state.actors) known.name key)
         (λ i count there is. subst (λ key. count.1 ≤ tally_units (all_counted state.actors) known.name key) is (count_within i count there))
@@ -154,7 +153,7 @@ module _ (shape : Dimensions) (opened : Anatomy) (state : State) (kept : Invaria
         (counted_at shape opened state kept id a mine records lived alone known has quiet key some_units))
 
     knows : Knows kept.anatomy known
-    knows = All-contains (Knows kept.anatomy) a.names known (kept.each id a mine lived).names has
+    knows = All-contains (Knows kept.anatomy) a.answers.names known (kept.each id a mine lived).names has
 
     record_is : (r : Record) × (HasRecord kept.anatomy.pieces known.reference r × (r.name ≡ known.name) × (r.spec ≡ knows.first_spec))
     record_is = record_of_first shape opened state kept known.name knows.first_spec known.reference knows.first
@@ -165,7 +164,7 @@ module _ (shape : Dimensions) (opened : Anatomy) (state : State) (kept : Invaria
         ((kept.each id a mine lived).looks records).sum known.reference answered.sum r saw.sum alone stands
         ∙ (sym (sum_is shape opened state kept known.name knows.first_spec known.reference r knows.first stands its_name) ∙ kept.balanced.sums known.name)
 
-    redundant_exact : answered.redundant ≡ cost_of kept.roles.opener.first_noted known.name + tally_noted (all_noted state.actors) known.name
+    redundant_exact : answered.redundant ≡ cost_of kept.roles.opener.entries.first_noted known.name + tally_noted (all_noted state.actors) known.name
     redundant_exact =
         let (r, (stands, its_name, its_spec)) = record_is in
         let (before, is) = saw.redundant in
@@ -183,7 +182,7 @@ module _ (shape : Dimensions) (opened : Anatomy) (state : State) (kept : Invaria
   -- ---- the note
 
   abbrev teller : Noting
-  teller = record (noting_of a) { snapshots = a.snapshots ++ answered ∷ [] }
+  teller = record (noting_of a) { snapshots = a.deltas.snapshots ++ answered ∷ [] }
 
   counts : SameCounts a (noting a teller)
   counts = record { counted = λ name key. refl; summed = λ name. refl; noted = λ name. refl; costs = λ name. omega arith; units = refl }
@@ -195,8 +194,6 @@ module _ (shape : Dimensions) (opened : Anatomy) (state : State) (kept : Invaria
   told_finals moment_is exact =
       let same = sums shape opened state kept id a mine records teller lived counts (takes_nothing a teller) (λ name key. refl) in
       let lives = lives_on a records lived in
-      let still : (m : Moment) → IsMoment tellers kept.roles.opener id a m → IsMoment tellers kept.roles.opener id (noting a teller) m =
-      λ m is. record { logged = is.logged; before = is.before; mine = is.mine; eldest = is.eldest } in
       let now : IsMoment tellers kept.roles.opener id (noting a teller) (moment_of a) = record {
         logged = omega arith;
         before = kept.roles.younger id a mine lives;
@@ -217,40 +214,40 @@ module _ (shape : Dimensions) (opened : Anatomy) (state : State) (kept : Invaria
               ap (λ m. m.outstanding) moment ∙ none,
               ap (λ m. m.before + 1) moment ∙ youngest,
             ) in
-            let quiet = subst (λ name. All (λ c. (is_of name c.entry ≡ false) ⊎ (is_untouched c ≡ true)) a.running) (sym name) rests.1 in
+            let quiet = subst (λ name. All (λ c. (is_of name c.entry ≡ false) ⊎ (is_untouched c ≡ true)) a.entries.running) (sym name) rests.1 in
             subst (λ (p : Answered × List ℕ).
             ((key : ℤ) → units_listed p.0.counts key ≡ tally_units (all_counted tellers) p.1 key)
-            × (p.0.sum ≡ tally_sum (all_summed tellers) p.1) × (p.0.redundant ≡ cost_of kept.roles.opener.first_noted p.1 + tally_noted (all_noted tellers) p.1))
+            × (p.0.sum ≡ tally_sum (all_summed tellers) p.1) × (p.0.redundant ≡ cost_of kept.roles.opener.entries.first_noted p.1 + tally_noted (all_noted tellers) p.1))
             (λ i. (s_is i, name i)) (
               λ key. units_exact alone quiet key ∙ sym (same.counted known.name key),
               sum_exact alone quiet ∙ sym (same.summed known.name),
               (let redundant = redundant_exact alone quiet in let noted = same.noted known.name in omega (arith, redundant, noted)),
             ))
-            (Contains-append_cases a.snapshots (answered ∷ []) s there);
+            (Contains-append_cases a.deltas.snapshots (answered ∷ []) s there);
         moments = λ m of. ⊎_elim
-            (λ took. still m (exact.moments m (inl took)))
+            (λ took. exact.moments m (inl took))
             (λ (s, there, is). ⊎_elim
-            (λ old. still m (exact.moments m (inr (s, old, is))))
+            (λ old. exact.moments m (inr (s, old, is)))
             (λ new. subst (IsMoment tellers kept.roles.opener id (noting a teller)) (sym moment_is ∙ (ap (λ (s : Answered). s.moment) (one_in answered s new) ∙ is)) now)
-            (Contains-append_cases a.snapshots (answered ∷ []) s there))
+            (Contains-append_cases a.deltas.snapshots (answered ∷ []) s there))
             of;
         swapped = exact.swapped;
       }
 
-  told_within : All (IsWithinCounts tellers) a.snapshots → All (IsWithinCounts tellers) (a.snapshots ++ answered ∷ [])
+  told_within : All (IsWithinCounts tellers) a.deltas.snapshots → All (IsWithinCounts tellers) (a.deltas.snapshots ++ answered ∷ [])
   told_within before =
       let same = sums shape opened state kept id a mine records teller lived counts (takes_nothing a teller) (λ name key. refl) in
-      All-push (IsWithinCounts tellers) a.snapshots answered before (within state.actors tellers answered same all_within)
+      All-push (IsWithinCounts tellers) a.deltas.snapshots answered before (within state.actors tellers answered same all_within)
 
 pub answers_kept : (answered : Answered) → NoteKeeps (answers answered)
 answers_kept answered shape opened state id a kept mine records (known, has, named, saw, moment_is) =
-    let n : Noting = record (noting_of a) { snapshots = a.snapshots ++ answered ∷ [] } in
-    let lived : a.place ≢ Spent = λ is. cc (sym is ∙ saw.sum) in
+    let n : Noting = record (noting_of a) { snapshots = a.deltas.snapshots ++ answered ∷ [] } in
+    let lived : a.hand.place ≢ Spent = λ is. cc (sym is ∙ saw.sum) in
     let same = counts shape opened state kept id a mine records lived known has answered named saw in
     notes_on shape opened state kept id a mine records n lived same (takes_nothing a n) (λ name key. refl) (λ known has. has)
     (answered_set kept.anatomy.records state.actors id a (noting a n) mine refl refl)
     (λ fit. noting_fits shape kept.anatomy state.cursors _ kept.roles.opener id a n fit fit.names fit.owes
     (calls_by kept.anatomy a n fit.calls same fit.calls.ordered fit.calls.within fit.calls.held fit.calls.ended fit.calls.spent fit.calls.taking)
-    (looks_on kept.anatomy _ kept.roles.opener a n (fit.looks records))
+    (fit.looks records)
     (told_finals shape opened state kept id a mine records lived known has answered named saw moment_is fit.finals)
     (told_within shape opened state kept id a mine records lived known has answered named saw fit.snapshots))

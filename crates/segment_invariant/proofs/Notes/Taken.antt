@@ -13,7 +13,7 @@ use Rattle.segment_machine.specs.declared.actor.Actor.{Actor}
 use Rattle.segment_machine.specs.declared.actor.Known.{Known}
 use Rattle.segment_machine.specs.declared.actor.Taken.{Taken}
 use Rattle.segment_machine.specs.Entry.{is_of, tally_units, tally_sum}
-use Rattle.segment_machine.specs.Actor.{all_counted, all_summed, all_taken, taken_sum, accepted_by}
+use Rattle.segment_machine.specs.Actor.{all_counted, all_summed, all_taken, taken_sum, accepted_by, is_opener}
 use Rattle.segment_machine.specs.Note.{has_taken, is_untouched, TookAll}
 use Rattle.segment_machine.specs.State.{State}
 use Rattle.segment_invariant.specs.Consistent.{units_taken}
@@ -25,24 +25,24 @@ use Rattle.segment_invariant.proofs.Counting.Owed.{bucket_owed, mark_taken, samp
 use Rattle.segment_invariant.proofs.Recorders.Alone.{counted_accepted}
 use Rattle.segment_invariant.proofs.Notes.Counted.{counted_at}
 use Rattle.segment_invariant.proofs.Notes.Notes.{Noting, noting, noting_of, SameCounts, notes_on, sums}
-use Rattle.segment_invariant.proofs.Notes.Actors.{noting_fits, looks_on, calls_by}
+use Rattle.segment_invariant.proofs.Notes.Actors.{noting_fits, calls_by}
 use Rattle.segment_invariant.proofs.Notes.Begins.{takes_nothing}
 
 -- the deltas that have ended while the last goes on are those before it
-ended_before : (a : Actor) (before : List Taken) (last : Taken) → a.taking ≡ true → a.taken ≡ before ++ last ∷ [] → (t : Taken) → Contains before t
+ended_before : (a : Actor) (before : List Taken) (last : Taken) → a.deltas.taking ≡ true → a.deltas.taken ≡ before ++ last ∷ [] → (t : Taken) → Contains before t
     → Contains (ended_deltas a) t
 ended_before a before last goes is t has =
     let long = ap length is ∙ length_push before last in
-    let count : length a.taken - 1 ≡ length before = omega (arith, long) in
-    let same : take (length a.taken - 1) a.taken ≡ before =
+    let count : length a.deltas.taken - 1 ≡ length before = omega (arith, long) in
+    let same : take (length a.deltas.taken - 1) a.deltas.taken ≡ before =
     (λ i. take (count i) (is i)) ∙ take-append_seam before (last ∷ []) in
-    subst (λ (b : Bool). Contains (if b then take (length a.taken - 1) a.taken else a.taken) t) (sym goes) (subst (λ (list : List Taken). Contains list t) (sym same) has)
+    subst (λ (b : Bool). Contains (if b then take (length a.deltas.taken - 1) a.deltas.taken else a.deltas.taken) t) (sym goes) (subst (λ (list : List Taken). Contains list t) (sym same) has)
 
 module _ (shape : Dimensions) (opened : Anatomy) (state : State) (kept : Invariant shape opened state) (id : ℕ) (a : Actor)
-    (mine : get_elem? state.actors id ≡ some a) (records : a.opener ≡ 0) (goes : a.taking ≡ true) (known : Known) (has : Contains a.names known)
+    (mine : get_elem? state.actors id ≡ some a) (records : is_opener a.role ≡ false) (goes : a.deltas.taking ≡ true) (known : Known) (has : Contains a.answers.names known)
     (took : TookAll a known) where
-  abbrev lived : a.place ≢ Spent
-  lived is = true≢false (sym goes ∙ ap (λ (a : Actor). a.taking) (subst (StandsRight shape kept.anatomy id a) is (kept.standing id a mine)))
+  abbrev lived : a.hand.place ≢ Spent
+  lived is = true≢false (sym goes ∙ ap (λ (a : Actor). a.deltas.taking) (subst (StandsRight shape kept.anatomy id a) is (kept.standing id a mine)))
 
   abbrev taker : Noting
   taker = record (noting_of a) { taking = false }
@@ -52,7 +52,7 @@ module _ (shape : Dimensions) (opened : Anatomy) (state : State) (kept : Invaria
 
   -- all that is counted was taken, where it is alone
   module _ (alone : IsAlone state.actors a) where
-    abbrev quiet : All (λ c. (is_of known.name c.entry ≡ false) ⊎ (is_untouched c ≡ true)) a.running
+    abbrev quiet : All (λ c. (is_of known.name c.entry ≡ false) ⊎ (is_untouched c ≡ true)) a.entries.running
     quiet = subst (All (λ c. (is_of known.name c.entry ≡ false) ⊎ (is_untouched c ≡ true))) (sym ((kept.each id a mine lived).calls.taking goes).0)
         (All-nil (λ c. (is_of known.name c.entry ≡ false) ⊎ (is_untouched c ≡ true)))
 
@@ -124,7 +124,7 @@ module _ (shape : Dimensions) (opened : Anatomy) (state : State) (kept : Invaria
             ))
             (Contains-append_cases before (last ∷ []) t (subst (λ list. Contains list t) is there));
         snapshots = exact.snapshots;
-        moments = λ m of. let is = exact.moments m of in record { logged = is.logged; before = is.before; mine = is.mine; eldest = is.eldest };
+        moments = exact.moments;
         swapped = λ before last taking. absurd (true≢false (sym taking));
       }
 
@@ -138,6 +138,6 @@ has_taken_kept shape opened state id a kept mine records (goes, (known, has, too
     (λ fit. noting_fits shape kept.anatomy state.cursors _ kept.roles.opener id a n fit fit.names fit.owes
     (calls_by kept.anatomy a n fit.calls same fit.calls.ordered fit.calls.within fit.calls.held fit.calls.ended fit.calls.spent
     (λ taking. absurd (true≢false (sym taking))))
-    (looks_on kept.anatomy _ kept.roles.opener a n (fit.looks records))
+    (fit.looks records)
     (ended_finals shape opened state kept id a mine records goes known has took fit.finals)
     fit.snapshots)

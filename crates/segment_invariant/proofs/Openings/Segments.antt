@@ -1,36 +1,24 @@
 -- A new segment with its opener is kept: it has the queue block alone, and its one actor has done nothing.
-use Rattle.std.proofs.Common.{◌≡◌, ◌≢◌, ◌⊎◌, true, ℕ, zero, suc, ◌+◌, ◌<◌, List, [], ◌∷◌, replicate, inl, inr, refl, sym, subst, arith}
+use Rattle.std.proofs.Common.{◌≡◌, ◌≢◌, ◌⊎◌, ℕ, ◌+◌, List, [], ◌∷◌, replicate, inl, refl, sym, subst, arith}
 use Rattle.std.specs.Prelude.{slice_index}
-use Rattle.std.specs.List.{Contains, All}
-use Rattle.std.proofs.lemmas.List.{get_or-replicate, length-replicate}
 use Rattle.std.proofs.lemmas.List.Elements.{All-nil}
 use Rattle.std.proofs.lemmas.List.Sorted.{IsPermutation-refl}
-use mathlib.Core.Option.{Option, some, none}
-use lib.ListN.{get_elem?}
+use mathlib.Core.Option.{Option, none}
 use Rattle.segment_image.specs.Shape.{Dimensions}
 use Rattle.segment_image.specs.Words.{word_at}
 use Rattle.alloc_core.specs.Layout.{IsShape}
 use Rattle.alloc_core.proofs.Runs.{fresh_sound}
 use Rattle.list_core.specs.Chain.{stops}
 use Rattle.segment_machine.specs.declared.actor.Actor.{Actor}
-use Rattle.segment_machine.specs.declared.actor.Moment.{Moment}
 use Rattle.segment_machine.specs.declared.place.Place.TheVariants.{Spent}
 use Rattle.segment_machine.specs.Reached.{new_state}
 use Rattle.segment_machine.specs.Seats.{opener_of}
 use Rattle.segment_invariant.specs.Body.{Body, queue, histogram, counts, sample, Record, Counts, Sample, Piece, Anatomy, blank}
 use Rattle.segment_invariant.specs.Seen.{Stands, HasRecord, HasCounts, HasSample, Sees}
-use Rattle.segment_invariant.specs.Invariant.{ListIsKept, IsListed, RecordsAreKept, RolesAreKept, CursorsAreKept, CallsRight, IsMomentOf, FinalsAreExact, Fits, Invariant, ClaimedRight, StandsRight, is_living}
+use Rattle.segment_invariant.specs.Invariant.{ListIsKept, IsListed, RecordsAreKept, ArePassedOver, Fits, Invariant, ClaimedRight, StandsRight}
 use Rattle.segment_invariant.specs.Keeps.{OpeningIsKept}
-use Rattle.segment_invariant.proofs.Frames.Ahead.{ahead_anew}
-use Rattle.segment_invariant.proofs.Lists.Elements.{none_in, none_at, not_empty, each_of_one}
-
--- ---- a list of one
-
--- there are no two of its one
-no_two : {X : Type 0} (one : X) (i j : ℕ) (x y : X) → get_elem? (one ∷ []) i ≡ some x → get_elem? (one ∷ []) j ≡ some y → i ≢ j → ⊥
-no_two one zero zero x y a b apart = apart refl
-no_two one zero (suc j) x y a b apart = none_at j y b
-no_two one (suc i) j x y a b apart = none_at i x a
+use Rattle.segment_invariant.proofs.Openings.FirstActors.{first_roles, first_cursors, first_fits}
+use Rattle.segment_invariant.proofs.Lists.Elements.{none_in, not_empty, each_of_one}
 
 -- ---- the queue block alone
 
@@ -89,30 +77,12 @@ module _ (shape : Dimensions) (version id cursors : ℕ) (lawful : IsShape shape
     later_samples = λ at other s there. absurd (no_sample at s there);
   }
 
-  roles : RolesAreKept actors
-  roles = record {
-    opener = opener;
-    stands = refl;
-    opens = refl;
-    idle = refl;
-    rests = (refl, refl, refl, refl, refl);
-    only = each_of_one opener (λ k a. k ≢ 0 → _) (λ apart. absurd (apart refl));
-    offers = omega arith;
-    living = refl;
-    few = omega arith;
-    younger = each_of_one opener (λ k a. is_living a ≡ true → a.made < 0) (λ lives. cc lives);
-    apart = λ i j a b x y lives others ne. absurd (no_two opener i j a b x y ne);
-    eldest = λ i j a b x y lives others ne. absurd (no_two opener i j a b x y ne);
-    heirs = each_of_one opener (λ k a. is_living a ≡ true → _) (λ lives. cc lives);
-  }
-
-  cursors_kept : CursorsAreKept [] (replicate cursors 12) actors
-  cursors_kept = record {
-    stand = λ k below.
-        let within : k < cursors = omega (arith, below, length-replicate {A = ℕ} cursors 12) in
-        (0, omega arith, sym (get_or-replicate cursors k 12 0 within), IsPermutation-refl []);
-    ordered = each_of_one opener (λ k a. a.opener ≡ 0 → _) (λ records. absurd (omega (arith, records)));
-    given = each_of_one opener (λ k a. All (λ g. Contains [] g.reference) a.given) (All-nil _);
+  passed_over : ArePassedOver shape.page opened opened.pieces
+  passed_over = record {
+    stay = λ at size tag payload still. still;
+    each = λ front behind at e. absurd (not_empty front behind _ (sym e));
+    apart = λ at place r q first. absurd (none_in _ first.0);
+    unlisted = λ at r over among. none_in _ among;
   }
 
   sees : Sees opened (replicate cursors 12) opener.seen
@@ -128,54 +98,11 @@ module _ (shape : Dimensions) (version id cursors : ℕ) (lawful : IsShape shape
     shared = All-nil _;
   }
 
-  calls : CallsRight opened opener
-  calls = record {
-    ordered = record {
-      one_by_one = λ i j x y below there. absurd (none_at i x there);
-      counted_first = All-nil _;
-      summed_next = All-nil _;
-      amounted = All-nil _;
-    };
-    within = λ runs. absurd (runs refl);
-    held = omega arith;
-    ended = All-nil _;
-    spent = λ name. omega arith;
-    met = λ entry of there. absurd (none_in entry there);
-    taking = λ e. cc e;
-  }
-
-  no_moment : (m : Moment) → IsMomentOf opener m → ⊥
-  no_moment m (inl (t, there, is)) = none_in t there
-  no_moment m (inr (s, there, is)) = none_in s there
-
-  finals : FinalsAreExact actors opener 0 opener
-  finals = record {
-    deltas = λ t there. absurd (none_in t there);
-    snapshots = λ s there. absurd (none_in s there);
-    moments = λ m of. absurd (no_moment m of);
-    swapped = λ before last e. cc e;
-  }
-
   fits : Fits shape opened (replicate cursors 12) actors opener 0 opener
-  fits = record {
-    shaped = refl;
-    versioned = refl;
-    numbered = sym (length-replicate {A = ℕ} cursors 12);
-    sees = sees;
-    ahead = ahead_anew [] 12 (replicate cursors 12) cursors (0, omega arith, refl) (sym (length-replicate {A = ℕ} cursors 12))
-        (λ k below. (0, omega arith, sym (get_or-replicate cursors k 12 0 (omega (arith, below, length-replicate {A = ℕ} cursors 12)))));
-    names = All-nil _;
-    own = All-nil _;
-    apart = λ i j x y there. absurd (none_at i x there);
-    owes = All-nil _;
-    calls = calls;
-    looks = λ e. absurd (omega (arith, e));
-    finals = finals;
-    snapshots = All-nil _;
-  }
+  fits = first_fits shape version cursors 4294967295 [] [] [] [] [] opener.seen opened sees (0, omega arith, refl) (All-nil _) (λ name. omega arith)
+      (λ entry of there. absurd (none_in entry there)) refl
 
   kept : (version ≡ 1) ⊎ (version ≡ 2) → Invariant shape opened (new_state shape version id cursors)
-  unfolding roles
   kept versions = record {
     anatomy = opened;
     shown = record { shows = refl; sound = fresh_sound shape version id lawful };
@@ -186,6 +113,7 @@ module _ (shape : Dimensions) (version id cursors : ℕ) (lawful : IsShape shape
     list = list;
     claims = IsPermutation-refl [];
     records = records;
+    passed_over = passed_over;
     balanced = record {
       units = λ name key. refl;
       marks = λ name key. refl;
@@ -200,12 +128,12 @@ module _ (shape : Dimensions) (version id cursors : ℕ) (lawful : IsShape shape
     pool = refl;
     corrupt = refl;
     full = refl;
-    roles = roles;
+    roles = first_roles shape version cursors 4294967295 [] [] [] [] [] opener.seen;
     first_noted = λ name. refl;
     answered = λ name kind at first. absurd (not_empty first.0 first.1 _ (sym first.2));
-    cursors = cursors_kept;
-    standing = each_of_one opener (λ k a. StandsRight shape opened k a a.place) tt;
-    each = each_of_one opener (λ k a. a.place ≢ Spent → Fits shape opened (replicate cursors 12) actors opener k a) (λ lives. fits);
+    cursors = first_cursors shape version cursors 4294967295 [] [] [] [] [] opener.seen [];
+    standing = each_of_one opener (λ k a. StandsRight shape opened k a a.hand.place) tt;
+    each = each_of_one opener (λ k a. a.hand.place ≢ Spent → Fits shape opened (replicate cursors 12) actors opener k a) (λ lives. fits);
   }
 
 pub opening_is_kept : OpeningIsKept

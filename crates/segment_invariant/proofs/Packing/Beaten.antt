@@ -12,7 +12,7 @@ use Rattle.segment_machine.specs.declared.place.Place.{Place}
 use Rattle.segment_machine.specs.declared.place.Place.TheVariants.{Spent, Idle, Looking, SumLoaded, Moving}
 use Rattle.segment_machine.specs.declared.seen.Seen.{Seen}
 use Rattle.segment_machine.specs.declared.seen.Sighting.{Sighting}
-use Rattle.segment_machine.specs.Actor.{is_bound, Buckets}
+use Rattle.segment_machine.specs.Actor.{is_bound, Buckets, is_opener}
 use Rattle.segment_machine.specs.Event.{packing_event, Ready}
 use Rattle.segment_machine.specs.Calls.{look_of}
 use Rattle.segment_machine.specs.Form.{off_word}
@@ -32,16 +32,16 @@ use Rattle.segment_invariant.proofs.Counting.Sights.{word_within}
 use Rattle.segment_invariant.proofs.Packing.Loads.{look_right, learns_single}
 
 module _ (shape : Dimensions) (opened : Anatomy) (state : State) (kept : Invariant shape opened state) (id : ℕ) (a : Actor)
-    (mine : get_elem? state.actors id ≡ some a) (recorder : a.opener ≡ 0) (lived : a.place ≢ Spent) (h : ℕ) (known : Known) (buckets : Buckets a h known) where
+    (mine : get_elem? state.actors id ≡ some a) (recorder : is_opener a.role ≡ false) (lived : a.hand.place ≢ Spent) (h : ℕ) (known : Known) (buckets : Buckets a h known) where
   abbrev sight_more : ℕ → Seen
   sight_more word = record a.seen { singles = a.seen.singles ++ record { at = h + 9; word = word } ∷ [] }
 
   abbrev with_sight : Place → ℕ → Actor
-  with_sight place word = seer a place (sight_more word) a.given a.lost
+  with_sight place word = seer a place (sight_more word) a.done.given a.done.lost
 
   -- the state is kept where it sees the single word as it is, and goes on to a place with the same units in transit
-  pub now_seen : (place : Place) → place ≢ Spent → ((name : List ℕ) (key : ℤ) → moving_at a name key place ≡ moving_at a name key a.place)
-      → ((reference : ℕ) (sum : ℤ) → place ≢ SumLoaded reference sum) → KeepsUp a.place place
+  pub now_seen : (place : Place) → place ≢ Spent → ((name : List ℕ) (key : ℤ) → moving_at a name key place ≡ moving_at a name key a.hand.place)
+      → ((reference : ℕ) (sum : ℤ) → place ≢ SumLoaded reference sum) → KeepsUp a.hand.place place
       → (word : ℕ) → word_at state.words (h + 9) ≡ word → StandsRight shape kept.anatomy id (with_sight place word) place
       → Invariant shape opened (record { words = state.words; cursors = state.cursors; actors = set state.actors id (with_sight place word) })
   now_seen place lives moves no_sum up found is stood =
@@ -55,11 +55,11 @@ module _ (shape : Dimensions) (opened : Anatomy) (state : State) (kept : Invaria
         cursors = state.cursors;
         actors = set state.actors id (with_sight place n);
       })) word
-      (sees_more shape opened state kept id a mine recorder place (sight_more r.single) a.given a.lost lived lives moves state.cursors
+      (sees_more shape opened state kept id a mine recorder place (sight_more r.single) a.done.given a.done.lost lived lives moves state.cursors
       (later_itself (order_of kept.anatomy) state.cursors)
-      (near_on shape opened state kept id a mine recorder place (sight_more r.single) a.given a.lost lived lives moves
+      (near_on shape opened state kept id a mine recorder place (sight_more r.single) a.done.given a.done.lost lived lives moves
       (λ reference sum loads. absurd (no_sum reference sum loads)))
-      (given_on shape opened state kept id a mine recorder place (sight_more r.single) a.given a.lost lived lives moves refl)
+      (given_on shape opened state kept id a mine recorder place (sight_more r.single) a.done.given a.done.lost lived lives moves refl)
       (record {
         free = fits.sees.free;
         walked = fits.sees.walked;
@@ -72,14 +72,14 @@ module _ (shape : Dimensions) (opened : Anatomy) (state : State) (kept : Invaria
         fixed = fits.sees.fixed;
         shared = fits.sees.shared;
       })
-      (ahead_at (order_of kept.anatomy) kept.anatomy.tail state.cursors a.place a.beaten a.lost fits.ahead place up)
+      (ahead_at (order_of kept.anatomy) kept.anatomy.tail state.cursors a.hand.place a.done.beaten a.done.lost fits.ahead place up)
       (subst (λ (n : ℕ). StandsRight shape kept.anatomy id (with_sight place n) place) (sym word) stood)
-      (calls_more kept.anatomy a place (sight_more r.single) a.given a.lost (λ at has. has) (λ at word has. has) fits.calls)
-      (looks_single shape opened state kept id a mine recorder lived h r stands place a.given no_sum))
+      (calls_more kept.anatomy a place (sight_more r.single) a.done.given a.done.lost (λ at has. has) (λ at word has. has) fits.calls)
+      (looks_single shape opened state kept id a mine recorder lived h r stands place a.done.given no_sum))
 
 module _ (shape : Dimensions) (opened : Anatomy) (state : State) (kept : Invariant shape opened state) (id : ℕ) (a : Actor)
-    (mine : get_elem? state.actors id ≡ some a) (recorder : a.opener ≡ 0) (unbound : is_bound a.place ≡ false) (h : ℕ) (known : Known) (buckets : Buckets a h known) where
-  lives : a.place ≢ Spent
+    (mine : get_elem? state.actors id ≡ some a) (recorder : is_opener a.role ≡ false) (unbound : is_bound a.hand.place ≡ false) (h : ℕ) (known : Known) (buckets : Buckets a h known) where
+  lives : a.hand.place ≢ Spent
   lives spent = cc (unbound, ap is_bound spent)
 
   the_record : (r : Record) × HasRecord kept.anatomy.pieces h r × (word_at state.words (h + 9) ≡ r.single)
@@ -93,28 +93,28 @@ module _ (shape : Dimensions) (opened : Anatomy) (state : State) (kept : Invaria
 
   -- the state is kept where it sees the single word as it is, and goes on to a place
   pub single_seen : (place : Place) → is_bound place ≡ false → ((reference : ℕ) (sum : ℤ) → place ≢ SumLoaded reference sum)
-      → ((word : ℕ) → StandsRight shape kept.anatomy id (seer a place (sees_single word) a.given a.lost) place)
+      → ((word : ℕ) → StandsRight shape kept.anatomy id (seer a place (sees_single word) a.done.given a.done.lost) place)
       → Invariant shape opened (record {
         words = state.words;
         cursors = state.cursors;
-        actors = set state.actors id (seer a place (sees_single (word_at state.words (h + 9))) a.given a.lost);
+        actors = set state.actors id (seer a place (sees_single (word_at state.words (h + 9))) a.done.given a.done.lost);
       })
   single_seen place free no_sum stood =
-      let still : (look : Look) (bucket units : ℕ) → a.place ≢ Moving look bucket units = λ look bucket units moving. cc (unbound, ap is_bound moving) in
+      let still : (look : Look) (bucket units : ℕ) → a.hand.place ≢ Moving look bucket units = λ look bucket units moving. cc (unbound, ap is_bound moving) in
       let moves : (name : List ℕ) (key : ℤ) → _ = λ name key. rests_at a name key place (λ look bucket units moving. cc (free, ap is_bound moving))
-      ∙ sym (rests_at a name key a.place still) in
+      ∙ sym (rests_at a name key a.hand.place still) in
       now_seen shape opened state kept id a mine recorder lives h known buckets place (λ spent. cc (free, ap is_bound spent)) moves no_sum
-      (λ no. unbound_unbeaten a.place unbound) (word_at state.words (h + 9)) refl (stood (word_at state.words (h + 9)))
+      (λ no. unbound_unbeaten a.hand.place unbound) (word_at state.words (h + 9)) refl (stood (word_at state.words (h + 9)))
 
 module _ (shape : Dimensions) (opened : Anatomy) (state : State) (kept : Invariant shape opened state) (id : ℕ) (a : Actor)
-    (mine : get_elem? state.actors id ≡ some a) (recorder : a.opener ≡ 0) where
+    (mine : get_elem? state.actors id ≡ some a) (recorder : is_opener a.role ≡ false) where
   -- so packing that came too late keeps what holds
   pub pack_beaten : (h old new : ℕ) → Ready a (packing_event (pack h old new)) → (word_at state.words (h + 9) == old) ≡ false
       → Goes shape opened state kept id a mine recorder (packing_event (pack h old new))
   pack_beaten h old new (c, look, known, bucket, next, (placed, of_it, single, on, buckets), named, keyed, packs) late =
       let found : ℕ = word_at state.words (h + 9) in
       let unbound = ap is_bound placed in
-      let lives : a.place ≢ Spent = λ spent. cc (sym placed ∙ spent) in
+      let lives : a.hand.place ≢ Spent = λ spent. cc (sym placed ∙ spent) in
       let (r, stands, word) = the_record shape opened state kept id a mine recorder unbound h known buckets in
       happens opened.version state id a (packing_event (pack h old new)) (word_within shape opened state kept h 9 (histogram r) stands refl (omega arith)) shape opened (
         subst (λ (b : Bool). Invariant shape opened (record {
@@ -133,10 +133,10 @@ module _ (shape : Dimensions) (opened : Anatomy) (state : State) (kept : Invaria
   disable_beaten h old (look, known, (placed, of_it, single, on, buckets), some_counts, counts_in) late =
       let found : ℕ = word_at state.words (h + 9) in
       let unbound = ap is_bound placed in
-      let lives : a.place ≢ Spent = λ spent. cc (sym placed ∙ spent) in
+      let lives : a.hand.place ≢ Spent = λ spent. cc (sym placed ∙ spent) in
       let (r, stands, word) = the_record shape opened state kept id a mine recorder unbound h known buckets in
-      let (histogram_is, counts_are) = look_right shape kept.anatomy id a a.place h (kept.standing id a mine) in
-      let place : Place = Looking (record (look_of a.place h) { single = None }) in
+      let (histogram_is, counts_are) = look_right shape kept.anatomy id a a.hand.place h (kept.standing id a mine) in
+      let place : Place = Looking (record (look_of a.hand.place h) { single = None }) in
       happens opened.version state id a (packing_event (disable h old)) (word_within shape opened state kept h 9 (histogram r) stands refl (omega arith)) shape opened (
         subst (λ (b : Bool). Invariant shape opened (record {
           words = set state.words (h + 9) (if b then off_word opened.version old else found);

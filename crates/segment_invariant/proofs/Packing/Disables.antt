@@ -13,16 +13,15 @@ use Rattle.alloc_core.proofs.Owners.{set_at}
 use Rattle.segment_image.specs.Shape.{Dimensions}
 use Rattle.segment_image.specs.Words.{word_at}
 use Rattle.bucket_ranges.specs.declared.single.SingleWord.{SingleWord}
-use Rattle.bucket_ranges.specs.declared.single.SingleWord.TheVariants.{Empty, Packed, Disabled, FrozenEmpty, Frozen}
 use Rattle.bucket_ranges.specs.declared.spec.Spec.{Spec}
 use Rattle.bucket_ranges.specs.Spec.{buckets_of}
-use Rattle.bucket_ranges.specs.Single.{single_of, packed_bucket, units_packed}
+use Rattle.bucket_ranges.specs.Single.{single_of, packed_bucket}
 use Rattle.segment_machine.specs.declared.actor.Actor.{Actor}
 use Rattle.segment_machine.specs.declared.actor.Known.{Known}
 use Rattle.segment_machine.specs.declared.place.Look.{Look}
 use Rattle.segment_machine.specs.declared.place.Place.{Place}
 use Rattle.segment_machine.specs.declared.place.Place.TheVariants.{Spent, Looking, SumLoaded, Moving}
-use Rattle.segment_machine.specs.Actor.{taken_units, known_at, known_buckets, bucket_key, Buckets}
+use Rattle.segment_machine.specs.Actor.{taken_units, known_at, known_buckets, bucket_key, Buckets, taken_of, is_opener}
 use Rattle.segment_machine.specs.Calls.{look_of, nothing_of, form_seen}
 use Rattle.segment_machine.specs.Event.{packing_event, Ready}
 use Rattle.segment_machine.specs.Form.{is_off, units_in, off_word}
@@ -49,28 +48,13 @@ use Rattle.segment_invariant.proofs.Changes.Words.{Turns, behind, stands_then, c
 use Rattle.segment_invariant.proofs.Counting.Looks.{knows_of, body_word, counts_was, in_use_now}
 use Rattle.segment_invariant.proofs.Counting.Sights.{word_within}
 use Rattle.segment_invariant.proofs.Packing.Beaten.{now_seen, disable_beaten}
+use Rattle.segment_invariant.proofs.Packing.Forms.{units_most}
 use Rattle.segment_invariant.proofs.Packing.Loads.{learns_single}
 use Rattle.segment_invariant.proofs.Packing.OffForms.{Disabling, disabling, few_buckets}
 use Rattle.segment_invariant.proofs.Packing.Packs.{with_single}
+use Rattle.segment_invariant.proofs.Frames.Anew.{lawful_anew, counts_anew}
 
 -- ---- the record with its word off
-
--- a form holds no more of a bucket than it holds
-units_fewer : (form : Option SingleWord) (i : ℕ) → units_packed form i ≤ units_in form
-units_fewer (Some (Packed bucket units)) i = by_test (bucket == i)
-  where
-    by_test : (b : Bool) → (if b then units else 0) ≤ units
-    by_test true = omega arith
-    by_test false = omega arith
-units_fewer (Some (Frozen bucket units)) i = by_test (bucket == i)
-  where
-    by_test : (b : Bool) → (if b then units else 0) ≤ units
-    by_test true = omega arith
-    by_test false = omega arith
-units_fewer (Some Empty) i = omega arith
-units_fewer (Some (Disabled packed)) i = omega arith
-units_fewer (Some FrozenEmpty) i = omega arith
-units_fewer None i = omega arith
 
 -- what is at most the greater of two small numbers is small, so at most the greater of any and the limit
 low_mark : (mark few more limit : ℕ) → mark ≤ max few limit → few ≤ limit → mark ≤ max more limit
@@ -81,46 +65,26 @@ module _ (version at : ℕ) (r : Record) (d : Disabling version (buckets_of r.sp
   off = with_single r (off_word version r.single)
 
   lawful_off : (page : ℕ) → IsLawfulRecord version page r → IsLawfulRecord version page off
-  lawful_off page is = record {
-    sized = is.sized;
-    least = is.least;
-    named = is.named;
-    lettered = is.lettered;
-    lawful = is.lawful;
-    fields = is.fields;
-    fits = is.fits;
-    formed = d.formed;
-    unpacked = λ none_there. is.unpacked (sym d.names ∙ none_there);
-    off = λ _. mounts;
-    sparse = λ sparse. absurd (mounts (is.sparse sparse).0);
-    narrow = is.narrow;
-  }
+  lawful_off page is = lawful_anew version page r r.counts (off_word version r.single) r.mark r.sum r.sum_mark r.noted is
+      d.formed (λ none_there. is.unpacked (sym d.names ∙ none_there)) (λ _. mounts) (λ sparse. absurd (mounts (is.sparse sparse).0)) is.narrow
 
   -- in version 1 nothing was counted behind the word, so the mark is at most 65,535
   counts_off : (c : Counts) → IsCountsOf version at r c → IsCountsOf version at off c
-  counts_off c is = record {
-    mine = is.mine;
-    named = is.named;
-    same = is.same;
-    units = is.units;
-    marks = is.marks;
-    sized = is.sized;
-    packed = λ i packs. is.packed i (sym d.names ∙ packs);
-    unused = λ still. absurd (true≢false (sym d.off ∙ still));
-    mark = λ one i packs.
-        let none_there = zero_index c.units i (is.unused on).0 in
-        let fewer = units_fewer (form_at version r) i in
-        let few = d.few in
-        low_mark r.mark _ _ 65535 (is.mark one i (sym d.names ∙ packs)) (omega (arith, none_there, fewer, few));
-  }
+  counts_off c is = counts_anew version at r (off_word version r.single) r.mark c is
+      (λ i packs. is.packed i (sym d.names ∙ packs)) (λ still. absurd (true≢false (sym d.off ∙ still)))
+      (λ one i packs.
+      let none_there = zero_index c.units i (is.unused on).0 in
+      let fewer = units_most (form_at version r) i in
+      let few = d.few in
+      low_mark r.mark _ _ 65535 (is.mark one i (sym d.names ∙ packs)) (omega (arith, none_there, fewer, few)))
 
 -- ---- the word changes
 
 module _ (shape : Dimensions) (opened : Anatomy) (state : State) (kept : Invariant shape opened state) (id : ℕ) (a : Actor)
-    (mine : get_elem? state.actors id ≡ some a) (recorder : a.opener ≡ 0) (look : Look) (old : ℕ) (asked : Known) (placed : a.place ≡ Looking look)
+    (mine : get_elem? state.actors id ≡ some a) (recorder : is_opener a.role ≡ false) (look : Look) (old : ℕ) (asked : Known) (placed : a.hand.place ≡ Looking look)
     (single : look.single ≡ Some old) (on : is_off old ≡ false) (buckets : Buckets a look.histogram asked) (some_counts : look.counts ≢ 0)
     (is_old : word_at state.words (look.histogram + 9) ≡ old) where
-  lives : a.place ≢ Spent
+  lives : a.hand.place ≢ Spent
   lives spent = cc (sym placed ∙ spent)
 
   abbrev h : ℕ
@@ -136,13 +100,13 @@ module _ (shape : Dimensions) (opened : Anatomy) (state : State) (kept : Invaria
   abbrev Found : Type 0
   Found = (known : Known) × (r : Record) × HasRecord kept.anatomy.pieces h r × (r.single ≡ old) × (r.counts ≡ look.counts) × (r.counts ≢ 0)
       × (r.name ≡ known.name) × (buckets_of r.spec ≡ buckets_of known.spec) × ((i : ℕ) → key_of_bucket r.spec i ≡ bucket_key (Some known) i)
-      × (known_at a.names h ≡ Some known) × ((kind : Spec) (place : ℕ) → IsFirst kept.anatomy.records r.name kind place → place ≡ h)
+      × (known_at a.answers.names h ≡ Some known) × ((kind : Spec) (place : ℕ) → IsFirst kept.anatomy.records r.name kind place → place ≡ h)
 
   found : Found
   found =
       let fits = kept.each id a mine lives in
-      let among = at_from a.names asked buckets.0 in
-      let (known, is, has, refers) = find_known a.names h among.0 asked among.1 buckets.1 in
+      let among = at_from a.answers.names asked buckets.0 in
+      let (known, is, has, refers) = find_known a.answers.names h among.0 asked among.1 buckets.1 in
       let (r, first, there, named, many, keys) = knows_of shape opened state kept id a mine recorder lives known has in
       let stands : HasRecord kept.anatomy.pieces h r = subst (λ (n : ℕ). HasRecord kept.anatomy.pieces n r) refers there in
       let (counts_is, mounts) = counts_was shape opened state kept h look.counts r stands
@@ -230,9 +194,9 @@ module _ (shape : Dimensions) (opened : Anatomy) (state : State) (kept : Invaria
       balances = record {
         units = λ name key.
             let all = held name key in
-            let rests : moving_at a name key a.place ≡ 0 = ap (moving_at a name key) placed in
+            let rests : moving_at a name key a.hand.place ≡ 0 = ap (moving_at a name key) placed in
             omega (arith, all, rests);
-        marks = λ name key. ap (λ (packed : Option ℕ). of_name r.name name (at_bucket r.spec key packed r.mark) + taken_units a.taken name key) d.names;
+        marks = λ name key. ap (λ (packed : Option ℕ). of_name r.name name (at_bucket r.spec key packed r.mark) + taken_units (taken_of a) name key) d.names;
         sums = λ name. (pos 0, sym (+ℤ_idr _), sym (+ℤ_idr _));
         sum_marks = λ name. (pos 0, sym (+ℤ_idr _), sym (+ℤ_idr _));
         noted = λ name. refl;
@@ -261,7 +225,7 @@ module _ (shape : Dimensions) (opened : Anatomy) (state : State) (kept : Invaria
     mine_between = set_at state.actors id a b mine
 
     abbrev c : Actor
-    c = seer b (turn looked) (record a.seen { singles = a.seen.singles ++ record { at = h + 9; word = v } ∷ [] }) a.given a.lost
+    c = seer b (turn looked) (record a.seen { singles = a.seen.singles ++ record { at = h + 9; word = v } ∷ [] }) a.done.given a.done.lost
 
     left : Invariant shape opened (record { words = between.words; cursors = state.cursors; actors = set between.actors id c })
     left = now_seen shape opened between kept_between id b mine_between recorder (alive unseen) h asked buckets (turn looked) (alive looked) (moves b) (no_sum looked) keeps_up
@@ -275,11 +239,11 @@ module _ (shape : Dimensions) (opened : Anatomy) (state : State) (kept : Invaria
         }))
 
     -- so the event keeps what holds, where that is the place behind it
-    went : turn looked ≡ after_disabling a.version (look_of a.place h) old (form_seen a h old) → Goes shape opened state kept id a mine recorder (packing_event (disable h old))
+    went : turn looked ≡ after_disabling a.segment.version (look_of a.hand.place h) old (form_seen a h old) → Goes shape opened state kept id a mine recorder (packing_event (disable h old))
     went place_is =
         let fits = kept.each id a mine lives in
         let same : v ≡ off_word opened.version old = (λ i. off_word (kept.same.0 i) (found.3 i)) in
-        let seen_as : v ≡ off_word a.version old = (λ i. off_word (sym fits.versioned i) (found.3 i)) in
+        let seen_as : v ≡ off_word a.segment.version old = (λ i. off_word (sym fits.versioned i) (found.3 i)) in
         happens opened.version state id a (packing_event (disable h old)) there shape opened (
           subst (λ (test : Bool). Invariant shape opened (record {
             words = set state.words (h + 9) (if test then off_word opened.version old else word_at state.words (h + 9));
@@ -290,7 +254,7 @@ module _ (shape : Dimensions) (opened : Anatomy) (state : State) (kept : Invaria
               (λ i. (
                 set state.words (h + 9) (same i),
                 (set-set state.actors id b c ∙ (λ j. set state.actors id (record a {
-                  place = place_is j;
+                  hand = record a.hand { place = place_is j };
                   seen = record a.seen { singles = a.seen.singles ++ record { at = h + 9; word = seen_as j } ∷ [] };
                 }))) i,
               )) left),
@@ -300,7 +264,7 @@ module _ (shape : Dimensions) (opened : Anatomy) (state : State) (kept : Invaria
   -- ---- what is in transit then
 
   abbrev in_transit : Bool
-  in_transit = (a.version == 1) && nat_lt 0 old
+  in_transit = (a.segment.version == 1) && nat_lt 0 old
 
   abbrev form : Option SingleWord
   form = form_at version r
@@ -311,31 +275,31 @@ module _ (shape : Dimensions) (opened : Anatomy) (state : State) (kept : Invaria
   abbrev units : ℕ
   units = units_in form
 
-  versioned : a.version ≡ version
+  versioned : a.segment.version ≡ version
   versioned = (kept.each id a mine lives).versioned
 
-  look_is : look_of a.place h ≡ look
+  look_is : look_of a.hand.place h ≡ look
   look_is = ap (λ (p : Place). look_of p h) placed ∙ (λ i. if eq-eqb h h refl i then look else nothing_of h)
 
   form_is : form_seen a h old ≡ form
   form_is = (λ i. single_of (versioned i) (known_buckets (found.9 i)) (sym found.3 i)) ∙ ap (λ (n : ℕ). single_of version n r.single) (sym found.7)
 
-  word_is : off_word a.version old ≡ v
+  word_is : off_word a.segment.version old ≡ v
   word_is = λ i. off_word (versioned i) (sym found.3 i)
 
   place_is : (b : Bool) → in_transit ≡ b
-      → after_disabling a.version (look_of a.place h) old (form_seen a h old) ≡ (if b then Moving looked bucket units else Looking looked)
+      → after_disabling a.segment.version (look_of a.hand.place h) old (form_seen a h old) ≡ (if b then Moving looked bucket units else Looking looked)
   place_is b test = λ i. if test i
       then Moving (record (look_is i) { single = Some (word_is i) }) (unwrap_or (packed_bucket (form_is i)) 0) (units_in (form_is i))
       else Looking (record (look_is i) { single = Some (word_is i) })
 
   -- a word that leaves nothing in transit keeps its units: it is frozen, or it was empty
   units_stay : in_transit ≡ false → units_in (form_at version s) ≡ units
-  units_stay test = ⊎_elim frozen empty (and_cases (a.version == 1) (nat_lt 0 old) test)
+  units_stay test = ⊎_elim frozen empty (and_cases (a.segment.version == 1) (nat_lt 0 old) test)
     where
-      frozen : (a.version == 1) ≡ false → units_in (form_at version s) ≡ units
+      frozen : (a.segment.version == 1) ≡ false → units_in (form_at version s) ≡ units
       frozen other = ⊎_elim
-          (λ one. absurd (eqb-false a.version 1 other (versioned ∙ one)))
+          (λ one. absurd (eqb-false a.segment.version 1 other (versioned ∙ one)))
           (λ two. d.units ∙ (λ i. if two i == 2 then units else 0))
           kept.versions
 
@@ -357,10 +321,10 @@ module _ (shape : Dimensions) (opened : Anatomy) (state : State) (kept : Invaria
   -- where units are in transit they are those that the word had
   module _ (test : in_transit ≡ true) where
     one : version ≡ 1
-    one = sym versioned ∙ eqb-true a.version 1 (and_parts (a.version == 1) (nat_lt 0 old) test).0
+    one = sym versioned ∙ eqb-true a.segment.version 1 (and_parts (a.segment.version == 1) (nat_lt 0 old) test).0
 
     some_there : r.single ≢ 0
-    some_there empty = let low = ltb-true 0 old (and_parts (a.version == 1) (nat_lt 0 old) test).1 in let is = found.3 in omega (arith, low, is, empty)
+    some_there empty = let low = ltb-true 0 old (and_parts (a.segment.version == 1) (nat_lt 0 old) test).1 in let is = found.3 in omega (arith, low, is, empty)
 
     packs : packed_bucket form ≡ Some bucket
     packs = let is = (d.packed some_there).1 in is ∙ sym (ap (λ (packed : Option ℕ). Some (unwrap_or packed 0)) is)

@@ -2,9 +2,26 @@
 use Rattle.std.proofs.Common.{◌≡◌, ◌⊎◌, Bool, true, false, ◌&&◌, ◌==◌, nat_lt, nat_le, if◌then◌else◌, ℕ, ◌+◌, ◌/◌, ◌%◌, ◌^◌, ◌<◌, ◌≤◌, Option, Some, None, inl, inr, sym, ap, ◌∙◌, arith}
 use Rattle.std.proofs.lemmas.Bool.{lt-ltb, lt-leb, le-leb, ne_eqb}
 use Rattle.bucket_ranges.specs.declared.single.SingleWord.{SingleWord}
-use Rattle.bucket_ranges.specs.declared.single.SingleWord.TheVariants.{Empty, Packed}
-use Rattle.bucket_ranges.specs.Single.{single_of, is_packed_word, packed_bucket}
+use Rattle.bucket_ranges.specs.declared.single.SingleWord.TheVariants.{Empty, Packed, Disabled, FrozenEmpty, Frozen}
+use Rattle.bucket_ranges.specs.Single.{single_of, is_packed_word, packed_bucket, units_packed}
 use Rattle.segment_machine.specs.Form.{is_off, units_in, packed_word, IsPacking, Leads}
+
+-- of a bucket a word holds no more than it holds
+pub units_most : (form : Option SingleWord) (i : ℕ) → units_packed form i ≤ units_in form
+units_most (Some (Packed bucket units)) i = by_test (bucket == i)
+  where
+    by_test : (b : Bool) → (if b then units else 0) ≤ units
+    by_test true = omega arith
+    by_test false = omega arith
+units_most (Some (Frozen bucket units)) i = by_test (bucket == i)
+  where
+    by_test : (b : Bool) → (if b then units else 0) ≤ units
+    by_test true = omega arith
+    by_test false = omega arith
+units_most (Some Empty) i = omega arith
+units_most (Some (Disabled packed)) i = omega arith
+units_most (Some FrozenEmpty) i = omega arith
+units_most None i = omega arith
 
 module _ (version n bucket : ℕ) (below : bucket < n) (few : n ≤ 1048576) where
   -- a word of units of a bucket is on

@@ -27,6 +27,7 @@ use Rattle.segment_invariant.proofs.Frames.SeesMore.{near_on}
 use Rattle.segment_invariant.proofs.Frames.Shown.{Goes, loaded}
 use Rattle.segment_invariant.proofs.Counting.Looks.{knows_of, body_word, single_now, looks_single}
 use Rattle.segment_invariant.proofs.Counting.Sights.{word_within, sees_on}
+use Rattle.segment_machine.specs.Actor.{is_opener}
 
 -- what an actor goes on with of a histogram is of that histogram, and the counts in it are those that it saw
 pub look_right : (shape : Dimensions) (anatomy : Anatomy) (id : ℕ) (a : Actor) (place : Place) (h : ℕ) → StandsRight shape anatomy id a place
@@ -42,9 +43,9 @@ look_right shape anatomy id a (Looking look) h right = by_test (look.histogram =
 look_right shape anatomy id a place h right = (refl, λ some_there. absurd (some_there refl))
 
 module _ (shape : Dimensions) (opened : Anatomy) (state : State) (kept : Invariant shape opened state) (id : ℕ) (a : Actor)
-    (mine : get_elem? state.actors id ≡ some a) (records : a.opener ≡ 0) where
+    (mine : get_elem? state.actors id ≡ some a) (records : is_opener a.role ≡ false) where
   -- a single word that an actor finds has a form, and all that it saw before lead to it
-  pub learns_single : (lives : a.place ≢ Spent) (h : ℕ) → IsSingleOf a h (word_at state.words (h + 9))
+  pub learns_single : (lives : a.hand.place ≢ Spent) (h : ℕ) → IsSingleOf a h (word_at state.words (h + 9))
   learns_single lives h known (has, refers, bucketed) =
       let fits = kept.each id a mine lives in
       let (r, first, there, named, many, keys) = knows_of shape opened state kept id a mine records lives known has in
@@ -59,16 +60,16 @@ module _ (shape : Dimensions) (opened : Anatomy) (state : State) (kept : Invaria
 
   pub single_loaded : (h : ℕ) → Ready a (packing_event (load_single h)) → Goes shape opened state kept id a mine records (packing_event (load_single h))
   single_loaded h (unbound, (known, (has, refers, bucketed))) =
-      let turned = turns_unbound a (Looking (look_of a.place h)) unbound refl in
+      let turned = turns_unbound a (Looking (look_of a.hand.place h)) unbound refl in
       let fits = kept.each id a mine turned.lived in
       let (r, first, there, named, many, keys) = knows_of shape opened state kept id a mine records turned.lived known has in
       let stands : HasRecord kept.anatomy.pieces h r = subst (λ (n : ℕ). HasRecord kept.anatomy.pieces n r) refers there in
       let word = body_word shape opened state kept h 9 (histogram r) stands (omega arith) in
-      let look : Look = record (look_of a.place h) { single = Some r.single } in
+      let look : Look = record (look_of a.hand.place h) { single = Some r.single } in
       let place : Place = Looking look in
       let turns = turns_unbound a place unbound refl in
       let y : Sighting = record { at = h + 9; word = r.single } in
-      let (histogram_is, counts_are) = look_right shape kept.anatomy id a a.place h (kept.standing id a mine) in
+      let (histogram_is, counts_are) = look_right shape kept.anatomy id a a.hand.place h (kept.standing id a mine) in
       let lawful = kept.records.lawful h r stands in
       happens opened.version state id a (packing_event (load_single h)) (word_within shape opened state kept h 9 (histogram r) stands refl (omega arith)) shape opened (
         loaded shape opened state kept id a mine records (h + 9) (next a (packing_event (load_single h)) (word_at state.words (h + 9)))
@@ -78,7 +79,7 @@ module _ (shape : Dimensions) (opened : Anatomy) (state : State) (kept : Invaria
               actors = set state.actors id (next a (packing_event (load_single h)) n);
             })) (sym word)
             (sees_on shape opened state kept id a mine records place (a.seen.singles ++ y ∷ []) a.seen.counts unbound refl turns.moves
-            (near_on shape opened state kept id a mine records place (record a.seen { singles = a.seen.singles ++ y ∷ [] }) a.given a.lost turns.lived turns.lives turns.moves
+            (near_on shape opened state kept id a mine records place (record a.seen { singles = a.seen.singles ++ y ∷ [] }) a.done.given a.done.lost turns.lived turns.lives turns.moves
             turns.sums)
             (All-push (WasSingle kept.anatomy.version kept.anatomy.pieces) a.seen.singles y fits.sees.singles (h, r, stands, refl, lawful.formed, inl refl))
             fits.sees.counters fits.sees.in_use fits.sees.met
@@ -89,7 +90,7 @@ module _ (shape : Dimensions) (opened : Anatomy) (state : State) (kept : Invaria
                   (λ i. (sym histogram_is i, some_is r.single w is i)) (Contains-push a.seen.singles y);
               counts = counts_are;
             })
-            (looks_single shape opened state kept id a mine records turned.lived h r stands place a.given (λ reference sum loaded. cc loaded)))),
+            (looks_single shape opened state kept id a mine records turned.lived h r stands place a.done.given (λ reference sum loaded. cc loaded)))),
         learns_single turned.lived h,
       )
     where

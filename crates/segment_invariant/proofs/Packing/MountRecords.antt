@@ -17,6 +17,7 @@ use Rattle.segment_invariant.proofs.Blocks.Published.{Publishes, Only}
 use Rattle.segment_invariant.proofs.Changes.Sums.{SameSum}
 use Rattle.segment_invariant.proofs.Changes.Words.{Turns, stands_then, stands_still, came_from}
 use Rattle.segment_invariant.proofs.Packing.Mounted as mounted
+use Rattle.segment_invariant.proofs.Frames.Anew.{lawful_anew}
 
 module _ (shape : Dimensions) (opened : Anatomy) (state : State) (kept : Invariant shape opened state) (id h : ℕ) (r : Record) (own : Own)
     (stands : HasRecord kept.anatomy.pieces h r) (unmounted : r.counts ≡ 0) (holds : HasOwn kept.anatomy.pieces id own) (tag : own.tag ≡ 2)
@@ -90,20 +91,8 @@ module _ (shape : Dimensions) (opened : Anatomy) (state : State) (kept : Invaria
     lawful_now : IsLawfulRecord version shape.page s
     lawful_now =
         let is = kept.records.lawful h r stands in
-        record {
-          sized = is.sized;
-          least = is.least;
-          named = is.named;
-          lettered = is.lettered;
-          lawful = is.lawful;
-          fields = is.fields;
-          fits = is.fits;
-          formed = is.formed;
-          unpacked = is.unpacked;
-          off = λ on. own_some;
-          sparse = λ sparse. absurd (bucketed sparse);
-          narrow = is.narrow;
-        }
+        lawful_anew version shape.page r s.counts r.single r.mark r.sum r.sum_mark r.noted is
+        is.formed is.unpacked (λ on. own_some) (λ sparse. absurd (bucketed sparse)) is.narrow
 
     named_now : (at : ℕ) (b : Counts) → HasCounts pieces at b → (z : Record) × HasRecord pieces b.of z × (z.counts ≡ at)
     named_now at b there = ⊎_elim

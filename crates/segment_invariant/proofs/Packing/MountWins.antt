@@ -17,7 +17,7 @@ use Rattle.segment_machine.specs.declared.actor.Own.{Own}
 use Rattle.segment_machine.specs.declared.place.Look.{Look}
 use Rattle.segment_machine.specs.declared.place.Place.TheVariants.{Spent, Idle, Looking}
 use Rattle.segment_machine.specs.declared.seen.Sighting.{Sighting}
-use Rattle.segment_machine.specs.Actor.{is_bound, has_buckets, Buckets, counted_of}
+use Rattle.segment_machine.specs.Actor.{is_bound, has_buckets, Buckets, counted_of, taken_of, is_opener}
 use Rattle.segment_machine.specs.Calls.{without, sight_counts}
 use Rattle.segment_machine.specs.Event.{packing_event, Ready}
 use Rattle.segment_machine.specs.Packing.{mount_counts, after_mount}
@@ -31,7 +31,7 @@ use Rattle.segment_invariant.proofs.Consistency.Books.{one_first}
 use Rattle.segment_invariant.proofs.Frames.Ahead.{unbound_unbeaten}
 use Rattle.segment_invariant.proofs.Frames.Anatomies.{balanced_same}
 use Rattle.segment_invariant.proofs.Frames.GoesOn.{happens, not_opener}
-use Rattle.segment_invariant.proofs.Frames.OneActor.{Doing, doing_of, SameDeeds, turns_unbound, same_deeds, same_sums, finals_doing}
+use Rattle.segment_invariant.proofs.Frames.OneActor.{Doing, doing_of, SameDeeds, turns_unbound, same_deeds, same_sums}
 use Rattle.segment_invariant.proofs.Frames.Onward.{sees_on}
 use Rattle.segment_invariant.proofs.Frames.Shown.{Goes}
 use Rattle.segment_invariant.proofs.Frames.Together.{balanced, finals}
@@ -57,7 +57,7 @@ not_sparse : (kind : Spec) → has_buckets kind ≡ true → kind ≢ Sparse
 not_sparse kind bucketed sparse = cc (bucketed, ap has_buckets sparse)
 
 module _ (shape : Dimensions) (opened : Anatomy) (state : State) (kept : Invariant shape opened state) (id : ℕ) (a : Actor)
-    (mine : get_elem? state.actors id ≡ some a) (recorder : a.opener ≡ 0) (unbound : is_bound a.place ≡ false)
+    (mine : get_elem? state.actors id ≡ some a) (recorder : is_opener a.role ≡ false) (unbound : is_bound a.hand.place ≡ false)
     (h : ℕ) (known : Known) (buckets : Buckets a h known) (r : Record) (own : Own) (stands : HasRecord kept.anatomy.pieces h r)
     (unmounted : r.counts ≡ 0) (holds : HasOwn kept.anatomy.pieces id own) (tag : own.tag ≡ 2) (bare : own.payload ≡ [])
     (room : 4 + 2 * buckets_of r.spec ≤ own.size) (bucketed : r.spec ≢ Sparse)
@@ -83,13 +83,13 @@ module _ (shape : Dimensions) (opened : Anatomy) (state : State) (kept : Invaria
   abbrev published : Publishes shape id half pieces (Only own.at (counts c))
   published = mounted.published shape opened state kept id h r own stands unmounted holds tag bare room
 
-  lives : a.place ≢ Spent
+  lives : a.hand.place ≢ Spent
   lives spent = cc (unbound, ap is_bound spent)
 
   -- ---- the block is mounted, and its actor has not seen it yet
 
   abbrev deed : Deed
-  deed = record (deed_of a) { place = Idle; own = without own.at a.own }
+  deed = record (deed_of a) { place = Idle; own = without own.at a.hand.own }
 
   abbrev b : Actor
   b = changed a deed
@@ -98,12 +98,12 @@ module _ (shape : Dimensions) (opened : Anatomy) (state : State) (kept : Invaria
   actors = set state.actors id b
 
   abbrev does : Doing
-  does = record (doing_of a) { place = Idle; own = without own.at a.own }
+  does = record (doing_of a) { place = Idle; own = without own.at a.hand.own }
 
   same : SameDeeds state.actors actors
   same = same_deeds state.actors id a mine does (turns_unbound a Idle unbound refl) (not_opener shape opened state kept id a mine recorder)
 
-  own_now : All (HoldsOwn shape pieces id) (without own.at a.own)
+  own_now : All (HoldsOwn shape pieces id) (without own.at a.hand.own)
   own_now = All-weaker (λ (x : Own). HoldsOwn shape kept.anatomy.pieces id x × (x.at ≢ own.at)) (HoldsOwn shape pieces id)
       (λ x t. record {
         stands = published.mine x.at (held x) (λ body is. t.1 is.0)
@@ -113,7 +113,7 @@ module _ (shape : Dimensions) (opened : Anatomy) (state : State) (kept : Invaria
         tagged = t.0.tagged;
         ends = t.0.ends;
       })
-      (without own.at a.own) (all_without (HoldsOwn shape kept.anatomy.pieces id) own.at a.own (kept.each id a mine lives).own)
+      (without own.at a.hand.own) (all_without (HoldsOwn shape kept.anatomy.pieces id) own.at a.hand.own (kept.each id a mine lives).own)
 
   abbrev between : State
   between = record { words = set state.words (h + 8) own.at; cursors = state.cursors; actors = actors }
@@ -145,25 +145,17 @@ module _ (shape : Dimensions) (opened : Anatomy) (state : State) (kept : Invaria
             (mounted.holdings shape opened state kept id h r own stands unmounted holds tag bare room) kept.balanced);
         counted = λ name key. omega arith;
         keys = λ entry there. kept.keys entry (row_in counted_of state.actors id a entry mine there);
-        taken_keys = λ t count there. kept.taken_keys t count (row_in (λ (x : Actor). x.taken) state.actors id a t mine there);
+        taken_keys = λ t count there. kept.taken_keys t count (row_in taken_of state.actors id a t mine there);
         sums = sums_on kept.anatomy.pieces pieces state.actors actors (sums_same shape opened state kept id h r own stands unmounted holds tag bare room) same.loaded
             (λ name. let costs = same.costs name in omega (arith, costs)) kept.sums;
         lives = λ spent. cc spent;
         stands = tt;
         sees = sees_on kept.anatomy new (Only own.at (counts c)) onward state.cursors a.seen (subst (Behind a.seen.free) (sym free) fits.sees.free)
             fits.sees.walked fits.sees.tails fits.sees.shared fits.sees;
-        up = λ no. unbound_unbeaten a.place unbound;
+        up = λ no. unbound_unbeaten a.hand.place unbound;
         own = own_now;
-        apart = distinct_filter _ a.own fits.apart;
-        calls = record {
-          ordered = calls.ordered;
-          within = calls.within;
-          held = calls.held;
-          ended = calls.ended;
-          spent = calls.spent;
-          met = calls.met;
-          taking = calls.taking;
-        };
+        apart = distinct_filter _ a.hand.own fits.apart;
+        calls = calls;
         looks = looks_on shape state.words kept.anatomy new kept.shown (Only own.at (counts c)) onward refl shape.page kept.records records a
             fits.sees.counters fits.sees.in_use state.actors actors kept.roles.opener deed
             (λ name key. let counted = (same_sums state.actors actors same).counted name key in omega (arith, counted))
@@ -172,7 +164,7 @@ module _ (shape : Dimensions) (opened : Anatomy) (state : State) (kept : Invaria
             (fits.looks recorder) (λ reference sum z loaded. absurd (cc loaded)) (λ at z is. cc is.1);
         finals = finals state.actors actors kept.roles.opener kept.roles.opener id b (same_sums state.actors actors same)
             (is_later state.actors actors kept.roles same.stood same.opener) (λ taking. alone_was state.actors actors kept.roles same.stood same.opener b b refl refl)
-            (finals_doing state.actors kept.roles.opener id a does fits.finals);
+            fits.finals;
       })
 
   -- ---- it sees the reference
@@ -215,18 +207,18 @@ module _ (shape : Dimensions) (opened : Anatomy) (state : State) (kept : Invaria
       (record { known = known; knows = buckets; single = λ w is. absurd (cc is); counts = λ some_there. saw }))
 
 module _ (shape : Dimensions) (opened : Anatomy) (state : State) (kept : Invariant shape opened state) (id : ℕ) (a : Actor)
-    (mine : get_elem? state.actors id ≡ some a) (recorder : a.opener ≡ 0) where
+    (mine : get_elem? state.actors id ≡ some a) (recorder : is_opener a.role ≡ false) where
   -- no other was first
   mount_first : (h at : ℕ) → Ready a (packing_event (mount_counts h at)) → (word_at state.words (h + 8) == 0) ≡ true
       → Goes shape opened state kept id a mine recorder (packing_event (mount_counts h at))
   mount_first h at (own, known, unbound, has, place_is, buckets, counts_in, (tag, unended, bare, room)) won =
       let found : ℕ = word_at state.words (h + 8) in
-      let lives : a.place ≢ Spent = λ spent. cc (unbound, ap is_bound spent) in
+      let lives : a.hand.place ≢ Spent = λ spent. cc (unbound, ap is_bound spent) in
       let (r, first, there, named, many, keys) = knows_of shape opened state kept id a mine recorder lives known buckets.0 in
       let stands : HasRecord kept.anatomy.pieces h r = subst (λ (n : ℕ). HasRecord kept.anatomy.pieces n r) buckets.1 there in
       let unmounted : r.counts ≡ 0 = sym (counts_found shape opened state kept id a mine lives h r stands) ∙ eqb-true found 0 won in
-      let holds = All-contains (HoldsOwn shape kept.anatomy.pieces id) a.own own (kept.each id a mine lives).own has in
-      let knows = All-contains (Knows kept.anatomy) a.names known (kept.each id a mine lives).names buckets.0 in
+      let holds = All-contains (HoldsOwn shape kept.anatomy.pieces id) a.hand.own own (kept.each id a mine lives).own has in
+      let knows = All-contains (Knows kept.anatomy) a.answers.names known (kept.each id a mine lives).names buckets.0 in
       let one = one_first shape opened state kept known.name in
       let bucketed : r.spec ≢ Sparse = λ sparse.
       let kind : knows.first_spec ≡ Sparse = sym (one r.spec knows.first_spec known.reference known.reference first knows.first).1 ∙ sparse in

@@ -10,7 +10,7 @@ use Rattle.segment_machine.specs.declared.actor.Own.{Own}
 use Rattle.segment_machine.specs.declared.place.Look.{Look}
 use Rattle.segment_machine.specs.declared.place.Place.TheVariants.{Spent, Losing}
 use Rattle.segment_machine.specs.declared.seen.Sighting.{Sighting}
-use Rattle.segment_machine.specs.Actor.{is_bound}
+use Rattle.segment_machine.specs.Actor.{is_bound, is_opener}
 use Rattle.segment_machine.specs.Calls.{sight_counts}
 use Rattle.segment_machine.specs.Event.{packing_event, Ready}
 use Rattle.segment_machine.specs.Packing.{mount_counts, after_mount}
@@ -29,7 +29,7 @@ use Rattle.segment_invariant.proofs.Counting.References.{words_seen}
 use Rattle.segment_invariant.proofs.Counting.Sights.{word_within}
 
 module _ (shape : Dimensions) (opened : Anatomy) (state : State) (kept : Invariant shape opened state) (id : ℕ) (a : Actor)
-    (mine : get_elem? state.actors id ≡ some a) (recorder : a.opener ≡ 0) where
+    (mine : get_elem? state.actors id ≡ some a) (recorder : is_opener a.role ≡ false) where
   -- the counts of a record are no block of an actor's own
   not_own : (h : ℕ) (r : Record) (own : Own) → HasRecord kept.anatomy.pieces h r → r.counts ≢ 0 → HoldsOwn shape kept.anatomy.pieces id own → r.counts ≢ own.at
   not_own h r own stands some_counts holds same =
@@ -43,12 +43,12 @@ module _ (shape : Dimensions) (opened : Anatomy) (state : State) (kept : Invaria
       → Goes shape opened state kept id a mine recorder (packing_event (mount_counts h at))
   mount_beaten h at (own, known, unbound, has, place_is, buckets, counts_in, (tag, unended, bare, room)) late =
       let found : ℕ = word_at state.words (h + 8) in
-      let lives : a.place ≢ Spent = λ spent. cc (unbound, ap is_bound spent) in
+      let lives : a.hand.place ≢ Spent = λ spent. cc (unbound, ap is_bound spent) in
       let (r, first, there, named, many, keys) = knows_of shape opened state kept id a mine recorder lives known buckets.0 in
       let stands : HasRecord kept.anatomy.pieces h r = subst (λ (n : ℕ). HasRecord kept.anatomy.pieces n r) buckets.1 there in
       let found_is : found ≡ r.counts = counts_found shape opened state kept id a mine lives h r stands in
       let some_found : found ≢ 0 = λ none_there. true≢false (sym (eq-eqb found 0 none_there) ∙ late) in
-      let holds = All-contains (HoldsOwn shape kept.anatomy.pieces id) a.own own (kept.each id a mine lives).own has in
+      let holds = All-contains (HoldsOwn shape kept.anatomy.pieces id) a.hand.own own (kept.each id a mine lives).own has in
       let apart : found ≢ at = λ same. not_own h r own stands (λ none_there. some_found (found_is ∙ none_there)) holds (sym found_is ∙ (same ∙ sym place_is)) in
       let look : Look = record { histogram = h; single = None; counts = found } in
       let sighted : sight_counts h found ≡ record { at = h + 8; word = found } ∷ [] =
@@ -64,7 +64,7 @@ module _ (shape : Dimensions) (opened : Anatomy) (state : State) (kept : Invaria
         })) (sym late)
             (loaded shape opened state kept id a mine recorder (h + 8) (after_mount false a h at found)
             (words_seen shape opened state kept id a mine recorder unbound (Losing look at) (λ is. cc is) (λ reference sum is. cc is)
-            (λ name key. sym (rests_at a name key a.place (λ look bucket units moving. cc (unbound, ap is_bound moving)))) (sight_counts h found)
+            (λ name key. sym (rests_at a name key a.hand.place (λ look bucket units moving. cc (unbound, ap is_bound moving)))) (sight_counts h found)
             (counts_fixed shape opened state kept id a mine lives h known buckets) (
               record {
                 known = known;

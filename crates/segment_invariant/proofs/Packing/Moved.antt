@@ -21,7 +21,7 @@ use Rattle.segment_machine.specs.declared.place.Look.{Look}
 use Rattle.segment_machine.specs.declared.place.Place.{Place}
 use Rattle.segment_machine.specs.declared.place.Place.TheVariants.{Spent, Looking, Moving}
 use Rattle.segment_machine.specs.declared.seen.Seen.{Seen}
-use Rattle.segment_machine.specs.Actor.{bucket_key}
+use Rattle.segment_machine.specs.Actor.{bucket_key, is_opener}
 use Rattle.segment_machine.specs.Calls.{back}
 use Rattle.segment_machine.specs.Event.{packing_event, Ready}
 use Rattle.segment_machine.specs.Form.{is_off}
@@ -48,8 +48,8 @@ use Rattle.segment_invariant.proofs.Counting.CountSeen.{the_counts, count_seen}
 use Rattle.segment_invariant.proofs.Counting.Looks.{knows_of, one_record, counts_was, count_now}
 
 module _ (shape : Dimensions) (opened : Anatomy) (state : State) (kept : Invariant shape opened state) (id : ℕ) (a : Actor)
-    (mine : get_elem? state.actors id ≡ some a) (recorder : a.opener ≡ 0) (look : Look) (bucket units : ℕ) (placed : a.place ≡ Moving look bucket units) where
-  lives : a.place ≢ Spent
+    (mine : get_elem? state.actors id ≡ some a) (recorder : is_opener a.role ≡ false) (look : Look) (bucket units : ℕ) (placed : a.hand.place ≡ Moving look bucket units) where
+  lives : a.hand.place ≢ Spent
   lives spent = cc (sym placed ∙ spent)
 
   abbrev stood : StandsRight shape kept.anatomy id a (Moving look bucket units)
@@ -65,13 +65,13 @@ module _ (shape : Dimensions) (opened : Anatomy) (state : State) (kept : Invaria
   Found = (known : Known) × (r : Record) × (c : Counts) × HasRecord kept.anatomy.pieces look.histogram r
       × HasCounts kept.anatomy.pieces look.counts c × IsCountsOf kept.anatomy.version look.histogram r c × (is_off r.single ≡ true) × (bucket < buckets_of r.spec)
       × (r.counts ≡ look.counts) × (r.name ≡ known.name) × (key_of_bucket r.spec bucket ≡ bucket_key (Some known) bucket)
-      × ((name : List ℕ) (key : ℤ) → moving_at a name key a.place ≡ of_name known.name name (if int_eq (bucket_key (Some known) bucket) key then units else 0))
+      × ((name : List ℕ) (key : ℤ) → moving_at a name key a.hand.place ≡ of_name known.name name (if int_eq (bucket_key (Some known) bucket) key then units else 0))
 
   found : Found
   found =
       let fits = kept.each id a mine lives in
-      let among = at_from a.names right.known right.knows.0 in
-      let (known, is, has, refers) = find_known a.names look.histogram among.0 right.known among.1 right.knows.1 in
+      let among = at_from a.answers.names right.known right.knows.0 in
+      let (known, is, has, refers) = find_known a.answers.names look.histogram among.0 right.known among.1 right.knows.1 in
       let (r, first, there, named, many, keys) = knows_of shape opened state kept id a mine recorder lives known has in
       let stands : HasRecord kept.anatomy.pieces look.histogram r = subst (λ (n : ℕ). HasRecord kept.anatomy.pieces n r) refers there in
       let (q, its, packs, off) = stood.5 in
@@ -131,7 +131,7 @@ module _ (shape : Dimensions) (opened : Anatomy) (state : State) (kept : Invaria
   place = Looking look
 
   -- the block holds what was in transit
-  held : (name : List ℕ) (key : ℤ) → units_held kept.anatomy.version name key (counts more) ≡ units_held kept.anatomy.version name key (counts c) + moving_at a name key a.place
+  held : (name : List ℕ) (key : ℤ) → units_held kept.anatomy.version name key (counts more) ≡ units_held kept.anatomy.version name key (counts c) + moving_at a name key a.hand.place
   held name key =
       ap (of_name c.name name) (keyed_risen c.spec key c.units bucket units low)
       ∙ (by_name (bytes_eq c.name name)
@@ -167,7 +167,7 @@ module _ (shape : Dimensions) (opened : Anatomy) (state : State) (kept : Invaria
         (came_from shape opened state kept look.counts (counts c) (counts more) (4 + bucket) v mounted turns at none (histogram s) there);
     lives = λ spent. cc spent;
     no_sum = λ reference sum is. cc is;
-    stood = record { known = right.known; knows = right.knows; single = right.single; counts = right.counts };
+    stood = right;
     up = λ free. subst (λ (p : Place). is_beaten p ≡ false) (sym placed) refl;
   }
 
@@ -201,7 +201,7 @@ module _ (shape : Dimensions) (opened : Anatomy) (state : State) (kept : Invaria
   word_between = ap (word_at between.words) spot ∙ get_or-set_same state.words (look.counts + (4 + bucket)) v 0 there
 
   abbrev right_between : LooksRight b look
-  right_between = record { known = right.known; knows = right.knows; single = right.single; counts = right.counts }
+  right_between = right
 
   below : bucket < buckets_of right.known.spec
   below =
@@ -223,11 +223,11 @@ module _ (shape : Dimensions) (opened : Anatomy) (state : State) (kept : Invaria
   left : Invariant shape opened (record {
     words = between.words;
     cursors = state.cursors;
-    actors = set between.actors id (seer b place seen a.given a.lost);
+    actors = set between.actors id (seer b place seen a.done.given a.done.lost);
   })
   left = count_seen shape opened between kept_between id b mine_between recorder refl look right_between stood.2 bucket below
       (let some_units = stood.3 in omega (arith, word_between, some_units)) place refl (λ reference sum is. cc is)
-      (record { known = right.known; knows = right.knows; single = right.single; counts = right.counts })
+      right
 
   carry : v ≡ (word_at state.words at + units) % 2 ^ 64
   carry =
@@ -242,8 +242,8 @@ module _ (shape : Dimensions) (opened : Anatomy) (state : State) (kept : Invaria
         subst (λ (p : List ℕ × List Actor). Invariant shape opened (record { words = p.0; cursors = state.cursors; actors = p.1 }))
             (λ i. (
               set state.words (sym spot i) (carry i),
-              (set-set state.actors id b (seer b place seen a.given a.lost) ∙ (λ j. set state.actors id (record a {
-                place = (sym (ap back placed)) j;
+              (set-set state.actors id b (seer b place seen a.done.given a.done.lost) ∙ (λ j. set state.actors id (record a {
+                hand = record a.hand { place = (sym (ap back placed)) j };
                 seen = record a.seen { counts = a.seen.counts ++ record { at = at; word = (word_between ∙ ap (λ (n : ℕ). n + units) (sym found_is)) j } ∷ [] };
               }))) i,
             )) left,
@@ -251,7 +251,7 @@ module _ (shape : Dimensions) (opened : Anatomy) (state : State) (kept : Invaria
       )
 
 module _ (shape : Dimensions) (opened : Anatomy) (state : State) (kept : Invariant shape opened state) (id : ℕ) (a : Actor)
-    (mine : get_elem? state.actors id ≡ some a) (recorder : a.opener ≡ 0) where
+    (mine : get_elem? state.actors id ≡ some a) (recorder : is_opener a.role ≡ false) where
   -- adding units that are in transit keeps what holds
   pub moved_added : (block bucket units : ℕ) → Ready a (packing_event (add_moved block bucket units))
       → Goes shape opened state kept id a mine recorder (packing_event (add_moved block bucket units))

@@ -1,5 +1,5 @@
 -- Units of the entry that is next are packed into the single word of its histogram: the invariant is kept, with what is learned.
-use Rattle.std.proofs.Common.{◌≡◌, ◌≢◌, ◌⊎◌, ℕ, ◌+◌, ◌<◌, ◌≤◌, ℤ, Bool, true, false, ◌&&◌, ◌==◌, if◌then◌else◌, Option, Some, None, List, [], ◌∷◌, ◌++◌, length, set, inl, ⊎_elim, refl, sym, ap, ◌∙◌, subst, arith, eqb-true}
+use Rattle.std.proofs.Common.{◌≡◌, ◌≢◌, ◌⊎◌, ℕ, ◌+◌, ◌<◌, ◌≤◌, ℤ, Bool, true, false, ◌&&◌, ◌==◌, if◌then◌else◌, Option, Some, List, [], ◌∷◌, ◌++◌, length, set, inl, ⊎_elim, refl, sym, ap, ◌∙◌, subst, arith, eqb-true}
 use Rattle.std.specs.Prelude.{slice_index, max}
 use Rattle.std.specs.Ordering.{int_eq}
 use Rattle.std.specs.Str.{bytes_eq}
@@ -10,15 +10,13 @@ use Rattle.alloc_core.proofs.Owners.{set_at}
 use Rattle.segment_image.specs.Shape.{Dimensions}
 use Rattle.segment_image.specs.Words.{word_at}
 use Rattle.bucket_ranges.specs.declared.spec.Spec.TheVariants as spec
-use Rattle.bucket_ranges.specs.declared.single.SingleWord.{SingleWord}
-use Rattle.bucket_ranges.specs.declared.single.SingleWord.TheVariants.{Empty, Packed, Disabled, FrozenEmpty, Frozen}
 use Rattle.bucket_ranges.specs.Spec.{buckets_of}
 use Rattle.bucket_ranges.specs.Single.{single_of, packed_bucket, units_packed}
 use Rattle.segment_machine.specs.declared.actor.Actor.{Actor}
 use Rattle.segment_machine.specs.declared.actor.Known.{Known}
 use Rattle.segment_machine.specs.declared.entry.Counting.{Counting}
 use Rattle.segment_machine.specs.declared.place.Place.TheVariants.{Spent, Idle}
-use Rattle.segment_machine.specs.Actor.{is_bound, Buckets}
+use Rattle.segment_machine.specs.Actor.{is_bound, Buckets, is_opener}
 use Rattle.segment_machine.specs.Calls.{IsKeyOfBucket}
 use Rattle.segment_machine.specs.Entry.{is_counted}
 use Rattle.segment_machine.specs.Event.{packing_event, Ready}
@@ -45,27 +43,11 @@ use Rattle.segment_invariant.proofs.Counting.Looks.{knows_of, one_record, body_w
 use Rattle.segment_invariant.proofs.Counting.Running.{Next, next_of}
 use Rattle.segment_invariant.proofs.Counting.Sights.{word_within}
 use Rattle.segment_invariant.proofs.Packing.Beaten.{single_seen, pack_beaten}
-use Rattle.segment_invariant.proofs.Packing.Forms.{Packing, packing}
+use Rattle.segment_invariant.proofs.Packing.Forms.{units_most, Packing, packing}
 use Rattle.segment_invariant.proofs.Packing.Loads.{learns_single}
+use Rattle.segment_invariant.proofs.Frames.Anew.{lawful_anew, counts_anew}
 
 -- ---- the record with another single word
-
--- of a bucket a word holds no more than it holds
-units_most : (form : Option SingleWord) (i : ℕ) → units_packed form i ≤ units_in form
-units_most (Some (Packed bucket units)) i = by_test (bucket == i)
-  where
-    by_test : (b : Bool) → (if b then units else 0) ≤ units
-    by_test true = omega arith
-    by_test false = omega arith
-units_most (Some (Frozen bucket units)) i = by_test (bucket == i)
-  where
-    by_test : (b : Bool) → (if b then units else 0) ≤ units
-    by_test true = omega arith
-    by_test false = omega arith
-units_most (Some Empty) i = omega arith
-units_most (Some (Disabled packed)) i = omega arith
-units_most (Some FrozenEmpty) i = omega arith
-units_most None i = omega arith
 
 abbrev pub with_single : Record → ℕ → Record
 with_single r word = record r { single = word }
@@ -74,20 +56,9 @@ module _ (version page : ℕ) (versions : (version ≡ 1) ⊎ (version ≡ 2)) (
     (on : is_off r.single ≡ false) (packs : Packing version (buckets_of r.spec) bucket below few k r.single new) (lawful : IsLawfulRecord version page r) where
   -- it is lawful
   pub packed_lawful : IsLawfulRecord version page (with_single r new)
-  packed_lawful = record {
-    sized = lawful.sized;
-    least = lawful.least;
-    named = lawful.named;
-    lettered = lawful.lettered;
-    lawful = lawful.lawful;
-    fields = lawful.fields;
-    fits = lawful.fits;
-    formed = λ none_there. cc (sym packs.names ∙ ap packed_bucket none_there);
-    unpacked = λ nothing. absurd (cc (sym packs.names ∙ nothing));
-    off = λ off. absurd (cc (sym packs.on ∙ off));
-    sparse = λ sparse. absurd (not_sparse r.spec bucket below sparse);
-    narrow = lawful.narrow;
-  }
+  packed_lawful = lawful_anew version page r r.counts new r.mark r.sum r.sum_mark r.noted lawful
+      (λ none_there. cc (sym packs.names ∙ ap packed_bucket none_there)) (λ nothing. absurd (cc (sym packs.names ∙ nothing)))
+      (λ off. absurd (cc (sym packs.on ∙ off))) (λ sparse. absurd (not_sparse r.spec bucket below sparse)) lawful.narrow
 
   -- while nothing is packed the mark is 0
   no_mark : r.single ≡ 0 → r.mark ≡ 0
@@ -96,17 +67,8 @@ module _ (version page : ℕ) (versions : (version ≡ 1) ⊎ (version ≡ 2)) (
   -- its counts are those of the record
   pub packed_counts : (at : ℕ) (c : Counts) → IsCountsOf version at r c → IsCountsOf version at (with_single r new) c
   packed_counts at c is =
-      let (units, marks) = is.unused on in record {
-        mine = is.mine;
-        named = is.named;
-        same = is.same;
-        units = is.units;
-        marks = is.marks;
-        sized = is.sized;
-        packed = λ i names. zero_index c.marks i marks;
-        unused = λ still. (units, marks);
-        mark = λ one i names. most_of i (mark_few one);
-      }
+      let (units, marks) = is.unused on in
+      counts_anew version at r new r.mark c is (λ i names. zero_index c.marks i marks) (λ still. (units, marks)) (λ one i names. most_of i (mark_few one))
     where
       most_of : (i : ℕ) → r.mark ≤ 65535 → r.mark ≤ max (slice_index c.units i + units_packed (form_at version (with_single r new)) i) 65535
       most_of i le = omega (arith, le)
@@ -165,11 +127,11 @@ module _ (version page : ℕ) (versions : (version ≡ 1) ⊎ (version ≡ 2)) (
 -- ---- the exchange
 
 module _ (shape : Dimensions) (opened : Anatomy) (state : State) (kept : Invariant shape opened state) (id : ℕ) (a : Actor)
-    (mine : get_elem? state.actors id ≡ some a) (recorder : a.opener ≡ 0) (unbound : is_bound a.place ≡ false) (entry : Counting) (next : Next a.running entry)
+    (mine : get_elem? state.actors id ≡ some a) (recorder : is_opener a.role ≡ false) (unbound : is_bound a.hand.place ≡ false) (entry : Counting) (next : Next a.entries.running entry)
     (uncounted : is_counted entry ≡ false) (h : ℕ) (known : Known) (buckets : Buckets a h known) (named : entry.entry.name ≡ known.name)
     (bucket : ℕ) (is_key : IsKeyOfBucket known bucket entry.entry.key) (new : ℕ) (found_on : is_off (word_at state.words (h + 9)) ≡ false)
     (word_packs : IsPacking bucket entry.entry.units (word_at state.words (h + 9)) new) where
-  lives : a.place ≢ Spent
+  lives : a.hand.place ≢ Spent
   lives spent = cc (unbound, ap is_bound spent)
 
   abbrev version : ℕ
@@ -299,7 +261,7 @@ module _ (shape : Dimensions) (opened : Anatomy) (state : State) (kept : Invaria
   left : Invariant shape opened (record {
     words = between.words;
     cursors = state.cursors;
-    actors = set between.actors id (seer b Idle (record a.seen { singles = a.seen.singles ++ record { at = h + 9; word = word_at between.words (h + 9) } ∷ [] }) a.given a.lost);
+    actors = set between.actors id (seer b Idle (record a.seen { singles = a.seen.singles ++ record { at = h + 9; word = word_at between.words (h + 9) } ∷ [] }) a.done.given a.done.lost);
   })
   left = single_seen shape opened between kept_between id b (set_at state.actors id a b mine) recorder refl h known buckets Idle refl (λ reference sum is. cc is) (λ word. tt)
 
@@ -311,8 +273,8 @@ module _ (shape : Dimensions) (opened : Anatomy) (state : State) (kept : Invaria
   })
   units_packed_on = subst (λ (actors : List Actor). Invariant shape opened (record { words = between.words; cursors = state.cursors; actors = actors }))
       (set-set state.actors id b _ ∙ (λ i. set state.actors id (record a {
-        place = Idle;
-        running = sym (next.changed as_counted) i;
+        hand = record a.hand { place = Idle };
+        entries = record a.entries { running = sym (next.changed as_counted) i };
         seen = record a.seen { singles = a.seen.singles ++ record { at = h + 9; word = word_between i } ∷ [] };
       }))) left
 
@@ -320,7 +282,7 @@ module _ (shape : Dimensions) (opened : Anatomy) (state : State) (kept : Invaria
   within_words = there
 
 module _ (shape : Dimensions) (opened : Anatomy) (state : State) (kept : Invariant shape opened state) (id : ℕ) (a : Actor)
-    (mine : get_elem? state.actors id ≡ some a) (recorder : a.opener ≡ 0) where
+    (mine : get_elem? state.actors id ≡ some a) (recorder : is_opener a.role ≡ false) where
   -- so packing that goes through keeps what holds
   pub pack_through : (h old new : ℕ) → Ready a (packing_event (pack h old new)) → (word_at state.words (h + 9) == old) ≡ true
       → Goes shape opened state kept id a mine recorder (packing_event (pack h old new))
@@ -328,8 +290,8 @@ module _ (shape : Dimensions) (opened : Anatomy) (state : State) (kept : Invaria
       let word : ℕ = word_at state.words (h + 9) in
       let same : word ≡ old = eqb-true (word_at state.words (h + 9)) old early in
       let unbound = ap is_bound placed in
-      let lives : a.place ≢ Spent = λ spent. cc (sym placed ∙ spent) in
-      let next = next_of a.running c rest is_next in
+      let lives : a.hand.place ≢ Spent = λ spent. cc (sym placed ∙ spent) in
+      let next = next_of a.entries.running c rest is_next in
       let still = ap is_off same ∙ on in
       let packed = subst (λ (w : ℕ). IsPacking bucket c.entry.units w new) (sym same) packs in
       happens opened.version state id a (packing_event (pack h old new))

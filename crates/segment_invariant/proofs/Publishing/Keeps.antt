@@ -1,5 +1,5 @@
 -- Each event of the list keeps what holds, and its actor learns that it found the end or a record.
-use Rattle.std.proofs.Common.{◌≡◌, ℕ, ◌+◌, Bool, set, refl, sym, subst, arith, eq-eqb}
+use Rattle.std.proofs.Common.{◌≡◌, ℕ, ◌+◌, Bool, set, refl, sym, subst, arith, eq-eqb, false}
 use Rattle.std.specs.Prelude.{Some, if◌then◌else◌}
 use mathlib.Core.Option.{some}
 use mathlib.Core.Logic.{dite}
@@ -27,11 +27,12 @@ use Rattle.segment_invariant.proofs.Publishing.Tails.{tail_loaded, tail_moved_on
 use Rattle.segment_invariant.proofs.Publishing.Links.{stop, turns}
 use Rattle.segment_invariant.proofs.Publishing.OwnNext.{own_next_stored}
 use Rattle.segment_invariant.proofs.Walking.Walks.{stop_within, reference_is}
+use Rattle.segment_machine.specs.Actor.{is_opener}
 
 module _ (shape : Dimensions) (opened : Anatomy) (state : State) (kept : Invariant shape opened state) (id : ℕ) (a : Actor)
-    (mine : get_elem? state.actors id ≡ some a) (records : a.opener ≡ 0) where
+    (mine : get_elem? state.actors id ≡ some a) (records : is_opener a.role ≡ false) where
   -- a record is published as what it is to hold
-  module _ (tail : ℕ) (own : Own) (placed : a.place ≡ TailLoaded tail) (i : ℕ) (there : get_elem? a.own i ≡ some own) (ended : own.next ≡ 12)
+  module _ (tail : ℕ) (own : Own) (placed : a.hand.place ≡ TailLoaded tail) (i : ℕ) (there : get_elem? a.hand.own i ≡ some own) (ended : own.next ≡ 12)
       (ends : word_at state.words (tail + 3) ≡ 12) where
     links_as : (given : Made) → (asked : own.made ≡ Some given) → IsPayload given own.payload → MayPublish a own given
         → Onward shape opened state kept id a mine records tail own given placed i there ended asked ends
@@ -48,7 +49,7 @@ module _ (shape : Dimensions) (opened : Anatomy) (state : State) (kept : Invaria
       let found : ℕ = word_at state.words (tail + 3) in
       dite (ℕ_discrete found 12)
       (λ ends.
-      let (i, there) = at_from a.own own waits.0 in
+      let (i, there) = at_from a.hand.own own waits.0 in
       let is_stop = stop shape opened state kept id a mine records tail own given placed i there waits.1 asked ends in
       let lives = (turns shape opened state kept id a mine records tail own given placed i there waits.1 asked ends).lived in
       happens opened.version state id a (publishing_event (link tail at)) (stop_within shape opened state kept tail is_stop) shape opened (

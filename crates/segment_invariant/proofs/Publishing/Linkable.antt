@@ -1,5 +1,5 @@
 -- What a link publishes: a record without counts, a record with its counts block, or a sample.
-use Rattle.std.proofs.Common.{◌≡◌, ◌⊎◌, ℕ, ◌+◌, ◌*◌, ◌≤◌, ℤ, true, List, [], ◌∷◌, ◌++◌, length, replicate, set, Contains, inl, inr, ⊎_elim, refl, sym, ap, ◌∙◌, subst, arith}
+use Rattle.std.proofs.Common.{◌≡◌, ◌⊎◌, ℕ, ◌+◌, ◌*◌, ◌≤◌, ℤ, true, List, [], ◌∷◌, ◌++◌, length, replicate, set, Contains, inl, inr, ⊎_elim, refl, sym, ap, ◌∙◌, subst, arith, false}
 use Rattle.std.specs.Prelude.{slice_index, Some, None}
 use Rattle.std.specs.Int.{w64, cast_unsigned}
 use Rattle.std.proofs.lemmas.List.Elements.{All-contains, Contains-push}
@@ -30,6 +30,7 @@ use Rattle.segment_invariant.proofs.Lists.Ends.{snoc_split}
 use Rattle.segment_invariant.proofs.Blocks.Bodies.{IsBlank, record_of, record_words_are, is_blank, record_nothing, record_lawful, sample_of, sample_words_are, sample_lawful}
 use Rattle.segment_invariant.proofs.Blocks.Published.{next_owned, record_held, sample_held, Publishes, Only, one_published}
 use Rattle.segment_invariant.proofs.Publishing.Links.{mine_fits, holds, stored, halfway, links_on}
+use Rattle.segment_machine.specs.Actor.{is_opener}
 
 -- a record of a name is no other body
 same_record : (r r' : Record) → histogram r' ≡ histogram r → r' ≡ r
@@ -46,8 +47,8 @@ sparse_same (Custom values) is = let kind = ap (λ (l : List ℕ). slice_index l
 sparse_same Sparse is = refl
 
 module _ (shape : Dimensions) (opened : Anatomy) (state : State) (kept : Invariant shape opened state) (id : ℕ) (a : Actor)
-    (mine : get_elem? state.actors id ≡ some a) (records : a.opener ≡ 0) (tail : ℕ) (own : Own) (given : Made)
-    (placed : a.place ≡ TailLoaded tail) (i : ℕ) (there : get_elem? a.own i ≡ some own) (ended : own.next ≡ 12) (asked : own.made ≡ Some given)
+    (mine : get_elem? state.actors id ≡ some a) (records : is_opener a.role ≡ false) (tail : ℕ) (own : Own) (given : Made)
+    (placed : a.hand.place ≡ TailLoaded tail) (i : ℕ) (there : get_elem? a.hand.own i ≡ some own) (ended : own.next ≡ 12) (asked : own.made ≡ Some given)
     (ends : word_at state.words (tail + 3) ≡ 12) where
   abbrev anatomy : Anatomy
   anatomy = kept.anatomy
@@ -84,7 +85,7 @@ module _ (shape : Dimensions) (opened : Anatomy) (state : State) (kept : Invaria
 
   module _ (name : List ℕ) (spec : Spec) (letters : List ℕ) (asks : given ≡ made.Histogram name spec) (lettered : AreNameWords name letters)
       (payload_is : own.payload ≡ spec_fields spec ++ 0 ∷ 0 ∷ 0 ∷ 0 ∷ 0 ∷ 0 ∷ length name ∷ (letters ++ spec_ranges spec))
-      (tag : own.tag ≡ 1) (named : is_name name ≡ true) (lawful : spec_fault spec ≡ None) (fits : 4 + 2 * buckets_of spec ≤ a.shape.page) where
+      (tag : own.tag ≡ 1) (named : is_name name ≡ true) (lawful : spec_fault spec ≡ None) (fits : 4 + 2 * buckets_of spec ≤ a.segment.shape.page) where
     abbrev r : Record
     r = record_of own name spec letters
 
@@ -152,7 +153,7 @@ module _ (shape : Dimensions) (opened : Anatomy) (state : State) (kept : Invaria
 
   module _ (of : ℕ) (value : ℤ) (k : ℕ) (known : Known) (asks : given ≡ made.Sample of value)
       (payload_is : own.payload ++ replicate k 0 ≡ of ∷ cast_unsigned w64 value ∷ []) (tag : own.tag ≡ 3) (room : 8 ≤ own.size) (valued : is_i32 value ≡ true)
-      (has : Contains a.names known) (refers : known.reference ≡ of) (kind : known.spec ≡ Sparse) where
+      (has : Contains a.answers.names known) (refers : known.reference ≡ of) (kind : known.spec ≡ Sparse) where
     abbrev s : Sample
     s = sample_of own known.name of value
 
@@ -164,7 +165,7 @@ module _ (shape : Dimensions) (opened : Anatomy) (state : State) (kept : Invaria
     sparse_first : IsFirst anatomy.records known.name Sparse of
     sparse_first =
         let fits = mine_fits shape opened state kept id a mine records tail own given placed i there ended asked ends in
-        let knows = All-contains (Knows anatomy) a.names known fits.names has in
+        let knows = All-contains (Knows anatomy) a.answers.names known fits.names has in
         subst (λ (p : Spec × ℕ). IsFirst anatomy.records known.name p.0 p.1)
         (λ j. (sparse_same knows.first_spec (knows.same.0 ∙ ap spec_fields kind) j, refers j)) knows.first
 

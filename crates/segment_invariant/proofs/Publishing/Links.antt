@@ -22,6 +22,7 @@ use Rattle.segment_machine.specs.declared.place.Place.{Place}
 use Rattle.segment_invariant.proofs.Frames.Ahead.{ahead_at, ahead_longer, reached_stop}
 use Rattle.segment_invariant.proofs.Frames.Answers.{answered_more, owed_is, owes_both, owes_linked}
 use Rattle.segment_machine.specs.declared.actor.Known.{Known}
+use Rattle.segment_machine.specs.declared.actor.Portion.{Portion}
 use Rattle.segment_machine.specs.declared.entry.Entry.{Entry}
 use Rattle.segment_machine.specs.declared.actor.Actor.{Actor}
 use Rattle.segment_machine.specs.declared.actor.Claim.{Claim}
@@ -30,9 +31,8 @@ use Rattle.segment_machine.specs.declared.actor.Made.{Made}
 use Rattle.segment_machine.specs.declared.actor.Made.TheVariants as made
 use Rattle.segment_machine.specs.declared.actor.Own.{Own}
 use Rattle.segment_machine.specs.declared.actor.Published.{Published}
-use Rattle.segment_machine.specs.declared.actor.Taken.{Taken}
 use Rattle.segment_machine.specs.declared.place.Place.TheVariants.{Spent, TailLoaded, Linked}
-use Rattle.segment_machine.specs.Actor.{all_published, all_given, all_owed}
+use Rattle.segment_machine.specs.Actor.{all_published, all_given, all_owed, is_opener}
 use Rattle.segment_machine.specs.State.{State}
 use Rattle.segment_machine.specs.Calls.{without}
 use Rattle.segment_machine.specs.Publishing.{own_at, published_as, owed_for}
@@ -49,7 +49,7 @@ use Rattle.segment_invariant.proofs.Frames.Books.{cursors_set}
 use Rattle.segment_invariant.proofs.Frames.Roles.{roles_set}
 use Rattle.segment_invariant.proofs.Frames.GoesOn.{not_opener}
 use Rattle.segment_invariant.proofs.Allocating.Claimers.{still_put, right_put}
-use Rattle.segment_invariant.proofs.Frames.Growth.{grounds_grow, stands_as_grows, with_next, next_claimed, beside_next, Grows, stop_at, longer_by, stop_grows, no_later_grows, sees_grow}
+use Rattle.segment_invariant.proofs.Frames.Growth.{grounds_grow, stands_as_grows, with_next, next_claimed, beside_next, Grows, stop_at, longer_by, stop_grows, no_later_grows, sees_grow, grows_on}
 use Rattle.segment_invariant.proofs.Frames.GrowthOfActors.{saw_itself}
 use Rattle.segment_invariant.proofs.Frames.Standing.{own_stays, follows_itself, stands_on}
 use Rattle.segment_invariant.proofs.Frames.GrowthOfRecords.{AddedRight, records_grow, key_grows, sums_grow}
@@ -57,6 +57,7 @@ use Rattle.segment_invariant.proofs.Frames.GrowthOfStates.{loaded_record, fits_o
 use Rattle.segment_invariant.proofs.Lists.Ends.{snoc_split, distinct_filter, all_without, own_found, published_is}
 use Rattle.segment_invariant.proofs.Walking.Walks.{stop_stands, stop_within}
 use Rattle.segment_invariant.proofs.Blocks.Published.{SameHeld, next_held, unclaimed_held, holdings_set, holdings_both, next_stays, next_came, next_owned, next_was_owned, Publishes}
+use Rattle.segment_invariant.proofs.Frames.PassedOver.{passed_on, still_onward}
 
 -- ---- the block at the tail gets its next
 
@@ -176,7 +177,7 @@ listed_longer records more at (held block) is = tt
 listed_longer records more at (histogram r) is = Contains-append_left records more _ is
 listed_longer records more at (counts c) is = tt
 listed_longer records more at (sample s) is = Contains-append_left records more _ is
-listed_longer records more at (other size tag next payload) is = Contains-append_left records more _ is
+listed_longer records more at (other size tag next payload) is = λ apart. Contains-append_left records more _ (is apart)
 
 -- of what is not claimed nothing is to be listed
 pub listed_claimed : (records : List Listed) (at : ℕ) (body : Body) → (is_claimed body ≡ true → IsListed records at body) → IsListed records at body
@@ -210,19 +211,19 @@ cursors_grow words chain more cursors actors linked kept = record {
       let long = longer_by chain more in
       (place, omega (arith, within, long), stop_at chain more place within ∙ is, subst (IsPermutation (all_given actors k)) (sym (take-append-le place chain more within)) gave);
   ordered = λ who b there recorder i j k l x y lt one two cursor here next.
-      let has : (m : ℕ) (g : Given) → get_elem? b.given m ≡ some g → Contains chain g.reference =
-      λ m g at. all_at (λ g. Contains chain g.reference) b.given m g (kept.given who b there) at in
+      let has : (m : ℕ) (g : Given) → get_elem? b.done.given m ≡ some g → Contains chain g.reference =
+      λ m g at. all_at (λ g. Contains chain g.reference) b.done.given m g (kept.given who b there) at in
       kept.ordered who b there recorder i j k l x y lt one two cursor (at_before words chain more k x.reference linked here (has i x one))
       (at_before words chain more l y.reference linked next (has j y two));
   given = λ who b there. All-weaker (λ g. Contains chain g.reference) (λ g. Contains (chain ++ more) g.reference)
-      (λ g has. Contains-append_left chain more g.reference has) b.given (kept.given who b there);
+      (λ g has. Contains-append_left chain more g.reference has) b.done.given (kept.given who b there);
 }
 
 -- ---- the state with the record on the list
 
 module _ (shape : Dimensions) (opened : Anatomy) (state : State) (kept : Invariant shape opened state) (id : ℕ) (a : Actor)
-    (mine : get_elem? state.actors id ≡ some a) (records : a.opener ≡ 0) (tail : ℕ) (own : Own) (given : Made)
-    (placed : a.place ≡ TailLoaded tail) (i : ℕ) (there : get_elem? a.own i ≡ some own) (ended : own.next ≡ 12) (asked : own.made ≡ Some given)
+    (mine : get_elem? state.actors id ≡ some a) (records : is_opener a.role ≡ false) (tail : ℕ) (own : Own) (given : Made)
+    (placed : a.hand.place ≡ TailLoaded tail) (i : ℕ) (there : get_elem? a.hand.own i ≡ some own) (ended : own.next ≡ 12) (asked : own.made ≡ Some given)
     (ends : word_at state.words (tail + 3) ≡ 12) where
   abbrev anatomy : Anatomy
   anatomy = kept.anatomy
@@ -234,7 +235,7 @@ module _ (shape : Dimensions) (opened : Anatomy) (state : State) (kept : Invaria
   words' = set state.words (tail + 3) own.at
 
   pub stop : IsStop (order_of anatomy) tail
-  stop = reached_stop (order_of anatomy) a.beaten tail (subst (StandsRight shape anatomy id a) placed (kept.standing id a mine)).1
+  stop = reached_stop (order_of anatomy) a.done.beaten tail (subst (StandsRight shape anatomy id a) placed (kept.standing id a mine)).1
 
   pub turns : TurnsTo a (Linked own.at tail)
   turns = turns_plain a (Linked own.at tail) (ap is_plain placed) refl
@@ -243,7 +244,7 @@ module _ (shape : Dimensions) (opened : Anatomy) (state : State) (kept : Invaria
   mine_fits = kept.each id a mine turns.lived
 
   pub holds : HoldsOwn shape anatomy.pieces id own
-  holds = all_at (HoldsOwn shape anatomy.pieces id) a.own i own mine_fits.own there
+  holds = all_at (HoldsOwn shape anatomy.pieces id) a.hand.own i own mine_fits.own there
 
   pub stored : NextStored shape anatomy words' own.at
   stored = next_stored shape opened state kept tail own.at stop
@@ -268,9 +269,9 @@ module _ (shape : Dimensions) (opened : Anatomy) (state : State) (kept : Invaria
   abbrev d : Doing
   d = record (doing_of a) {
     place = Linked own.at tail;
-    published = a.published ++ published_as (own_at a.own own.at) own.at;
-    owed = a.owed ++ owed_for (own_at a.own own.at) own.at;
-    own = without own.at a.own;
+    published = a.done.published ++ published_as (own_at a.hand.own own.at) own.at;
+    owed = a.answers.owed ++ owed_for (own_at a.hand.own own.at) own.at;
+    own = without own.at a.hand.own;
   }
 
   module _ (pieces : List Piece) (added : ℕ → Body → Type 0) (publishes : Publishes shape id halfway pieces added)
@@ -345,9 +346,9 @@ module _ (shape : Dimensions) (opened : Anatomy) (state : State) (kept : Invaria
     -- what it published
     published_more : IsPermutation (all_published actors') (all_published state.actors ++ record { reference = own.at; made = given } ∷ [])
     published_more =
-        rows_more (λ (b : Actor). b.published) state.actors id a (doing a d) (record { reference = own.at; made = given } ∷ []) mine
-        (ap (λ (more : List Published). a.published ++ more)
-        (published_is (own_at a.own own.at) own given own.at (own_found a.own i own mine_fits.apart there) asked))
+        rows_more (λ (b : Actor). b.done.published) state.actors id a (doing a d) (record { reference = own.at; made = given } ∷ []) mine
+        (ap (λ (more : List Published). a.done.published ++ more)
+        (published_is (own_at a.hand.own own.at) own given own.at (own_found a.hand.own i own mine_fits.apart there) asked))
 
     list_now : ListIsKept words' opened new actors'
     list_now =
@@ -380,14 +381,14 @@ module _ (shape : Dimensions) (opened : Anatomy) (state : State) (kept : Invaria
     answered_now : AreAnswered new.records actors'
     answered_now name kind at (front, behind, is, others) = ⊎_elim
         (λ t. answered_more anatomy.records state.actors id a (doing a d) mine refl
-        (λ known has. Contains-append_left a.owed (owed_for (own_at a.own own.at) own.at) known has) kept.answered name kind at (front, t.0, t.1, others))
+        (λ known has. Contains-append_left a.answers.owed (owed_for (own_at a.hand.own own.at) own.at) known has) kept.answered name kind at (front, t.0, t.1, others))
         (λ t.
         let asked_for : given ≡ made.Histogram name kind = cc (ap (λ (z : Listed). z.made) t.0) in
-        let owes = owed_is (own_at a.own own.at) own name kind own.at (own_found a.own i own mine_fits.apart there) (asked ∙ ap (λ (g : Made). Some g) asked_for) in
+        let owes = owed_is (own_at a.hand.own own.at) own name kind own.at (own_found a.hand.own i own mine_fits.apart there) (asked ∙ ap (λ (g : Made). Some g) asked_for) in
         let entry : Known = record { name = name; spec = kind; reference = own.at } in
         inr (subst (λ (n : ℕ). Contains (all_owed actors') (record { name = name; spec = kind; reference = n })) (ap (λ (z : Listed). z.reference) t.0)
-        (row_in (λ (b : Actor). b.owed) actors' id (doing a d) entry (set_at state.actors id a (doing a d) mine)
-        (Contains-append_right a.owed (owed_for (own_at a.own own.at) own.at) entry
+        (row_in (λ (b : Actor). b.answers.owed) actors' id (doing a d) entry (set_at state.actors id a (doing a d) mine)
+        (Contains-append_right a.answers.owed (owed_for (own_at a.hand.own own.at) own.at) entry
         (subst (λ (list : List Known). Contains list entry) (sym owes) (0, omega arith, refl))))))
         (snoc_split anatomy.records front behind l (record { reference = at; made = Some (made.Histogram name kind) }) is)
 
@@ -399,7 +400,7 @@ module _ (shape : Dimensions) (opened : Anatomy) (state : State) (kept : Invaria
     -- its other blocks
     own_now : All (HoldsOwn shape pieces id) d.own
     own_now =
-        let first = all_without (HoldsOwn shape anatomy.pieces id) own.at a.own mine_fits.own in
+        let first = all_without (HoldsOwn shape anatomy.pieces id) own.at a.hand.own mine_fits.own in
         All-weaker (λ (x : Own). HoldsOwn shape anatomy.pieces id x × (x.at ≢ own.at)) (HoldsOwn shape pieces id)
         (λ x t. record {
           stands = publishes.mine x.at (held x) (adds.spared x t.1)
@@ -413,7 +414,7 @@ module _ (shape : Dimensions) (opened : Anatomy) (state : State) (kept : Invaria
         d.own first
 
     apart_now : (j k : ℕ) (x y : Own) → get_elem? d.own j ≡ some x → get_elem? d.own k ≡ some y → x.at ≡ y.at → j ≡ k
-    apart_now = distinct_filter _ a.own mine_fits.apart
+    apart_now = distinct_filter _ a.hand.own mine_fits.apart
 
     sees_now : (b : Actor) → Sees anatomy state.cursors b.seen → Sees new state.cursors b.seen
     sees_now b sees = sees_grow anatomy new added grows state.cursors b.seen (subst (Behind b.seen.free) (sym free_is) sees.free)
@@ -436,29 +437,19 @@ module _ (shape : Dimensions) (opened : Anatomy) (state : State) (kept : Invaria
           counts = λ known word named seen. seen;
           loaded = turns.sums;
         })
-        (record {
-          free = old.free;
-          walked = old.walked;
-          tails = old.tails;
-          singles = old.singles;
-          counters = old.counters;
-          in_use = old.in_use;
-          met = old.met;
-          fixed = old.fixed;
-          shared = old.shared;
-        })
-        (ahead_now (Linked own.at tail) a.beaten a.lost
-        (ahead_at (order_of anatomy) anatomy.tail state.cursors a.place a.beaten a.lost mine_fits.ahead (Linked own.at tail) (λ no. ap is_beaten placed)))
+        old
+        (ahead_now (Linked own.at tail) a.done.beaten a.done.lost
+        (ahead_at (order_of anatomy) anatomy.tail state.cursors a.hand.place a.done.beaten a.done.lost mine_fits.ahead (Linked own.at tail) (λ no. ap is_beaten placed)))
         own_now apart_now
-        (owes_both a.published (published_as (own_at a.own own.at) own.at) a.owed (owed_for (own_at a.own own.at) own.at)
-        mine_fits.owes (owes_linked (own_at a.own own.at) own.at))
+        (owes_both a.done.published (published_as (own_at a.hand.own own.at) own.at) a.answers.owed (owed_for (own_at a.hand.own own.at) own.at)
+        mine_fits.owes (owes_linked (own_at a.hand.own own.at) own.at))
 
-    fits_else : (who : ℕ) (b : Actor) → who ≢ id → get_elem? state.actors who ≡ some b → b.place ≢ Spent
+    fits_else : (who : ℕ) (b : Actor) → who ≢ id → get_elem? state.actors who ≡ some b → b.hand.place ≢ Spent
         → Fits shape new state.cursors state.actors kept.roles.opener who b
     fits_else who b ne here lives =
         let fits = kept.each who b here lives in
-        fits_on shape opened state kept new added grows who b (doing_of b) here lives (saw_itself b) (sees_now b fits.sees) (ahead_now b.place b.beaten b.lost fits.ahead)
-        (own_stays shape anatomy new who (λ x stands. others_stay who x.at (held x) ne stands) b.own fits.own) fits.apart fits.owes
+        fits_on shape opened state kept new added grows who b (doing_of b) here lives (saw_itself b) (sees_now b fits.sees) (ahead_now b.hand.place b.done.beaten b.done.lost fits.ahead)
+        (own_stays shape anatomy new who (λ x stands. others_stay who x.at (held x) ne stands) b.hand.own fits.own) fits.apart fits.owes
 
     pub links_on : Invariant shape opened (record { words = words'; cursors = state.cursors; actors = actors' })
     links_on = record {
@@ -478,9 +469,10 @@ module _ (shape : Dimensions) (opened : Anatomy) (state : State) (kept : Invaria
       claims = subst (λ (p : List Claim × List Claim). IsPermutation p.0 (claims_of opened.pieces ++ p.1))
           (λ j. (
             sym (publishes.claims ∙ claims_same anatomy.pieces stored.index stored.piece stored.turned stored.there stored.claimed stored.place stored.long) j,
-            sym (rows (λ (b : Actor). b.claimed) state.actors id a (doing a d) mine refl) j,
+            sym (rows (λ (b : Actor). b.done.claimed) state.actors id a (doing a d) mine refl) j,
           )) kept.claims;
       records = records_grow shape.page anatomy new added grows adds.right kept.list.standing kept.list.alone kept.records;
+      passed_over = passed_on shape.page opened anatomy.pieces pieces (still_onward anatomy new added (grows_on anatomy new added grows)) kept.passed_over;
       balanced = balanced anatomy.version opened.pieces pieces state.actors actors' (same_sums state.actors actors' same)
           (balanced_same anatomy.version opened.pieces anatomy.pieces pieces state.actors
           (holdings_both anatomy.version anatomy.pieces halfway.pieces pieces
@@ -489,23 +481,23 @@ module _ (shape : Dimensions) (opened : Anatomy) (state : State) (kept : Invaria
       keys = λ entry has units. key_grows anatomy new added grows entry.name entry.key
           (kept.keys entry (subst (λ (entries : List Entry). Contains entries entry) same.counted has) units);
       taken_keys = λ t count has counted. key_grows anatomy new added grows t.name count.0
-          (kept.taken_keys t count (subst (λ (taken : List Taken). Contains taken t) same.taken has) counted);
+          (kept.taken_keys t count (subst (λ (taken : List Portion). Contains taken t) same.taken has) counted);
       sums = sums_near pieces state.actors actors' (same_sums state.actors actors' same) same.loaded
           (sums_grow anatomy new added grows state.actors
           (λ who b reference sum here is. loaded_record shape opened state kept who b reference sum here is)
           (λ at r new_one. let nothing = adds.right.nothing at r new_one in (nothing.3, nothing.4)) kept.sums);
       pool = same.units ∙ kept.pool;
-      corrupt = subst (IsSetBy anatomy.corrupt opened.corrupt) (sym (column (λ (b : Actor). b.spoiled) state.actors id a (doing a d) mine refl)) kept.corrupt;
-      full = subst (IsSetBy anatomy.full opened.full) (sym (column (λ (b : Actor). b.filled) state.actors id a (doing a d) mine refl)) kept.full;
+      corrupt = subst (IsSetBy anatomy.corrupt opened.corrupt) (sym (column (λ (b : Actor). b.done.spoiled) state.actors id a (doing a d) mine refl)) kept.corrupt;
+      full = subst (IsSetBy anatomy.full opened.full) (sym (column (λ (b : Actor). b.done.filled) state.actors id a (doing a d) mine refl)) kept.full;
       roles = roles_set state.actors id a (doing a d) mine (same_role a d turns) (not_opener shape opened state kept id a mine records) kept.roles;
       cursors = subst (λ (chain : List ℕ). CursorsAreKept chain state.cursors actors') (sym order_is)
           (cursors_set (order_of anatomy ++ own.at ∷ []) state.cursors state.actors id a (doing a d) mine records refl
           (cursors_grow words' (order_of anatomy) (own.at ∷ []) state.cursors state.actors through.0 kept.cursors));
       standing = λ who b here. elim (at_set state.actors id who (doing a d) b here) [
-        | inl t ↦ subst (λ (p : ℕ × Actor). StandsRight shape new p.0 p.1 p.1.place) (λ j. (sym t.0 j, t.1 j))
+        | inl t ↦ subst (λ (p : ℕ × Actor). StandsRight shape new p.0 p.1 p.1.hand.place) (λ j. (sym t.0 j, t.1 j))
             (subst (λ (chain : List ℕ). AreNeighbours chain tail own.at) (sym order_is) through.1)
         | inr t ↦ stands_on shape anatomy new who b b (grounds_grow anatomy new added grows who (λ at words. others_stay who at (plain words) t.0))
-            (follows_itself b) b.place (kept.standing who b t.1)
+            (follows_itself b) b.hand.place (kept.standing who b t.1)
       ];
       each = λ who b here lives. fits_same state.actors actors' same shape new state.cursors kept.roles.opener who b kept.roles.stands
           (elim (at_set state.actors id who (doing a d) b here) [

@@ -1,5 +1,5 @@
 -- The next of a block of one's own is stored: it waits for its link.
-use Rattle.std.proofs.Common.{◌≡◌, ℕ, ◌+◌, ◌==◌, List, set, inr, refl, sym, ◌∙◌, subst, arith, eq-eqb, eqb-true}
+use Rattle.std.proofs.Common.{◌≡◌, ℕ, ◌+◌, ◌==◌, List, set, inr, refl, sym, ◌∙◌, subst, arith, eq-eqb, eqb-true, false}
 use mathlib.Core.Option.{some}
 use lib.ListN.{get_elem?}
 use Rattle.alloc_core.proofs.Layouts.{length_shown}
@@ -16,17 +16,18 @@ use Rattle.segment_invariant.proofs.Lists.Elements.{at_from, all_at}
 use Rattle.segment_invariant.proofs.Frames.GoesOn.{happens}
 use Rattle.segment_invariant.proofs.Allocating.Payloads.{change_one, has_lived, fills}
 use Rattle.segment_invariant.proofs.Frames.Shown.{Goes}
+use Rattle.segment_machine.specs.Actor.{is_opener}
 
 module _ (shape : Dimensions) (opened : Anatomy) (state : State) (kept : Invariant shape opened state) (id : ℕ) (a : Actor)
-    (mine : get_elem? state.actors id ≡ some a) (records : a.opener ≡ 0) where
+    (mine : get_elem? state.actors id ≡ some a) (records : is_opener a.role ≡ false) where
   pub own_next_stored : (at : ℕ) → Ready a (publishing_event (store_own_next at)) → Goes shape opened state kept id a mine records (publishing_event (store_own_next at))
   own_next_stored at (x, (has, unended), place) =
-      let (i, there) = at_from a.own x has in
+      let (i, there) = at_from a.hand.own x has in
       let fits = kept.each id a mine (has_lived shape opened state kept id a mine records i x there) in
-      let is = all_at (HoldsOwn shape kept.anatomy.pieces id) a.own i x fits.own there in
+      let is = all_at (HoldsOwn shape kept.anatomy.pieces id) a.hand.own i x fits.own there in
       let y : Own = record x { next = 12 } in
-      let changed : change_own at (λ own. record own { next = 12 }) a.own ≡ set a.own i y =
-      change_one (λ (own : Own). own.at == at) (λ (own : Own). record own { next = 12 }) a.own i x there
+      let changed : change_own at (λ own. record own { next = 12 }) a.hand.own ≡ set a.hand.own i y =
+      change_one (λ (own : Own). own.at == at) (λ (own : Own). record own { next = 12 }) a.hand.own i x there
       (eq-eqb x.at at place) (λ j z here passes. fits.apart j i z x here there (eqb-true z.at at passes ∙ sym place)) in
       let size = length_shown shape state.words (layout_of kept.anatomy) kept.shown in
       let within = is.placed.within in
@@ -35,7 +36,7 @@ module _ (shape : Dimensions) (opened : Anatomy) (state : State) (kept : Invaria
         subst (λ (s : ℕ × List Own). Invariant shape opened (record {
           words = set state.words (s.0 + 3) 12;
           cursors = state.cursors;
-          actors = set state.actors id (record a { own = s.1 });
+          actors = set state.actors id (record a { hand = record a.hand { own = s.1 } });
         })) (λ e. (place e, sym changed e))
             (fills shape opened state kept id a mine records i x y 3 12 there refl refl is.tagged refl (omega arith) room (inr refl) refl),
         tt,

@@ -32,9 +32,10 @@ use Rattle.segment_invariant.proofs.Frames.Shown.{Goes, after_is, loaded}
 use Rattle.segment_invariant.proofs.Frames.GrowthOfActors.{SawMore}
 use Rattle.segment_invariant.proofs.Walking.Nexts.{no_later_itself}
 use Rattle.segment_invariant.proofs.Walking.Walks.{stop_within, tail_word, walking, reference_is, looks_on}
+use Rattle.segment_machine.specs.Actor.{is_opener}
 
 module _ (shape : Dimensions) (opened : Anatomy) (state : State) (kept : Invariant shape opened state) (id : ℕ) (a : Actor)
-    (mine : get_elem? state.actors id ≡ some a) (records : a.opener ≡ 0) where
+    (mine : get_elem? state.actors id ≡ some a) (records : is_opener a.role ≡ false) where
   abbrev order : List ℕ
   order = order_of kept.anatomy
 
@@ -67,12 +68,12 @@ module _ (shape : Dimensions) (opened : Anatomy) (state : State) (kept : Invaria
       let fits = kept.each id a mine turns.lived in
       happens opened.version state id a (publishing_event load_tail) eight_within shape opened (
         loaded shape opened state kept id a mine records 8 (next a (publishing_event load_tail) found)
-            (looks_on shape opened state kept id a mine records (TailLoaded found) a.beaten (a.seen.tails ++ found ∷ []) a.seen.chain a.seen.words turns
-            (saw_no_more (TailLoaded found) a.beaten a.own (a.seen.tails ++ found ∷ []) turns) kept.anatomy.tail state.words kept.shown kept.list.linked kept.list.tail
+            (looks_on shape opened state kept id a mine records (TailLoaded found) a.done.beaten (a.seen.tails ++ found ∷ []) a.seen.chain a.seen.words turns
+            (saw_no_more (TailLoaded found) a.done.beaten a.hand.own (a.seen.tails ++ found ∷ []) turns) kept.anatomy.tail state.words kept.shown kept.list.linked kept.list.tail
             (λ seen before. before)
-            (ahead_at order kept.anatomy.tail state.cursors a.place a.beaten a.lost fits.ahead (TailLoaded found) (λ no. unbound_unbeaten a.place unbound)) (
+            (ahead_at order kept.anatomy.tail state.cursors a.hand.place a.done.beaten a.done.lost fits.ahead (TailLoaded found) (λ no. unbound_unbeaten a.hand.place unbound)) (
               Contains-push a.seen.tails found,
-              subst (IsReachedAt order a.beaten) (sym (tail_word shape opened state kept)) (fits.ahead.links (unbound_unbeaten a.place unbound)),
+              subst (IsReachedAt order a.done.beaten) (sym (tail_word shape opened state kept)) (fits.ahead.links (unbound_unbeaten a.hand.place unbound)),
             )
             fits.sees.walked
             (All-push (λ place. IsNoLater order place kept.anatomy.tail) a.seen.tails found fits.sees.tails
@@ -82,7 +83,7 @@ module _ (shape : Dimensions) (opened : Anatomy) (state : State) (kept : Invaria
 
   -- ---- the tail is moved on
 
-  moves_near : (old new : ℕ) → Ready a (publishing_event (move_tail old new)) → AreNeighbours order old new × (is_plain a.place ≡ true)
+  moves_near : (old new : ℕ) → Ready a (publishing_event (move_tail old new)) → AreNeighbours order old new × (is_plain a.hand.place ≡ true)
   moves_near old new (inl linked) = (subst (StandsRight shape kept.anatomy id a) linked (kept.standing id a mine), ap is_plain linked)
   moves_near old new (inr beaten) = ((subst (StandsRight shape kept.anatomy id a) beaten (kept.standing id a mine)).0, ap is_plain beaten)
 
@@ -105,12 +106,12 @@ module _ (shape : Dimensions) (opened : Anatomy) (state : State) (kept : Invaria
       (λ miss. subst by (sym (ne_eqb found old miss)) (tail_stop, λ seen before. subst (IsNoLater order seen) (sym tail) before))
 
   -- where its link had come too late, the tail is then at the record that beat it, or behind
-  goes_behind : (old new : ℕ) → a.place ≢ Spent → AreNeighbours order old new → Contains a.seen.tails old → IsReachedAt order a.beaten new
-      → IsReachedAt order a.beaten (if word_at state.words 8 == old then new else word_at state.words 8)
+  goes_behind : (old new : ℕ) → a.hand.place ≢ Spent → AreNeighbours order old new → Contains a.seen.tails old → IsReachedAt order a.done.beaten new
+      → IsReachedAt order a.done.beaten (if word_at state.words 8 == old then new else word_at state.words 8)
   goes_behind old new lives (k, lt, is, next_is) saw (m, low, most, new_is) =
       let found : ℕ = word_at state.words 8 in
       let tail = tail_word shape opened state kept in
-      let by : Bool → Type 0 = λ b. IsReachedAt order a.beaten (if b then new else found) in
+      let by : Bool → Type 0 = λ b. IsReachedAt order a.done.beaten (if b then new else found) in
       dite (ℕ_discrete found old)
       (λ hit. subst by (sym (eq-eqb found old hit)) (m, low, most, new_is))
       (λ miss. subst by (sym (ne_eqb found old miss)) (
@@ -122,11 +123,11 @@ module _ (shape : Dimensions) (opened : Anatomy) (state : State) (kept : Invaria
       (j, omega (arith, low, one, two, le, apart), within, j_is ∙ sym tail)))
 
   -- and it is not behind what came too late before
-  moves_ahead : (old new : ℕ) → a.place ≢ Spent → Ready a (publishing_event (move_tail old new))
+  moves_ahead : (old new : ℕ) → a.hand.place ≢ Spent → Ready a (publishing_event (move_tail old new))
       → ((seen : ℕ) → IsNoLater order seen kept.anatomy.tail → IsNoLater order seen (if word_at state.words 8 == old then new else word_at state.words 8))
-      → IsReachedAt order a.beaten (if word_at state.words 8 == old then new else word_at state.words 8)
+      → IsReachedAt order a.done.beaten (if word_at state.words 8 == old then new else word_at state.words 8)
   moves_ahead old new lives (inl linked) later =
-      reached_later state.words order a.beaten kept.anatomy.tail _ kept.list.linked later ((kept.each id a mine lives).ahead.links (ap is_beaten linked))
+      reached_later state.words order a.done.beaten kept.anatomy.tail _ kept.list.linked later ((kept.each id a mine lives).ahead.links (ap is_beaten linked))
   moves_ahead old new lives (inr beaten) later =
       let (near, saw, reached) = subst (StandsRight shape kept.anatomy id a) beaten (kept.standing id a mine) in
       goes_behind old new lives near saw reached
@@ -140,8 +141,8 @@ module _ (shape : Dimensions) (opened : Anatomy) (state : State) (kept : Invaria
       let turns = turns_plain a Idle plain refl in
       let fits = kept.each id a mine turns.lived in
       happens opened.version state id a (publishing_event (move_tail old new)) eight_within shape opened (
-        looks_on shape opened state kept id a mine records Idle a.beaten (a.seen.tails ++ v ∷ []) a.seen.chain a.seen.words turns
-            (saw_no_more Idle a.beaten a.own (a.seen.tails ++ v ∷ []) turns) v (set state.words 8 v)
+        looks_on shape opened state kept id a mine records Idle a.done.beaten (a.seen.tails ++ v ∷ []) a.seen.chain a.seen.words turns
+            (saw_no_more Idle a.done.beaten a.hand.own (a.seen.tails ++ v ∷ []) turns) v (set state.words 8 v)
             (shown_tail shape state.words (layout_of kept.anatomy) v kept.shown)
             (linked_beside_head shape state.words kept.anatomy kept.shown kept.list.standing 8 v (omega arith) kept.list.linked)
             stop later
@@ -160,7 +161,7 @@ module _ (shape : Dimensions) (opened : Anatomy) (state : State) (kept : Invaria
   -- ---- a link finds another record
 
   -- the record behind the tail is reached by one more
-  next_reached : (tail found : ℕ) → IsReachedAt order a.beaten tail → AreNeighbours order tail found → IsReachedAt order (a.beaten + 1) found
+  next_reached : (tail found : ℕ) → IsReachedAt order a.done.beaten tail → AreNeighbours order tail found → IsReachedAt order (a.done.beaten + 1) found
   next_reached tail found (k, low, within, is) (m, lt, here, next_is) =
       let same : k ≡ m = one_place state.words order k m kept.list.linked within (omega (arith, lt)) (is ∙ sym here) in
       (suc m, omega (arith, low, same), lt, next_is)
@@ -169,7 +170,7 @@ module _ (shape : Dimensions) (opened : Anatomy) (state : State) (kept : Invaria
   link_beaten tail at (own, made, placed, waits, here, asked, payload, may) other =
       let found : ℕ = word_at state.words (tail + 3) in
       let (saw, reached) = subst (StandsRight shape kept.anatomy id a) placed (kept.standing id a mine) in
-      let stop = reached_stop order a.beaten tail reached in
+      let stop = reached_stop order a.done.beaten tail reached in
       let near = link_missed state.words order tail kept.list.linked stop other in
       let turns = turns_plain a (Beaten tail found) (ap is_plain placed) refl in
       let fits = kept.each id a mine turns.lived in
@@ -177,8 +178,8 @@ module _ (shape : Dimensions) (opened : Anatomy) (state : State) (kept : Invaria
       happens opened.version state id a (publishing_event (link tail at)) (stop_within shape opened state kept tail stop) shape opened (
         subst by (sym (ne_eqb found 12 other))
             (loaded shape opened state kept id a mine records (tail + 3) (after_link false a tail at found)
-            (looks_on shape opened state kept id a mine records (Beaten tail found) (a.beaten + 1) a.seen.tails a.seen.chain a.seen.words turns
-            (saw_no_more (Beaten tail found) (a.beaten + 1) a.own a.seen.tails turns) kept.anatomy.tail state.words kept.shown kept.list.linked kept.list.tail
+            (looks_on shape opened state kept id a mine records (Beaten tail found) (a.done.beaten + 1) a.seen.tails a.seen.chain a.seen.words turns
+            (saw_no_more (Beaten tail found) (a.done.beaten + 1) a.hand.own a.seen.tails turns) kept.anatomy.tail state.words kept.shown kept.list.linked kept.list.tail
             (λ seen before. before)
             (record { links = λ no. cc no; many = fits.ahead.many; exchanges = fits.ahead.exchanges })
             (near, saw, next_reached tail found reached near) fits.sees.walked fits.sees.tails fits.sees.fixed)),

@@ -15,7 +15,7 @@ use Rattle.segment_machine.specs.declared.place.Place.{Place}
 use Rattle.segment_machine.specs.declared.place.Place.TheVariants.{Spent}
 use Rattle.segment_machine.specs.declared.actor.Actor.{Actor}
 use Rattle.segment_machine.specs.Entry.{is_counted, is_noted, has_ended, is_of, tally_units, tally_noted}
-use Rattle.segment_machine.specs.Actor.{log_of, all_counted, all_noted, accepted_by, accepted_since}
+use Rattle.segment_machine.specs.Actor.{log_of, all_counted, all_noted, accepted_by, accepted_since, is_opener, made_of}
 use Rattle.segment_machine.specs.Note.{is_untouched}
 use Rattle.segment_machine.specs.Seats.{spent}
 use Rattle.segment_machine.specs.State.{State}
@@ -46,12 +46,12 @@ spent_or_not Spent = inl refl
 spent_or_not p = inr (λ e. cc e)
 
 module _ (shape : Dimensions) (opened : Anatomy) (state : State) (kept : Invariant shape opened state) (id : ℕ) (a : Actor)
-    (mine : get_elem? state.actors id ≡ some a) (records : a.opener ≡ 0) (lives : a.place ≢ Spent) (alone : IsAlone state.actors a) where
+    (mine : get_elem? state.actors id ≡ some a) (records : is_opener a.role ≡ false) (lives : a.hand.place ≢ Spent) (alone : IsAlone state.actors a) where
   abbrev opener : Actor
   opener = kept.roles.opener
 
-  last : a.made + 1 ≡ opener.made
-  last = alone.3 ∙ ap (λ (c : Actor). c.made) (one_at state.actors 0 alone.0 opener alone.1 kept.roles.stands)
+  last : made_of a.role + 1 ≡ made_of opener.role
+  last = alone.3 ∙ ap (λ (c : Actor). made_of c.role) (one_at state.actors 0 alone.0 opener alone.1 kept.roles.stands)
 
   not_first : id ≢ 0
   not_first = not_opener shape opened state kept id a mine records
@@ -65,32 +65,32 @@ module _ (shape : Dimensions) (opened : Anatomy) (state : State) (kept : Invaria
       let before = kept.roles.eldest id k a c mine there (lives_on a records lives) alive (λ same. other (sym same)) alone.2 in
       let younger = kept.roles.younger k c there alive in
       absurd (omega (arith, before, younger, last)))
-      (spent_or_not c.place)
+      (spent_or_not c.hand.place)
 
-  ended : All (λ c. has_ended c ≡ true) opener.log
+  ended : All (λ c. has_ended c ≡ true) opener.entries.log
   ended = (kept.each 0 opener kept.roles.stands (λ is. cc (sym kept.roles.idle ∙ is))).calls.ended
 
   -- what the opener has accepted is what had been accepted before the recorder was made
-  pub heir : log_of opener ≡ a.inherited
+  pub heir : log_of opener ≡ a.entries.inherited
   heir =
       let (more, log, nothing) = kept.roles.heirs id a mine (lives_on a records lives) in
-      log ∙ (ap (λ list. a.inherited ++ list) (nothing alone.2 last) ∙ append-nil a.inherited)
+      log ∙ (ap (λ list. a.entries.inherited ++ list) (nothing alone.2 last) ∙ append-nil a.entries.inherited)
 
   -- What all come to is what the logs of these two come to, with what stands in front of them, where nothing of the running entries counts.
   module _ (total : List Entry → ℕ) (sums : IsTotal ◌+◌ total) (none : total [] ≡ 0) (test : Counting → Bool)
       (passes : (c : Counting) → has_ended c ≡ true → test c ≡ true) (front : Actor → List Entry) (nothing : front spent ≡ [])
-      (still : (c : Counting) → Contains a.running c → test c ≡ true → total (c.entry ∷ []) ≡ total []) where
+      (still : (c : Counting) → Contains a.entries.running c → test c ≡ true → total (c.entry ∷ []) ≡ total []) where
     abbrev entries : Actor → List Entry
-    entries c = front c ++ map (λ c. c.entry) (filter test (c.log ++ c.running))
+    entries c = front c ++ map (λ c. c.entry) (filter test (c.entries.log ++ c.entries.running))
 
     abbrev logged : Actor → ℕ
-    logged c = total (front c) + total (map (λ (c : Counting). c.entry) c.log)
+    logged c = total (front c) + total (map (λ (c : Counting). c.entry) c.entries.log)
 
-    one : (c : Actor) → All (λ c. has_ended c ≡ true) c.log → total (map (λ (c : Counting). c.entry) (filter test c.running)) ≡ 0 → total (entries c) ≡ logged c
+    one : (c : Actor) → All (λ c. has_ended c ≡ true) c.entries.log → total (map (λ (c : Counting). c.entry) (filter test c.entries.running)) ≡ 0 → total (entries c) ≡ logged c
     one c done rest =
-        let all = sums (front c) (map (λ (c : Counting). c.entry) (filter test (c.log ++ c.running))) in
-        let log = ap total (among_all test passes c.log done c.running) in
-        let parts = sums (map (λ (c : Counting). c.entry) c.log) (map (λ (c : Counting). c.entry) (filter test c.running)) in
+        let all = sums (front c) (map (λ (c : Counting). c.entry) (filter test (c.entries.log ++ c.entries.running))) in
+        let log = ap total (among_all test passes c.entries.log done c.entries.running) in
+        let parts = sums (map (λ (c : Counting). c.entry) c.entries.log) (map (λ (c : Counting). c.entry) (filter test c.entries.running)) in
         omega (arith, all, log, parts, rest)
 
     two_logs : total (flat_map entries state.actors) ≡ logged opener + logged a
@@ -99,24 +99,24 @@ module _ (shape : Dimensions) (opened : Anatomy) (state : State) (kept : Invaria
         let both = sum_pair (λ c. total (entries c)) state.actors 0 id opener a (λ e. not_first (sym e)) kept.roles.stands mine
         (λ j c there others. ap (λ (c : Actor). total (entries c)) (gone j c there others) ∙ (ap (λ list. total (list ++ [])) nothing ∙ none)) in
         let first = one opener ended (ap (λ (list : List Counting). total (map (λ (c : Counting). c.entry) (filter test list))) kept.roles.rests.0 ∙ none) in
-        let second = one a (kept.each id a mine lives).calls.ended (nothing_among ◌+◌ total sums test a.running still ∙ none) in
+        let second = one a (kept.each id a mine lives).calls.ended (nothing_among ◌+◌ total sums test a.entries.running still ∙ none) in
         omega (arith, all, both, first, second)
 
-  module _ (name : List ℕ) (quiet : All (λ c. (is_of name c.entry ≡ false) ⊎ (is_untouched c ≡ true)) a.running) where
-    either : (c : Counting) → Contains a.running c → (is_of name c.entry ≡ false) ⊎ (is_untouched c ≡ true)
-    either c has = All-contains (λ (c : Counting). (is_of name c.entry ≡ false) ⊎ (is_untouched c ≡ true)) a.running c quiet has
+  module _ (name : List ℕ) (quiet : All (λ c. (is_of name c.entry ≡ false) ⊎ (is_untouched c ≡ true)) a.entries.running) where
+    either : (c : Counting) → Contains a.entries.running c → (is_of name c.entry ≡ false) ⊎ (is_untouched c ≡ true)
+    either c has = All-contains (λ (c : Counting). (is_of name c.entry ≡ false) ⊎ (is_untouched c ≡ true)) a.entries.running c quiet has
 
     pub counted_accepted : (key : ℤ) → tally_units (all_counted state.actors) name key ≡ tally_units (accepted_by a) name key
     counted_accepted key =
         let total : List Entry → ℕ = λ entries. tally_units entries name key in
-        let all = two_logs total (units_total name key) refl is_counted ended_counted (λ (c : Actor). c.first) refl
+        let all = two_logs total (units_total name key) refl is_counted ended_counted (λ (c : Actor). c.entries.first) refl
         (λ c has passes. ⊎_elim
         (λ other. (λ i. 0 + (if other i && int_eq c.entry.key key then c.entry.units else 0)))
         (λ untouched. no_units name key c.entry (counted_none c untouched passes))
         (either c has)) in
-        let before = ap total (sym heir) ∙ units_total name key opener.first (map (λ (c : Counting). c.entry) opener.log) in
-        let since = units_total name key a.first (map (λ (c : Counting). c.entry) a.log) in
-        let accepted = units_total name key a.inherited (log_of a) in
+        let before = ap total (sym heir) ∙ units_total name key opener.entries.first (map (λ (c : Counting). c.entry) opener.entries.log) in
+        let since = units_total name key a.entries.first (map (λ (c : Counting). c.entry) a.entries.log) in
+        let accepted = units_total name key a.entries.inherited (log_of a) in
         omega (arith, all, before, since, accepted)
 
     pub noted_accepted : tally_noted (all_noted state.actors) name ≡ tally_noted (accepted_since opener a) name
@@ -127,7 +127,7 @@ module _ (shape : Dimensions) (opened : Anatomy) (state : State) (kept : Invaria
         (λ other. (λ i. 0 + (if other i then c.entry.units else 0)))
         (λ untouched. no_noted name c.entry (noted_none c untouched passes))
         (either c has)) in
-        let before = ap (λ list. total (drop (length opener.first) list)) (sym heir)
-        ∙ ap total (drop-append_seam opener.first (map (λ (c : Counting). c.entry) opener.log)) in
-        let accepted = noted_total name (drop (length opener.first) a.inherited) (map (λ (c : Counting). c.entry) a.log) in
+        let before = ap (λ list. total (drop (length opener.entries.first) list)) (sym heir)
+        ∙ ap total (drop-append_seam opener.entries.first (map (λ (c : Counting). c.entry) opener.entries.log)) in
+        let accepted = noted_total name (drop (length opener.entries.first) a.entries.inherited) (map (λ (c : Counting). c.entry) a.entries.log) in
         omega (arith, all, before, accepted)

@@ -17,7 +17,7 @@ use Rattle.segment_machine.specs.declared.actor.Moment.{Moment}
 use Rattle.segment_machine.specs.declared.actor.Own.{Own}
 use Rattle.segment_machine.specs.declared.actor.Taken.{Taken}
 use Rattle.segment_machine.specs.Entry.{is_of, tally_units, tally_sum, tally_noted}
-use Rattle.segment_machine.specs.Actor.{log_of, cost_of, units_listed, taken_sum, all_counted, all_summed, all_noted, all_taken}
+use Rattle.segment_machine.specs.Actor.{log_of, cost_of, units_listed, taken_sum, all_counted, all_summed, all_noted, all_taken, is_opener, made_of}
 use Rattle.segment_machine.specs.Note.{is_untouched}
 use Rattle.segment_invariant.specs.Consistent.{units_taken}
 use Rattle.segment_machine.specs.Seats.{joined, shifted, shifted_taken, shifted_answers}
@@ -38,8 +38,8 @@ later_taken n t = record t { moment = shifted n t.moment }
 abbrev later_answered : ℕ → Answered → Answered
 later_answered n s = record s { moment = shifted n s.moment }
 
-module _ (actors : List Actor) (opener : Actor) (other : ℕ) (a b : Actor) (may : Joins a b) (opens : a.opener ≡ 1)
-    (takes : a.taking ≡ false) (rests : b.taking ≡ false)
+module _ (actors : List Actor) (opener : Actor) (other : ℕ) (a b : Actor) (may : Joins a b) (opens : is_opener a.role ≡ true)
+    (takes : a.deltas.taking ≡ false) (rests : b.deltas.taking ≡ false)
     (gone : (c : Actor) → get_elem? actors other ≡ some c → is_living c ≡ true → ⊥)
     (first : FinalsAreExact actors opener 0 a) (second : FinalsAreExact actors opener other b) where
   abbrev both : Actor
@@ -51,9 +51,9 @@ module _ (actors : List Actor) (opener : Actor) (other : ℕ) (a b : Actor) (may
   -- the log of both is the opener's, and then the recorder's
   log_joined : log_of both ≡ log_of a ++ log_of b
   log_joined =
-      ap (λ (list : List Entry). a.first ++ list) (map-append (λ (c : Counting). c.entry) a.log b.log)
-      ∙ sym (append_assoc a.first (map (λ (c : Counting). c.entry) a.log) (map (λ (c : Counting). c.entry) b.log))
-      ∙ ap (λ (list : List Entry). log_of a ++ (list ++ map (λ (c : Counting). c.entry) b.log)) (sym may.begins)
+      ap (λ (list : List Entry). a.entries.first ++ list) (map-append (λ (c : Counting). c.entry) a.entries.log b.entries.log)
+      ∙ sym (append_assoc a.entries.first (map (λ (c : Counting). c.entry) a.entries.log) (map (λ (c : Counting). c.entry) b.entries.log))
+      ∙ ap (λ (list : List Entry). log_of a ++ (list ++ map (λ (c : Counting). c.entry) b.entries.log)) (sym may.begins)
 
   -- ---- where nothing was counted since
 
@@ -82,7 +82,7 @@ module _ (actors : List Actor) (opener : Actor) (other : ℕ) (a b : Actor) (may
         let all = length-append (log_of a) (log_of b) in
         omega (arith, low, long, all));
     before = is.before;
-    mine = λ records. absurd (omega (arith, records, opens));
+    mine = λ records. absurd (true≢false records);
     eldest = is.eldest;
   }
 
@@ -94,7 +94,7 @@ module _ (actors : List Actor) (opener : Actor) (other : ℕ) (a b : Actor) (may
         let all = length-append (log_of a) (log_of b) in
         omega (arith, low, long, all));
     before = is.before;
-    mine = λ records. absurd (omega (arith, records, opens));
+    mine = λ records. absurd (true≢false records);
     eldest = λ nobody k c at lives apart. is.eldest nobody k c at lives
         (λ e. gone c (subst (λ (j : ℕ). get_elem? actors j ≡ some c) e at) lives);
   }
@@ -102,57 +102,57 @@ module _ (actors : List Actor) (opener : Actor) (other : ℕ) (a b : Actor) (may
   -- ---- deltas and snapshots
 
   abbrev TakenAll : Taken → Type 0
-  TakenAll t = t.moment.outstanding ≡ 0 → t.moment.before + 1 ≡ opener.made → IsQuiet both t.name t.moment.log
+  TakenAll t = t.moment.outstanding ≡ 0 → t.moment.before + 1 ≡ made_of opener.role → IsQuiet both t.name t.moment.log
       → ((key : ℤ) → units_taken actors t.name key ≡ tally_units (all_counted actors) t.name key)
       × (taken_sum (all_taken actors) t.name ≡ tally_sum (all_summed actors) t.name)
 
   abbrev SeenAll : Answered → Type 0
-  SeenAll s = s.moment.outstanding ≡ 0 → s.moment.before + 1 ≡ opener.made → IsQuiet both s.name s.moment.log
+  SeenAll s = s.moment.outstanding ≡ 0 → s.moment.before + 1 ≡ made_of opener.role → IsQuiet both s.name s.moment.log
       → ((key : ℤ) → units_listed s.counts key ≡ tally_units (all_counted actors) s.name key)
-      × (s.sum ≡ tally_sum (all_summed actors) s.name) × (s.redundant ≡ cost_of opener.first_noted s.name + tally_noted (all_noted actors) s.name)
+      × (s.sum ≡ tally_sum (all_summed actors) s.name) × (s.redundant ≡ cost_of opener.entries.first_noted s.name + tally_noted (all_noted actors) s.name)
 
   -- who takes nothing has ended all that it began
-  all_ended : (c : Actor) (t : Taken) → c.taking ≡ false → Contains c.taken t → Contains (ended_deltas c) t
+  all_ended : (c : Actor) (t : Taken) → c.deltas.taking ≡ false → Contains c.deltas.taken t → Contains (ended_deltas c) t
   all_ended c t idle there =
-      subst (λ (taking : Bool). Contains (if taking then take (length c.taken - 1) c.taken else c.taken) t) (sym idle) there
+      subst (λ (taking : Bool). Contains (if taking then take (length c.deltas.taken - 1) c.deltas.taken else c.deltas.taken) t) (sym idle) there
 
-  taken_either : (t : Taken) → Contains (a.taken ++ shifted_taken before b.taken) t → TakenAll t
+  taken_either : (t : Taken) → Contains (a.deltas.taken ++ shifted_taken before b.deltas.taken) t → TakenAll t
   taken_either t there = ⊎_elim
       (λ mine nobody youngest quiet. first.deltas t (all_ended a t takes mine) nobody youngest (quiet_first t.name t.moment.log quiet))
       (λ theirs.
-      let was = contains_mapped (later_taken before) b.taken t theirs in
+      let was = contains_mapped (later_taken before) b.deltas.taken t theirs in
       subst TakenAll was.2
       (λ nobody youngest quiet. second.deltas was.0 (all_ended b was.0 rests was.1) nobody youngest (quiet_second was.0.name was.0.moment.log quiet)))
-      (Contains-append_cases a.taken (shifted_taken before b.taken) t there)
+      (Contains-append_cases a.deltas.taken (shifted_taken before b.deltas.taken) t there)
 
-  seen_either : (s : Answered) → Contains (a.snapshots ++ shifted_answers before b.snapshots) s → SeenAll s
+  seen_either : (s : Answered) → Contains (a.deltas.snapshots ++ shifted_answers before b.deltas.snapshots) s → SeenAll s
   seen_either s there = ⊎_elim
       (λ mine nobody youngest quiet. first.snapshots s mine nobody youngest (quiet_first s.name s.moment.log quiet))
       (λ theirs.
-      let was = contains_mapped (later_answered before) b.snapshots s theirs in
+      let was = contains_mapped (later_answered before) b.deltas.snapshots s theirs in
       subst SeenAll was.2
       (λ nobody youngest quiet. second.snapshots was.0 was.1 nobody youngest (quiet_second was.0.name was.0.moment.log quiet)))
-      (Contains-append_cases a.snapshots (shifted_answers before b.snapshots) s there)
+      (Contains-append_cases a.deltas.snapshots (shifted_answers before b.deltas.snapshots) s there)
 
   moments_either : (m : Moment) → IsMomentOf both m → IsMoment actors opener 0 both m
   moments_either m (inl (t, there, e)) = ⊎_elim
       (λ mine. moment_first m (first.moments m (inl (t, mine, e))))
       (λ theirs.
-      let was = contains_mapped (later_taken before) b.taken t theirs in
+      let was = contains_mapped (later_taken before) b.deltas.taken t theirs in
       subst (IsMoment actors opener 0 both) (ap (λ (u : Taken). u.moment) was.2 ∙ e)
       (moment_second was.0.moment (second.moments was.0.moment (inl (was.0, was.1, refl)))))
-      (Contains-append_cases a.taken (shifted_taken before b.taken) t there)
+      (Contains-append_cases a.deltas.taken (shifted_taken before b.deltas.taken) t there)
   moments_either m (inr (s, there, e)) = ⊎_elim
       (λ mine. moment_first m (first.moments m (inr (s, mine, e))))
       (λ theirs.
-      let was = contains_mapped (later_answered before) b.snapshots s theirs in
+      let was = contains_mapped (later_answered before) b.deltas.snapshots s theirs in
       subst (IsMoment actors opener 0 both) (ap (λ (u : Answered). u.moment) was.2 ∙ e)
       (moment_second was.0.moment (second.moments was.0.moment (inr (was.0, was.1, refl)))))
-      (Contains-append_cases a.snapshots (shifted_answers before b.snapshots) s there)
+      (Contains-append_cases a.deltas.snapshots (shifted_answers before b.deltas.snapshots) s there)
 
   pub joined_finals : FinalsAreExact actors opener 0 both
   joined_finals = record {
-    deltas = λ t there. taken_either t (ended_among a.taking both.taken t there);
+    deltas = λ t there. taken_either t (ended_among a.deltas.taking both.deltas.taken t there);
     snapshots = seen_either;
     moments = moments_either;
     swapped = λ front last taking. absurd (true≢false (sym taking ∙ takes));
@@ -161,9 +161,9 @@ module _ (actors : List Actor) (opener : Actor) (other : ℕ) (a b : Actor) (may
 -- ---- blocks of one's own
 
 module _ (shape : Dimensions) (words : List ℕ) (anatomy : Anatomy) (shown : IsShown shape words (layout_of anatomy)) (other : ℕ)
-    (apart : 0 ≢ other) (a b : Actor) (mine : All (HoldsOwn shape anatomy.pieces 0) a.own) (theirs : All (HoldsOwn shape anatomy.pieces other) b.own) where
-  pub joined_own : All (HoldsOwn shape (handed other 0 anatomy).pieces 0) (a.own ++ b.own)
-  joined_own = All-append (HoldsOwn shape (handed other 0 anatomy).pieces 0) a.own b.own
+    (apart : 0 ≢ other) (a b : Actor) (mine : All (HoldsOwn shape anatomy.pieces 0) a.hand.own) (theirs : All (HoldsOwn shape anatomy.pieces other) b.hand.own) where
+  pub joined_own : All (HoldsOwn shape (handed other 0 anatomy).pieces 0) (a.hand.own ++ b.hand.own)
+  joined_own = All-append (HoldsOwn shape (handed other 0 anatomy).pieces 0) a.hand.own b.hand.own
       (All-weaker (HoldsOwn shape anatomy.pieces 0) (HoldsOwn shape (handed other 0 anatomy).pieces 0)
       (λ own is. record {
         stands = stands_left other 0 anatomy.pieces 0 apart own.at (held own) is.stands;
@@ -171,7 +171,7 @@ module _ (shape : Dimensions) (words : List ℕ) (anatomy : Anatomy) (shown : Is
         room = is.room;
         tagged = is.tagged;
         ends = is.ends;
-      }) a.own mine)
+      }) a.hand.own mine)
       (All-weaker (HoldsOwn shape anatomy.pieces other) (HoldsOwn shape (handed other 0 anatomy).pieces 0)
       (λ own is. record {
         stands = stands_given other 0 anatomy.pieces own.at (held own) is.stands;
@@ -179,7 +179,7 @@ module _ (shape : Dimensions) (words : List ℕ) (anatomy : Anatomy) (shown : Is
         room = is.room;
         tagged = is.tagged;
         ends = is.ends;
-      }) b.own theirs)
+      }) b.hand.own theirs)
 
   -- no block is one of both
   not_both : (x y : Own) → HoldsOwn shape anatomy.pieces 0 x → HoldsOwn shape anatomy.pieces other y → x.at ≡ y.at → ⊥
@@ -187,20 +187,20 @@ module _ (shape : Dimensions) (words : List ℕ) (anatomy : Anatomy) (shown : Is
       apart (some-injective 0 other (one_stands shape words anatomy shown y.at (some 0) (some other) (held x) (held y)
       (subst (λ (at : ℕ). Stands anatomy.pieces at (some 0) (held x)) same is.stands) was.stands).0)
 
-  pub joined_apart : ((i j : ℕ) (x y : Own) → get_elem? a.own i ≡ some x → get_elem? a.own j ≡ some y → x.at ≡ y.at → i ≡ j)
-      → ((i j : ℕ) (x y : Own) → get_elem? b.own i ≡ some x → get_elem? b.own j ≡ some y → x.at ≡ y.at → i ≡ j)
-      → (i j : ℕ) (x y : Own) → get_elem? (a.own ++ b.own) i ≡ some x → get_elem? (a.own ++ b.own) j ≡ some y → x.at ≡ y.at → i ≡ j
+  pub joined_apart : ((i j : ℕ) (x y : Own) → get_elem? a.hand.own i ≡ some x → get_elem? a.hand.own j ≡ some y → x.at ≡ y.at → i ≡ j)
+      → ((i j : ℕ) (x y : Own) → get_elem? b.hand.own i ≡ some x → get_elem? b.hand.own j ≡ some y → x.at ≡ y.at → i ≡ j)
+      → (i j : ℕ) (x y : Own) → get_elem? (a.hand.own ++ b.hand.own) i ≡ some x → get_elem? (a.hand.own ++ b.hand.own) j ≡ some y → x.at ≡ y.at → i ≡ j
   joined_apart one two i j x y here there same = ⊎_elim
       (λ front. ⊎_elim
       (λ fore. one i j x y front fore same)
-      (λ aft. absurd (not_both x y (all_at (HoldsOwn shape anatomy.pieces 0) a.own i x mine front) (all_at (HoldsOwn shape anatomy.pieces other) b.own aft.0 y theirs aft.2) same))
-      (at_either a.own b.own j y there))
+      (λ aft. absurd (not_both x y (all_at (HoldsOwn shape anatomy.pieces 0) a.hand.own i x mine front) (all_at (HoldsOwn shape anatomy.pieces other) b.hand.own aft.0 y theirs aft.2) same))
+      (at_either a.hand.own b.hand.own j y there))
       (λ back. ⊎_elim
-      (λ fore. absurd (not_both y x (all_at (HoldsOwn shape anatomy.pieces 0) a.own j y mine fore) (all_at (HoldsOwn shape anatomy.pieces other) b.own back.0 x theirs back.2) (sym same)))
+      (λ fore. absurd (not_both y x (all_at (HoldsOwn shape anatomy.pieces 0) a.hand.own j y mine fore) (all_at (HoldsOwn shape anatomy.pieces other) b.hand.own back.0 x theirs back.2) (sym same)))
       (λ aft.
       let e = two back.0 aft.0 x y back.2 aft.2 same in
       let first = back.1 in
       let second = aft.1 in
       omega (arith, e, first, second))
-      (at_either a.own b.own j y there))
-      (at_either a.own b.own i x here)
+      (at_either a.hand.own b.hand.own j y there))
+      (at_either a.hand.own b.hand.own i x here)

@@ -1,7 +1,7 @@
 -- What an opener has that has joined a recorder: what both had.
-use Rattle.std.proofs.Common.{◌≡◌, ℕ, ◌+◌, ◌<◌, ◌≤◌, max, ℤ, pos, ◌+ℤ◌, Bool, true, false, true≢false, ◌||◌, List, [], ◌∷◌, ◌++◌, map, length, ⊎_elim, refl, sym, ap, ap₂, ◌∙◌, subst, append_assoc, append-nil, eqb-true, ltb-true, ltb-false, arith}
+use Rattle.std.proofs.Common.{◌≡◌, ℕ, ◌+◌, ◌<◌, ◌≤◌, max, ℤ, Bool, true, false, true≢false, ◌||◌, List, [], ◌∷◌, ◌++◌, map, length, ⊎_elim, refl, sym, ap, ap₂, ◌∙◌, subst, append_assoc, append-nil, eqb-true, ltb-true, ltb-false, arith}
 use Rattle.std.proofs.Math.Bool.{or-false}
-use Rattle.std.specs.Prelude.{fold, if◌then◌else◌, ◌==◌, nat_lt, slice_index, unwrap_or, Option, Some, IsPermutation}
+use Rattle.std.specs.Prelude.{if◌then◌else◌, ◌==◌, nat_lt, slice_index, unwrap_or, Option, Some, IsPermutation}
 use Rattle.std.specs.Str.{bytes_eq}
 use Rattle.std.specs.List.{filter, Contains}
 use Rattle.std.proofs.lemmas.List.{map-append}
@@ -12,6 +12,7 @@ use native.Mathlib.Decide.{dec_le}
 use Rattle.alloc_core.specs.Laws.{Behind}
 use Rattle.list_core.specs.Walk.{IsPrefix}
 use Rattle.segment_machine.specs.declared.actor.Known.{Known}
+use Rattle.segment_machine.specs.declared.actor.Portion.{Portion}
 use Rattle.segment_machine.specs.declared.entry.Entry.{Entry}
 use Rattle.segment_machine.specs.declared.entry.Counting.{Counting}
 use Rattle.segment_machine.specs.declared.place.Place.TheVariants.{Idle}
@@ -20,7 +21,7 @@ use Rattle.segment_machine.specs.declared.actor.Cost.{Cost}
 use Rattle.segment_machine.specs.declared.actor.Given.{Given}
 use Rattle.segment_machine.specs.declared.actor.Taken.{Taken}
 use Rattle.segment_machine.specs.Entry.{is_counted, is_summed, is_noted, has_ended, tally_sum, tally_noted}
-use Rattle.segment_machine.specs.Actor.{is_bound, word_seen, log_of, counted_of, summed_of, given_by, cost_of, cost_total}
+use Rattle.segment_machine.specs.Actor.{is_bound, word_seen, log_of, counted_of, summed_of, given_by, cost_of, cost_total, taken_of, portion_of, taken_sum}
 use Rattle.segment_machine.specs.Seats.{both_seen, joined, spent, longer, shifted_taken, shifted}
 use Rattle.segment_machine.specs.Made.{SawSample}
 use Rattle.segment_invariant.specs.Ledger.{moving_at}
@@ -36,7 +37,7 @@ use Rattle.segment_invariant.proofs.Frames.OneActor.{rests_at}
 use Rattle.segment_invariant.proofs.Blocks.Places.{fixed_within}
 use Rattle.segment_invariant.proofs.Blocks.Pieces.{one_index}
 use Rattle.segment_invariant.proofs.Lists.Maps.{map_after, front_of_front}
-use Rattle.segment_invariant.proofs.Frames.Deeds.{Deeds, timeless}
+use Rattle.segment_invariant.proofs.Frames.Deeds.{Deeds}
 use Rattle.segment_invariant.proofs.Lists.Countings.{noted_total}
 use Rattle.segment_invariant.proofs.Frames.Standing.{met_more}
 
@@ -72,75 +73,76 @@ given_joined : (k : ℕ) (xs ys : List Given) → given_by k (xs ++ ys) ≡ give
 given_joined k xs ys =
     ap (map (λ (g : Given). g.reference)) (filter-append (λ (g : Given). g.cursor == k) xs ys) ∙ map-append (λ (g : Given). g.reference) _ _
 
--- of what was taken, what does not depend on when
-taken_joined : {Y : Type 0} (n : ℕ) (g : Taken → Y) → ((t : Taken) → g (record t { moment = shifted n t.moment }) ≡ g t) → (xs ys : List Taken)
-    → map g (xs ++ shifted_taken n ys) ≡ map g xs ++ map g ys
-taken_joined {Y} n g same xs ys =
-    map-append g xs (shifted_taken n ys)
-    ∙ ap (λ (list : List Y). map g xs ++ list) (map_after (λ (t : Taken). record t { moment = shifted n t.moment }) g same ys)
+-- what was taken does not depend on when
+portions_joined : (n : ℕ) (first more : List Portion) → more ≡ [] → (xs ys : List Taken)
+    → first ++ map portion_of (xs ++ shifted_taken n ys) ≡ (first ++ map portion_of xs) ++ (more ++ map portion_of ys)
+portions_joined n first more nothing xs ys =
+    ap (λ (list : List Portion). first ++ list)
+    (map-append portion_of xs (shifted_taken n ys)
+    ∙ ap (λ (list : List Portion). map portion_of xs ++ list) (map_after (λ (t : Taken). record t { moment = shifted n t.moment }) portion_of (λ t. refl) ys))
+    ∙ (sym (append_assoc first (map portion_of xs) (map portion_of ys))
+    ∙ ap (λ (list : List Portion). (first ++ map portion_of xs) ++ (list ++ map portion_of ys)) (sym nothing))
 
 -- who runs nothing has in a sum what it has spent
-rests_cost : (name : List ℕ) (a : Actor) → a.running ≡ [] → summed_cost name a ≡ cost_of a.costs name
+rests_cost : (name : List ℕ) (a : Actor) → a.entries.running ≡ [] → summed_cost name a ≡ cost_of a.units.costs name
 rests_cost name a rests =
-    let nothing : (if length (filter (λ c. c.summed) a.running) == 0 then 0 else cost_of a.held name) ≡ 0 =
-    ap (λ (run : List Counting). if length (filter (λ c. c.summed) run) == 0 then 0 else cost_of a.held name) rests in
+    let nothing : (if length (filter (λ c. c.summed) a.entries.running) == 0 then 0 else cost_of a.units.held name) ≡ 0 =
+    ap (λ (run : List Counting). if length (filter (λ c. c.summed) run) == 0 then 0 else cost_of a.units.held name) rests in
     omega (arith, nothing)
 
 -- a recorder that may be joined, and an opener that joins it
 pub record Joins (a b : Actor) : Type 0 where
-  pub idle : a.place ≡ Idle
-  pub free : is_bound b.place ≡ false
-  pub runs : a.running ≡ []
-  pub rests : b.running ≡ []
-  pub holds : b.held ≡ []
-  pub begins : b.first ≡ []
-  pub owes : b.owed ≡ []
+  pub idle : a.hand.place ≡ Idle
+  pub free : is_bound b.hand.place ≡ false
+  pub runs : a.entries.running ≡ []
+  pub rests : b.entries.running ≡ []
+  pub holds : b.units.held ≡ []
+  pub begins : b.entries.first ≡ []
+  pub takes : b.deltas.first_taken ≡ []
+  pub owes : b.answers.owed ≡ []
 
 module _ (a b : Actor) (may : Joins a b) where
   joined_counted : counted_of (joined a b) ≡ counted_of a ++ counted_of b
-  joined_counted = entries_joined is_counted a.first b.first a.log b.log a.running b.running may.runs may.rests may.begins
+  joined_counted = entries_joined is_counted a.entries.first b.entries.first a.entries.log b.entries.log a.entries.running b.entries.running may.runs may.rests may.begins
 
   joined_summed : summed_of (joined a b) ≡ summed_of a ++ summed_of b
-  joined_summed = entries_joined is_summed a.first b.first a.log b.log a.running b.running may.runs may.rests may.begins
+  joined_summed = entries_joined is_summed a.entries.first b.entries.first a.entries.log b.entries.log a.entries.running b.entries.running may.runs may.rests may.begins
 
-  joined_moving : (name : List ℕ) (key : ℤ) → moving_at (joined a b) name key a.place + 0 ≡ moving_at a name key a.place + moving_at b name key b.place
+  joined_taken : taken_of (joined a b) ≡ taken_of a ++ taken_of b
+  joined_taken = portions_joined (length (log_of a)) a.deltas.first_taken b.deltas.first_taken may.takes a.deltas.taken b.deltas.taken
+
+  joined_moving : (name : List ℕ) (key : ℤ) → moving_at (joined a b) name key a.hand.place + 0 ≡ moving_at a name key a.hand.place + moving_at b name key b.hand.place
   joined_moving name key =
       let now = ap (moving_at (joined a b) name key) may.idle in
       let was = ap (moving_at a name key) may.idle in
-      let nothing = rests_at b name key b.place (λ look bucket units moving. cc (may.free, ap is_bound moving)) in
+      let nothing = rests_at b name key b.hand.place (λ look bucket units moving. cc (may.free, ap is_bound moving)) in
       omega (arith, now, was, nothing)
 
   pub joined_deeds : Deeds (a ∷ b ∷ []) (joined a b ∷ spent ∷ [])
   joined_deeds = record {
     counted = rows_permuted _ _ _ joined_counted;
     summed = λ name. ap (λ (list : List Entry). tally_sum list name) (rows_same (summed_of (joined a b)) (summed_of a) (summed_of b) joined_summed);
-    noted = rows_permuted _ _ _ (entries_joined is_noted [] [] a.log b.log a.running b.running may.runs may.rests refl);
+    noted = rows_permuted _ _ _ (entries_joined is_noted [] [] a.entries.log b.entries.log a.entries.running b.entries.running may.runs may.rests refl);
     claimed = rows_permuted _ _ _ refl;
     published = rows_permuted _ _ _ refl;
     names = rows_permuted _ _ _ refl;
-    owed = rows_permuted _ _ _ (sym (ap (λ (more : List Known). a.owed ++ more) may.owes ∙ append-nil a.owed));
-    given = λ k. rows_permuted _ _ _ (given_joined k a.given b.given);
-    taken = rows_permuted _ _ _ (taken_joined (length (log_of a)) timeless (λ t. refl) a.taken b.taken);
-    taken_sums = λ name.
-        let amount : Taken → ℤ = λ t. if bytes_eq t.name name then t.sum else pos 0 in
-        ap (fold ◌+ℤ◌ (pos 0))
-        (ap (map amount) (append-nil (a.taken ++ shifted_taken (length (log_of a)) b.taken))
-        ∙ taken_joined (length (log_of a)) amount (λ t. refl) a.taken b.taken
-        ∙ sym (map-append amount a.taken b.taken)
-        ∙ ap (λ (list : List Taken). map amount (a.taken ++ list)) (sym (append-nil b.taken)));
+    owed = rows_permuted _ _ _ (sym (ap (λ (more : List Known). a.answers.owed ++ more) may.owes ∙ append-nil a.answers.owed));
+    given = λ k. rows_permuted _ _ _ (given_joined k a.done.given b.done.given);
+    taken = rows_permuted _ _ _ joined_taken;
+    taken_sums = λ name. ap (λ (list : List Portion). taken_sum list name) (rows_same (taken_of (joined a b)) (taken_of a) (taken_of b) joined_taken);
     moving = λ name key. let same = joined_moving name key in omega (arith, same);
     costs = λ name.
         let now = rests_cost name (joined a b) may.runs in
         let first = rests_cost name a may.runs in
         let second = rests_cost name b may.rests in
-        let all = sum_by-append (λ (cost : Cost). if bytes_eq cost.name name then cost.units else 0) a.costs b.costs in
+        let all = sum_by-append (λ (cost : Cost). if bytes_eq cost.name name then cost.units else 0) a.units.costs b.units.costs in
         omega (arith, now, first, second, all);
     units = (
-        let all = sum_by-append (λ (cost : Cost). cost.units) a.costs b.costs in
-        let nothing : cost_total b.held ≡ 0 = ap cost_total may.holds in
+        let all = sum_by-append (λ (cost : Cost). cost.units) a.units.costs b.units.costs in
+        let nothing : cost_total b.units.held ≡ 0 = ap cost_total may.holds in
         omega (arith, all, nothing));
-    spoiled = or-false (a.spoiled || b.spoiled);
-    filled = or-false (a.filled || b.filled);
+    spoiled = or-false (a.done.spoiled || b.done.spoiled);
+    filled = or-false (a.done.filled || b.done.filled);
   }
 
 -- ---- what both have seen
@@ -286,25 +288,25 @@ module _ (shape : Dimensions) (words : List ℕ) (anatomy : Anatomy) (shown : Is
     (joined_word _ _ met.3.0, joined_word _ _ met.3.1, joined_word _ _ met.3.2, met.3.3),
   )
 
-  pub joined_calls : Joins a b → a.taking ≡ false → CallsRight anatomy a → CallsRight anatomy b → CallsRight anatomy (joined a b)
+  pub joined_calls : Joins a b → a.deltas.taking ≡ false → CallsRight anatomy a → CallsRight anatomy b → CallsRight anatomy (joined a b)
   joined_calls may takes first second = record {
     ordered = first.ordered;
     within = λ some_run. absurd (some_run may.runs);
     held = first.held;
-    ended = All-append (λ (c : Counting). has_ended c ≡ true) a.log b.log first.ended second.ended;
+    ended = All-append (λ (c : Counting). has_ended c ≡ true) a.entries.log b.entries.log first.ended second.ended;
     spent = λ name.
-        let logs = ap (λ (entries : List Entry). tally_noted entries name) (map-append (λ (c : Counting). c.entry) a.log b.log) in
-        let both = noted_total name (map (λ (c : Counting). c.entry) a.log) (map (λ (c : Counting). c.entry) b.log) in
-        let costs = sum_by-append (λ (cost : Cost). if bytes_eq cost.name name then cost.units else 0) a.costs b.costs in
+        let logs = ap (λ (entries : List Entry). tally_noted entries name) (map-append (λ (c : Counting). c.entry) a.entries.log b.entries.log) in
+        let both = noted_total name (map (λ (c : Counting). c.entry) a.entries.log) (map (λ (c : Counting). c.entry) b.entries.log) in
+        let costs = sum_by-append (λ (cost : Cost). if bytes_eq cost.name name then cost.units else 0) a.units.costs b.units.costs in
         let one = first.spent name in
         let two = second.spent name in
         omega (arith, logs, both, costs, one, two);
     met = λ entry of there units is. ⊎_elim
-        (λ old. first_met entry of (first.met entry of (Contains-append_left a.inherited (counted_of a) entry old) units is))
+        (λ old. first_met entry of (first.met entry of (Contains-append_left a.entries.inherited (counted_of a) entry old) units is))
         (λ now. ⊎_elim
-        (λ own. first_met entry of (first.met entry of (Contains-append_right a.inherited (counted_of a) entry own) units is))
-        (λ other. second_met entry of (second.met entry of (Contains-append_right b.inherited (counted_of b) entry other) units is))
+        (λ own. first_met entry of (first.met entry of (Contains-append_right a.entries.inherited (counted_of a) entry own) units is))
+        (λ other. second_met entry of (second.met entry of (Contains-append_right b.entries.inherited (counted_of b) entry other) units is))
         (Contains-append_cases (counted_of a) (counted_of b) entry (subst (λ (list : List Entry). Contains list entry) (joined_counted a b may) now)))
-        (Contains-append_cases a.inherited (counted_of (joined a b)) entry there);
+        (Contains-append_cases a.entries.inherited (counted_of (joined a b)) entry there);
     taking = λ e. absurd (true≢false (sym e ∙ takes));
   }

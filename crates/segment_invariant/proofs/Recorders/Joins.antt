@@ -1,5 +1,5 @@
 -- A recorder that is joined keeps what holds.
-use Rattle.std.proofs.Common.{◌≡◌, ◌≢◌, ℕ, ◌+◌, Bool, true, true≢false, List, [], ◌++◌, map, set, length, refl, sym, ap, ◌∙◌, subst, subst₂, append_assoc, arith}
+use Rattle.std.proofs.Common.{◌≡◌, ◌≢◌, ℕ, ◌+◌, Bool, true, true≢false, List, [], ◌++◌, map, set, length, refl, sym, ap, ◌∙◌, subst, subst₂, append_assoc, arith, false}
 use Rattle.std.specs.Prelude.{if◌then◌else◌}
 use mathlib.Core.Option.{some}
 use lib.ListN.{get_elem?}
@@ -14,7 +14,7 @@ use Rattle.segment_machine.specs.declared.place.Place.TheVariants.{Spent, SumLoa
 use Rattle.segment_machine.specs.declared.actor.Actor.{Actor}
 use Rattle.segment_machine.specs.declared.actor.Answered.{Answered}
 use Rattle.segment_machine.specs.declared.actor.Given.{Given}
-use Rattle.segment_machine.specs.Actor.{is_bound, log_of}
+use Rattle.segment_machine.specs.Actor.{is_bound, log_of, is_opener, made_of, offered_of, outstanding_of}
 use Rattle.segment_invariant.specs.Consistent.{IsWithinCounts}
 use Rattle.segment_machine.specs.State.{State}
 use Rattle.segment_invariant.proofs.Frames.Answers.{owes_more}
@@ -31,7 +31,7 @@ use Rattle.segment_invariant.proofs.Frames.Deeds.{Deeds, deeds_set, sums_of}
 use Rattle.segment_invariant.proofs.Frames.Together.{LoadedBefore}
 use Rattle.segment_invariant.proofs.Frames.Books.{GivenInOrder, books_of, books_by, kept_by}
 use Rattle.segment_invariant.specs.Seen.{Knows}
-use Rattle.segment_invariant.proofs.Frames.Roles.{opens_nothing, Stood, AllStood, still_younger, still_apart, still_eldest, opens_first, fits_beside}
+use Rattle.segment_invariant.proofs.Frames.Roles.{no_recorder, opens_nothing, Stood, AllStood, still_younger, still_apart, still_eldest, opens_first, fits_beside}
 use Rattle.segment_invariant.proofs.Recorders.PassedBlocks.{handed, stays_passed, stands_left, books_passed, sees_passed, names_passed, calls_passed, fits_passed}
 use Rattle.segment_invariant.proofs.Recorders.Joined.{Joins, joined_deeds, joined_sees, joined_calls}
 use Rattle.segment_invariant.proofs.Recorders.Finals.{joined_finals, joined_own, joined_apart}
@@ -53,13 +53,13 @@ module _ (shape : Dimensions) (opened : Anatomy) (old : State) (kept : Invariant
   away : other ≢ 0
   away e = apart (sym e)
 
-  live : b.place ≢ Spent
+  live : b.hand.place ≢ Spent
   live e = true≢false (sym (ap is_bound e) ∙ may.3)
 
   lives : is_living b ≡ true
   lives = lives_on b may.4 live
 
-  opener_lives : opener.place ≢ Spent
+  opener_lives : opener.hand.place ≢ Spent
   opener_lives e = cc (sym kept.roles.idle ∙ e)
 
   joins : Joins opener b
@@ -70,6 +70,7 @@ module _ (shape : Dimensions) (opened : Anatomy) (old : State) (kept : Invariant
     rests = may.6;
     holds = may.5;
     begins = (kept.roles.only other b there away).1;
+    takes = (kept.roles.only other b there away).3;
     owes = may.8;
   }
 
@@ -93,20 +94,20 @@ module _ (shape : Dimensions) (opened : Anatomy) (old : State) (kept : Invariant
 
   stood : AllStood old.actors merged
   stood = each_of_two (λ k c. is_living c ≡ true → Stood old.actors k c) old.actors 0 other later spent
-      (λ alive. absurd (opens_nothing later kept.roles.opens alive))
+      (λ alive. absurd (opens_nothing later refl alive))
       (λ alive. absurd (true≢false (sym alive)))
       (λ k c past front at alive. record { was = c; at = at; lives = alive; made = refl; outstanding = refl; inherited = refl })
 
   -- ---- openers and recorders
 
-  log_longer : log_of later ≡ log_of opener ++ map (λ (c : Counting). c.entry) b.log
+  log_longer : log_of later ≡ log_of opener ++ map (λ (c : Counting). c.entry) b.entries.log
   log_longer =
-      ap (λ (list : List Entry). opener.first ++ list) (map-append (λ (c : Counting). c.entry) opener.log b.log)
-      ∙ sym (append_assoc opener.first (map (λ (c : Counting). c.entry) opener.log) (map (λ (c : Counting). c.entry) b.log))
+      ap (λ (list : List Entry). opener.entries.first ++ list) (map-append (λ (c : Counting). c.entry) opener.entries.log b.entries.log)
+      ∙ sym (append_assoc opener.entries.first (map (λ (c : Counting). c.entry) opener.entries.log) (map (λ (c : Counting). c.entry) b.entries.log))
 
   -- beside the joined recorder no other one that lives was alone
-  not_alone : (k : ℕ) (c : Actor) → get_elem? old.actors k ≡ some c → is_living c ≡ true → k ≢ other → c.outstanding ≡ 0
-      → c.made + 1 ≡ opener.made → ⊥
+  not_alone : (k : ℕ) (c : Actor) → get_elem? old.actors k ≡ some c → is_living c ≡ true → k ≢ other → outstanding_of c.role ≡ 0
+      → made_of c.role + 1 ≡ made_of opener.role → ⊥
   not_alone k c at alive past nobody last =
       let below = kept.roles.eldest k other c b at there alive lives past nobody in
       let younger = kept.roles.younger other b there lives in
@@ -116,12 +117,12 @@ module _ (shape : Dimensions) (opened : Anatomy) (old : State) (kept : Invariant
   roles = record {
     opener = later;
     stands = first;
-    opens = kept.roles.opens;
+    opens = refl;
     idle = kept.roles.idle;
     rests = kept.roles.rests;
-    only = each_of_two (λ k c. k ≢ 0 → (c.opener ≡ 0) × (c.first ≡ []) × (c.first_noted ≡ []) × (c.offered ≡ 0)) old.actors 0 other later spent
+    only = each_of_two (λ k c. k ≢ 0 → (is_opener c.role ≡ false) × (c.entries.first ≡ []) × (c.entries.first_noted ≡ []) × (c.deltas.first_taken ≡ []) × (offered_of c.role ≡ 0)) old.actors 0 other later spent
         (λ ne. absurd (ne refl))
-        (λ ne. (refl, refl, refl, refl))
+        (λ ne. (refl, refl, refl, refl, refl))
         (λ k c past front at ne. kept.roles.only k c at ne);
     offers = (let offers = kept.roles.offers in omega (arith, offers));
     living = (
@@ -129,23 +130,24 @@ module _ (shape : Dimensions) (opened : Anatomy) (old : State) (kept : Invariant
         let now = sum_beside one (set old.actors 0 later) other b spent behind in
         let before = sum_beside one old.actors 0 opener later kept.roles.stands in
         let was = kept.roles.living in
+        let opens : one opener ≡ 0 = ap (λ (lives : Bool). if lives then 1 else 0) (no_recorder opener kept.roles.opens) in
         let this : one b ≡ 1 = ap (λ (alive : Bool). if alive then 1 else 0) lives in
-        omega (arith, now, before, was, this));
+        omega (arith, now, before, was, this, opens));
     few = (let few = kept.roles.few in omega (arith, few));
-    younger = still_younger old.actors merged kept.roles stood later.made (omega arith);
+    younger = still_younger old.actors merged kept.roles stood (made_of later.role) (omega arith);
     apart = still_apart old.actors merged kept.roles stood;
     eldest = still_eldest old.actors merged kept.roles stood;
     heirs = each_of_two
         (λ k c. is_living c ≡ true
-        → (more : List Entry) × (log_of later ≡ c.inherited ++ more) × (c.outstanding ≡ 0 → c.made + 1 ≡ later.made → more ≡ []))
+        → (more : List Entry) × (log_of later ≡ c.entries.inherited ++ more) × (outstanding_of c.role ≡ 0 → made_of c.role + 1 ≡ made_of later.role → more ≡ []))
         old.actors 0 other later spent
-        (λ alive. absurd (opens_nothing later kept.roles.opens alive))
+        (λ alive. absurd (opens_nothing later refl alive))
         (λ alive. absurd (true≢false (sym alive)))
         (λ k c past front at alive.
         let was = kept.roles.heirs k c at alive in
-        let entries = map (λ (x : Counting). x.entry) b.log in (
+        let entries = map (λ (x : Counting). x.entry) b.entries.log in (
           was.0 ++ entries,
-          log_longer ∙ ap (λ (list : List Entry). list ++ entries) was.1 ∙ append_assoc c.inherited was.0 entries,
+          log_longer ∙ ap (λ (list : List Entry). list ++ entries) was.1 ∙ append_assoc c.entries.inherited was.0 entries,
           λ nobody last. absurd (not_alone k c at alive past nobody last),
         ));
   }
@@ -168,49 +170,49 @@ module _ (shape : Dimensions) (opened : Anatomy) (old : State) (kept : Invariant
     numbered = mine.numbered;
     ahead = mine.ahead;
     sees = sees_passed other 0 kept.anatomy old.cursors later.seen (joined_sees shape old.words kept.anatomy kept.shown old.cursors opener b mine.sees theirs.sees);
-    names = names_passed other 0 kept.anatomy later.names (All-append (Knows kept.anatomy) opener.names b.names mine.names theirs.names);
+    names = names_passed other 0 kept.anatomy later.answers.names (All-append (Knows kept.anatomy) opener.answers.names b.answers.names mine.names theirs.names);
     own = joined_own shape old.words kept.anatomy kept.shown other apart opener b mine.own theirs.own;
     apart = joined_apart shape old.words kept.anatomy kept.shown other apart opener b mine.own theirs.own mine.apart theirs.apart;
-    owes = owes_more opener.published b.published opener.owed mine.owes;
+    owes = owes_more opener.done.published b.done.published opener.answers.owed mine.owes;
     calls = calls_passed other 0 kept.anatomy later
         (joined_calls shape old.words kept.anatomy kept.shown old.cursors opener b mine.sees theirs.sees joins kept.roles.rests.2 mine.calls theirs.calls);
-    looks = λ records. let opens = kept.roles.opens in absurd (omega (arith, records, opens));
+    looks = λ records. absurd (true≢false records);
     finals = joined_finals merged later other opener b joins kept.roles.opens kept.roles.rests.2 may.7 gone mine.finals theirs.finals;
-    snapshots = All-append (IsWithinCounts merged) opener.snapshots (shifted_answers (length (log_of opener)) b.snapshots) mine.snapshots
-        (All-map (IsWithinCounts merged) (λ (s : Answered). record s { moment = shifted (length (log_of opener)) s.moment }) b.snapshots theirs.snapshots);
+    snapshots = All-append (IsWithinCounts merged) opener.deltas.snapshots (shifted_answers (length (log_of opener)) b.deltas.snapshots) mine.snapshots
+        (All-map (IsWithinCounts merged) (λ (s : Answered). record s { moment = shifted (length (log_of opener)) s.moment }) b.deltas.snapshots theirs.snapshots);
   }
 
-  each : (k : ℕ) (c : Actor) → get_elem? merged k ≡ some c → c.place ≢ Spent → Fits shape anatomy old.cursors merged later k c
-  each = each_of_two (λ k c. c.place ≢ Spent → Fits shape anatomy old.cursors merged later k c) old.actors 0 other later spent
+  each : (k : ℕ) (c : Actor) → get_elem? merged k ≡ some c → c.hand.place ≢ Spent → Fits shape anatomy old.cursors merged later k c
+  each = each_of_two (λ k c. c.hand.place ≢ Spent → Fits shape anatomy old.cursors merged later k c) old.actors 0 other later spent
       (λ alive. joined_fits)
       (λ alive. absurd (alive refl))
       (λ k c past front at alive. fits_passed other 0 kept.anatomy shape old.cursors merged later k c past (beside k c (kept.each k c at alive)))
 
-  ordered : (k : ℕ) (c : Actor) → get_elem? merged k ≡ some c → c.opener ≡ 0 → GivenInOrder (order_of anatomy) c.given
-  ordered = each_of_two (λ k c. c.opener ≡ 0 → GivenInOrder (order_of anatomy) c.given) old.actors 0 other later spent
-      (λ records. let opens = kept.roles.opens in absurd (omega (arith, records, opens)))
+  ordered : (k : ℕ) (c : Actor) → get_elem? merged k ≡ some c → is_opener c.role ≡ false → GivenInOrder (order_of anatomy) c.done.given
+  ordered = each_of_two (λ k c. is_opener c.role ≡ false → GivenInOrder (order_of anatomy) c.done.given) old.actors 0 other later spent
+      (λ records. absurd (true≢false records))
       (λ records i j k l x y below here. absurd (none_at i x here))
       (λ k c past front at. kept.cursors.ordered k c at)
 
-  given : (k : ℕ) (c : Actor) → get_elem? merged k ≡ some c → All (λ g. Contains (order_of anatomy) g.reference) c.given
-  given = each_of_two (λ k c. All (λ g. Contains (order_of anatomy) g.reference) c.given) old.actors 0 other later spent
-      (All-append (λ (g : Given). Contains (order_of anatomy) g.reference) opener.given b.given
+  given : (k : ℕ) (c : Actor) → get_elem? merged k ≡ some c → All (λ g. Contains (order_of anatomy) g.reference) c.done.given
+  given = each_of_two (λ k c. All (λ g. Contains (order_of anatomy) g.reference) c.done.given) old.actors 0 other later spent
+      (All-append (λ (g : Given). Contains (order_of anatomy) g.reference) opener.done.given b.done.given
       (kept.cursors.given 0 opener kept.roles.stands) (kept.cursors.given other b there))
       (All-nil (λ (g : Given). Contains (order_of anatomy) g.reference))
       (λ k c past front at. kept.cursors.given k c at)
 
-  standing : (k : ℕ) (c : Actor) → get_elem? merged k ≡ some c → StandsRight shape anatomy k c c.place
-  standing = each_of_two (λ k c. StandsRight shape anatomy k c c.place) old.actors 0 other later spent
+  standing : (k : ℕ) (c : Actor) → get_elem? merged k ≡ some c → StandsRight shape anatomy k c c.hand.place
+  standing = each_of_two (λ k c. StandsRight shape anatomy k c c.hand.place) old.actors 0 other later spent
       (subst (StandsRight shape anatomy 0 later) (sym kept.roles.idle) tt)
       refl
       (λ k c past front here.
       stands_on shape kept.anatomy anatomy k c c
       (grounds_along kept.anatomy anatomy.pieces anatomy.spare anatomy.corrupt anatomy.full anatomy.tail (stays_passed other 0 kept.anatomy.pieces)
-      k (λ at words. stands_left other 0 kept.anatomy.pieces k past at (plain words))) (follows_itself c) c.place (kept.standing k c here))
+      k (λ at words. stands_left other 0 kept.anatomy.pieces k past at (plain words))) (follows_itself c) c.hand.place (kept.standing k c here))
 
   loaded : LoadedBefore old.actors merged
   loaded at sum = each_of_two
-      (λ k c. c.place ≡ SumLoaded at sum → (j : ℕ) × (d : Actor) × (get_elem? old.actors j ≡ some d) × (d.place ≡ SumLoaded at sum))
+      (λ k c. c.hand.place ≡ SumLoaded at sum → (j : ℕ) × (d : Actor) × (get_elem? old.actors j ≡ some d) × (d.hand.place ≡ SumLoaded at sum))
       old.actors 0 other later spent
       (λ stands. (0, opener, kept.roles.stands, stands))
       (λ stands. absurd (cc stands))

@@ -21,6 +21,7 @@ use Rattle.segment_invariant.proofs.Frames.Anatomies.{balanced_along, list_along
 use Rattle.segment_invariant.proofs.Lists.Maps.{map_after}
 use Rattle.segment_invariant.proofs.Frames.Books.{Books}
 use Rattle.segment_invariant.proofs.Frames.Growth.{reshaped, Stays}
+use Rattle.segment_invariant.proofs.Frames.PassedOver.{passed_on, still_there}
 
 -- whose a block is that was another's
 abbrev pub passed : (from to : ℕ) → Option ℕ → Option ℕ
@@ -162,10 +163,11 @@ module _ (from to : ℕ) (anatomy : Anatomy) where
     blocks = blocks_passed from to anatomy.pieces books.blocks;
     list = list_along anatomy pieces anatomy.spare anatomy.corrupt anatomy.full anatomy.tail (stays_passed from to anatomy.pieces)
         words words opened actors books.list.linked books.list.tail books.list;
-    claims = subst (λ (claims : List Claim). IsPermutation claims (claims_of opened.pieces ++ flat_map (λ a. a.claimed) actors))
+    claims = subst (λ (claims : List Claim). IsPermutation claims (claims_of opened.pieces ++ flat_map (λ a. a.done.claimed) actors))
         (sym (claims_passed from to anatomy.pieces)) books.claims;
     records = records_along anatomy pieces anatomy.spare anatomy.corrupt anatomy.full anatomy.tail (stays_passed from to anatomy.pieces)
         shape.page books.records;
+    passed_over = passed_on shape.page opened anatomy.pieces pieces (still_there anatomy.pieces pieces (stays_passed from to anatomy.pieces)) books.passed_over;
     balanced = balanced_along anatomy pieces anatomy.spare anatomy.corrupt anatomy.full anatomy.tail (stays_passed from to anatomy.pieces)
         opened.pieces actors books.balanced;
     keys = books.keys;

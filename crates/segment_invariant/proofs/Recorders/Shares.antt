@@ -1,74 +1,72 @@
 -- An actor whose share, whose offer, or whose recorders are other ones has seen and done what it had.
-use Rattle.std.proofs.Common.{◌≡◌, ℕ, List, false, true≢false, sym, ◌∙◌, arith}
+use Rattle.std.proofs.Common.{inl, inr, ⊎_elim, ap, ◌+◌, ◌≡◌, ℕ, List, false, true≢false, sym, ◌∙◌}
 use Rattle.segment_image.specs.Shape.{Dimensions}
 use Rattle.segment_machine.specs.declared.actor.Actor.{Actor}
 use Rattle.segment_invariant.specs.Body.{Anatomy}
-use Rattle.segment_invariant.specs.Invariant.{CallsRight, LooksBack, FinalsAreExact, Fits}
+use Rattle.segment_invariant.specs.Invariant.{IsAlone, IsSettled, LooksBack, FinalsAreExact, Fits}
+use Rattle.segment_machine.specs.Actor.{is_opener, made_of, offered_of, outstanding_of}
+use Rattle.segment_machine.specs.declared.actor.Role.TheVariants.{Opener}
+use Rattle.segment_machine.specs.declared.actor.Role.{Role}
+use Rattle.segment_machine.specs.declared.actor.Known.{Known}
+use Rattle.segment_invariant.proofs.Frames.Anew.{fits_anew}
 
 -- with another share, another offer and other recorders
 abbrev pub turned : Actor → (share offered made outstanding : ℕ) → Actor
-turned a share offered made outstanding = record a { share = share; offered = offered; made = made; outstanding = outstanding }
+turned a share offered made outstanding = record a { units = record a.units { share = share }; role = Opener made outstanding offered }
 
--- with another share and another offer alone
-abbrev pub sharing : Actor → (share offered : ℕ) → Actor
-sharing a share offered = record a { share = share; offered = offered }
+-- with another share and another role
+abbrev pub sharing : Actor → ℕ → Role → Actor
+sharing a share role = record a { units = record a.units { share = share }; role = role }
 
-module _ (anatomy : Anatomy) (a : Actor) (share offered made outstanding : ℕ) where
-  pub turned_calls : CallsRight anatomy a → CallsRight anatomy (turned a share offered made outstanding)
-  turned_calls calls = record {
-    ordered = calls.ordered;
-    within = calls.within;
-    held = calls.held;
-    ended = calls.ended;
-    spent = calls.spent;
-    met = calls.met;
-    taking = calls.taking;
-  }
+-- a role that differs in its offer alone, where it is an opener's
+pub record OffersAnew (was now : Role) : Type 0 where
+  pub opener : is_opener now ≡ is_opener was
+  pub made : made_of now ≡ made_of was
+  pub outstanding : outstanding_of now ≡ outstanding_of was
+  pub recorder : is_opener was ≡ false → offered_of now ≡ offered_of was
 
 -- so an actor fits as before
-module _ (shape : Dimensions) (anatomy : Anatomy) (cursors : List ℕ) (actors : List Actor) (opener : Actor) (id : ℕ) (a : Actor) (share offered : ℕ) where
-  shared_looks : LooksBack anatomy actors opener a → LooksBack anatomy actors opener (sharing a share offered)
+module _ (shape : Dimensions) (anatomy : Anatomy) (cursors : List ℕ) (actors : List Actor) (opener : Actor) (id : ℕ) (a : Actor) (share : ℕ) (role : Role) (anew : OffersAnew a.role role) where
+  alone : IsAlone actors (sharing a share role) → IsAlone actors a
+  alone (first, stands, nobody, last) = (first, stands, sym anew.outstanding ∙ nobody, ap (λ (n : ℕ). n + 1) (sym anew.made) ∙ last)
+
+  settled : (known : Known) (bucket : ℕ) → IsSettled anatomy actors (sharing a share role) known bucket → IsSettled anatomy actors a known bucket
+  settled known bucket is = ⊎_elim (λ two. inl two) (λ rest. inr (⊎_elim (λ one. inl (alone one)) (λ packed. inr packed) rest)) is
+
+  shared_looks : LooksBack anatomy actors opener a → LooksBack anatomy actors opener (sharing a share role)
   shared_looks looks = record {
     most = looks.most;
     packed = looks.packed;
-    counted = looks.counted;
+    counted = λ known bucket count r has below stands there saw is. looks.counted known bucket count r has below stands there saw (settled known bucket is);
     samples = looks.samples;
     rising = looks.rising;
     leading = looks.leading;
     closed = looks.closed;
     begun = looks.begun;
     noted = looks.noted;
-    sum = looks.sum;
+    sum = λ reference sum r loaded one. looks.sum reference sum r loaded (alone one);
   }
 
-  shared_finals : FinalsAreExact actors opener id a → FinalsAreExact actors opener id (sharing a share offered)
+  shared_finals : FinalsAreExact actors opener id a → FinalsAreExact actors opener id (sharing a share role)
   shared_finals exact = record {
     deltas = exact.deltas;
     snapshots = exact.snapshots;
-    moments = λ m of. let is = exact.moments m of in record { logged = is.logged; before = is.before; mine = is.mine; eldest = is.eldest };
-    swapped = exact.swapped;
+    moments = λ m of. let is = exact.moments m of in record {
+      logged = is.logged;
+      before = is.before;
+      mine = λ records. let (before, outstanding) = is.mine (sym anew.opener ∙ records) in (before ∙ sym anew.made, outstanding ∙ sym anew.outstanding);
+      eldest = is.eldest;
+    };
+    swapped = λ before last taking is swapped one. exact.swapped before last taking is swapped (alone one);
   }
 
-  pub shared_fits : Fits shape anatomy cursors actors opener id a → Fits shape anatomy cursors actors opener id (sharing a share offered)
-  shared_fits fit = record {
-    shaped = fit.shaped;
-    versioned = fit.versioned;
-    numbered = fit.numbered;
-    sees = fit.sees;
-    ahead = fit.ahead;
-    names = fit.names;
-    own = fit.own;
-    apart = fit.apart;
-    owes = fit.owes;
-    calls = turned_calls anatomy a share offered a.made a.outstanding fit.calls;
-    looks = λ records. shared_looks (fit.looks records);
-    finals = shared_finals fit.finals;
-    snapshots = fit.snapshots;
-  }
+  pub shared_fits : Fits shape anatomy cursors actors opener id a → Fits shape anatomy cursors actors opener id (sharing a share role)
+  shared_fits fit = fits_anew shape anatomy cursors actors actors opener opener id a share role fit
+      (λ records. shared_looks (fit.looks (sym anew.opener ∙ records))) (shared_finals fit.finals) fit.snapshots
 
 -- with other recorders, an opener that takes nothing fits as before
 module _ (shape : Dimensions) (anatomy : Anatomy) (cursors : List ℕ) (actors : List Actor) (opener : Actor) (id : ℕ) (a : Actor)
-    (share offered made outstanding : ℕ) (opens : a.opener ≡ 1) (rests : a.taking ≡ false) where
+    (share offered made outstanding : ℕ) (rests : a.deltas.taking ≡ false) where
   opener_finals : FinalsAreExact actors opener id a → FinalsAreExact actors opener id (turned a share offered made outstanding)
   opener_finals exact = record {
     deltas = exact.deltas;
@@ -76,25 +74,12 @@ module _ (shape : Dimensions) (anatomy : Anatomy) (cursors : List ℕ) (actors :
     moments = λ m of. let is = exact.moments m of in record {
       logged = is.logged;
       before = is.before;
-      mine = λ records. absurd (omega (arith, records, opens));
+      mine = λ records. absurd (true≢false records);
       eldest = is.eldest;
     };
     swapped = λ before last taking. absurd (true≢false (sym taking ∙ rests));
   }
 
   pub opener_fits : Fits shape anatomy cursors actors opener id a → Fits shape anatomy cursors actors opener id (turned a share offered made outstanding)
-  opener_fits fit = record {
-    shaped = fit.shaped;
-    versioned = fit.versioned;
-    numbered = fit.numbered;
-    sees = fit.sees;
-    ahead = fit.ahead;
-    names = fit.names;
-    own = fit.own;
-    apart = fit.apart;
-    owes = fit.owes;
-    calls = turned_calls anatomy a share offered made outstanding fit.calls;
-    looks = λ records. absurd (omega (arith, records, opens));
-    finals = opener_finals fit.finals;
-    snapshots = fit.snapshots;
-  }
+  opener_fits fit = fits_anew shape anatomy cursors actors actors opener opener id a share (Opener made outstanding offered) fit
+      (λ records. absurd (true≢false records)) (opener_finals fit.finals) fit.snapshots

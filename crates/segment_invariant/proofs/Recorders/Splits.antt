@@ -1,5 +1,5 @@
 -- A recorder that is made keeps what holds.
-use Rattle.std.proofs.Common.{◌≡◌, ◌≢◌, ◌⊎◌, ℕ, ◌+◌, ◌-◌, ◌<◌, ◌≤◌, Bool, true, ◌&&◌, true≢false, List, [], ◌∷◌, ◌++◌, map, set, length, inl, inr, ⊎_elim, refl, sym, ap, ◌∙◌, subst, subst₂, append-nil, arith, drop, pos}
+use Rattle.std.proofs.Common.{◌≡◌, ◌≢◌, ◌⊎◌, ℕ, ◌+◌, ◌-◌, ◌<◌, ◌≤◌, Bool, true, ◌&&◌, true≢false, List, [], ◌∷◌, ◌++◌, map, set, length, inl, inr, ⊎_elim, refl, sym, ap, ◌∙◌, subst, subst₂, append-nil, arith, drop, pos, false}
 use Rattle.std.specs.Prelude.{if◌then◌else◌, slice_index}
 use mathlib.Core.Option.{some}
 use lib.ListN.{get_elem?}
@@ -21,7 +21,7 @@ use Rattle.segment_machine.specs.declared.actor.Actor.{Actor}
 use Rattle.segment_machine.specs.declared.actor.Given.{Given}
 use Rattle.segment_machine.specs.declared.seen.Sighting.{Sighting}
 use Rattle.segment_machine.specs.Entry.{is_counted, is_summed, is_noted, has_ended, counted_among}
-use Rattle.segment_machine.specs.Actor.{log_of, counted_of, all_counted, all_noted, all_published, all_given, all_names, all_owed}
+use Rattle.segment_machine.specs.Actor.{log_of, counted_of, all_counted, all_noted, all_published, all_given, all_names, all_owed, all_taken, is_opener, made_of, offered_of, outstanding_of}
 use Rattle.segment_invariant.specs.Consistent.{IsWithinCounts}
 use Rattle.segment_machine.specs.State.{State}
 use Rattle.segment_machine.specs.Seats.{MaySplit, parent, newcomer}
@@ -32,51 +32,51 @@ use Rattle.segment_invariant.specs.Invariant.{is_living, HoldsOwn, CallsRight, I
 use Rattle.segment_invariant.proofs.Lists.Elements.{none_in, none_at, contains_filter, sum_at_least, sum_beside, below_length}
 use Rattle.segment_invariant.proofs.Frames.OneActor.{lives_on}
 use Rattle.segment_invariant.proofs.Lists.Maps.{each_of_more, contains_map, contains_mapped, one_at}
-use Rattle.segment_invariant.proofs.Frames.Deeds.{Deeds, took, deeds_more, sums_of}
+use Rattle.segment_invariant.proofs.Frames.Deeds.{Deeds, deeds_more, sums_of}
 use Rattle.segment_invariant.proofs.Frames.Together.{LoadedBefore, IsLater, fits}
 use Rattle.segment_invariant.proofs.Frames.Books.{GivenInOrder, books_of, books_by, kept_by}
-use Rattle.segment_invariant.proofs.Frames.Roles.{opens_nothing, opens_first}
+use Rattle.segment_invariant.proofs.Frames.Roles.{no_recorder, opens_nothing, opens_first}
 use Rattle.segment_invariant.proofs.Recorders.Shares.{opener_fits}
 
 -- ---- what both did together
 
-split_deeds : (a : Actor) → a.offered ≤ a.share → Deeds (a ∷ []) (parent a ∷ newcomer a ∷ [])
+split_deeds : (a : Actor) → offered_of a.role ≤ a.units.share → Deeds (a ∷ []) (parent a ∷ newcomer a ∷ [])
 split_deeds a enough = record {
   counted = IsPermutation-refl (all_counted (a ∷ []));
   summed = λ name. refl;
   noted = IsPermutation-refl (all_noted (a ∷ []));
-  claimed = IsPermutation-refl (flat_map (λ (c : Actor). c.claimed) (a ∷ []));
+  claimed = IsPermutation-refl (flat_map (λ (c : Actor). c.done.claimed) (a ∷ []));
   published = IsPermutation-refl (all_published (a ∷ []));
   names = IsPermutation-refl (all_names (a ∷ []));
   owed = IsPermutation-refl (all_owed (a ∷ []));
   given = λ k. IsPermutation-refl (all_given (a ∷ []) k);
-  taken = IsPermutation-refl (flat_map took (a ∷ []));
+  taken = IsPermutation-refl (all_taken (a ∷ []));
   taken_sums = λ name. refl;
   moving = λ name key. omega arith;
   costs = λ name. omega arith;
   units = omega (arith, enough);
-  spoiled = or-false a.spoiled;
-  filled = or-false a.filled;
+  spoiled = or-false a.done.spoiled;
+  filled = or-false a.done.filled;
 }
 
 -- ---- the newcomer
 
 -- what stands in an opener's log has been counted
-pub logged_counted : (a : Actor) (entry : Entry) → All (λ c. has_ended c ≡ true) a.log → Contains (log_of a) entry
-    → Contains (a.inherited ++ counted_of a) entry
-logged_counted a entry ended there = Contains-append_right a.inherited (counted_of a) entry (⊎_elim
-    (λ first. Contains-append_left a.first _ entry first)
-    (λ later. Contains-append_right a.first _ entry (counted later))
-    (Contains-append_cases a.first (map (λ (c : Counting). c.entry) a.log) entry there))
+pub logged_counted : (a : Actor) (entry : Entry) → All (λ c. has_ended c ≡ true) a.entries.log → Contains (log_of a) entry
+    → Contains (a.entries.inherited ++ counted_of a) entry
+logged_counted a entry ended there = Contains-append_right a.entries.inherited (counted_of a) entry (⊎_elim
+    (λ first. Contains-append_left a.entries.first _ entry first)
+    (λ later. Contains-append_right a.entries.first _ entry (counted later))
+    (Contains-append_cases a.entries.first (map (λ (c : Counting). c.entry) a.entries.log) entry there))
   where
-    counted : Contains (map (λ (c : Counting). c.entry) a.log) entry → Contains (counted_among (a.log ++ a.running)) entry
+    counted : Contains (map (λ (c : Counting). c.entry) a.entries.log) entry → Contains (counted_among (a.entries.log ++ a.entries.running)) entry
     counted there =
-        let c = contains_mapped (λ (c : Counting). c.entry) a.log entry there in
-        let done = All-contains (λ (c : Counting). has_ended c ≡ true) a.log c.0 ended c.1 in
+        let c = contains_mapped (λ (c : Counting). c.entry) a.entries.log entry there in
+        let done = All-contains (λ (c : Counting). has_ended c ≡ true) a.entries.log c.0 ended c.1 in
         let passes = (and_parts (is_counted c.0) (is_summed c.0) (and_parts (is_counted c.0 && is_summed c.0) (is_noted c.0) done).0).0 in
-        subst (Contains (counted_among (a.log ++ a.running))) c.2
+        subst (Contains (counted_among (a.entries.log ++ a.entries.running))) c.2
         (contains_map (λ (c : Counting). c.entry) _ c.0
-        (contains_filter is_counted (a.log ++ a.running) c.0 (Contains-append_left a.log a.running c.0 c.1) passes))
+        (contains_filter is_counted (a.entries.log ++ a.entries.running) c.0 (Contains-append_left a.entries.log a.entries.running c.0 c.1) passes))
 
 module _ (anatomy : Anatomy) (cursors : List ℕ) (actors : List Actor) (later a : Actor) where
   abbrev fresh : Actor
@@ -131,8 +131,8 @@ module _ (anatomy : Anatomy) (cursors : List ℕ) (actors : List Actor) (later a
     versioned = fit.versioned;
     numbered = fit.numbered;
     sees = fit.sees;
-    ahead = ahead_anew (order_of anatomy) anatomy.tail cursors a.cursors stop fit.numbered
-        (λ k below. reached_stop (order_of anatomy) (slice_index a.lost k) (slice_index cursors k) (fit.ahead.exchanges k below));
+    ahead = ahead_anew (order_of anatomy) anatomy.tail cursors a.segment.cursors stop fit.numbered
+        (λ k below. reached_stop (order_of anatomy) (slice_index a.done.lost k) (slice_index cursors k) (fit.ahead.exchanges k below));
     names = All-nil (Knows anatomy);
     own = All-nil (HoldsOwn shape anatomy.pieces id);
     apart = λ i j x y first. absurd (none_at i x first);
@@ -165,26 +165,26 @@ module _ (shape : Dimensions) (opened : Anatomy) (old : State) (kept : Invariant
   first = at_longer (set old.actors 0 later) (made ∷ []) 0 later (set_here old.actors 0 later (below_length old.actors 0 opener kept.roles.stands))
 
   -- who was made before was made earlier
-  earlier : (k : ℕ) (c : Actor) → get_elem? old.actors k ≡ some c → is_living c ≡ true → c.made < made.made
+  earlier : (k : ℕ) (c : Actor) → get_elem? old.actors k ≡ some c → is_living c ≡ true → made_of c.role < made_of made.role
   earlier k c at lives = kept.roles.younger k c at lives
 
   apart : (i : ℕ) (a : Actor) → get_elem? split i ≡ some a → (j : ℕ) (b : Actor) → get_elem? split j ≡ some b
-      → is_living a ≡ true → is_living b ≡ true → i ≢ j → a.made ≢ b.made
+      → is_living a ≡ true → is_living b ≡ true → i ≢ j → made_of a.role ≢ made_of b.role
   apart = each_of_more
-      (λ i a. (j : ℕ) (b : Actor) → get_elem? split j ≡ some b → is_living a ≡ true → is_living b ≡ true → i ≢ j → a.made ≢ b.made)
+      (λ i a. (j : ℕ) (b : Actor) → get_elem? split j ≡ some b → is_living a ≡ true → is_living b ≡ true → i ≢ j → made_of a.role ≢ made_of b.role)
       old.actors 0 later made
-      (λ j b at lives. absurd (opens_nothing later kept.roles.opens lives))
-      (each_of_more (λ j b. is_living made ≡ true → is_living b ≡ true → length old.actors ≢ j → made.made ≢ b.made) old.actors 0 later made
-      (λ lives alive. absurd (opens_nothing later kept.roles.opens alive))
+      (λ j b at lives. absurd (opens_nothing later refl lives))
+      (each_of_more (λ j b. is_living made ≡ true → is_living b ≡ true → length old.actors ≢ j → made_of made.role ≢ made_of b.role) old.actors 0 later made
+      (λ lives alive. absurd (opens_nothing later refl alive))
       (λ lives alive ne. absurd (ne refl))
       (λ j b within front at lives alive ne same. let below = earlier j b at alive in omega (arith, below, same)))
-      (λ i a within front here. each_of_more (λ j b. is_living a ≡ true → is_living b ≡ true → i ≢ j → a.made ≢ b.made) old.actors 0 later made
-      (λ lives alive. absurd (opens_nothing later kept.roles.opens alive))
+      (λ i a within front here. each_of_more (λ j b. is_living a ≡ true → is_living b ≡ true → i ≢ j → made_of a.role ≢ made_of b.role) old.actors 0 later made
+      (λ lives alive. absurd (opens_nothing later refl alive))
       (λ lives alive ne same. let below = earlier i a here lives in omega (arith, below, same))
       (λ j b inside away at. kept.roles.apart i j a b here at))
 
   -- none lives where none is outstanding
-  nobody : opener.outstanding ≡ 0 → (k : ℕ) (c : Actor) → get_elem? old.actors k ≡ some c → is_living c ≡ true → ⊥
+  nobody : outstanding_of opener.role ≡ 0 → (k : ℕ) (c : Actor) → get_elem? old.actors k ≡ some c → is_living c ≡ true → ⊥
   nobody none k c at lives =
       let one : Actor → ℕ = λ c. if is_living c then 1 else 0 in
       let all = kept.roles.living in
@@ -193,17 +193,17 @@ module _ (shape : Dimensions) (opened : Anatomy) (old : State) (kept : Invariant
       omega (arith, all, least, this, none)
 
   eldest : (i : ℕ) (a : Actor) → get_elem? split i ≡ some a → (j : ℕ) (b : Actor) → get_elem? split j ≡ some b
-      → is_living a ≡ true → is_living b ≡ true → i ≢ j → a.outstanding ≡ 0 → a.made < b.made
+      → is_living a ≡ true → is_living b ≡ true → i ≢ j → outstanding_of a.role ≡ 0 → made_of a.role < made_of b.role
   eldest = each_of_more
-      (λ i a. (j : ℕ) (b : Actor) → get_elem? split j ≡ some b → is_living a ≡ true → is_living b ≡ true → i ≢ j → a.outstanding ≡ 0 → a.made < b.made)
+      (λ i a. (j : ℕ) (b : Actor) → get_elem? split j ≡ some b → is_living a ≡ true → is_living b ≡ true → i ≢ j → outstanding_of a.role ≡ 0 → made_of a.role < made_of b.role)
       old.actors 0 later made
-      (λ j b at lives. absurd (opens_nothing later kept.roles.opens lives))
-      (each_of_more (λ j b. is_living made ≡ true → is_living b ≡ true → length old.actors ≢ j → made.outstanding ≡ 0 → made.made < b.made) old.actors 0 later made
-      (λ lives alive. absurd (opens_nothing later kept.roles.opens alive))
+      (λ j b at lives. absurd (opens_nothing later refl lives))
+      (each_of_more (λ j b. is_living made ≡ true → is_living b ≡ true → length old.actors ≢ j → outstanding_of made.role ≡ 0 → made_of made.role < made_of b.role) old.actors 0 later made
+      (λ lives alive. absurd (opens_nothing later refl alive))
       (λ lives alive ne. absurd (ne refl))
       (λ j b within front at lives alive ne none. absurd (nobody none j b at alive)))
-      (λ i a within front here. each_of_more (λ j b. is_living a ≡ true → is_living b ≡ true → i ≢ j → a.outstanding ≡ 0 → a.made < b.made) old.actors 0 later made
-      (λ lives alive. absurd (opens_nothing later kept.roles.opens alive))
+      (λ i a within front here. each_of_more (λ j b. is_living a ≡ true → is_living b ≡ true → i ≢ j → outstanding_of a.role ≡ 0 → made_of a.role < made_of b.role) old.actors 0 later made
+      (λ lives alive. absurd (opens_nothing later refl alive))
       (λ lives alive ne none. earlier i a here lives)
       (λ j b inside away at. kept.roles.eldest i j a b here at))
 
@@ -211,12 +211,12 @@ module _ (shape : Dimensions) (opened : Anatomy) (old : State) (kept : Invariant
   roles = record {
     opener = later;
     stands = first;
-    opens = kept.roles.opens;
+    opens = refl;
     idle = kept.roles.idle;
     rests = kept.roles.rests;
-    only = each_of_more (λ k c. k ≢ 0 → (c.opener ≡ 0) × (c.first ≡ []) × (c.first_noted ≡ []) × (c.offered ≡ 0)) old.actors 0 later made
+    only = each_of_more (λ k c. k ≢ 0 → (is_opener c.role ≡ false) × (c.entries.first ≡ []) × (c.entries.first_noted ≡ []) × (c.deltas.first_taken ≡ []) × (offered_of c.role ≡ 0)) old.actors 0 later made
         (λ away. absurd (away refl))
-        (λ away. (refl, refl, refl, refl))
+        (λ away. (refl, refl, refl, refl, refl))
         (λ k c within front at away. kept.roles.only k c at away);
     offers = omega arith;
     living = (
@@ -224,39 +224,40 @@ module _ (shape : Dimensions) (opened : Anatomy) (old : State) (kept : Invariant
         let all = sum_by-append one (set old.actors 0 later) (made ∷ []) in
         let now = sum_beside one old.actors 0 opener later kept.roles.stands in
         let was = kept.roles.living in
-        omega (arith, all, now, was));
+        let opens : one opener ≡ 0 = ap (λ (lives : Bool). if lives then 1 else 0) (no_recorder opener kept.roles.opens) in
+        omega (arith, all, now, was, opens));
     few = (let below = may.3 in omega (arith, below));
-    younger = each_of_more (λ k c. is_living c ≡ true → c.made < later.made) old.actors 0 later made
-        (λ lives. absurd (opens_nothing later kept.roles.opens lives))
+    younger = each_of_more (λ k c. is_living c ≡ true → made_of c.role < made_of later.role) old.actors 0 later made
+        (λ lives. absurd (opens_nothing later refl lives))
         (λ lives. omega arith)
         (λ k c within front at lives. let below = earlier k c at lives in omega (arith, below));
     apart = λ i j a b here at. apart i a here j b at;
     eldest = λ i j a b here at. eldest i a here j b at;
     heirs = each_of_more
         (λ k c. is_living c ≡ true
-        → (more : List Entry) × (log_of later ≡ c.inherited ++ more) × (c.outstanding ≡ 0 → c.made + 1 ≡ later.made → more ≡ []))
+        → (more : List Entry) × (log_of later ≡ c.entries.inherited ++ more) × (outstanding_of c.role ≡ 0 → made_of c.role + 1 ≡ made_of later.role → more ≡ []))
         old.actors 0 later made
-        (λ lives. absurd (opens_nothing later kept.roles.opens lives))
+        (λ lives. absurd (opens_nothing later refl lives))
         (λ lives. ([], sym (append-nil (log_of opener)), λ none last. refl))
         (λ k c within front at lives.
         let was = kept.roles.heirs k c at lives in
         (was.0, was.1, λ none last. let below = earlier k c at lives in absurd (omega (arith, below, last))));
   }
 
-  ordered : (k : ℕ) (c : Actor) → get_elem? split k ≡ some c → c.opener ≡ 0 → GivenInOrder (order_of kept.anatomy) c.given
-  ordered = each_of_more (λ k c. c.opener ≡ 0 → GivenInOrder (order_of kept.anatomy) c.given) old.actors 0 later made
-      (λ records. let opens = kept.roles.opens in absurd (omega (arith, records, opens)))
+  ordered : (k : ℕ) (c : Actor) → get_elem? split k ≡ some c → is_opener c.role ≡ false → GivenInOrder (order_of kept.anatomy) c.done.given
+  ordered = each_of_more (λ k c. is_opener c.role ≡ false → GivenInOrder (order_of kept.anatomy) c.done.given) old.actors 0 later made
+      (λ records. absurd (true≢false records))
       (λ records i j k l x y below here. absurd (none_at i x here))
       (λ k c within front at. kept.cursors.ordered k c at)
 
-  given : (k : ℕ) (c : Actor) → get_elem? split k ≡ some c → All (λ g. Contains (order_of kept.anatomy) g.reference) c.given
-  given = each_of_more (λ k c. All (λ g. Contains (order_of kept.anatomy) g.reference) c.given) old.actors 0 later made
+  given : (k : ℕ) (c : Actor) → get_elem? split k ≡ some c → All (λ g. Contains (order_of kept.anatomy) g.reference) c.done.given
+  given = each_of_more (λ k c. All (λ g. Contains (order_of kept.anatomy) g.reference) c.done.given) old.actors 0 later made
       (kept.cursors.given 0 opener kept.roles.stands)
       (All-nil (λ (g : Given). Contains (order_of kept.anatomy) g.reference))
       (λ k c within front at. kept.cursors.given k c at)
 
-  standing : (k : ℕ) (c : Actor) → get_elem? split k ≡ some c → StandsRight shape kept.anatomy k c c.place
-  standing = each_of_more (λ k c. StandsRight shape kept.anatomy k c c.place) old.actors 0 later made
+  standing : (k : ℕ) (c : Actor) → get_elem? split k ≡ some c → StandsRight shape kept.anatomy k c c.hand.place
+  standing = each_of_more (λ k c. StandsRight shape kept.anatomy k c c.hand.place) old.actors 0 later made
       (subst (StandsRight shape kept.anatomy 0 later) (sym kept.roles.idle) tt)
       tt
       (λ k c within front at. kept.standing k c at)
@@ -268,9 +269,9 @@ module _ (shape : Dimensions) (opened : Anatomy) (old : State) (kept : Invariant
     last = λ n below e. absurd (omega (arith, below, e));
     lives = each_of_more
         (λ k c. is_living c ≡ true
-        → ((b : Actor) × (get_elem? old.actors k ≡ some b) × (is_living b ≡ true) × (b.made ≡ c.made)) ⊎ (opener.made ≤ c.made))
+        → ((b : Actor) × (get_elem? old.actors k ≡ some b) × (is_living b ≡ true) × (made_of b.role ≡ made_of c.role)) ⊎ (made_of opener.role ≤ made_of c.role))
         old.actors 0 later made
-        (λ lives. absurd (opens_nothing later kept.roles.opens lives))
+        (λ lives. absurd (opens_nothing later refl lives))
         (λ lives. inr (omega arith))
         (λ k c within front at lives. inl (c, at, lives, refl));
   }
@@ -278,18 +279,18 @@ module _ (shape : Dimensions) (opened : Anatomy) (old : State) (kept : Invariant
   -- no recorder that lived is the last any more
   not_alone : (k : ℕ) (c : Actor) → get_elem? old.actors k ≡ some c → is_living c ≡ true → IsAlone split c → ⊥
   not_alone k c at lives alone =
-      let same = ap (λ (x : Actor). x.made) (one_at split 0 alone.0 later alone.1 first) in
+      let same = ap (λ (x : Actor). made_of x.role) (one_at split 0 alone.0 later alone.1 first) in
       let below = earlier k c at lives in
       let last = alone.3 in
       omega (arith, same, below, last)
 
-  each : (k : ℕ) (c : Actor) → get_elem? split k ≡ some c → c.place ≢ Spent → Fits shape kept.anatomy old.cursors split later k c
-  each = each_of_more (λ k c. c.place ≢ Spent → Fits shape kept.anatomy old.cursors split later k c) old.actors 0 later made
-      (λ live. opener_fits shape kept.anatomy old.cursors split later 0 opener (opener.share - opener.offered) 0 (opener.made + 1) (opener.outstanding + 1)
-      kept.roles.opens kept.roles.rests.2
+  each : (k : ℕ) (c : Actor) → get_elem? split k ≡ some c → c.hand.place ≢ Spent → Fits shape kept.anatomy old.cursors split later k c
+  each = each_of_more (λ k c. c.hand.place ≢ Spent → Fits shape kept.anatomy old.cursors split later k c) old.actors 0 later made
+      (λ live. opener_fits shape kept.anatomy old.cursors split later 0 opener (opener.units.share - offered_of opener.role) 0 (made_of opener.role + 1) (outstanding_of opener.role + 1)
+      kept.roles.rests.2
       (fits shape kept.anatomy old.cursors old.actors split opener later 0 opener (sums_of old.actors split deeds) since
       (λ either. absurd (⊎_elim
-      (λ records. let opens = kept.roles.opens in omega (arith, records, opens))
+      (λ records. true≢false (sym kept.roles.opens ∙ records))
       (λ taking. true≢false (sym taking ∙ kept.roles.rests.2))
       either))
       (kept.each 0 opener kept.roles.stands live)))
@@ -299,12 +300,12 @@ module _ (shape : Dimensions) (opened : Anatomy) (old : State) (kept : Invariant
       (λ either alone. absurd (not_alone k c at (lives_on c (kept.roles.only k c at front).0 live) alone))
       (kept.each k c at live))
     where
-      opener_lives : opener.place ≢ Spent
+      opener_lives : opener.hand.place ≢ Spent
       opener_lives e = cc (sym kept.roles.idle ∙ e)
 
   loaded : LoadedBefore old.actors split
   loaded at sum = each_of_more
-      (λ k c. c.place ≡ SumLoaded at sum → (j : ℕ) × (d : Actor) × (get_elem? old.actors j ≡ some d) × (d.place ≡ SumLoaded at sum))
+      (λ k c. c.hand.place ≡ SumLoaded at sum → (j : ℕ) × (d : Actor) × (get_elem? old.actors j ≡ some d) × (d.hand.place ≡ SumLoaded at sum))
       old.actors 0 later made
       (λ stands. (0, opener, kept.roles.stands, stands))
       (λ stands. absurd (cc stands))

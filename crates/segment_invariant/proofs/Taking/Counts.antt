@@ -1,7 +1,5 @@
 -- A count is loaded: of a bucket, or of a sample that was met.
-use Rattle.std.proofs.Common.{◌≡◌, ◌≢◌, ℕ, ◌+◌, ◌-◌, ◌<◌, ◌≤◌, ℤ, Bool, true, false, [], ◌∷◌, ◌++◌, length, set, Contains, inl, inr, ⊎_elim, refl, sym, ap, ◌∙◌, subst, arith, length-append}
-use Rattle.std.specs.Prelude.{if◌then◌else◌}
-use Rattle.std.proofs.lemmas.Bool.Decides.{Decides-int_eq}
+use Rattle.std.proofs.Common.{◌≡◌, ◌≢◌, ℕ, ◌+◌, ◌-◌, ◌<◌, ℤ, true, false, [], ◌∷◌, ◌++◌, length, set, Contains, inl, inr, ⊎_elim, refl, sym, ap, ◌∙◌, subst, arith, length-append}
 use Rattle.std.proofs.lemmas.List.Elements.{All-push, All-contains, Contains-push}
 use mathlib.Core.Option.{some}
 use lib.ListN.{get_elem?}
@@ -14,26 +12,24 @@ use Rattle.segment_machine.specs.declared.place.Look.{Look}
 use Rattle.segment_machine.specs.declared.place.Place.{Place}
 use Rattle.segment_machine.specs.declared.place.Place.TheVariants.{Spent, Looking, Moving, CountLoaded, SampleLoaded}
 use Rattle.segment_machine.specs.declared.seen.Sighting.{Sighting}
-use Rattle.segment_machine.specs.Actor.{is_bound, Buckets, Sparse, all_counted}
-use Rattle.segment_machine.specs.Entry.{tally_units}
+use Rattle.segment_machine.specs.Actor.{is_bound, Buckets, Sparse, is_opener}
 use Rattle.segment_machine.specs.Form.{is_off}
 use Rattle.segment_machine.specs.Made.{SawSample}
 use Rattle.segment_machine.specs.State.{State}
 use Rattle.segment_machine.specs.Taking.{load_count, at_count, is_looking}
 use Rattle.segment_machine.specs.Event.{taking_event, Ready, next}
 use Rattle.segment_invariant.specs.Body.{Record, Counts, Sample, counts, sample, Anatomy}
-use Rattle.segment_invariant.specs.Ledger.{units_held, key_of_bucket}
+use Rattle.segment_invariant.specs.Ledger.{key_of_bucket}
 use Rattle.segment_invariant.specs.Seen.{HasRecord, HasCounts, HasSample, WasFixed, WasCounter, WasInUse, WasSingle, WasMet}
 use Rattle.segment_invariant.specs.Invariant.{LoadedOff, StandsRight, Invariant, IsCountsOf}
 use Rattle.segment_invariant.proofs.Blocks.Places.{counter_within}
-use Rattle.segment_invariant.proofs.Lists.Elements.{sum_at_least}
-use Rattle.segment_invariant.proofs.Consistency.Sums.{of_mine}
 use Rattle.segment_invariant.proofs.Frames.GoesOn.{happens}
 use Rattle.segment_invariant.proofs.Frames.Leads.{off_leads}
 use Rattle.segment_invariant.proofs.Frames.OneActor.{rests_at}
 use Rattle.segment_invariant.proofs.Frames.SeesMore.{seer, near_on}
 use Rattle.segment_invariant.proofs.Frames.Shown.{Goes, loaded}
 use Rattle.segment_invariant.proofs.Counting.Bounds.{counted_fits}
+use Rattle.segment_invariant.proofs.Counting.Held.{sample_most}
 use Rattle.segment_invariant.proofs.Counting.Looks.{knows_of, body_word, same_block, single_now, counts_was, count_now, looks_count}
 use Rattle.segment_invariant.proofs.Counting.Samples.{sample_met, later_learned}
 use Rattle.segment_invariant.proofs.Counting.SampleSeen.{sample_seen}
@@ -47,30 +43,21 @@ at_sample (CountLoaded look bucket count) at n looks = absurd (cc looks)
 at_sample p at n looks = refl
 
 module _ (shape : Dimensions) (opened : Anatomy) (state : State) (kept : Invariant shape opened state) (id : ℕ) (a : Actor)
-    (mine : get_elem? state.actors id ≡ some a) (records : a.opener ≡ 0) where
+    (mine : get_elem? state.actors id ≡ some a) (records : is_opener a.role ≡ false) where
   abbrev LoadsCount : ℕ → Type 0
   LoadsCount at = Goes shape opened state kept id a mine records (taking_event (load_count at))
 
-  -- what a sample has of its value was counted
-  sample_most : (at : ℕ) (s : Sample) → HasSample kept.anatomy.pieces at s → s.units ≤ tally_units (all_counted state.actors) s.name s.value
-  sample_most at s (k, there) =
-      let one = sum_at_least (λ piece. units_held kept.anatomy.version s.name s.value piece.body) kept.anatomy.pieces k _ there in
-      let held : units_held kept.anatomy.version s.name s.value (sample s) ≡ s.units =
-      of_mine s.name s.name _ refl ∙ ap (λ (b : Bool). if b then s.units else 0) ((Decides-int_eq s.value s.value).1 refl) in
-      let ledger = kept.balanced.units s.name s.value in
-      omega (arith, one, held, ledger)
-
-  module _ (unbound : is_bound a.place ≡ false) where
-    lives : a.place ≢ Spent
+  module _ (unbound : is_bound a.hand.place ≡ false) where
+    lives : a.hand.place ≢ Spent
     lives spent = cc (unbound, ap is_bound spent)
 
-    still : (look : Look) (bucket units : ℕ) → a.place ≢ Moving look bucket units
+    still : (look : Look) (bucket units : ℕ) → a.hand.place ≢ Moving look bucket units
     still look bucket units moving = cc (unbound, ap is_bound moving)
 
     -- ---- of a bucket
 
     bucket_loaded : (look : Look) (known : Known) (bucket : ℕ) → LoadedOff a look → Buckets a look.histogram known → bucket < buckets_of known.spec
-        → ((n : ℕ) → at_count a.place (look.counts + 4 + bucket) n ≡ CountLoaded look bucket n) → LoadsCount (look.counts + 4 + bucket)
+        → ((n : ℕ) → at_count a.hand.place (look.counts + 4 + bucket) n ≡ CountLoaded look bucket n) → LoadsCount (look.counts + 4 + bucket)
     bucket_loaded look known bucket (right, some_counts, (word, single_is, word_off)) (has, refers, bucketed) below placed =
         let fits = kept.each id a mine lives in
         let at : ℕ = look.counts + 4 + bucket in
@@ -101,12 +88,12 @@ module _ (shape : Dimensions) (opened : Anatomy) (state : State) (kept : Invaria
               (subst (λ (p : Place). Invariant shape opened (record {
                 words = state.words;
                 cursors = state.cursors;
-                actors = set state.actors id (seer a p (record a.seen { counts = a.seen.counts ++ z ∷ [] }) a.given a.lost);
+                actors = set state.actors id (seer a p (record a.seen { counts = a.seen.counts ++ z ∷ [] }) a.done.given a.done.lost);
               })) (sym (placed found))
               (sees_on shape opened state kept id a mine records place a.seen.singles (a.seen.counts ++ z ∷ []) unbound refl
-              (λ name key. sym (rests_at a name key a.place still))
-              (near_on shape opened state kept id a mine records place (record a.seen { counts = a.seen.counts ++ z ∷ [] }) a.given a.lost lives (λ is. cc is)
-              (λ name key. sym (rests_at a name key a.place still)) (λ reference sum is. absurd (cc is)))
+              (λ name key. sym (rests_at a name key a.hand.place still))
+              (near_on shape opened state kept id a mine records place (record a.seen { counts = a.seen.counts ++ z ∷ [] }) a.done.given a.done.lost lives (λ is. cc is)
+              (λ name key. sym (rests_at a name key a.hand.place still)) (λ reference sum is. absurd (cc is)))
               fits.sees.singles
               (All-push (WasCounter kept.anatomy.pieces) a.seen.counts z fits.sees.counters
               (counter_is shape opened state kept at look.counts (4 + bucket) (counts c) mounted (omega arith, omega (arith, low)) spot))
@@ -119,7 +106,7 @@ module _ (shape : Dimensions) (opened : Anatomy) (state : State) (kept : Invaria
                 below,
                 Contains-push a.seen.counts z,
               )
-              (looks_count shape opened state kept id a mine records lives at place a.given still (λ reference sum is. absurd (cc is))))),
+              (looks_count shape opened state kept id a mine records lives at place a.done.given still (λ reference sum is. absurd (cc is))))),
           (omega (arith, now, whole, bound), λ other at_is later. ap (word_at state.words) at_is ∙ later_learned shape opened state kept id a mine lives other later),
         )
       where
@@ -144,14 +131,14 @@ module _ (shape : Dimensions) (opened : Anatomy) (state : State) (kept : Invaria
     -- ---- of a sample
 
     sample_loaded : (known : Known) (reference : ℕ) (value : ℤ) → Sparse a known.reference known → Contains a.seen.chain reference
-        → SawSample a.seen known.reference value reference → is_looking a.place ≡ false → LoadsCount (reference + 6)
+        → SawSample a.seen known.reference value reference → is_looking a.hand.place ≡ false → LoadsCount (reference + 6)
     sample_loaded known reference value sparse met saw looks =
         let at : ℕ = reference + 6 in
         let found : ℕ = word_at state.words at in
         let z : Sighting = record { at = at; word = found } in
         let (s, stands, of_it, valued) = sample_met shape opened state kept id a mine lives reference known.reference value met saw in
         let now = body_word shape opened state kept reference 6 (sample s) stands (omega arith) in
-        let most = sample_most reference s stands in
+        let most = sample_most shape opened state kept reference s stands in
         let bound = counted_fits shape opened state kept s.name s.value in
         let back : reference + 6 - 6 ≡ reference = omega arith in
         happens opened.version state id a (taking_event (load_count at)) (word_within shape opened state kept reference 6 (sample s) stands refl (omega arith)) shape opened (
@@ -159,9 +146,9 @@ module _ (shape : Dimensions) (opened : Anatomy) (state : State) (kept : Invaria
               (subst (λ (p : Place). Invariant shape opened (record {
                 words = state.words;
                 cursors = state.cursors;
-                actors = set state.actors id (seer a p (record a.seen { counts = a.seen.counts ++ z ∷ [] }) a.given a.lost);
-              })) (sym (at_sample a.place at found looks ∙ ap (λ (n : ℕ). SampleLoaded n found) back))
-              (sample_seen shape opened state kept id a mine records unbound reference known.reference value met saw (SampleLoaded reference found) refl
+                actors = set state.actors id (seer a p (record a.seen { counts = a.seen.counts ++ z ∷ [] }) a.done.given a.done.lost);
+              })) (sym (at_sample a.hand.place at found looks ∙ ap (λ (n : ℕ). SampleLoaded n found) back))
+              (sample_seen shape opened state kept id a mine records unbound reference known.reference value met saw 6 (inl refl) (SampleLoaded reference found) refl
               (λ other sum is. cc is) ((known.reference, known, value, sparse, met, saw), Contains-push a.seen.counts z))),
           (omega (arith, now, most, bound), λ other at_is later. ap (word_at state.words) at_is ∙ later_learned shape opened state kept id a mine lives other later),
         )

@@ -1,5 +1,5 @@
 -- A delta goes on, which is the last of its actor: what was taken, and that final deltas and snapshots are as exact as they were.
-use Rattle.std.proofs.Common.{◌≡◌, ◌⊎◌, ℕ, ◌+◌, ◌-◌, ◌<◌, ◌≤◌, ℤ, pos, ◌+ℤ◌, Bool, true, false, List, [], ◌∷◌, ◌++◌, length, take, Contains, inl, inr, ⊎_elim, refl, sym, ap, ◌∙◌, subst, arith}
+use Rattle.std.proofs.Common.{◌≡◌, ◌⊎◌, ℕ, ◌+◌, ◌-◌, ◌<◌, ◌≤◌, ℤ, pos, ◌+ℤ◌, Bool, true, false, List, [], ◌∷◌, ◌++◌, length, take, Contains, inl, inr, ⊎_elim, refl, sym, ap, ◌∙◌, subst, arith, map}
 use Rattle.std.specs.Prelude.{if◌then◌else◌}
 use Rattle.std.specs.Str.{bytes_eq}
 use Rattle.std.proofs.Math.IntN.{+ℤ_assoc, +ℤ_idl}
@@ -9,6 +9,7 @@ use Rattle.std.proofs.lemmas.List.Elements.{Contains-append_cases, Contains-appe
 use Rattle.std.proofs.lemmas.List.Sums.{sum_by_push}
 use lib.ListN.{get_elem?}
 use Rattle.segment_machine.specs.declared.actor.Actor.{Actor}
+use Rattle.segment_machine.specs.declared.actor.Portion.{Portion}
 use Rattle.segment_machine.specs.declared.actor.Moment.{Moment}
 use Rattle.segment_machine.specs.declared.actor.Taken.{Taken}
 use Rattle.segment_machine.specs.declared.entry.Entry.{Entry}
@@ -18,17 +19,17 @@ use Rattle.bucket_ranges.specs.declared.spec.Spec.TheVariants as spec
 use Rattle.segment_machine.specs.Made.{SawSample}
 use Rattle.segment_machine.specs.Calls.{change_last}
 use Rattle.segment_machine.specs.Entry.{tally_units, tally_sum, tally_noted}
-use Rattle.segment_machine.specs.Actor.{counted_of, units_listed, taken_units, taken_sum, all_counted, all_summed, all_noted, all_taken}
+use Rattle.segment_machine.specs.Actor.{counted_of, units_listed, taken_units, taken_sum, all_counted, all_summed, all_noted, all_taken, portion_of, is_opener, made_of}
 use Rattle.segment_invariant.specs.Body.{Listed, Anatomy}
 use Rattle.segment_invariant.specs.Seen.{IsFirst, IsFirstOf}
 use Rattle.segment_invariant.specs.Ledger.{of_name, amount_of_name}
 use Rattle.segment_invariant.specs.Invariant.{ended_deltas, IsAlone, IsMoment, IsMomentOf, CallsRight, RolesAreKept, FinalsAreExact}
 use Rattle.segment_invariant.proofs.Lists.Elements.{one_in}
-use Rattle.segment_invariant.proofs.Lists.Sums.{amounts_total}
 use Rattle.segment_invariant.proofs.Notes.Amounts.{last_changed}
 use Rattle.segment_invariant.proofs.Frames.Roles.{AllStood}
 use Rattle.segment_invariant.proofs.Frames.Together.{moment, ended_began}
 use Rattle.segment_invariant.proofs.Changes.Others.{Deed, deed_of, changed, is_later, alone_was}
+use Rattle.segment_invariant.proofs.Lists.Portions.{taken_sum_total, portions_push}
 
 -- the last of a list of what was taken goes on, and keeps its name and its moment
 module _ (taken before : List Taken) (last : Taken) (is : taken ≡ before ++ last ∷ []) (f : Taken → Taken) (named : (f last).name ≡ last.name)
@@ -59,34 +60,40 @@ module _ (taken before : List Taken) (last : Taken) (is : taken ≡ before ++ la
   pub front_same : take (length further - 1) further ≡ take (length taken - 1) taken
   front_same = front_of further (f last) further_is ∙ sym (front_of taken last is)
 
-  -- units that were taken
-  pub units_further : (name : List ℕ) (key : ℤ)
-      → taken_units further name key + of_name last.name name (units_listed last.counts key)
-      ≡ taken_units taken name key + of_name last.name name (units_listed (f last).counts key)
-  units_further name key =
-      let now = ap (λ (l : List Taken). taken_units l name key) further_is in
-      let was = ap (λ (l : List Taken). taken_units l name key) is in
-      let each : (t : Taken) → taken_units (before ++ t ∷ []) name key ≡ taken_units before name key + of_name t.name name (units_listed t.counts key) =
-      λ t. sum_by_push (λ (t : Taken). if bytes_eq t.name name then units_listed t.counts key else 0) before t in
+  -- units that were taken, beside those that had been taken before
+  pub units_further : (first : List Portion) (name : List ℕ) (key : ℤ)
+      → taken_units (first ++ map portion_of further) name key + of_name last.name name (units_listed last.counts key)
+      ≡ taken_units (first ++ map portion_of taken) name key + of_name last.name name (units_listed (f last).counts key)
+  units_further first name key =
+      let now = ap (λ (l : List Taken). taken_units (first ++ map portion_of l) name key) further_is in
+      let was = ap (λ (l : List Taken). taken_units (first ++ map portion_of l) name key) is in
+      let each : (t : Taken) → taken_units (first ++ map portion_of (before ++ t ∷ [])) name key
+      ≡ taken_units (first ++ map portion_of before) name key + of_name t.name name (units_listed t.counts key) =
+      λ t. ap (λ l. taken_units l name key) (portions_push first before t)
+      ∙ sum_by_push (λ (t : Portion). if bytes_eq t.name name then units_listed t.counts key else 0) (first ++ map portion_of before) (portion_of t) in
       let new = each (f last) in
       let old = each last in
       let same = ap (λ (n : List ℕ). of_name n name (units_listed (f last).counts key)) named in
       omega (arith, now, was, new, old, same)
 
   -- and of the sum
-  pub sum_further : (d : ℤ) → (f last).sum ≡ last.sum +ℤ d → (name : List ℕ) → taken_sum further name ≡ taken_sum taken name +ℤ amount_of_name last.name name d
-  sum_further d more name =
-      ap (λ (l : List Taken). taken_sum l name) further_is
+  pub sum_further : (first : List Portion) (d : ℤ) → (f last).sum ≡ last.sum +ℤ d → (name : List ℕ)
+      → taken_sum (first ++ map portion_of further) name ≡ taken_sum (first ++ map portion_of taken) name +ℤ amount_of_name last.name name d
+  sum_further first d more name =
+      ap (λ (l : List Taken). taken_sum (first ++ map portion_of l) name) further_is
       ∙ (parts (f last)
-      ∙ (ap (λ (z : ℤ). taken_sum before name +ℤ z) (+ℤ_idl (amount (f last)) ∙ (grown ∙ ap (λ (z : ℤ). z +ℤ amount_of_name last.name name d) (sym (+ℤ_idl (amount last)))))
-      ∙ (sym (+ℤ_assoc (taken_sum before name) (pos 0 +ℤ amount last) (amount_of_name last.name name d))
-      ∙ ap (λ (z : ℤ). z +ℤ amount_of_name last.name name d) (sym (parts last) ∙ sym (ap (λ (l : List Taken). taken_sum l name) is)))))
+      ∙ (ap (λ (z : ℤ). front +ℤ z) (+ℤ_idl (amount (f last)) ∙ (grown ∙ ap (λ (z : ℤ). z +ℤ amount_of_name last.name name d) (sym (+ℤ_idl (amount last)))))
+      ∙ (sym (+ℤ_assoc front (pos 0 +ℤ amount last) (amount_of_name last.name name d))
+      ∙ ap (λ (z : ℤ). z +ℤ amount_of_name last.name name d) (sym (parts last) ∙ sym (ap (λ (l : List Taken). taken_sum (first ++ map portion_of l) name) is)))))
     where
+      front : ℤ
+      front = taken_sum (first ++ map portion_of before) name
+
       amount : Taken → ℤ
       amount t = if bytes_eq t.name name then t.sum else pos 0
 
-      parts : (t : Taken) → taken_sum (before ++ t ∷ []) name ≡ taken_sum before name +ℤ (pos 0 +ℤ amount t)
-      parts t = amounts_total amount before (t ∷ [])
+      parts : (t : Taken) → taken_sum (first ++ map portion_of (before ++ t ∷ [])) name ≡ front +ℤ (pos 0 +ℤ amount t)
+      parts t = ap (λ l. taken_sum l name) (portions_push first before t) ∙ taken_sum_total name (first ++ map portion_of before) (portion_of t ∷ [])
 
       by_test : (b : Bool) → (if b then (f last).sum else pos 0) ≡ (if b then last.sum else pos 0) +ℤ (if b then d else pos 0)
       by_test true = more
@@ -96,10 +103,10 @@ module _ (taken before : List Taken) (last : Taken) (is : taken ≡ before ++ la
       grown = ap (λ (n : List ℕ). if bytes_eq n name then (f last).sum else pos 0) named ∙ by_test (bytes_eq last.name name)
 
 -- the actor whose delta goes on
-module _ (a : Actor) (before : List Taken) (last : Taken) (is : a.taken ≡ before ++ last ∷ []) (f : Taken → Taken) (named : (f last).name ≡ last.name)
-    (began : (f last).moment ≡ last.moment) (taking : a.taking ≡ true) (place : Place) (counts : List Sighting) where
+module _ (a : Actor) (before : List Taken) (last : Taken) (is : a.deltas.taken ≡ before ++ last ∷ []) (f : Taken → Taken) (named : (f last).name ≡ last.name)
+    (began : (f last).moment ≡ last.moment) (taking : a.deltas.taking ≡ true) (place : Place) (counts : List Sighting) where
   abbrev pub takes_on : Deed
-  takes_on = record (deed_of a) { place = place; taken = change_last f a.taken; seen = record a.seen { counts = counts } }
+  takes_on = record (deed_of a) { place = place; taken = change_last f a.deltas.taken; seen = record a.seen { counts = counts } }
 
   abbrev b : Actor
   b = changed a takes_on
@@ -112,28 +119,28 @@ module _ (a : Actor) (before : List Taken) (last : Taken) (is : a.taken ≡ befo
     held = calls.held;
     ended = calls.ended;
     spent = calls.spent;
-    met = subst (λ (l : List Listed). (entry : Entry) (of : ℕ) → Contains (a.inherited ++ counted_of a) entry → 0 < entry.units → IsFirst l entry.name spec.Sparse of
+    met = subst (λ (l : List Listed). (entry : Entry) (of : ℕ) → Contains (a.entries.inherited ++ counted_of a) entry → 0 < entry.units → IsFirst l entry.name spec.Sparse of
         → (at : ℕ) × IsFirstOf l of entry.key at × Contains a.seen.chain at × SawSample a.seen of entry.key at) (sym records) calls.met;
-    taking = λ goes. ((calls.taking taking).0, (before, f last, further_is a.taken before last is f named began));
+    taking = λ goes. ((calls.taking taking).0, (before, f last, further_is a.deltas.taken before last is f named began));
   }
 
   -- the deltas that have ended are those that had
   ended_same : ended_deltas b ≡ ended_deltas a
   ended_same =
-      ap (λ (b : Bool). if b then take (length (change_last f a.taken) - 1) (change_last f a.taken) else change_last f a.taken) taking
-      ∙ (front_same a.taken before last is f named began ∙ sym (ap (λ (b : Bool). if b then take (length a.taken - 1) a.taken else a.taken) taking))
+      ap (λ (b : Bool). if b then take (length (change_last f a.deltas.taken) - 1) (change_last f a.deltas.taken) else change_last f a.deltas.taken) taking
+      ∙ (front_same a.deltas.taken before last is f named began ∙ sym (ap (λ (b : Bool). if b then take (length a.deltas.taken - 1) a.deltas.taken else a.deltas.taken) taking))
 
   -- a moment of it was one
   moment_was : (m : Moment) → IsMomentOf b m → IsMomentOf a m
   moment_was m (inl (t, has, at)) = ⊎_elim
       (λ old. inl (t, old, at))
-      (λ same. inl (last, last_in a.taken before last is f named began, sym began ∙ (ap (λ (t : Taken). t.moment) (sym same) ∙ at)))
-      (further_from a.taken before last is f named began t has)
+      (λ same. inl (last, last_in a.deltas.taken before last is f named began, sym began ∙ (ap (λ (t : Taken). t.moment) (sym same) ∙ at)))
+      (further_from a.deltas.taken before last is f named began t has)
   moment_was m (inr answered) = inr answered
 
   -- Nothing is counted, added or noted; no less is taken of a key, and no more than was counted. Then final deltas and snapshots are as exact,
   -- where one that is alone leaves what was taken of a sum exact
-  module _ (old new : List Actor) (roles : RolesAreKept old) (stood : AllStood old new) (first : get_elem? new 0 ≡ get_elem? old 0) (id : ℕ) (recorder : a.opener ≡ 0)
+  module _ (old new : List Actor) (roles : RolesAreKept old) (stood : AllStood old new) (first : get_elem? new 0 ≡ get_elem? old 0) (id : ℕ) (recorder : is_opener a.role ≡ false)
       (counted : all_counted new ≡ all_counted old) (summed : all_summed new ≡ all_summed old) (noted : all_noted new ≡ all_noted old)
       (up : (name : List ℕ) (key : ℤ) → taken_units (all_taken old) name key ≤ taken_units (all_taken new) name key)
       (most : (name : List ℕ) (key : ℤ) → taken_units (all_taken new) name key ≤ tally_units (all_counted new) name key)
@@ -141,7 +148,7 @@ module _ (a : Actor) (before : List Taken) (last : Taken) (is : a.taken ≡ befo
       → taken_sum (all_taken new) name ≡ tally_sum (all_summed old) name)
       (swapped : IsAlone old a → (f last).swapped ≡ true → taken_sum (all_taken new) (f last).name ≡ tally_sum (all_summed old) (f last).name) where
     -- who has a final moment is alone
-    alone_at : (m : Moment) → IsMoment old roles.opener id a m → m.outstanding ≡ 0 → m.before + 1 ≡ roles.opener.made → IsAlone old a
+    alone_at : (m : Moment) → IsMoment old roles.opener id a m → m.outstanding ≡ 0 → m.before + 1 ≡ made_of roles.opener.role → IsAlone old a
     alone_at m is none youngest =
         let (made, outstanding) = is.mine recorder in
         (roles.opener, roles.stands, sym outstanding ∙ none, ap (λ (n : ℕ). n + 1) (sym made) ∙ youngest)
@@ -167,11 +174,10 @@ module _ (a : Actor) (before : List Taken) (last : Taken) (is : a.taken ≡ befo
             (let redundant = was.2 in let same = ap (λ entries. tally_noted entries s.name) noted in omega (arith, redundant, same)),
           );
       moments = λ m of.
-          let is = moment old new roles.opener roles.opener id a m (is_later old new roles stood first) (exact.moments m (moment_was m of)) in
-          record { logged = is.logged; before = is.before; mine = is.mine; eldest = is.eldest };
+          moment old new roles.opener roles.opener id a m (is_later old new roles stood first) (exact.moments m (moment_was m of));
       swapped = λ front x goes ends was_swapped alone.
           let same = (same_from_push before front (f last) x
-          (sym (further_is a.taken before last is f named began) ∙ ends)).1 in
+          (sym (further_is a.deltas.taken before last is f named began) ∙ ends)).1 in
           subst (λ (t : Taken). taken_sum (all_taken new) t.name ≡ tally_sum (all_summed new) t.name) same
           (swapped (alone_was old new roles stood first b a refl refl alone) (ap (λ (t : Taken). t.swapped) same ∙ was_swapped)
           ∙ ap (λ entries. tally_sum entries (f last).name) (sym summed));

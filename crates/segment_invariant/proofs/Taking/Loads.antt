@@ -1,4 +1,4 @@
--- Sums and redundant counts are loaded.
+-- Sums and redundant counts are loaded. A recorder sees a counter of a record.
 use Rattle.std.proofs.Common.{◌≡◌, ◌≢◌, ℕ, ◌+◌, ◌<◌, ℤ, false, List, [], ◌∷◌, ◌++◌, set, inl, inr, refl, sym, ap, ◌∙◌, subst, arith, ⊎_elim}
 use Rattle.std.specs.Int.{w64, cast_signed}
 use Rattle.std.proofs.lemmas.List.Elements.{All-push, Contains-append_left}
@@ -12,14 +12,15 @@ use Rattle.segment_machine.specs.declared.place.Look.{Look}
 use Rattle.segment_machine.specs.declared.place.Place.{Place}
 use Rattle.segment_machine.specs.declared.place.Place.TheVariants.{Spent, Idle, FlagsLoaded, FreeLoaded, Raised, Sized, Marked, TailLoaded, Beaten, Linked, Looking, Losing, Moving, CountLoaded, SampleLoaded, SumLoaded, CursorLoaded, BehindCursor}
 use Rattle.segment_machine.specs.declared.seen.Sighting.{Sighting}
-use Rattle.segment_machine.specs.Actor.{is_bound}
+use Rattle.segment_machine.specs.Actor.{is_bound, is_opener}
 use Rattle.segment_machine.specs.State.{State}
 use Rattle.segment_machine.specs.Taking.{load_sum, load_redundant}
 use Rattle.segment_machine.specs.Event.{taking_event, Ready, next}
 use Rattle.segment_invariant.specs.Body.{Record, histogram, Anatomy, Sample, sample}
-use Rattle.segment_invariant.specs.Seen.{HasRecord, WasCounter, WasInUse, WasMet, HasSample}
+use Rattle.segment_invariant.specs.Seen.{HasRecord, IsCounterIn, WasCounter, WasInUse, WasMet, HasSample}
 use Rattle.segment_invariant.specs.Invariant.{StandsRight, SumsAreNear, IsSumOf, summed_cost, Invariant}
 use Rattle.segment_invariant.proofs.Lists.Elements.{sum_same}
+use Rattle.segment_invariant.proofs.Blocks.Places.{counter_within}
 use Rattle.segment_invariant.proofs.Frames.GoesOn.{happens}
 use Rattle.segment_invariant.proofs.Frames.OneActor.{rests_at}
 use Rattle.segment_invariant.proofs.Frames.SeesMore.{seer, near_on}
@@ -28,11 +29,12 @@ use Rattle.segment_invariant.proofs.Counting.Bounds.{noted_fits, sum_fits}
 use Rattle.segment_invariant.proofs.Counting.Looks.{knows_of, body_word, same_block, looks_count}
 use Rattle.segment_invariant.proofs.Counting.Sights.{word_within, counter_is, no_count, sees_on}
 use Rattle.segment_invariant.proofs.Counting.Whole.{whole_noted}
+use Rattle.segment_invariant.proofs.Frames.Anew.{looks_anew_at}
 
 -- where an actor stands that is free to go on, it stands on where it sees more counts
 pub stands_counted : (shape : Dimensions) (anatomy : Anatomy) (id : ℕ) (a : Actor) (more : List Sighting) (place p : Place) → is_bound p ≡ false
     → StandsRight shape anatomy id a p
-    → StandsRight shape anatomy id (seer a place (record a.seen { counts = a.seen.counts ++ more }) a.given a.lost) p
+    → StandsRight shape anatomy id (seer a place (record a.seen { counts = a.seen.counts ++ more }) a.done.given a.done.lost) p
 stands_counted shape anatomy id a more place Spent bound stands = absurd (cc bound)
 stands_counted shape anatomy id a more place Idle bound stands = tt
 stands_counted shape anatomy id a more place FlagsLoaded bound stands = tt
@@ -44,11 +46,11 @@ stands_counted shape anatomy id a more place (TailLoaded tail) bound stands = st
 stands_counted shape anatomy id a more place (Beaten tail behind) bound stands = absurd (cc bound)
 stands_counted shape anatomy id a more place (Linked at tail) bound stands = absurd (cc bound)
 stands_counted shape anatomy id a more place (Looking look) bound stands =
-    record { known = stands.known; knows = stands.knows; single = stands.single; counts = stands.counts }
+    stands
 stands_counted shape anatomy id a more place (Losing look at) bound stands = absurd (cc bound)
 stands_counted shape anatomy id a more place (Moving look bucket units) bound stands = absurd (cc bound)
 stands_counted shape anatomy id a more place (CountLoaded look bucket count) bound ((right, there, off), below, saw) = (
-  (record { known = right.known; knows = right.knows; single = right.single; counts = right.counts }, there, off),
+  (right, there, off),
   below,
   Contains-append_left a.seen.counts more _ saw,
 )
@@ -58,50 +60,71 @@ stands_counted shape anatomy id a more place (CursorLoaded cursor at) bound stan
 stands_counted shape anatomy id a more place (BehindCursor cursor at behind) bound stands = stands
 
 module _ (shape : Dimensions) (opened : Anatomy) (state : State) (kept : Invariant shape opened state) (id : ℕ) (a : Actor)
-    (mine : get_elem? state.actors id ≡ some a) (records : a.opener ≡ 0) where
-  lives_unbound : is_bound a.place ≡ false → a.place ≢ Spent
+    (mine : get_elem? state.actors id ≡ some a) (records : is_opener a.role ≡ false) where
+  lives_unbound : is_bound a.hand.place ≡ false → a.hand.place ≢ Spent
   lives_unbound unbound spent = cc (unbound, ap is_bound spent)
 
-  still : is_bound a.place ≡ false → (look : Look) (bucket units : ℕ) → a.place ≢ Moving look bucket units
+  still : is_bound a.hand.place ≡ false → (look : Look) (bucket units : ℕ) → a.hand.place ≢ Moving look bucket units
   still unbound look bucket units moving = cc (unbound, ap is_bound moving)
+
+  -- ---- a counter of a record
+
+  -- it goes on to a place where it might stand, and sees a counter of a record
+  module _ (h i : ℕ) (r : Record) (stands : HasRecord kept.anatomy.pieces h r) (counter : IsCounterIn (histogram r) i) (unbound : is_bound a.hand.place ≡ false)
+      (place : Place) (free : is_bound place ≡ false) (placed : StandsRight shape kept.anatomy id a place)
+      (sums : (reference : ℕ) (sum : ℤ) → place ≡ SumLoaded reference sum → a.hand.place ≡ SumLoaded reference sum) where
+    abbrev at : ℕ
+    at = h + i
+
+    abbrev z : Sighting
+    z = record { at = at; word = word_at state.words at }
+
+    no_sample : {X : Type 0} (other j : ℕ) (x : Sample) → HasSample kept.anatomy.pieces other x → at ≡ other + j → j < 8 → X
+    no_sample other j x is_sample same low =
+        let (spot, bodies, index) = same_block shape opened state kept h other i j (histogram r) (sample x) stands is_sample (counter_within (histogram r) i counter)
+        (omega (arith, low)) same in
+        absurd (cc bodies)
+
+    pub counter_seen : Invariant shape opened (record {
+      words = state.words;
+      cursors = state.cursors;
+      actors = set state.actors id (seer a place (record a.seen { counts = a.seen.counts ++ z ∷ [] }) a.done.given a.done.lost);
+    })
+    counter_seen =
+        let lives = lives_unbound unbound in
+        let fits = kept.each id a mine lives in
+        let moves : (name : List ℕ) (key : ℤ) → _ = λ name key. rests_at a name key place (λ look bucket units moving. cc (free, ap is_bound moving))
+        ∙ sym (rests_at a name key a.hand.place (still unbound)) in
+        sees_on shape opened state kept id a mine records place a.seen.singles (a.seen.counts ++ z ∷ []) unbound free moves
+        (near_on shape opened state kept id a mine records place (record a.seen { counts = a.seen.counts ++ z ∷ [] }) a.done.given a.done.lost lives
+        (λ spent. cc (free, ap is_bound spent)) moves sums)
+        fits.sees.singles
+        (All-push (WasCounter kept.anatomy.pieces) a.seen.counts z fits.sees.counters (counter_is shape opened state kept at h i (histogram r) stands counter refl))
+        (All-push (WasInUse kept.anatomy.pieces) a.seen.counts z fits.sees.in_use
+        (no_count shape opened state kept at h i (histogram r) stands counter refl (λ c is. cc is)))
+        (All-push (WasMet kept.anatomy.pieces a.seen) a.seen.counts z fits.sees.met (λ other x is_sample which. ⊎_elim
+        (λ six. no_sample other 6 x is_sample six (omega arith))
+        (λ seven. no_sample other 7 x is_sample seven (omega arith))
+        which))
+        (stands_counted shape kept.anatomy id a (z ∷ []) place place free placed)
+        (looks_count shape opened state kept id a mine records lives at place a.done.given (still unbound) sums)
 
   -- ---- a redundant count
 
   pub redundant_loaded : (h : ℕ) → Ready a (taking_event (load_redundant h)) → Goes shape opened state kept id a mine records (taking_event (load_redundant h))
   redundant_loaded h (unbound, (known, has, refers)) =
-      let lives = lives_unbound unbound in
-      let fits = kept.each id a mine lives in
       let at : ℕ = h + 13 in
       let found : ℕ = word_at state.words at in
-      let z : Sighting = record { at = at; word = found } in
-      let (r, first, there, named, many, keys) = knows_of shape opened state kept id a mine records lives known has in
+      let (r, first, there, named, many, keys) = knows_of shape opened state kept id a mine records (lives_unbound unbound) known has in
       let stands : HasRecord kept.anatomy.pieces h r = subst (λ (n : ℕ). HasRecord kept.anatomy.pieces n r) refers there in
       let word = body_word shape opened state kept h 13 (histogram r) stands (omega arith) in
       let whole = whole_noted shape opened state kept known.name r.spec known.reference r first there named in
       let bound = noted_fits shape opened state kept known.name in
       happens opened.version state id a (taking_event (load_redundant h)) (word_within shape opened state kept h 13 (histogram r) stands refl (omega arith)) shape opened (
         loaded shape opened state kept id a mine records at (next a (taking_event (load_redundant h)) found)
-            (sees_on shape opened state kept id a mine records a.place a.seen.singles (a.seen.counts ++ z ∷ []) unbound unbound (λ name key. refl)
-            (near_on shape opened state kept id a mine records a.place (record a.seen { counts = a.seen.counts ++ z ∷ [] }) a.given a.lost lives lives (λ name key. refl)
-            (λ reference sum is. is))
-            fits.sees.singles
-            (All-push (WasCounter kept.anatomy.pieces) a.seen.counts z fits.sees.counters (counter_is shape opened state kept at h 13 (histogram r) stands (inr refl) refl))
-            (All-push (WasInUse kept.anatomy.pieces) a.seen.counts z fits.sees.in_use
-            (no_count shape opened state kept at h 13 (histogram r) stands (inr refl) refl (λ c is. cc is)))
-            (All-push (WasMet kept.anatomy.pieces a.seen) a.seen.counts z fits.sees.met (λ other x is_sample which. ⊎_elim
-            (λ six. no_sample h other 6 r x stands is_sample six (omega arith))
-            (λ seven. no_sample h other 7 r x stands is_sample seven (omega arith))
-            which))
-            (stands_counted shape kept.anatomy id a (z ∷ []) a.place a.place unbound (kept.standing id a mine))
-            (looks_count shape opened state kept id a mine records lives at a.place a.given (still unbound) (λ reference sum is. is))),
+            (counter_seen h 13 r stands (inr refl) unbound a.hand.place unbound (kept.standing id a mine) (λ reference sum is. is)),
         omega (arith, word, whole, bound),
       )
-    where
-      no_sample : {X : Type 0} (h other i : ℕ) (r : Record) (x : Sample) → HasRecord kept.anatomy.pieces h r → HasSample kept.anatomy.pieces other x
-          → h + 13 ≡ other + i → i < 8 → X
-      no_sample h other i r x stands is_sample same low =
-          let (spot, bodies, index) = same_block shape opened state kept h other 13 i (histogram r) (sample x) stands is_sample (omega arith) (omega (arith, low)) same in
-          absurd (cc bodies)
 
   -- ---- a sum
 
@@ -119,22 +142,11 @@ module _ (shape : Dimensions) (opened : Anatomy) (state : State) (kept : Invaria
       happens opened.version state id a (taking_event (load_sum h)) (word_within shape opened state kept h 11 (histogram r) stands refl (omega arith)) shape opened (
         loaded shape opened state kept id a mine records (h + 11) (next a (taking_event (load_sum h)) found)
             (sees_on shape opened state kept id a mine records place a.seen.singles a.seen.counts unbound refl
-            (λ name key. sym (rests_at a name key a.place (still unbound)))
+            (λ name key. sym (rests_at a name key a.hand.place (still unbound)))
             near
             fits.sees.singles fits.sees.counters fits.sees.in_use fits.sees.met
             (known, has, refers)
-            (record {
-              most = looks.most;
-              packed = looks.packed;
-              counted = looks.counted;
-              samples = looks.samples;
-              rising = looks.rising;
-              leading = looks.leading;
-              closed = looks.closed;
-              begun = looks.begun;
-              noted = looks.noted;
-              sum = λ reference sum q is alone q_there. now_sum reference sum is q q_there;
-            })),
+            (looks_anew_at kept.anatomy state.actors kept.roles.opener a place looks (λ reference sum q is alone q_there. now_sum reference sum is q q_there))),
         sum_fits shape opened state kept h r sum stands (inr (inl (ap (cast_signed w64) word))),
       )
     where
@@ -142,7 +154,7 @@ module _ (shape : Dimensions) (opened : Anatomy) (state : State) (kept : Invaria
       found = word_at state.words (h + 11)
 
       b : Actor
-      b = record a { place = SumLoaded h (cast_signed w64 found) }
+      b = record a { hand = record a.hand { place = SumLoaded h (cast_signed w64 found) } }
 
       -- the sum that it loads is that of the record
       now_sum : (reference : ℕ) (sum : ℤ) → SumLoaded h (cast_signed w64 found) ≡ SumLoaded reference sum → (q : Record) → HasRecord kept.anatomy.pieces reference q
@@ -158,7 +170,7 @@ module _ (shape : Dimensions) (opened : Anatomy) (state : State) (kept : Invaria
       sum_before at r sum there (inr (inl now)) = inr (inl now)
       sum_before at r sum there (inr (inr (inl mark))) = inr (inr (inl mark))
       sum_before at r sum there (inr (inr (inr (who, c, here, placed)))) = elim (at_set state.actors id who b c here) [
-        | inl t ↦ inr (inl (now_sum at sum (ap (λ (c : Actor). c.place) t.1 ∙ placed) r there))
+        | inl t ↦ inr (inl (now_sum at sum (ap (λ (c : Actor). c.hand.place) t.1 ∙ placed) r there))
         | inr t ↦ inr (inr (inr (who, c, t.1, placed)))
       ]
 

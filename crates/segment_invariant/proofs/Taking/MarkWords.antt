@@ -16,7 +16,7 @@ use Rattle.segment_machine.specs.declared.place.Look.{Look}
 use Rattle.segment_machine.specs.declared.place.Place.TheVariants.{Spent, Looking, Moving}
 use Rattle.segment_machine.specs.declared.seen.Seen.{Seen}
 use Rattle.segment_machine.specs.declared.seen.Sighting.{Sighting}
-use Rattle.segment_machine.specs.Actor.{is_bound}
+use Rattle.segment_machine.specs.Actor.{is_bound, is_opener}
 use Rattle.segment_machine.specs.Form.{is_off}
 use Rattle.segment_machine.specs.State.{State}
 use Rattle.segment_invariant.specs.Body.{Record, Counts, Sample, counts, sample, counts_words, Anatomy}
@@ -103,7 +103,7 @@ module _ (c : Counts) (i u : ℕ) (below : i < length c.marks) where
 -- ---- what a recorder knows that has loaded a count
 
 module _ (shape : Dimensions) (opened : Anatomy) (state : State) (kept : Invariant shape opened state) (id : ℕ) (a : Actor)
-    (mine : get_elem? state.actors id ≡ some a) (recorder : a.opener ≡ 0) (unbound : is_bound a.place ≡ false) (look : Look) (off : LoadedOff a look) (bucket : ℕ)
+    (mine : get_elem? state.actors id ≡ some a) (recorder : is_opener a.role ≡ false) (unbound : is_bound a.hand.place ≡ false) (look : Look) (off : LoadedOff a look) (bucket : ℕ)
     (below : bucket < buckets_of off.0.known.spec) where
   abbrev pub TheMarks : Type 0
   TheMarks = (r : Record) × (c : Counts) × HasRecord kept.anatomy.pieces look.histogram r × HasCounts kept.anatomy.pieces look.counts c
@@ -164,18 +164,18 @@ module _ (shape : Dimensions) (opened : Anatomy) (state : State) (kept : Invaria
     pub mark_seen : Invariant shape opened (record {
       words = state.words;
       cursors = state.cursors;
-      actors = set state.actors id (seer a (Looking look) saw a.given a.lost);
+      actors = set state.actors id (seer a (Looking look) saw a.done.given a.done.lost);
     })
     mark_seen =
-        let lives : a.place ≢ Spent = λ spent. cc (unbound, ap is_bound spent) in
-        let still : (look : Look) (bucket units : ℕ) → a.place ≢ Moving look bucket units = λ look bucket units moving. cc (unbound, ap is_bound moving) in
+        let lives : a.hand.place ≢ Spent = λ spent. cc (unbound, ap is_bound spent) in
+        let still : (look : Look) (bucket units : ℕ) → a.hand.place ≢ Moving look bucket units = λ look bucket units moving. cc (unbound, ap is_bound moving) in
         let fits = kept.each id a mine lives in
         let low = the_marks.5 in
         let right = off.0 in
         sees_on shape opened state kept id a mine recorder (Looking look) a.seen.singles (a.seen.counts ++ z ∷ []) unbound refl
-        (λ name key. sym (rests_at a name key a.place still))
-        (near_on shape opened state kept id a mine recorder (Looking look) saw a.given a.lost lives (λ spent. cc spent)
-        (λ name key. sym (rests_at a name key a.place still)) (λ reference sum is. absurd (cc is)))
+        (λ name key. sym (rests_at a name key a.hand.place still))
+        (near_on shape opened state kept id a mine recorder (Looking look) saw a.done.given a.done.lost lives (λ spent. cc spent)
+        (λ name key. sym (rests_at a name key a.hand.place still)) (λ reference sum is. absurd (cc is)))
         fits.sees.singles
         (All-push (WasCounter kept.anatomy.pieces) a.seen.counts z fits.sees.counters
         (counter_is shape opened state kept at look.counts i (counts c) the_marks.3 (omega arith, omega (arith, low)) spot))
@@ -184,5 +184,5 @@ module _ (shape : Dimensions) (opened : Anatomy) (state : State) (kept : Invaria
         (λ six. no_sample other 6 x is_sample six (omega arith))
         (λ seven. no_sample other 7 x is_sample seven (omega arith))
         which))
-        (record { known = right.known; knows = right.knows; single = right.single; counts = right.counts })
-        (looks_count shape opened state kept id a mine recorder lives at (Looking look) a.given still (λ reference sum is. absurd (cc is)))
+        right
+        (looks_count shape opened state kept id a mine recorder lives at (Looking look) a.done.given still (λ reference sum is. absurd (cc is)))

@@ -20,7 +20,7 @@ use Rattle.segment_machine.specs.declared.actor.Taken.{Taken}
 use Rattle.segment_machine.specs.declared.place.Look.{Look}
 use Rattle.segment_machine.specs.declared.place.Place.{Place}
 use Rattle.segment_machine.specs.declared.place.Place.TheVariants.{Spent, Looking, CountLoaded}
-use Rattle.segment_machine.specs.Actor.{is_bound, bucket_key, known_at, known_buckets, all_counted, all_taken, taken_units}
+use Rattle.segment_machine.specs.Actor.{is_bound, bucket_key, known_at, all_counted, all_taken, taken_units, is_opener}
 use Rattle.segment_machine.specs.Calls.{back, change_last, form_seen}
 use Rattle.segment_machine.specs.Entry.{tally_units}
 use Rattle.segment_machine.specs.Event.{taking_event}
@@ -31,12 +31,10 @@ use Rattle.segment_invariant.specs.Body.{Record, Counts, histogram, counts, Anat
 use Rattle.segment_invariant.specs.Ledger.{of_name, form_at, key_of_bucket, keyed, marks_held}
 use Rattle.segment_invariant.specs.Seen.{HasRecord, HasCounts, IsFirst, WasFixed, WasCounter}
 use Rattle.segment_invariant.specs.Invariant.{IsCountsOf, LoadedOff, StandsRight, Invariant, is_beaten}
-use Rattle.segment_invariant.proofs.Lists.Elements.{at_from}
 use Rattle.segment_invariant.proofs.Blocks.Places.{counter_within}
 use Rattle.segment_invariant.proofs.Consistency.Books.{marks_book, keyed_one, bucket_mounted}
 use Rattle.segment_invariant.proofs.Consistency.Keys.{packed_within, packed_mark}
 use Rattle.segment_invariant.proofs.Consistency.Marks.{packed_is}
-use Rattle.segment_invariant.proofs.Consistency.Totals.{find_known}
 use Rattle.segment_invariant.proofs.Frames.GoesOn.{happens}
 use Rattle.segment_invariant.proofs.Frames.SeesMore.{seer}
 use Rattle.segment_invariant.proofs.Frames.Shown.{Goes}
@@ -48,7 +46,8 @@ use Rattle.segment_invariant.proofs.Counting.Held.{not_sparse}
 use Rattle.segment_invariant.proofs.Counting.Looks.{knows_of, one_record, counter_now, counts_was}
 use Rattle.segment_invariant.proofs.Counting.Sights.{word_within}
 use Rattle.segment_invariant.proofs.Counting.Whole.{whole_mounted}
-use Rattle.segment_invariant.proofs.Taking.Takes.{b, takes_kept}
+use Rattle.segment_invariant.proofs.Taking.Knowns.{takes_of}
+use Rattle.segment_invariant.proofs.Taking.Takes.{b, takes_kept, raised_is}
 use Rattle.segment_invariant.proofs.Taking.MarkWords.{marked, marked_turns, marked_counts, TheMarks, the_marks, mark_now, mark_seen}
 
 not_packed : (form : Option SingleWord) (i : ℕ) → packed_bucket form ≢ Some i → is_packed_bucket form i ≡ false
@@ -59,10 +58,10 @@ not_packed form i apart = by_test (is_packed_bucket form i) refl
     by_test false is = is
 
 module _ (shape : Dimensions) (opened : Anatomy) (state : State) (kept : Invariant shape opened state) (id : ℕ) (a : Actor)
-    (mine : get_elem? state.actors id ≡ some a) (recorder : a.opener ≡ 0) (look : Look) (known : Known) (bucket least word : ℕ)
-    (placed : a.place ≡ CountLoaded look bucket least) (takes : Takes a look.histogram known) (single_is : look.single ≡ Some word)
+    (mine : get_elem? state.actors id ≡ some a) (recorder : is_opener a.role ≡ false) (look : Look) (known : Known) (bucket least word : ℕ)
+    (placed : a.hand.place ≡ CountLoaded look bucket least) (takes : Takes a look.histogram known) (single_is : look.single ≡ Some word)
     (apart : packed_bucket (form_seen a look.histogram word) ≢ Some bucket) where
-  lives : a.place ≢ Spent
+  lives : a.hand.place ≢ Spent
   lives spent = cc (sym placed ∙ spent)
 
   abbrev stood : StandsRight shape kept.anatomy id a (CountLoaded look bucket least)
@@ -99,29 +98,16 @@ module _ (shape : Dimensions) (opened : Anatomy) (state : State) (kept : Invaria
   abbrev Named : Type 0
   Named = IsFirst kept.anatomy.records known.name r.spec look.histogram × (r.name ≡ known.name) × (buckets_of r.spec ≡ buckets_of known.spec)
       × (packed_bucket (form_at kept.anatomy.version r) ≢ Some bucket)
-      × (bucket_key (known_at a.names look.histogram) bucket ≡ key_of_bucket r.spec bucket)
+      × (bucket_key (known_at a.answers.names look.histogram) bucket ≡ key_of_bucket r.spec bucket)
 
   named_it : Named
   named_it =
-      let fits = kept.each id a mine lives in
-      let (q, first, stands, named, many, keys) = knows_of shape opened state kept id a mine recorder lives known takes.1 in
-      let same = one_record shape opened state kept look.histogram q r (subst (λ (n : ℕ). HasRecord kept.anatomy.pieces n q) takes.2 stands) has in
-      let among = at_from a.names known takes.1 in
-      let (found, is, there, refers) = find_known a.names look.histogram among.0 known among.1 takes.2 in
-      let (p, its_first, its_stands, its_named, its_many, its_keys) = knows_of shape opened state kept id a mine recorder lives found there in
-      let same_found = one_record shape opened state kept look.histogram p r (subst (λ (n : ℕ). HasRecord kept.anatomy.pieces n p) refers its_stands) has in
-      let count : known_buckets (known_at a.names look.histogram) ≡ buckets_of r.spec =
-      ap known_buckets is ∙ (sym its_many ∙ ap (λ (z : Record). buckets_of z.spec) same_found) in
+      let (first, named, many, keys, its_keys, forms) = takes_of shape opened state kept id a mine recorder lives look.histogram known takes r has in
       let some_word : Some word ≡ Some off.2.0 = sym single_is ∙ off.2.1 in
       let word_is : word ≡ off.2.0 = cc some_word in
       let form : form_seen a look.histogram word ≡ form_at kept.anatomy.version r =
-      (λ j. single_of (fits.versioned j) (count j) ((word_is ∙ marks_there.6) j)) in (
-        subst (λ (p : ℕ × Record). IsFirst kept.anatomy.records known.name p.1.spec p.0) (λ j. (takes.2 j, same j)) first,
-        sym (ap (λ (z : Record). z.name) same) ∙ named,
-        sym (ap (λ (z : Record). buckets_of z.spec) same) ∙ many,
-        λ packs. apart (ap packed_bucket form ∙ packs),
-        ap (λ (x : Option Known). bucket_key x bucket) is ∙ (sym (its_keys bucket) ∙ ap (λ (z : Record). key_of_bucket z.spec bucket) same_found),
-      )
+      forms word ∙ ap (λ (w : ℕ). single_of kept.anatomy.version (buckets_of r.spec) w) (word_is ∙ marks_there.6) in
+      (first, named, many, λ packs. apart (ap packed_bucket form ∙ packs), its_keys bucket)
 
   abbrev key : ℤ
   key = key_of_bucket r.spec bucket
@@ -224,7 +210,7 @@ module _ (shape : Dimensions) (opened : Anatomy) (state : State) (kept : Invaria
         lives = λ spent. cc spent;
         no_sum = λ reference sum is. cc is;
         still = (λ other bucket units moving. cc (sym placed ∙ moving), λ other bucket units moving. cc moving);
-        stood = record { known = off.0.known; knows = off.0.knows; single = off.0.single; counts = off.0.counts };
+        stood = off.0;
         up = λ free. subst (λ (p : Place). is_beaten p ≡ false) (sym placed) refl;
       })
 
@@ -232,7 +218,7 @@ module _ (shape : Dimensions) (opened : Anatomy) (state : State) (kept : Invaria
   mine_between = set_at state.actors id a d mine
 
   abbrev off_between : LoadedOff d look
-  off_between = (record { known = off.0.known; knows = off.0.knows; single = off.0.single; counts = off.0.counts }, off.1, off.2)
+  off_between = (off.0, off.1, off.2)
 
   abbrev at : ℕ
   at = look.counts + 4 + buckets_of known.spec + bucket
@@ -264,17 +250,14 @@ module _ (shape : Dimensions) (opened : Anatomy) (state : State) (kept : Invaria
   left : Invariant shape opened (record {
     words = between.words;
     cursors = state.cursors;
-    actors = set between.actors id (seer d (Looking look) (record a.seen { counts = a.seen.counts ++ record { at = at; word = word_at between.words at } ∷ [] }) a.given a.lost);
+    actors = set between.actors id (seer d (Looking look) (record a.seen { counts = a.seen.counts ++ record { at = at; word = word_at between.words at } ∷ [] }) a.done.given a.done.lost);
   })
   left = mark_seen shape opened between kept_between id d mine_between recorder refl look off_between bucket stood.1 at spot_between
 
   carry : v ≡ max (word_at state.words at) least
-  carry = greater m least ∙ ap (λ (n : ℕ). max n least) (sym found_is)
-    where
-      greater : (x y : ℕ) → x + (y - x) ≡ max x y
-      greater x y = omega arith
+  carry = raised_is m least ∙ ap (λ (n : ℕ). max n least) (sym found_is)
 
-  key_is : key ≡ taken_key a a.place
+  key_is : key ≡ taken_key a a.hand.place
   key_is = sym (ap (taken_key a) placed ∙ named_it.4)
 
   raised_at : Goes shape opened state kept id a mine recorder (taking_event (raise_mark at least))
@@ -282,10 +265,10 @@ module _ (shape : Dimensions) (opened : Anatomy) (state : State) (kept : Invaria
     subst (λ (p : List ℕ × List Actor). Invariant shape opened (record { words = p.0; cursors = state.cursors; actors = p.1 }))
         (λ i. (
           set state.words (sym spot i) (carry i),
-          (set-set state.actors id d (seer d (Looking look) (record a.seen { counts = a.seen.counts ++ record { at = at; word = word_at between.words at } ∷ [] }) a.given a.lost)
+          (set-set state.actors id d (seer d (Looking look) (record a.seen { counts = a.seen.counts ++ record { at = at; word = word_at between.words at } ∷ [] }) a.done.given a.done.lost)
               ∙ (λ j. set state.actors id (record a {
-                place = (sym (ap back placed)) j;
-                taken = change_last (take_units (key_is j) least (sym found_is j)) a.taken;
+                hand = record a.hand { place = (sym (ap back placed)) j };
+                deltas = record a.deltas { taken = change_last (take_units (key_is j) least (sym found_is j)) a.deltas.taken };
                 seen = record a.seen { counts = a.seen.counts ++ record { at = at; word = (word_between ∙ carry) j } ∷ [] };
               }))) i,
         )) left,
@@ -296,12 +279,12 @@ module _ (shape : Dimensions) (opened : Anatomy) (state : State) (kept : Invaria
 -- A mark of a bucket that is not the packed one is raised
 abbrev pub RaisesBucket : Actor → ℕ → ℕ → Type 0
 RaisesBucket a at least =
-    (look : Look) × (known : Known) × (bucket word : ℕ) × (a.place ≡ CountLoaded look bucket least) × Takes a look.histogram known × (look.single ≡ Some word)
+    (look : Look) × (known : Known) × (bucket word : ℕ) × (a.hand.place ≡ CountLoaded look bucket least) × Takes a look.histogram known × (look.single ≡ Some word)
     × (packed_bucket (form_seen a look.histogram word) ≢ Some bucket) × (at ≡ look.counts + 4 + buckets_of known.spec + bucket)
 
 -- so what holds is kept
 pub bucket_raised : (shape : Dimensions) (opened : Anatomy) (state : State) (kept : Invariant shape opened state) (id : ℕ) (a : Actor)
-    (mine : get_elem? state.actors id ≡ some a) (recorder : a.opener ≡ 0) (place least : ℕ) → RaisesBucket a place least
+    (mine : get_elem? state.actors id ≡ some a) (recorder : is_opener a.role ≡ false) (place least : ℕ) → RaisesBucket a place least
     → Goes shape opened state kept id a mine recorder (taking_event (raise_mark place least))
 bucket_raised shape opened state kept id a mine recorder place least (look, known, bucket, word, placed, takes, single_is, apart, is) =
     subst (λ (n : ℕ). Goes shape opened state kept id a mine recorder (taking_event (raise_mark n least))) (sym is)

@@ -1,5 +1,5 @@
 -- The sum mark is swapped for the sum that was loaded.
-use Rattle.std.proofs.Common.{◌≡◌, ◌≢◌, ℕ, ◌+◌, ◌-◌, ◌*◌, ◌^◌, ◌<◌, ◌≤◌, ℤ, pos, ◌+ℤ◌, ◌-ℤ◌, neg_ℤ, Bool, true, false, if◌then◌else◌, List, [], ◌∷◌, ◌++◌, length, take, set, Contains, inl, inr, ⊎_elim, refl, sym, ap, ◌∙◌, subst, arith, length-append, append-nil}
+use Rattle.std.proofs.Common.{◌≡◌, ◌≢◌, ℕ, ◌+◌, ◌-◌, ◌*◌, ◌^◌, ◌<◌, ◌≤◌, ℤ, pos, ◌+ℤ◌, ◌-ℤ◌, neg_ℤ, Bool, true, false, if◌then◌else◌, List, [], ◌∷◌, ◌++◌, length, take, set, Contains, inl, inr, ⊎_elim, refl, sym, ap, ◌∙◌, subst, arith, length-append, append-nil, map}
 use Rattle.std.specs.Prelude.{unsigned_abs}
 use Rattle.std.specs.Int.{w64, cast_signed, cast_unsigned}
 use Rattle.std.specs.Str.{bytes_eq}
@@ -8,7 +8,6 @@ use Rattle.std.proofs.Math.IntN.{+ℤ_assoc, +ℤ_comm, +ℤ_idl, +ℤ_idr, +ℤ
 use Rattle.std.proofs.Math.Seq.{take-append_seam}
 use Rattle.std.proofs.lemmas.Int.{to_z-of_z, fits_signed_from_abs}
 use Rattle.std.proofs.lemmas.List.Elements.{All-contains, Contains-append_left, Contains-append_right, Contains-append_cases}
-use Rattle.std.proofs.lemmas.List.Sums.{sum_by-append}
 use Rattle.std.proofs.lemmas.Simd.{below_from_Fits}
 use Rattle.std.proofs.lemmas.Slice.Eq.{bytes_eq-Decides}
 use mathlib.Core.Option.{some, none}
@@ -17,24 +16,24 @@ use Rattle.atomic_table.proofs.Lists.{set_else}
 use Rattle.segment_image.specs.Shape.{Dimensions}
 use Rattle.segment_image.specs.Words.{word_at}
 use Rattle.segment_machine.specs.declared.actor.Actor.{Actor}
+use Rattle.segment_machine.specs.declared.actor.Portion.{Portion}
 use Rattle.segment_machine.specs.declared.actor.Known.{Known}
 use Rattle.segment_machine.specs.declared.actor.Moment.{Moment}
 use Rattle.segment_machine.specs.declared.actor.Taken.{Taken}
 use Rattle.segment_machine.specs.declared.place.Place.TheVariants.{Spent, Idle, SumLoaded}
 use Rattle.segment_machine.specs.Calls.{change_last}
 use Rattle.segment_machine.specs.Entry.{tally_units, tally_sum, tally_noted}
-use Rattle.segment_machine.specs.Actor.{counted_of, summed_of, noted_of, units_listed, taken_units, taken_sum, all_counted, all_summed, all_noted, all_taken, cost_of}
+use Rattle.segment_machine.specs.Actor.{counted_of, summed_of, noted_of, taken_units, taken_sum, all_counted, all_summed, all_noted, all_taken, cost_of, taken_of, portion_of, is_opener}
 use Rattle.segment_machine.specs.State.{State}
 use Rattle.segment_machine.specs.Taking.{swap_sum_mark, swap_sum}
 use Rattle.segment_machine.specs.Event.{taking_event}
 use Rattle.segment_invariant.specs.Body.{Record, histogram, Anatomy}
 use Rattle.segment_invariant.specs.Ledger.{amount_of_name}
 use Rattle.segment_invariant.specs.Seen.{HasRecord, IsFirst, Knows}
-use Rattle.segment_invariant.specs.Invariant.{IsLawfulRecord, IsCountsOf, IsAlone, IsSumOf, SumsAreNear, summed_cost, ended_deltas, IsMomentOf, FinalsAreExact, Invariant, summed_costs, HasKey, is_beaten}
+use Rattle.segment_invariant.specs.Invariant.{IsLawfulRecord, IsAlone, IsSumOf, SumsAreNear, summed_cost, ended_deltas, IsMomentOf, FinalsAreExact, Invariant, summed_costs, HasKey, is_beaten}
 use Rattle.segment_invariant.specs.Keeps.{EventKeeps}
 use Rattle.segment_invariant.proofs.Lists.Elements.{rows, row_in, one_in, sum_same}
 use Rattle.segment_invariant.proofs.Lists.Ends.{snoc_split}
-use Rattle.segment_invariant.proofs.Lists.Sums.{amounts_total}
 use Rattle.segment_invariant.proofs.Frames.Anatomies.{calls_same}
 use Rattle.segment_invariant.proofs.Frames.Answers.{first_one}
 use Rattle.segment_invariant.proofs.Frames.GoesOn.{not_opener, happens}
@@ -52,6 +51,8 @@ use Rattle.segment_invariant.proofs.Counting.Looks.{knows_of, body_word}
 use Rattle.segment_invariant.proofs.Counting.Seen.{known_stands}
 use Rattle.segment_invariant.proofs.Counting.Sights.{word_within}
 use Rattle.std.proofs.lemmas.Grind.{flat_map-append}
+use Rattle.segment_invariant.proofs.Lists.Portions.{taken_total, taken_sum_total, portions_push, portion_in, portion_from, portion_first}
+use Rattle.segment_invariant.proofs.Frames.Anew.{lawful_anew}
 
 -- ---- lists and amounts
 
@@ -80,40 +81,15 @@ abbrev with_mark : Record → ℕ → Record
 with_mark r mark = record r { sum_mark = mark }
 
 lawful_mark : (version page : ℕ) (r : Record) (mark : ℕ) → mark < 2 ^ 64 → IsLawfulRecord version page r → IsLawfulRecord version page (with_mark r mark)
-lawful_mark version page r mark narrow is = record {
-  sized = is.sized;
-  least = is.least;
-  named = is.named;
-  lettered = is.lettered;
-  lawful = is.lawful;
-  fields = is.fields;
-  fits = is.fits;
-  formed = is.formed;
-  unpacked = is.unpacked;
-  off = is.off;
-  sparse = is.sparse;
-  narrow = (is.narrow.0, narrow);
-}
-
-counts_mark : (version at : ℕ) (r : Record) (mark : ℕ) (c : _) → IsCountsOf version at r c → IsCountsOf version at (with_mark r mark) c
-counts_mark version at r mark c is = record {
-  mine = is.mine;
-  named = is.named;
-  same = is.same;
-  units = is.units;
-  marks = is.marks;
-  sized = is.sized;
-  packed = is.packed;
-  unused = is.unused;
-  mark = is.mark;
-}
+lawful_mark version page r mark narrow is = lawful_anew version page r r.counts r.single r.mark r.sum mark r.noted is
+    is.formed is.unpacked is.off is.sparse (is.narrow.0, narrow)
 
 -- ---- the state
 
 module _ (shape : Dimensions) (opened : Anatomy) (state : State) (kept : Invariant shape opened state) (id : ℕ) (a : Actor)
-    (mine : get_elem? state.actors id ≡ some a) (recorder : a.opener ≡ 0) (sum : ℤ) (known : Known) (has : Contains a.names known) (taking : a.taking ≡ true)
-    (front : List Taken) (last : Taken) (taken_is : a.taken ≡ front ++ last ∷ []) (named : last.name ≡ known.name) (placed : a.place ≡ SumLoaded known.reference sum) where
-  lived : a.place ≢ Spent
+    (mine : get_elem? state.actors id ≡ some a) (recorder : is_opener a.role ≡ false) (sum : ℤ) (known : Known) (has : Contains a.answers.names known) (taking : a.deltas.taking ≡ true)
+    (front : List Taken) (last : Taken) (taken_is : a.deltas.taken ≡ front ++ last ∷ []) (named : last.name ≡ known.name) (placed : a.hand.place ≡ SumLoaded known.reference sum) where
+  lived : a.hand.place ≢ Spent
   lived spent = cc (sym placed ∙ spent)
 
   abbrev r : Record
@@ -181,6 +157,7 @@ module _ (shape : Dimensions) (opened : Anatomy) (state : State) (kept : Invaria
     opener = refl;
     first = refl;
     first_noted = refl;
+    first_taken = refl;
     made = refl;
     outstanding = refl;
     inherited = refl;
@@ -204,15 +181,19 @@ module _ (shape : Dimensions) (opened : Anatomy) (state : State) (kept : Invaria
 
   -- ---- what it took
 
-  took_same : (name : List ℕ) (key : ℤ) → taken_units d.taken name key ≡ taken_units a.taken name key
+  took_same : (name : List ℕ) (key : ℤ) → taken_units (taken_of b) name key ≡ taken_units (taken_of a) name key
   took_same name key =
-      let each : Taken → ℕ = λ t. if bytes_eq t.name name then units_listed t.counts key else 0 in
-      sum_by-append each front (swapped_one ∷ []) ∙ (sym (sum_by-append each front (last ∷ [])) ∙ ap (λ list. taken_units list name key) (sym taken_is))
+      let total = taken_total name key (a.deltas.first_taken ++ map portion_of front) in
+      ap (λ list. taken_units list name key) (portions_push a.deltas.first_taken front swapped_one)
+      ∙ (total (portion_of swapped_one ∷ [])
+      ∙ (sym (total (portion_of last ∷ []))
+      ∙ (sym (ap (λ list. taken_units list name key) (portions_push a.deltas.first_taken front last))
+      ∙ ap (λ (list : List Taken). taken_units (a.deltas.first_taken ++ map portion_of list) name key) (sym taken_is))))
 
   took_all_same : (name : List ℕ) (key : ℤ) → taken_units (all_taken actors) name key ≡ taken_units (all_taken state.actors) name key
   took_all_same name key =
       let all = rows_beside (λ list. taken_units list name key)
-      (sum_by-append (λ (t : Taken). if bytes_eq t.name name then units_listed t.counts key else 0)) (λ (a : Actor). a.taken) state.actors id a b mine in
+      (taken_total name key) taken_of state.actors id a b mine in
       let same = took_same name key in
       omega (arith, all, same)
 
@@ -222,30 +203,34 @@ module _ (shape : Dimensions) (opened : Anatomy) (state : State) (kept : Invaria
   name_is : last.name ≡ r.name
   name_is = named ∙ sym called
 
-  took_more : (name : List ℕ) → taken_sum d.taken name ≡ taken_sum a.taken name +ℤ more_of name
+  took_more : (name : List ℕ) → taken_sum (taken_of b) name ≡ taken_sum (taken_of a) name +ℤ more_of name
   took_more name =
-      let total = amounts_total (λ (t : Taken). if bytes_eq t.name name then t.sum else pos 0) in
-      total front (swapped_one ∷ [])
-      ∙ (ap (λ z. taken_sum front name +ℤ z) one_more
-      ∙ (sym (+ℤ_assoc (taken_sum front name) (taken_sum (last ∷ []) name) (more_of name))
-      ∙ ap (λ z. z +ℤ more_of name) (sym (total front (last ∷ [])) ∙ ap (λ list. taken_sum list name) (sym taken_is))))
+      let before : List Portion = a.deltas.first_taken ++ map portion_of front in
+      let total = taken_sum_total name before in
+      ap (λ list. taken_sum list name) (portions_push a.deltas.first_taken front swapped_one)
+      ∙ (total (portion_of swapped_one ∷ [])
+      ∙ (ap (λ z. taken_sum before name +ℤ z) one_more
+      ∙ (sym (+ℤ_assoc (taken_sum before name) (taken_sum (portion_of last ∷ []) name) (more_of name))
+      ∙ ap (λ z. z +ℤ more_of name) (sym (total (portion_of last ∷ []))
+      ∙ (sym (ap (λ list. taken_sum list name) (portions_push a.deltas.first_taken front last))
+      ∙ ap (λ (list : List Taken). taken_sum (a.deltas.first_taken ++ map portion_of list) name) (sym taken_is))))))
     where
       by_test : (t : Bool) → pos 0 +ℤ (if t then last.sum +ℤ (sum -ℤ mark) else pos 0) ≡ (pos 0 +ℤ (if t then last.sum else pos 0)) +ℤ (if t then sum -ℤ mark else pos 0)
       by_test true = sym (+ℤ_assoc (pos 0) last.sum (sum -ℤ mark))
       by_test false = refl
 
-      one_more : taken_sum (swapped_one ∷ []) name ≡ taken_sum (last ∷ []) name +ℤ more_of name
-      one_more = by_test (bytes_eq last.name name) ∙ ap (λ (n : List ℕ). taken_sum (last ∷ []) name +ℤ amount_of_name n name (sum -ℤ mark)) name_is
+      one_more : taken_sum (portion_of swapped_one ∷ []) name ≡ taken_sum (portion_of last ∷ []) name +ℤ more_of name
+      one_more = by_test (bytes_eq last.name name) ∙ ap (λ (n : List ℕ). taken_sum (portion_of last ∷ []) name +ℤ amount_of_name n name (sum -ℤ mark)) name_is
 
   took_all_more : (name : List ℕ) → taken_sum (all_taken actors) name ≡ taken_sum (all_taken state.actors) name +ℤ more_of name
   took_all_more name = all_sums_more name (took_more name)
     where
-      all_sums_more : (name : List ℕ) → taken_sum d.taken name ≡ taken_sum a.taken name +ℤ more_of name
+      all_sums_more : (name : List ℕ) → taken_sum (taken_of b) name ≡ taken_sum (taken_of a) name +ℤ more_of name
           → taken_sum (all_taken actors) name ≡ taken_sum (all_taken state.actors) name +ℤ more_of name
       all_sums_more name more = amounts_moved (λ (list : List Actor). taken_sum (all_taken list) name)
-          (λ xs ys. ap (λ list. taken_sum list name) (flat_map-append (λ (a : Actor). a.taken) xs ys)
-          ∙ amounts_total (λ (t : Taken). if bytes_eq t.name name then t.sum else pos 0) (all_taken xs) (all_taken ys)) state.actors id a b (more_of name) mine
-          (ap (λ list. taken_sum list name) (append-nil d.taken) ∙ (more ∙ ap (λ list. taken_sum list name +ℤ more_of name) (sym (append-nil a.taken))))
+          (λ xs ys. ap (λ list. taken_sum list name) (flat_map-append taken_of xs ys)
+          ∙ taken_sum_total name (all_taken xs) (all_taken ys)) state.actors id a b (more_of name) mine
+          (ap (λ list. taken_sum list name) (append-nil (taken_of b)) ∙ (more ∙ ap (λ list. taken_sum list name +ℤ more_of name) (sym (append-nil (taken_of a)))))
 
   mark_more : (name : List ℕ) → amount_of_name r.name name (cast_signed w64 v) ≡ amount_of_name r.name name mark +ℤ more_of name
   mark_more name = by_test (bytes_eq r.name name)
@@ -253,6 +238,24 @@ module _ (shape : Dimensions) (opened : Anatomy) (state : State) (kept : Invaria
       by_test : (t : Bool) → (if t then cast_signed w64 v else pos 0) ≡ (if t then mark else pos 0) +ℤ (if t then sum -ℤ mark else pos 0)
       by_test true = back ∙ sym (onward mark sum)
       by_test false = refl
+
+  -- ---- whose key it has
+
+  was_taken : (p : Portion) → Contains (taken_of a) p → (count : ℤ × ℕ) → Contains p.counts count → HasKey kept.anatomy.records p.name count.0
+  was_taken p old count = kept.taken_keys p count (row_in taken_of state.actors id a p mine old)
+
+  swapped_keys : (t : Taken) → Contains d.taken t → (count : ℤ × ℕ) → Contains t.counts count → HasKey kept.anatomy.records t.name count.0
+  swapped_keys t there count among = ⊎_elim
+      (λ old. was_taken (portion_of t) (portion_in a t (subst (λ (list : List Taken). Contains list t) (sym taken_is) (Contains-append_left front (last ∷ []) t old))) count among)
+      (λ one.
+      let same = one_in swapped_one t one in
+      subst (λ (n : List ℕ). HasKey kept.anatomy.records n count.0) (ap (λ (t : Taken). t.name) same)
+      (was_taken (portion_of last)
+      (portion_in a last (subst (λ (list : List Taken). Contains list last) (sym taken_is) (Contains-append_right front (last ∷ []) last (0, omega arith, refl))))
+      count (subst (λ (list : List (ℤ × ℕ)). Contains list count) (sym (ap (λ (t : Taken). t.counts) same)) among)))
+      (Contains-append_cases front (swapped_one ∷ []) t there)
+
+  -- ---- the sum
 
   -- who is alone has taken the sum then
   taken_now : IsAlone state.actors a → taken_sum (all_taken actors) known.name ≡ tally_sum (all_summed actors) known.name
@@ -313,7 +316,7 @@ module _ (shape : Dimensions) (opened : Anatomy) (state : State) (kept : Invaria
       let now : Contains front t = subst (λ (list : List Taken). Contains list t)
       (ap (λ (on : Bool). if on then take (length d.taken - 1) d.taken else d.taken) taking ∙ before_last front swapped_one) there in
       subst (λ (list : List Taken). Contains list t)
-      (sym (ap (λ (on : Bool). if on then take (length a.taken - 1) a.taken else a.taken) taking
+      (sym (ap (λ (on : Bool). if on then take (length a.deltas.taken - 1) a.deltas.taken else a.deltas.taken) taking
       ∙ (ap (λ (list : List Taken). take (length list - 1) list) taken_is ∙ before_last front last))) now
 
   moment_was : (m : Moment) → IsMomentOf b m → IsMomentOf a m
@@ -342,11 +345,10 @@ module _ (shape : Dimensions) (opened : Anatomy) (state : State) (kept : Invaria
             let was = exact.snapshots s there none_out youngest quiet in (
               λ key. was.0 key ∙ ap (λ entries. tally_units entries s.name key) (sym counted),
               was.1 ∙ ap (λ entries. tally_sum entries s.name) (sym summed),
-              was.2 ∙ ap (λ entries. cost_of opener.first_noted s.name + tally_noted entries s.name) (sym noted),
+              was.2 ∙ ap (λ entries. cost_of opener.entries.first_noted s.name + tally_noted entries s.name) (sym noted),
             );
         moments = λ m of.
-            let is = moment state.actors actors opener opener id a m is_later (exact.moments m (moment_was m of)) in
-            record { logged = is.logged; before = is.before; mine = is.mine; eldest = is.eldest };
+            moment state.actors actors opener opener id a m is_later (exact.moments m (moment_was m of));
         swapped = λ before one on is swapped alone.
             let same = last_one front before swapped_one one is in
             let name : known.name ≡ one.name = sym named ∙ ap (λ (t : Taken). t.name) same in
@@ -370,17 +372,17 @@ module _ (shape : Dimensions) (opened : Anatomy) (state : State) (kept : Invaria
   sum_marked =
       let fits = kept.each id a mine lived in
       let calls = calls_same kept.anatomy new a refl fits.calls in
-      let knows = All-contains (Knows kept.anatomy) a.names known fits.names has in
+      let knows = All-contains (Knows kept.anatomy) a.answers.names known fits.names has in
       let records = record_kept shape opened state kept known.reference r (with_mark r v) 12 v stands turns refl
       (lawful_mark kept.anatomy.version shape.page r v narrow (kept.records.lawful known.reference r stands))
-      (λ c there is. counts_mark kept.anatomy.version known.reference r v c is)
+      (λ c there is. is)
       (kept.records.packed known.reference r stands)
       (λ kind place is. first_one kept.anatomy.records known.name kind knows.first_spec place known.reference
       (subst (λ (name : List ℕ). IsFirst kept.anatomy.records name kind place) called is) knows.first) in
       turned_on shape opened state kept known.reference (histogram r) (histogram (with_mark r v)) 12 v stands turns id a mine recorder lived d (record {
         records = records;
         balances = record {
-          units = λ name key. let rests = rests_at a name key a.place (λ look bucket units moving. cc (sym placed ∙ moving)) in omega (arith, rests);
+          units = λ name key. let rests = rests_at a name key a.hand.place (λ look bucket units moving. cc (sym placed ∙ moving)) in omega (arith, rests);
           marks = λ name key. let same = took_same name key in omega (arith, same);
           sums = λ name. (pos 0, sym (+ℤ_idr _), sym (+ℤ_idr _));
           sum_marks = λ name. (more_of name, mark_more name, took_more name);
@@ -393,16 +395,10 @@ module _ (shape : Dimensions) (opened : Anatomy) (state : State) (kept : Invaria
             omega (arith, was, took, same);
         counted = λ name key. omega arith;
         keys = λ entry there units. kept.keys entry (row_in counted_of state.actors id a entry mine there) units;
-        taken_keys = λ t count there among. ⊎_elim
-            (λ old. kept.taken_keys t count (row_in (λ (c : Actor). c.taken) state.actors id a t mine
-            (subst (λ (list : List Taken). Contains list t) (sym taken_is) (Contains-append_left front (last ∷ []) t old))) among)
-            (λ one.
-            let same = one_in swapped_one t one in
-            subst (λ (n : List ℕ). HasKey kept.anatomy.records n count.0) (ap (λ (t : Taken). t.name) same)
-            (kept.taken_keys last count (row_in (λ (c : Actor). c.taken) state.actors id a last mine
-            (subst (λ (list : List Taken). Contains list last) (sym taken_is) (Contains-append_right front (last ∷ []) last (0, omega arith, refl))))
-            (subst (λ (list : List (ℤ × ℕ)). Contains list count) (sym (ap (λ (t : Taken). t.counts) same)) among)))
-            (Contains-append_cases front (swapped_one ∷ []) t there);
+        taken_keys = λ p count there among. ⊎_elim
+            (λ old. was_taken p (portion_first a.deltas.first_taken a.deltas.taken p old) count among)
+            (λ (t, is_there, is). subst (λ (p : Portion). Contains p.counts count → HasKey kept.anatomy.records p.name count.0) is (swapped_keys t is_there count) among)
+            (portion_from a.deltas.first_taken d.taken p there);
         sums = near;
         lives = λ e. cc e;
         stood = tt;
@@ -431,7 +427,7 @@ module _ (shape : Dimensions) (opened : Anatomy) (state : State) (kept : Invaria
 -- the event
 pub sum_mark_swapped : (h : ℕ) (sum : ℤ) → EventKeeps (taking_event (swap_sum_mark h sum))
 sum_mark_swapped h sum shape opened state id a kept mine recorder (known, (taking, has, refers, (front, last, taken_is, named)), placed) =
-    let here : a.place ≡ SumLoaded known.reference sum = placed ∙ ap (λ (n : ℕ). SumLoaded n sum) (sym refers) in
+    let here : a.hand.place ≡ SumLoaded known.reference sum = placed ∙ ap (λ (n : ℕ). SumLoaded n sum) (sym refers) in
     let lives = lived shape opened state kept id a mine recorder sum known has taking front last taken_is named here in
     let (r, first, there, called, many, keys) = knows_of shape opened state kept id a mine recorder lives known has in
     let found : word_at state.words (h + 12) ≡ r.sum_mark =
@@ -443,7 +439,7 @@ sum_mark_swapped h sum shape opened state id a kept mine recorder (known, (takin
       subst (λ (p : ℕ × List Taken). Invariant shape opened (record {
         words = set state.words (p.0 + 12) (cast_unsigned w64 sum);
         cursors = state.cursors;
-        actors = set state.actors id (record a { place = Idle; taken = p.1 });
+        actors = set state.actors id (record a { hand = record a.hand { place = Idle }; deltas = record a.deltas { taken = p.1 } });
       })) (λ i. (
         refers i,
         sym (ap (change_last (swap_sum sum (cast_signed w64 (word_at state.words (h + 12))))) taken_is

@@ -1,5 +1,5 @@
 -- A mark rises, and the delta of its recorder takes the units between: what was taken of a key, and the state that is left.
-use Rattle.std.proofs.Common.{◌≡◌, ◌≢◌, ◌⊎◌, ℕ, ◌+◌, ◌-◌, ◌≤◌, ℤ, pos, ◌+ℤ◌, Bool, true, false, nat_lt, if◌then◌else◌, List, [], ◌∷◌, ◌++◌, set, Contains, inl, inr, ⊎_elim, refl, sym, ap, ◌∙◌, subst, arith}
+use Rattle.std.proofs.Common.{◌≡◌, ◌≢◌, ◌⊎◌, ℕ, ◌+◌, ◌-◌, max, ◌≤◌, ℤ, pos, ◌+ℤ◌, Bool, true, false, nat_lt, if◌then◌else◌, List, [], ◌∷◌, ◌++◌, set, Contains, inl, inr, ⊎_elim, refl, sym, ap, ◌∙◌, subst, arith}
 use Rattle.std.specs.Str.{bytes_eq}
 use Rattle.std.specs.Ordering.{int_eq}
 use Rattle.std.proofs.Math.IntN.{+ℤ_idr}
@@ -13,13 +13,14 @@ use lib.ListN.{get_elem?}
 use Rattle.atomic_table.proofs.Lists.{set_else}
 use Rattle.segment_image.specs.Shape.{Dimensions}
 use Rattle.segment_machine.specs.declared.actor.Actor.{Actor}
+use Rattle.segment_machine.specs.declared.actor.Portion.{Portion}
 use Rattle.segment_machine.specs.declared.actor.Known.{Known}
 use Rattle.segment_machine.specs.declared.actor.Taken.{Taken}
 use Rattle.segment_machine.specs.declared.place.Look.{Look}
 use Rattle.segment_machine.specs.declared.place.Place.{Place}
 use Rattle.segment_machine.specs.declared.place.Place.TheVariants.{Spent, SumLoaded, Moving}
 use Rattle.segment_machine.specs.Entry.{tally_units}
-use Rattle.segment_machine.specs.Actor.{counted_of, summed_of, noted_of, units_listed, taken_units, taken_sum, all_counted, all_summed, all_noted, all_taken}
+use Rattle.segment_machine.specs.Actor.{counted_of, summed_of, noted_of, units_listed, taken_units, taken_sum, all_counted, all_summed, all_noted, all_taken, taken_of, portion_of, is_opener}
 use Rattle.segment_machine.specs.State.{State}
 use Rattle.segment_machine.specs.Taking.{take_units}
 use Rattle.segment_invariant.specs.Body.{Body, Anatomy}
@@ -27,7 +28,6 @@ use Rattle.segment_invariant.specs.Ledger.{of_name, amount_of_name, units_held, 
 use Rattle.segment_invariant.specs.Seen.{Stands}
 use Rattle.segment_invariant.specs.Invariant.{RecordsAreKept, StandsRight, summed_cost, HasKey, Invariant}
 use Rattle.segment_invariant.proofs.Lists.Elements.{rows, row_in, one_in, none_in, sum_same}
-use Rattle.segment_invariant.proofs.Lists.Sums.{amounts_total}
 use Rattle.segment_invariant.proofs.Frames.Ahead.{KeepsUp}
 use Rattle.segment_invariant.proofs.Frames.GoesOn.{not_opener}
 use Rattle.segment_invariant.proofs.Frames.OneActor.{lives_on, rests_at}
@@ -39,6 +39,11 @@ use Rattle.segment_invariant.proofs.Changes.Others.{Deed, changed, alone_was, lo
 use Rattle.segment_invariant.proofs.Changes.Sums.{SameSum, sums_on}
 use Rattle.segment_invariant.proofs.Changes.Words.{Turns, behind, turned_onward, sees_turned, turned_on}
 use Rattle.segment_invariant.proofs.Taking.Lasts.{further_from, last_in, units_further, sum_further, takes_on, calls_taken, finals_taken}
+use Rattle.segment_invariant.proofs.Lists.Portions.{taken_total, taken_sum_total, portion_in, portion_from, portion_first}
+
+-- a mark to which the units that are missing are added is the greater of it and what was seen
+pub raised_is : (mark least : ℕ) → mark + (least - mark) ≡ max mark least
+raised_is mark least = omega arith
 
 -- what is listed of a key
 listed_more : (key other : ℤ) (least found : ℕ) (t : Taken)
@@ -89,8 +94,8 @@ no_more_amount mine name = by_test (bytes_eq mine name)
 
 module _ (shape : Dimensions) (opened : Anatomy) (state : State) (kept : Invariant shape opened state) (at : ℕ) (body then_is : Body) (j v : ℕ)
     (stands : Stands kept.anatomy.pieces at none body) (turns : Turns kept.anatomy.version body then_is j v) (id : ℕ) (a : Actor)
-    (mine : get_elem? state.actors id ≡ some a) (recorder : a.opener ≡ 0) (lived : a.place ≢ Spent) (known : Known) (taking : a.taking ≡ true)
-    (front : List Taken) (last : Taken) (taken_is : a.taken ≡ front ++ last ∷ []) (named : last.name ≡ known.name) (key : ℤ) (least found : ℕ) (place : Place) where
+    (mine : get_elem? state.actors id ≡ some a) (recorder : is_opener a.role ≡ false) (lived : a.hand.place ≢ Spent) (known : Known) (taking : a.deltas.taking ≡ true)
+    (front : List Taken) (last : Taken) (taken_is : a.deltas.taken ≡ front ++ last ∷ []) (named : last.name ≡ known.name) (key : ℤ) (least found : ℕ) (place : Place) where
   abbrev f : Taken → Taken
   f = take_units key least found
 
@@ -123,9 +128,9 @@ module _ (shape : Dimensions) (opened : Anatomy) (state : State) (kept : Invaria
     pub keyed : HasKey kept.anatomy.records known.name key
     pub lives : place ≢ Spent
     pub no_sum : (reference : ℕ) (sum : ℤ) → place ≢ SumLoaded reference sum
-    pub still : ((look : Look) (bucket units : ℕ) → a.place ≢ Moving look bucket units) × ((look : Look) (bucket units : ℕ) → place ≢ Moving look bucket units)
+    pub still : ((look : Look) (bucket units : ℕ) → a.hand.place ≢ Moving look bucket units) × ((look : Look) (bucket units : ℕ) → place ≢ Moving look bucket units)
     pub stood : StandsRight shape new id b place
-    pub up : KeepsUp a.place place
+    pub up : KeepsUp a.hand.place place
 
   module _ (shows : Takes) where
     role : SameRole b a
@@ -134,6 +139,7 @@ module _ (shape : Dimensions) (opened : Anatomy) (state : State) (kept : Invaria
       opener = refl;
       first = refl;
       first_noted = refl;
+      first_taken = refl;
       made = refl;
       outstanding = refl;
       inherited = refl;
@@ -157,9 +163,9 @@ module _ (shape : Dimensions) (opened : Anatomy) (state : State) (kept : Invaria
 
     -- ---- what was taken
 
-    took : (name : List ℕ) (other : ℤ) → taken_units b.taken name other ≡ taken_units a.taken name other + more_of name other
+    took : (name : List ℕ) (other : ℤ) → taken_units (taken_of b) name other ≡ taken_units (taken_of a) name other + more_of name other
     took name other =
-        let all = units_further a.taken front last taken_is f refl refl name other in
+        let all = units_further a.deltas.taken front last taken_is f refl refl a.deltas.first_taken name other in
         let one = of_name_more last.name name (units_listed last.counts other) (if int_eq key other then least - found else 0) (units_listed (f last).counts other)
         (listed_more key other least found last) in
         let mine_is = ap (λ (n : List ℕ). of_name n name (if int_eq key other then least - found else 0)) named in
@@ -168,7 +174,7 @@ module _ (shape : Dimensions) (opened : Anatomy) (state : State) (kept : Invaria
     took_all : (name : List ℕ) (other : ℤ) → taken_units (all_taken actors) name other ≡ taken_units (all_taken state.actors) name other + more_of name other
     took_all name other =
         let all = rows_beside (λ list. taken_units list name other)
-        (sum_by-append (λ (t : Taken). if bytes_eq t.name name then units_listed t.counts other else 0)) (λ (c : Actor). c.taken) state.actors id a b mine in
+        (taken_total name other) taken_of state.actors id a b mine in
         let its = took name other in
         omega (arith, all, its)
 
@@ -186,23 +192,32 @@ module _ (shape : Dimensions) (opened : Anatomy) (state : State) (kept : Invaria
         by_tests true false is same = let was = kept.balanced.taken name other in omega (arith, was)
         by_tests false y is same = let was = kept.balanced.taken name other in omega (arith, was)
 
-    took_sum : (name : List ℕ) → taken_sum b.taken name ≡ taken_sum a.taken name +ℤ pos 0
-    took_sum name = sum_further a.taken front last taken_is f refl refl (pos 0) (sym (+ℤ_idr last.sum)) name
-        ∙ ap (λ z. taken_sum a.taken name +ℤ z) (no_more_amount last.name name)
+    took_sum : (name : List ℕ) → taken_sum (taken_of b) name ≡ taken_sum (taken_of a) name +ℤ pos 0
+    took_sum name = sum_further a.deltas.taken front last taken_is f refl refl a.deltas.first_taken (pos 0) (sym (+ℤ_idr last.sum)) name
+        ∙ ap (λ z. taken_sum (taken_of a) name +ℤ z) (no_more_amount last.name name)
 
     sum_same_all : (name : List ℕ) → taken_sum (all_taken actors) name ≡ taken_sum (all_taken state.actors) name
     sum_same_all name = deeds_of kept.anatomy.pieces stands.0 _ (record { at = at; owner = none; body = then_is }) stands.1 state.actors id a b mine
-        (λ list. taken_sum list name) (amounts_total (λ (t : Taken). if bytes_eq t.name name then t.sum else pos 0)) (λ (c : Actor). c.taken) (pos 0) (took_sum name)
+        (λ list. taken_sum list name) (taken_sum_total name) taken_of (pos 0) (took_sum name)
         ∙ +ℤ_idr (taken_sum (all_taken state.actors) name)
 
-    has_keys : (t : Taken) (count : ℤ × ℕ) → Contains b.taken t → Contains t.counts count → HasKey kept.anatomy.records t.name count.0
-    has_keys t count has among = ⊎_elim
-        (λ old. kept.taken_keys t count (row_in (λ (c : Actor). c.taken) state.actors id a t mine old) among)
-        (λ one. subst (λ (n : List ℕ). HasKey kept.anatomy.records n count.0) (sym (ap (λ (t : Taken). t.name) one)) (⊎_elim
-        (λ was. kept.taken_keys last count (row_in (λ (c : Actor). c.taken) state.actors id a last mine (last_in a.taken front last taken_is f refl refl)) was)
-        (λ same. subst (λ (p : List ℕ × ℤ). HasKey kept.anatomy.records p.0 p.1) (λ i. (sym named i, same i)) shows.keyed)
-        (listed_from key least found last count (subst (λ (list : List (ℤ × ℕ)). Contains list count) (ap (λ (t : Taken). t.counts) one) among))))
-        (further_from a.taken front last taken_is f refl refl t has)
+    has_keys : (t : Portion) (count : ℤ × ℕ) → Contains (taken_of b) t → Contains t.counts count → HasKey kept.anatomy.records t.name count.0
+    has_keys p count has among = ⊎_elim
+        (λ old. was_taken p (portion_first a.deltas.first_taken a.deltas.taken p old) among)
+        (λ (t, there, is). subst (λ (p : Portion). Contains p.counts count → HasKey kept.anatomy.records p.name count.0) is (delta_keys t there) among)
+        (portion_from a.deltas.first_taken deed.taken p has)
+      where
+        was_taken : (p : Portion) → Contains (taken_of a) p → Contains p.counts count → HasKey kept.anatomy.records p.name count.0
+        was_taken p old = kept.taken_keys p count (row_in taken_of state.actors id a p mine old)
+
+        delta_keys : (t : Taken) → Contains deed.taken t → Contains t.counts count → HasKey kept.anatomy.records t.name count.0
+        delta_keys t there among = ⊎_elim
+            (λ old. was_taken (portion_of t) (portion_in a t old) among)
+            (λ one. subst (λ (n : List ℕ). HasKey kept.anatomy.records n count.0) (sym (ap (λ (t : Taken). t.name) one)) (⊎_elim
+            (λ was. was_taken (portion_of last) (portion_in a last (last_in a.deltas.taken front last taken_is f refl refl)) was)
+            (λ same. subst (λ (p : List ℕ × ℤ). HasKey kept.anatomy.records p.0 p.1) (λ i. (sym named i, same i)) shows.keyed)
+            (listed_from key least found last count (subst (λ (list : List (ℤ × ℕ)). Contains list count) (ap (λ (t : Taken). t.counts) one) among))))
+            (further_from a.deltas.taken front last taken_is f refl refl t there)
 
     -- the state that is left is kept
     pub takes_kept : Invariant shape opened (record { words = set state.words (at + j) v; cursors = state.cursors; actors = actors })
@@ -213,7 +228,7 @@ module _ (shape : Dimensions) (opened : Anatomy) (state : State) (kept : Invaria
           balances = record {
             units = λ name other.
                 let same = shows.units name other in
-                let was = rests_at a name other a.place shows.still.0 in
+                let was = rests_at a name other a.hand.place shows.still.0 in
                 let now = rests_at b name other place shows.still.1 in
                 omega (arith, same, was, now);
             marks = λ name other. let its = took name other in let held = shows.marks name other in omega (arith, its, held);

@@ -53,15 +53,15 @@ whole_front front [] chain is long = is ∙ append-nil front
 whole_front front (x ∷ xs) chain is long = let n = ap length is in let e = length-append front (x ∷ xs) in absurd (omega (arith, n, e, long))
 
 module _ (shape : Dimensions) (opened : Anatomy) (state : State) (kept : Invariant shape opened state) (id : ℕ) (a : Actor)
-    (mine : get_elem? state.actors id ≡ some a) (lives : a.place ≢ Spent) where
+    (mine : get_elem? state.actors id ≡ some a) (lives : a.hand.place ≢ Spent) where
   abbrev order : List ℕ
   order = order_of kept.anatomy
 
   -- a record that it published is on the list
-  published_listed : (p : Published) → Contains a.published p → Contains order p.reference
+  published_listed : (p : Published) → Contains a.done.published p → Contains order p.reference
   published_listed p has =
       let (front, is, permuted) = kept.list.once in
-      let among = contains_map listed (all_published state.actors) p (row_in (λ (b : Actor). b.published) state.actors id a p mine has) in
+      let among = contains_map listed (all_published state.actors) p (row_in (λ (b : Actor). b.done.published) state.actors id a p mine has) in
       contains_map (λ (l : Listed). l.reference) kept.anatomy.records (listed p)
       (subst (λ (records : List Listed). Contains records (listed p)) (sym is)
       (Contains-append_right opened.records front (listed p) (Contains-permutation _ _ (listed p) (IsPermutation-sym _ _ permuted) among)))
@@ -76,12 +76,12 @@ module _ (shape : Dimensions) (opened : Anatomy) (state : State) (kept : Invaria
       All-map (IsStop order) (λ (s : Sighting). s.word) a.seen.cursors
       (All-weaker (λ s. (s.at < length state.cursors) × IsNoLater order s.word (slice_index state.cursors s.at)) (λ (s : Sighting). IsStop order s.word)
       (λ s before. no_later_stop order s.word _ before.1) a.seen.cursors sees.shared) in
-      let made : List ℕ = map (λ (p : Published). p.reference) a.published in
-      let given : List ℕ = map (λ (g : Given). g.reference) a.given in
+      let made : List ℕ = map (λ (p : Published). p.reference) a.done.published in
+      let given : List ℕ = map (λ (g : Given). g.reference) a.done.given in
       All-append (Contains order) (made ++ given) _
       (All-append (Contains order) made given
-      (All-map (Contains order) (λ (p : Published). p.reference) a.published (λ k d lt. published_listed _ (Contains-get_or a.published k d lt)))
-      (All-map (Contains order) (λ (g : Given). g.reference) a.given (kept.cursors.given id a mine)))
+      (All-map (Contains order) (λ (p : Published). p.reference) a.done.published (λ k d lt. published_listed _ (Contains-get_or a.done.published k d lt)))
+      (All-map (Contains order) (λ (g : Given). g.reference) a.done.given (kept.cursors.given id a mine)))
       (stops_listed order _ (All-append (IsStop order) a.seen.tails _ tails cursors))
 
   module _ (at : ℕ) (stop : IsStop order at) where

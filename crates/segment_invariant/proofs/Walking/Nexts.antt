@@ -18,7 +18,7 @@ use Rattle.list_core.proofs.EventKinds.{link_missed, behind_stop}
 use Rattle.segment_machine.specs.declared.actor.Actor.{Actor}
 use Rattle.segment_machine.specs.declared.place.Place.{Place}
 use Rattle.segment_machine.specs.declared.place.Place.TheVariants.{Spent, Idle, CursorLoaded, BehindCursor}
-use Rattle.segment_machine.specs.Actor.{is_bound}
+use Rattle.segment_machine.specs.Actor.{is_bound, is_opener}
 use Rattle.segment_machine.specs.State.{State}
 use Rattle.segment_machine.specs.Event.{walking_event, next, Ready}
 use Rattle.segment_machine.specs.Walking.{load_next, behind, extended, MayFollow}
@@ -85,7 +85,7 @@ plain_behind true true cursor at found = refl
 plain_behind true false cursor at found = refl
 plain_behind false c cursor at found = refl
 
-turns_behind : (a : Actor) (from found : ℕ) (place : Place) → a.place ≡ place → a.place ≢ Spent → TurnsTo a (behind place from found)
+turns_behind : (a : Actor) (from found : ℕ) (place : Place) → a.hand.place ≡ place → a.hand.place ≢ Spent → TurnsTo a (behind place from found)
 turns_behind a from found (CursorLoaded cursor at) is lives =
     turns_plain a _ (ap is_plain is) (plain_behind (from == at) (found == 12) cursor at found)
 turns_behind a from found place is lives = subst (TurnsTo a) is (turns_not a lives)
@@ -95,17 +95,17 @@ pub no_later_itself : (chain : List ℕ) (at : ℕ) → IsStop chain at → IsNo
 no_later_itself chain at (k, le, is) = (k, k, omega arith, le, is, is)
 
 module _ (shape : Dimensions) (opened : Anatomy) (state : State) (kept : Invariant shape opened state) (id : ℕ) (a : Actor)
-    (mine : get_elem? state.actors id ≡ some a) (records : a.opener ≡ 0) where
+    (mine : get_elem? state.actors id ≡ some a) (records : is_opener a.role ≡ false) where
   abbrev order : List ℕ
   order = order_of kept.anatomy
 
   -- ---- a next is loaded
 
-  follows_stop : (at : ℕ) → a.place ≢ Spent → MayFollow a at → IsStop order at
+  follows_stop : (at : ℕ) → a.hand.place ≢ Spent → MayFollow a at → IsStop order at
   follows_stop at lives (inl queue) = (0, omega arith, sym queue)
   follows_stop at lives (inr (inl seen)) = front_stop a.seen.chain order at (kept.each id a mine lives).sees.walked seen
   follows_stop at lives (inr (inr (cursor, placed))) =
-      reached_stop order (slice_index a.lost cursor) at (subst (StandsRight shape kept.anatomy id a) placed (kept.standing id a mine)).0
+      reached_stop order (slice_index a.done.lost cursor) at (subst (StandsRight shape kept.anatomy id a) placed (kept.standing id a mine)).0
 
   -- what a load finds behind a stop
   found_stop : (at : ℕ) → IsStop order at → IsStop order (word_at state.words (at + 3))
@@ -130,13 +130,13 @@ module _ (shape : Dimensions) (opened : Anatomy) (state : State) (kept : Invaria
   pub next_loaded : (at : ℕ) → Ready a (walking_event (load_next at)) → Goes shape opened state kept id a mine records (walking_event (load_next at))
   next_loaded at (unbound, follow) =
       let found : ℕ = word_at state.words (at + 3) in
-      let lives : a.place ≢ Spent = λ spent. cc (unbound, ap is_bound spent) in
-      let place : Place = behind a.place at found in
+      let lives : a.hand.place ≢ Spent = λ spent. cc (unbound, ap is_bound spent) in
+      let place : Place = behind a.hand.place at found in
       let chain : List ℕ = extended a.seen.chain at found in
       let stop = follows_stop at lives follow in
-      let turns = turns_behind a at found a.place refl lives in
+      let turns = turns_behind a at found a.hand.place refl lives in
       let fits = kept.each id a mine lives in
-      let d : Doing = walking shape opened state kept id a mine records place a.beaten a.own a.seen.tails chain a.seen.words in
+      let d : Doing = walking shape opened state kept id a mine records place a.done.beaten a.hand.own a.seen.tails chain a.seen.words in
       let follows : Follows a (doing a d) = record {
         saw = (refl, refl, refl, refl, refl);
         late = (refl, refl);
@@ -145,7 +145,7 @@ module _ (shape : Dimensions) (opened : Anatomy) (state : State) (kept : Invaria
         seen = λ x word has. has;
         chain = λ x has. extended_has ((slice_index (stops a.seen.chain) (length a.seen.chain) == at) && not (found == 12)) a.seen.chain found x has;
         own = λ block has. (block, has, refl, refl);
-        spent = λ spent. absurd (lives (ap (λ (b : Actor). b.place) spent));
+        spent = λ spent. absurd (lives (ap (λ (b : Actor). b.hand.place) spent));
       } in
       let more : SawMore a d = record {
         chain = λ x has. extended_has ((slice_index (stops a.seen.chain) (length a.seen.chain) == at) && not (found == 12)) a.seen.chain found x has;
@@ -155,10 +155,10 @@ module _ (shape : Dimensions) (opened : Anatomy) (state : State) (kept : Invaria
       } in
       happens opened.version state id a (walking_event (load_next at)) (stop_within shape opened state kept at stop) shape opened (
         loaded shape opened state kept id a mine records (at + 3) (next a (walking_event (load_next at)) found)
-            (looks_on shape opened state kept id a mine records place a.beaten a.seen.tails chain a.seen.words turns more kept.anatomy.tail state.words
+            (looks_on shape opened state kept id a mine records place a.done.beaten a.seen.tails chain a.seen.words turns more kept.anatomy.tail state.words
             kept.shown kept.list.linked kept.list.tail (λ seen before. before)
-            (ahead_at order kept.anatomy.tail state.cursors a.place a.beaten a.lost fits.ahead place (λ no. unbound_unbeaten a.place unbound))
-            (stands_behind d follows at found (λ goes. link_missed state.words order at kept.list.linked stop goes) a.place (kept.standing id a mine))
+            (ahead_at order kept.anatomy.tail state.cursors a.hand.place a.done.beaten a.done.lost fits.ahead place (λ no. unbound_unbeaten a.hand.place unbound))
+            (stands_behind d follows at found (λ goes. link_missed state.words order at kept.list.linked stop goes) a.hand.place (kept.standing id a mine))
             (extended_front state.words order a.seen.chain at kept.list.linked stop fits.sees.walked) fits.sees.tails fits.sees.fixed),
         next_learned shape opened state kept id a mine lives at stop
             (reference_is shape opened state kept id a mine records found lives (found_stop at stop)) fits.sees.walked

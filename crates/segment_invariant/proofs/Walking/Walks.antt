@@ -1,5 +1,5 @@
 -- Events that put nothing on the list: the tail is loaded and moved on, a next is loaded, and a link finds another record.
-use Rattle.std.proofs.Common.{◌≡◌, ◌≢◌, ◌⊎◌, ℕ, zero, suc, ◌+◌, ◌<◌, ◌≤◌, ◌==◌, true, List, ◌++◌, length, set, get_or, All, inl, inr, refl, sym, ap, ◌∙◌, subst, arith, eq-eqb}
+use Rattle.std.proofs.Common.{◌≡◌, ◌≢◌, ◌⊎◌, ℕ, zero, suc, ◌+◌, ◌<◌, ◌≤◌, ◌==◌, true, List, ◌++◌, length, set, get_or, All, inl, inr, refl, sym, ap, ◌∙◌, subst, arith, eq-eqb, false}
 use Rattle.std.specs.Prelude as std
 use Rattle.std.specs.Prelude.{slice_index, Some, None, nat_le, if◌then◌else◌, IsPermutation}
 use Rattle.std.proofs.lemmas.Bool.{le-leb, and_from, or_left, or_right}
@@ -39,6 +39,7 @@ use Rattle.segment_invariant.proofs.Frames.Growth.{reshaped, Stays, with_next, g
 use Rattle.segment_invariant.proofs.Frames.GrowthOfActors.{SawMore}
 use Rattle.segment_invariant.proofs.Frames.GrowthOfStates.{fits_on}
 use Rattle.segment_invariant.proofs.Frames.Standing.{met_more}
+use Rattle.segment_machine.specs.Actor.{is_opener}
 
 -- ---- the stops of a kept list
 
@@ -106,14 +107,14 @@ module _ (shape : Dimensions) (opened : Anatomy) (state : State) (kept : Invaria
 
   -- ---- an actor that sees more of the list
 
-  module _ (id : ℕ) (a : Actor) (mine : get_elem? state.actors id ≡ some a) (records : a.opener ≡ 0) where
+  module _ (id : ℕ) (a : Actor) (mine : get_elem? state.actors id ≡ some a) (records : is_opener a.role ≡ false) where
     -- where it stands, how often its link came too late, its blocks, the tail, the chain and the words that it saw
     abbrev pub walking : Place → ℕ → List Own → List ℕ → List ℕ → List Sighting → Doing
     walking place beaten own tails chain words =
         record (doing_of a) { place = place; beaten = beaten; own = own; seen_tails = tails; seen_chain = chain; seen_words = words }
 
     -- a stop is a reference that it may find
-    pub reference_is : (at : ℕ) → a.place ≢ Spent → IsStop order at → IsReference a at
+    pub reference_is : (at : ℕ) → a.hand.place ≢ Spent → IsStop order at → IsReference a at
     reference_is at lives stop =
         subst (λ (s : Dimensions). is_reference s.size at ≡ true) (sym (kept.each id a mine lives).shaped) (stop_reference at stop)
 
@@ -131,7 +132,7 @@ module _ (shape : Dimensions) (opened : Anatomy) (state : State) (kept : Invaria
         → IsLinked words' order
         → IsStop order present
         → ((seen : ℕ) → IsNoLater order seen anatomy.tail → IsNoLater order seen present)
-        → IsAhead order present state.cursors place beaten a.lost
+        → IsAhead order present state.cursors place beaten a.done.lost
         → StandsRight shape (reshaped anatomy pieces anatomy.spare anatomy.corrupt anatomy.full present) id (doing a (walking place beaten own tails chain words)) place
         → IsPrefix chain order
         → AreNoLater order tails present
@@ -170,12 +171,12 @@ module _ (shape : Dimensions) (opened : Anatomy) (state : State) (kept : Invaria
           published = refl;
           owed = refl;
           claims = subst (λ (p : List Claim × List Claim). IsPermutation p.0 (claims_of opened.pieces ++ p.1))
-              (λ i. (sym claims i, sym (rows (λ (b : Actor). b.claimed) state.actors id a (doing a d) mine refl) i)) kept.claims;
+              (λ i. (sym claims i, sym (rows (λ (b : Actor). b.done.claimed) state.actors id a (doing a d) mine refl) i)) kept.claims;
           free = λ seen behind_it. subst (Behind seen) (sym free) behind_it;
           tail = stop;
           tail_later = later;
-          corrupt = subst (IsSetBy anatomy.corrupt opened.corrupt) (sym (column (λ (b : Actor). b.spoiled) state.actors id a (doing a d) mine refl)) kept.corrupt;
-          full = subst (IsSetBy anatomy.full opened.full) (sym (column (λ (b : Actor). b.filled) state.actors id a (doing a d) mine refl)) kept.full;
+          corrupt = subst (IsSetBy anatomy.corrupt opened.corrupt) (sym (column (λ (b : Actor). b.done.spoiled) state.actors id a (doing a d) mine refl)) kept.corrupt;
+          full = subst (IsSetBy anatomy.full opened.full) (sym (column (λ (b : Actor). b.done.filled) state.actors id a (doing a d) mine refl)) kept.full;
           stands = stands;
           sees = sees;
           ahead = ahead;
@@ -187,19 +188,19 @@ module _ (shape : Dimensions) (opened : Anatomy) (state : State) (kept : Invaria
 
     -- where no block changes
     pub looks_on : (place : Place) (beaten : ℕ) (tails chain : List ℕ) (words : List Sighting) → TurnsTo a place
-        → SawMore a (walking place beaten a.own tails chain words)
+        → SawMore a (walking place beaten a.hand.own tails chain words)
         → (present : ℕ) (words' : List ℕ)
         → IsShown shape words' (layout_of (record anatomy { tail = present }))
         → IsLinked words' order
         → IsStop order present
         → ((seen : ℕ) → IsNoLater order seen anatomy.tail → IsNoLater order seen present)
-        → IsAhead order present state.cursors place beaten a.lost
-        → StandsRight shape (record anatomy { tail = present }) id (doing a (walking place beaten a.own tails chain words)) place
+        → IsAhead order present state.cursors place beaten a.done.lost
+        → StandsRight shape (record anatomy { tail = present }) id (doing a (walking place beaten a.hand.own tails chain words)) place
         → IsPrefix chain order
         → AreNoLater order tails present
         → All (WasFixed anatomy.pieces) words
-        → Invariant shape opened (record { words = words'; cursors = state.cursors; actors = set state.actors id (doing a (walking place beaten a.own tails chain words)) })
+        → Invariant shape opened (record { words = words'; cursors = state.cursors; actors = set state.actors id (doing a (walking place beaten a.hand.own tails chain words)) })
     looks_on place beaten tails chain words turns more present words' shown linked stop later ahead stands prefix no_later fixed =
         let fits = kept.each id a mine turns.lived in
-        walks_on place beaten a.own tails chain words turns more anatomy.pieces present words' (stays_same anatomy.pieces)
+        walks_on place beaten a.hand.own tails chain words turns more anatomy.pieces present words' (stays_same anatomy.pieces)
         (λ who at body ne has. has) (still_same anatomy.pieces) kept.blocks refl refl shown linked stop later ahead stands prefix no_later fixed fits.own fits.apart

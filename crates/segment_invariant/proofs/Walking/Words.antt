@@ -22,7 +22,7 @@ use Rattle.segment_machine.specs.declared.actor.Made.{Made}
 use Rattle.segment_machine.specs.declared.actor.Made.TheVariants as made
 use Rattle.segment_machine.specs.declared.seen.Sighting.{Sighting}
 use Rattle.segment_machine.specs.declared.place.Place.TheVariants.{Spent}
-use Rattle.segment_machine.specs.Actor.{is_bound, word_seen}
+use Rattle.segment_machine.specs.Actor.{is_bound, word_seen, is_opener}
 use Rattle.segment_machine.specs.State.{State}
 use Rattle.segment_machine.specs.Walking.{load_published, IsFixed, EndsWithin}
 use Rattle.segment_machine.specs.Event.{walking_event, next}
@@ -30,10 +30,10 @@ use Rattle.segment_machine.specs.Calls.{sight}
 use Rattle.segment_machine.specs.Made.{AreNameWords}
 use Rattle.segment_invariant.specs.Body.{Record, Sample, Body, histogram, sample, other, record_words, spec_field, words_of, is_claimed, Piece, Listed, Anatomy, layout_of, order_of}
 use Rattle.segment_invariant.specs.Seen.{Stands, HasRecord, HasSample, IsFixedIn, WasFixed}
-use Rattle.segment_invariant.specs.Invariant.{StandsAs, Invariant}
-use Rattle.segment_invariant.proofs.Lists.Elements.{at_from, all_at, from_map}
+use Rattle.segment_invariant.specs.Invariant.{StandsAs, Invariant, IsLawfulRecord, IsPassedOver}
+use Rattle.segment_invariant.proofs.Lists.Elements.{at_from, all_at, from_map, split_at}
 use Rattle.segment_invariant.proofs.Blocks.Places.{fixed_within}
-use Rattle.segment_invariant.proofs.Blocks.Pieces.{piece_word, one_index}
+use Rattle.segment_invariant.proofs.Blocks.Pieces.{piece_word, one_index, one_stands}
 use Rattle.segment_invariant.proofs.Frames.OneActor.{Doing, turns_not, doing}
 use Rattle.segment_invariant.proofs.Frames.GoesOn.{happens}
 use Rattle.segment_invariant.proofs.Frames.GrowthOfActors.{SawMore}
@@ -41,6 +41,7 @@ use Rattle.segment_invariant.proofs.Frames.Standing.{grounds_itself, Follows, st
 use Rattle.segment_invariant.proofs.Frames.GrowthOfStates.{known_record}
 use Rattle.segment_invariant.proofs.Walking.Walks.{block_within, walking, looks_on}
 use Rattle.segment_invariant.proofs.Frames.Shown.{Goes, loaded}
+use Rattle.segment_invariant.proofs.Frames.PassedOver.{none_given}
 
 -- ---- the words of a record
 
@@ -122,7 +123,7 @@ module _ (shape : Dimensions) (opened : Anatomy) (state : State) (kept : Invaria
       ap (λ (p : ℕ × Body). slice_index (words_of p.1) p.0) (λ i. (word_is i, (ap (λ (p : Piece). p.body) same) i)) ∙ value
 
   -- so of a word that an actor saw
-  pub sighted : (id : ℕ) (a : Actor) → get_elem? state.actors id ≡ some a → a.place ≢ Spent
+  pub sighted : (id : ℕ) (a : Actor) → get_elem? state.actors id ≡ some a → a.hand.place ≢ Spent
       → (at j word : ℕ) (body : Body) → Stands blocks at none body → j < length (words_of body)
       → word_seen a.seen.words (at + j) ≡ Some word → slice_index (words_of body) j ≡ word
   sighted id a mine lives at j word body stands lt seen =
@@ -130,11 +131,11 @@ module _ (shape : Dimensions) (opened : Anatomy) (state : State) (kept : Invaria
       (All-contains (WasFixed blocks) a.seen.words _ (kept.each id a mine lives).sees.fixed (word_contains a.seen.words (at + j) word seen))
 
 module _ (shape : Dimensions) (opened : Anatomy) (state : State) (kept : Invariant shape opened state) (id : ℕ) (a : Actor)
-    (mine : get_elem? state.actors id ≡ some a) (records : a.opener ≡ 0) (unbound : is_bound a.place ≡ false) where
+    (mine : get_elem? state.actors id ≡ some a) (records : is_opener a.role ≡ false) (unbound : is_bound a.hand.place ≡ false) where
   abbrev anatomy : Anatomy
   anatomy = kept.anatomy
 
-  lives : a.place ≢ Spent
+  lives : a.hand.place ≢ Spent
   lives spent = cc (unbound, ap is_bound spent)
 
   seen_is : (at j word : ℕ) (body : Body) → Stands anatomy.pieces at none body → j < length (words_of body)
@@ -156,7 +157,7 @@ module _ (shape : Dimensions) (opened : Anatomy) (state : State) (kept : Invaria
         let lt = fixed_within body index fixed in
         let size = length_shown shape state.words (layout_of anatomy) kept.shown in
         let (from, five, within) = block_within shape opened state kept at body stands claimed in
-        let d : Doing = walking shape opened state kept id a mine records a.place a.beaten a.own a.seen.tails a.seen.chain words in
+        let d : Doing = walking shape opened state kept id a mine records a.hand.place a.done.beaten a.hand.own a.seen.tails a.seen.chain words in
         let follows : Follows a (doing a d) = record {
           saw = (refl, refl, refl, refl, refl);
           late = (refl, refl);
@@ -165,7 +166,7 @@ module _ (shape : Dimensions) (opened : Anatomy) (state : State) (kept : Invaria
           seen = λ x word seen. word_still a.seen.words x word (sight (at + index) found) seen;
           chain = λ x has. has;
           own = λ block has. (block, has, refl, refl);
-          spent = λ spent. absurd (lives (ap (λ (b : Actor). b.place) spent));
+          spent = λ spent. absurd (lives (ap (λ (b : Actor). b.hand.place) spent));
         } in
         let more : SawMore a d = record {
           chain = λ x has. has;
@@ -181,9 +182,9 @@ module _ (shape : Dimensions) (opened : Anatomy) (state : State) (kept : Invaria
         } in
         happens opened.version state id a (walking_event (load_published at index)) (omega (arith, lt, size, within)) shape opened (
           loaded shape opened state kept id a mine records (at + index) (next a (walking_event (load_published at index)) found)
-              (looks_on shape opened state kept id a mine records a.place a.beaten a.seen.tails a.seen.chain words turns more anatomy.tail state.words
+              (looks_on shape opened state kept id a mine records a.hand.place a.done.beaten a.seen.tails a.seen.chain words turns more anatomy.tail state.words
               kept.shown kept.list.linked kept.list.tail (λ seen before. before) fits.ahead
-              (stands_on shape anatomy anatomy id a (doing a d) (grounds_itself anatomy id) follows a.place (kept.standing id a mine))
+              (stands_on shape anatomy anatomy id a (doing a d) (grounds_itself anatomy id) follows a.hand.place (kept.standing id a mine))
               fits.sees.walked fits.sees.tails
               (All-push (WasFixed anatomy.pieces) a.seen.words s fits.sees.fixed (at, index, body, stands, refl, fixed, sym found_is))),
           (
@@ -192,52 +193,76 @@ module _ (shape : Dimensions) (opened : Anatomy) (state : State) (kept : Invaria
           ),
         )
 
-  -- of a histogram
-  record_read : (at index : ℕ) (r : Record) → HasRecord anatomy.pieces at r → IsFixed a at index → Goes shape opened state kept id a mine records (walking_event (load_published at index))
-  record_read at index r stands fixed =
-      let (from, five, within) = block_within shape opened state kept at (histogram r) stands refl in
-      let long = record_long r in
-      let sized = ap (λ (s : Dimensions). s.size) (kept.each id a mine lives).shaped in
-      let letters = letters_long r.name r.letters (kept.records.lawful at r stands).lettered in
-      let name_is : (len : ℕ) → word_seen a.seen.words (at + 14) ≡ Some len → length r.name ≡ len =
-      λ len seen. seen_is at 14 len (histogram r) stands (omega arith) seen in
-      let kind_is : (kind : ℕ) → word_seen a.seen.words (at + 4) ≡ Some kind → spec_field r.spec 0 ≡ kind =
-      λ kind seen. seen_is at 4 kind (histogram r) stands (omega arith) seen in
-      let number_is : (n : ℕ) → word_seen a.seen.words (at + 7) ≡ Some n → spec_field r.spec 3 ≡ n =
-      λ n seen. seen_is at 7 n (histogram r) stands (omega arith) seen in
-      let in_words : IsFixedIn (histogram r) index = fixed_in at index r stands fixed in
-      reads at index (histogram r) stands in_words fixed refl (
-        λ two tag. omega (arith, within, long, sized),
-        λ two tag. let one : 1 ≡ 3 = ap (slice_index (record_words r)) (sym two) ∙ tag in omega (arith, one),
-        λ fourteen.
-            let len : slice_index (record_words r) index ≡ length r.name = ap (slice_index (record_words r)) fourteen in
-            let many : name_words (slice_index (record_words r) index) ≡ length r.letters = ap name_words len ∙ letters in
-            omega (arith, within, long, sized, many),
-        λ len seven custom named.
-            let number : slice_index (record_words r) index ≡ spec_field r.spec 3 = ap (slice_index (record_words r)) seven in
-            let many : name_words len ≡ length r.letters = ap name_words (sym (name_is len named)) ∙ letters in
-            let ranges = ranges_long r.spec (kind_is 3 custom) in
-            omega (arith, within, long, sized, many, number, ranges),
-      )
+  -- of a histogram's record, or of a block that holds what one would
+  module _ (at index : ℕ) (r : Record) (body : Body) (stands : Stands anatomy.pieces at none body) (claimed : is_claimed body ≡ true)
+      (holds : record_words r ≡ words_of body) (lawful : IsLawfulRecord anatomy.version shape.page r) where
+    -- what was seen of it
+    says : (j word : ℕ) → j < length (record_words r) → word_seen a.seen.words (at + j) ≡ Some word → slice_index (record_words r) j ≡ word
+    says j word below seen =
+        let many = ap length holds in
+        ap (λ (words : List ℕ). slice_index words j) holds ∙ seen_is at j word body stands (omega (arith, below, many)) seen
+
+    letters : name_words (length r.name) ≡ length r.letters
+    letters = letters_long r.name r.letters lawful.lettered
+
+    name_is : (len : ℕ) → word_seen a.seen.words (at + 14) ≡ Some len → length r.name ≡ len
+    name_is len seen = says 14 len (omega arith) seen
+
+    -- its fixed words
+    fixed_in : IsFixed a at index → IsFixedIn (histogram r) index
+    fixed_in (inl two) = inl two
+    fixed_in (inr (inl (tag, inl field))) = inr (inl field)
+    fixed_in (inr (inl (tag, inr (inl fourteen)))) = inr (inr (inr (omega (arith, fourteen), omega (arith, fourteen))))
+    fixed_in (inr (inl (tag, inr (inr (len, named, from, inl letter))))) =
+        let long = record_long r in
+        let many : name_words len ≡ length r.letters = ap name_words (sym (name_is len named)) ∙ letters in
+        inr (inr (inr (omega (arith, from), omega (arith, letter, long, many))))
+    fixed_in (inr (inl (tag, inr (inr (len, named, from, inr (n, kind, number, range)))))) =
+        let long = record_long r in
+        let many : name_words len ≡ length r.letters = ap name_words (sym (name_is len named)) ∙ letters in
+        let n_is : spec_field r.spec 3 ≡ n = says 7 n (omega arith) number in
+        let ranges = ranges_long r.spec (says 4 3 (omega arith) kind) in
+        inr (inr (inr (omega (arith, from), omega (arith, range, long, many, n_is, ranges))))
+    fixed_in (inr (inr (tag, least, most))) = let one : 1 ≡ 3 = says 2 3 (omega arith) tag in absurd (omega (arith, one))
+
+    -- where they are fixed in the block they are read, all but the counts reference
+    record_read : ((i : ℕ) → i ≢ 8 → IsFixedIn (histogram r) i → IsFixedIn body i) → IsFixed a at index
+        → Goes shape opened state kept id a mine records (walking_event (load_published at index))
+    record_read to fixed =
+        let (from, five, within) = block_within shape opened state kept at body stands claimed in
+        let whole = ap length holds in
+        let long = record_long r in
+        let sized = ap (λ (s : Dimensions). s.size) (kept.each id a mine lives).shaped in
+        let in_words : IsFixedIn body index = to index (λ eight. no_counts a at (subst (IsFixed a at) eight fixed)) (fixed_in fixed) in
+        reads at index body stands in_words fixed claimed (subst (λ (words : List ℕ). EndsWithin a at index (slice_index words index)) holds (
+          λ two tag. omega (arith, within, long, sized, whole),
+          λ two tag. let one : 1 ≡ 3 = ap (slice_index (record_words r)) (sym two) ∙ tag in omega (arith, one),
+          λ fourteen.
+              let len : slice_index (record_words r) index ≡ length r.name = ap (slice_index (record_words r)) fourteen in
+              let many : name_words (slice_index (record_words r) index) ≡ length r.letters = ap name_words len ∙ letters in
+              omega (arith, within, long, sized, many, whole),
+          λ len seven custom named.
+              let number : slice_index (record_words r) index ≡ spec_field r.spec 3 = ap (slice_index (record_words r)) seven in
+              let many : name_words len ≡ length r.letters = ap name_words (sym (name_is len named)) ∙ letters in
+              let ranges = ranges_long r.spec (says 4 3 (omega arith) custom) in
+              omega (arith, within, long, sized, many, number, ranges, whole),
+        ))
+
+  -- of a record that is passed over
+  passed_read : (front : List Listed) (at index : ℕ) (r : Record) → IsPassedOver anatomy.version shape.page anatomy.pieces front at r → IsFixed a at index
+      → Goes shape opened state kept id a mine records (walking_event (load_published at index))
+  passed_read front at index r over fixed =
+      let (size, tag, next, payload, stands, holds) = over.stands in
+      record_read at index r (other size tag next payload) stands refl holds over.lawful (fixed_still r size tag next payload holds) fixed
     where
-      fixed_in : (at index : ℕ) (r : Record) → HasRecord anatomy.pieces at r → IsFixed a at index → IsFixedIn (histogram r) index
-      fixed_in at index r stands (inl two) = inl two
-      fixed_in at index r stands (inr (inl (tag, inl field))) = inr (inl field)
-      fixed_in at index r stands (inr (inl (tag, inr (inl fourteen)))) = inr (inr (inr (omega (arith, fourteen), omega (arith, fourteen))))
-      fixed_in at index r stands (inr (inl (tag, inr (inr (len, named, from, inl letter))))) =
-          let long = record_long r in
-          let letters = letters_long r.name r.letters (kept.records.lawful at r stands).lettered in
-          let many : name_words len ≡ length r.letters = ap name_words (sym (seen_is at 14 len (histogram r) stands (omega arith) named)) ∙ letters in
-          inr (inr (inr (omega (arith, from), omega (arith, letter, long, many))))
-      fixed_in at index r stands (inr (inl (tag, inr (inr (len, named, from, inr (n, kind, number, range)))))) =
-          let long = record_long r in
-          let letters = letters_long r.name r.letters (kept.records.lawful at r stands).lettered in
-          let many : name_words len ≡ length r.letters = ap name_words (sym (seen_is at 14 len (histogram r) stands (omega arith) named)) ∙ letters in
-          let n_is : spec_field r.spec 3 ≡ n = seen_is at 7 n (histogram r) stands (omega arith) number in
-          let ranges = ranges_long r.spec (seen_is at 4 3 (histogram r) stands (omega arith) kind) in
-          inr (inr (inr (omega (arith, from), omega (arith, range, long, many, n_is, ranges))))
-      fixed_in at index r stands (inr (inr (tag, least, most))) =
-          let one : 1 ≡ 3 = seen_is at 2 3 (histogram r) stands (omega arith) tag in absurd (omega (arith, one))
+      fixed_still : (r : Record) (size tag next : ℕ) (payload : List ℕ) → record_words r ≡ words_of (other size tag next payload)
+          → (i : ℕ) → i ≢ 8 → IsFixedIn (histogram r) i → IsFixedIn (other size tag next payload) i
+      fixed_still r size tag next payload holds i ne (inl two) = inl two
+      fixed_still r size tag next payload holds i ne (inr (inl field)) =
+          let many = ap length holds in let high = field.1 in inr (field.0, omega (arith, high, many))
+      fixed_still r size tag next payload holds i ne (inr (inr (inl mounted))) = absurd (ne mounted.0)
+      fixed_still r size tag next payload holds i ne (inr (inr (inr behind))) =
+          let many = ap length holds in let low = behind.0 in let high = behind.1 in inr (omega (arith, low), omega (arith, high, many))
 
   -- of a sample
   sample_read : (at index : ℕ) (s : Sample) → HasSample anatomy.pieces at s → IsFixed a at index → Goes shape opened state kept id a mine records (walking_event (load_published at index))
@@ -265,7 +290,7 @@ module _ (shape : Dimensions) (opened : Anatomy) (state : State) (kept : Invaria
       → tag ≢ 1 → tag ≢ 3 → IsFixed a at index → Goes shape opened state kept id a mine records (walking_event (load_published at index))
   other_read at index size tag behind payload stands first third fixed =
       let two = fixed_in fixed in
-      reads at index (other size tag behind payload) stands two fixed refl (
+      reads at index (other size tag behind payload) stands (inl two) fixed refl (
         λ is found. absurd (first (ap (slice_index (words_of (other size tag behind payload))) (sym two) ∙ found)),
         λ is found. absurd (third (ap (slice_index (words_of (other size tag behind payload))) (sym two) ∙ found)),
         λ fourteen. absurd (omega (arith, fourteen, two)),
@@ -277,14 +302,25 @@ module _ (shape : Dimensions) (opened : Anatomy) (state : State) (kept : Invaria
       fixed_in (inr (inl (seen, more))) = absurd (first (seen_is at 2 1 (other size tag behind payload) stands (omega arith) seen))
       fixed_in (inr (inr (seen, least, most))) = absurd (third (seen_is at 2 3 (other size tag behind payload) stands (omega arith) seen))
 
-  listed_read : (at index : ℕ) (l : Listed) (given : std.Option Made) → l.reference ≡ at → StandsAs anatomy.pieces l given → IsFixed a at index
-      → Goes shape opened state kept id a mine records (walking_event (load_published at index))
-  listed_read at index l (Some (made.Histogram name spec)) is (r, stands, named, same) fixed =
-      record_read at index r (subst (λ (n : ℕ). HasRecord anatomy.pieces n r) is stands) fixed
-  listed_read at index l (Some (made.Sample of value)) is (s, stands, named, same) fixed =
+  listed_read : (at index : ℕ) (front behind : List Listed) (l : Listed) (given : std.Option Made) → anatomy.records ≡ front ++ l ∷ behind → l.made ≡ given
+      → l.reference ≡ at → StandsAs anatomy.pieces l given → IsFixed a at index → Goes shape opened state kept id a mine records (walking_event (load_published at index))
+  listed_read at index front behind l (Some (made.Histogram name spec)) split given is (r, stands, named, same) fixed =
+      let here : HasRecord anatomy.pieces at r = subst (λ (n : ℕ). HasRecord anatomy.pieces n r) is stands in
+      record_read at index r (histogram r) here refl refl (kept.records.lawful at r here) (λ i ne in_words. in_words) fixed
+  listed_read at index front behind l (Some (made.Sample of value)) split given is (s, stands, named, same) fixed =
       sample_read at index s (subst (λ (n : ℕ). HasSample anatomy.pieces n s) is stands) fixed
-  listed_read at index l None is (size, tag, behind, payload, stands, first, third, long) fixed =
-      other_read at index size tag behind payload (subst (λ (n : ℕ). Stands anatomy.pieces n none (other size tag behind payload)) is stands) first third fixed
+  listed_read at index front behind l None split given is (size, tag, next, payload, stands, third, long) fixed =
+      let whole : anatomy.records ≡ front ++ record { reference = at; made = None } ∷ behind =
+      split ∙ (λ i. front ++ record { reference = is i; made = given i } ∷ behind) in
+      elim (none_given shape opened state kept front behind at whole) [
+        | inl (long_size, type, link, words, others, first) ↦
+            let here : Stands anatomy.pieces at none (other size tag next payload) = subst (λ (n : ℕ). Stands anatomy.pieces n none (other size tag next payload)) is stands in
+            let one : other size tag next payload ≡ other long_size type link words =
+            (one_stands shape state.words anatomy kept.shown at none none (other size tag next payload) (other long_size type link words) here others).1 in
+            let same : tag ≡ type = cc one in
+            other_read at index size tag next payload here (λ histogram_type. first (sym same ∙ histogram_type)) third fixed
+        | inr (r, over) ↦ passed_read front at index r over.0 fixed
+      ]
 
   pub published_loaded : (at index : ℕ) → Contains a.seen.chain at → IsFixed a at index → Goes shape opened state kept id a mine records (walking_event (load_published at index))
   published_loaded at index has fixed =
@@ -292,4 +328,5 @@ module _ (shape : Dimensions) (opened : Anatomy) (state : State) (kept : Invaria
       let (rest, is) = (kept.each id a mine lives).sees.walked in
       let there : get_elem? (order_of anatomy) i ≡ some at = subst (λ (l : List ℕ). get_elem? l i ≡ some at) (sym is) (at_longer a.seen.chain rest i at here) in
       let (l, listed, named) = from_map (λ (l : Listed). l.reference) anatomy.records i at there in
-      listed_read at index l l.made named (all_at (λ l. StandsAs anatomy.pieces l l.made) anatomy.records i l kept.list.standing listed) fixed
+      let (front, behind, split, others) = split_at anatomy.records i l listed in
+      listed_read at index front behind l l.made split refl named (all_at (λ l. StandsAs anatomy.pieces l l.made) anatomy.records i l kept.list.standing listed) fixed

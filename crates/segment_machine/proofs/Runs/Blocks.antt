@@ -70,26 +70,26 @@ behind_cursor _ cursor old new = None
 
 -- ---- allocating
 
-abbrev rises : (a : Actor) (old new : ℕ) → Option (IsRise a.shape old new)
+abbrev rises : (a : Actor) (old new : ℕ) → Option (IsRise a.segment.shape old new)
 rises a old new =
-    then (at_most (old + 5) new) (λ five. then (at_most new a.shape.size) (λ within.
-    then (at_most (old % a.shape.page + (new - old)) a.shape.page) (λ one_page.
-    then (at_most (new % a.shape.page + 5) a.shape.page) (λ leaves.
+    then (at_most (old + 5) new) (λ five. then (at_most new a.segment.shape.size) (λ within.
+    then (at_most (old % a.segment.shape.page + (new - old)) a.segment.shape.page) (λ one_page.
+    then (at_most (new % a.segment.shape.page + 5) a.segment.shape.page) (λ leaves.
     Some (record { five = five; within = within; one_page = one_page; leaves = leaves })))))
 
-abbrev pub own_at : (a : Actor) (at : ℕ) → Option ((own : Own) × Contains a.own own × (own.at ≡ at))
-own_at a at = some_of (λ own. same own.at at) a.own
+abbrev pub own_at : (a : Actor) (at : ℕ) → Option ((own : Own) × Contains a.hand.own own × (own.at ≡ at))
+own_at a at = some_of (λ own. same own.at at) a.hand.own
 
 abbrev pub may_allocate : (a : Actor) (event : AllocatingEvent) → Option (allocating.Ready a event)
-may_allocate a load_flags = is_false (is_bound a.place)
-may_allocate a load_free = flags_loaded a.place
+may_allocate a load_flags = is_false (is_bound a.hand.place)
+may_allocate a load_free = flags_loaded a.hand.place
 may_allocate a (exchange_free old new) =
-    then (free_loaded a.place old) (λ stands. then (is_true (is_pointer a.shape old)) (λ lawful. then (rises a old new) (λ rise. Some (stands, lawful, rise))))
-may_allocate a (store_size at size) = raised a.place at size
+    then (free_loaded a.hand.place old) (λ stands. then (is_true (is_pointer a.segment.shape old)) (λ lawful. then (rises a old new) (λ rise. Some (stands, lawful, rise))))
+may_allocate a (store_size at size) = raised a.hand.place at size
 may_allocate a (store_cookie at cookie) =
-    then (sized a.place at) (λ stands. or_else (then (same cookie 0xC8799269) (λ e. Some (stands, inl e))) (then (same cookie 0xFFFFFFFFFFFFFFFF) (λ e. Some (stands, inr e))))
+    then (sized a.hand.place at) (λ stands. or_else (then (same cookie 0xC8799269) (λ e. Some (stands, inl e))) (then (same cookie 0xFFFFFFFFFFFFFFFF) (λ e. Some (stands, inr e))))
 may_allocate a (store_type at tag) =
-    then (marked a.place at) (λ stands. then (at_most 1 tag) (λ least. then (at_most tag 3) (λ most. Some (stands, least, most))))
+    then (marked a.hand.place at) (λ stands. then (at_most 1 tag) (λ least. then (at_most tag 3) (λ most. Some (stands, least, most))))
 may_allocate a (store_payload at index value) =
     then (own_at a at) (λ t. then (same t.0.next 0) (λ fills. then (at_most (length t.0.payload) index) (λ new. then (below (4 + index) t.0.size) (λ within.
     Some (t.0, (t.1, fills), t.2, new, within)))))
@@ -103,7 +103,7 @@ is_sparse_spec _ = None
 
 abbrev pub sparse_at : (a : Actor) (histogram : ℕ) → Option ((known : Known) × Sparse a histogram known)
 sparse_at a histogram =
-    then (some_of (λ known. same known.reference histogram) a.names) (λ t. then (is_sparse_spec t.0.spec) (λ sparse. Some (t.0, (t.1, t.2, sparse))))
+    then (some_of (λ known. same known.reference histogram) a.answers.names) (λ t. then (is_sparse_spec t.0.spec) (λ sparse. Some (t.0, (t.1, t.2, sparse))))
 
 abbrev pub name_words_of : (name letters : List ℕ) → Option (AreNameWords name letters)
 name_words_of name letters =
@@ -122,7 +122,7 @@ is_payload (Sample histogram value) payload =
 abbrev may_publish_as : (a : Actor) (own : Own) (made : Made) → Option (MayPublish a own made)
 may_publish_as a own (Histogram name s) =
     then (same own.tag 1) (λ tag. then (is_true (is_name name)) (λ named. then (nothing_in (spec_fault s)) (λ lawful.
-    then (at_most (4 + 2 * buckets_of s) a.shape.page) (λ fits. Some (tag, named, lawful, fits)))))
+    then (at_most (4 + 2 * buckets_of s) a.segment.shape.page) (λ fits. Some (tag, named, lawful, fits)))))
 may_publish_as a own (Sample histogram value) =
     then (same own.tag 3) (λ tag. then (at_most 8 own.size) (λ room. then (is_true (is_i32 value)) (λ small. then (sparse_at a histogram) (λ known.
     Some (tag, room, small, known)))))
@@ -130,19 +130,19 @@ may_publish_as a own (Sample histogram value) =
 abbrev pub may_publish : (a : Actor) (event : PublishingEvent) → Option (publishing.Ready a event)
 may_publish a (store_own_next at) = then (own_at a at) (λ t. then (same t.0.next 0) (λ fills. Some (t.0, (t.1, fills), t.2)))
 may_publish a load_tail =
-    then (is_false (is_bound a.place)) (λ turns. then (some_of (λ own. same own.next 12) a.own) (λ t. Some (turns, (t.0, (t.1, t.2)))))
+    then (is_false (is_bound a.hand.place)) (λ turns. then (some_of (λ own. same own.next 12) a.hand.own) (λ t. Some (turns, (t.0, (t.1, t.2)))))
 may_publish a (link tail at) =
-    then (own_at a at) (λ t. then (value_in t.0.made) (λ made. then (tail_loaded a.place tail) (λ stands. then (same t.0.next 12) (λ waits.
+    then (own_at a at) (λ t. then (value_in t.0.made) (λ made. then (tail_loaded a.hand.place tail) (λ stands. then (same t.0.next 12) (λ waits.
     then (is_payload made.0 t.0.payload) (λ payload. then (may_publish_as a t.0 made.0) (λ may.
     Some (t.0, made.0, stands, (t.1, waits), t.2, made.1, payload, may)))))))
-may_publish a (move_tail old new) = moves_on a.place old new
+may_publish a (move_tail old new) = moves_on a.hand.place old new
 
 -- ---- walking
 
 abbrev follows : (a : Actor) (at : ℕ) → Option (MayFollow a at)
 follows a at =
     or_else (then (same at 12) (λ e. Some (inl e)))
-    (or_else (then (member a.seen.chain at) (λ met. Some (inr (inl met)))) (then (cursor_loaded a.place at) (λ t. Some (inr (inr (t.0, t.1))))))
+    (or_else (then (member a.seen.chain at) (λ met. Some (inr (inl met)))) (then (cursor_loaded a.hand.place at) (λ t. Some (inr (inr (t.0, t.1))))))
 
 abbrev is_fixed : (a : Actor) (at index : ℕ) → Option (IsFixed a at index)
 is_fixed a at index =
@@ -156,12 +156,12 @@ is_fixed a at index =
     Some (inr (inr (sample, from, to))))))))
 
 abbrev pub may_walk : (a : Actor) (event : WalkingEvent) → Option (walking.Ready a event)
-may_walk a (load_next at) = then (is_false (is_bound a.place)) (λ turns. then (follows a at) (λ may. Some (turns, may)))
+may_walk a (load_next at) = then (is_false (is_bound a.hand.place)) (λ turns. then (follows a at) (λ may. Some (turns, may)))
 may_walk a (load_published at index) =
-    then (is_false (is_bound a.place)) (λ turns. then (member a.seen.chain at) (λ met. then (is_fixed a at index) (λ fixed. Some (turns, met, fixed))))
+    then (is_false (is_bound a.hand.place)) (λ turns. then (member a.seen.chain at) (λ met. then (is_fixed a at index) (λ fixed. Some (turns, met, fixed))))
 
 -- ---- shared cursors
 
 abbrev pub may_share : (a : Actor) (event : CursorEvent) → Option (cursors.Ready a event)
-may_share a (load_cursor cursor) = then (is_false (is_bound a.place)) (λ turns. then (below cursor a.cursors) (λ there. Some (turns, there)))
-may_share a (move_cursor cursor old new) = behind_cursor a.place cursor old new
+may_share a (load_cursor cursor) = then (is_false (is_bound a.hand.place)) (λ turns. then (below cursor a.segment.cursors) (λ there. Some (turns, there)))
+may_share a (move_cursor cursor old new) = behind_cursor a.hand.place cursor old new

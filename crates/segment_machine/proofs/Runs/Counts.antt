@@ -55,13 +55,13 @@ sum_loaded _ histogram sum = None
 
 abbrev buckets_at : (a : Actor) (histogram : ℕ) → Option ((known : Known) × Buckets a histogram known)
 buckets_at a histogram =
-    then (some_of (λ known. same known.reference histogram) a.names) (λ t. then (is_true (has_buckets t.0.spec)) (λ has. Some (t.0, (t.1, t.2, has))))
+    then (some_of (λ known. same known.reference histogram) a.answers.names) (λ t. then (is_true (has_buckets t.0.spec)) (λ has. Some (t.0, (t.1, t.2, has))))
 
-abbrev known_at : (a : Actor) (histogram : ℕ) → Option ((known : Known) × Contains a.names known × (known.reference ≡ histogram))
-known_at a histogram = some_of (λ known. same known.reference histogram) a.names
+abbrev known_at : (a : Actor) (histogram : ℕ) → Option ((known : Known) × Contains a.answers.names known × (known.reference ≡ histogram))
+known_at a histogram = some_of (λ known. same known.reference histogram) a.answers.names
 
 abbrev next_of : (a : Actor) → Option ((c : Counting) × IsNext a c)
-next_of a = then (first_of_list (filter (λ c. not (has_ended c)) a.running)) (λ t. Some (t.0, (t.1, t.2)))
+next_of a = then (first_of_list (filter (λ c. not (has_ended c)) a.entries.running)) (λ t. Some (t.0, (t.1, t.2)))
 
 abbrev has_key : (known : Known) (bucket : ℕ) (key : ℤ) → Option (IsKeyOfBucket known bucket key)
 has_key known bucket key =
@@ -69,12 +69,12 @@ has_key known bucket key =
 
 abbrev looks_open : (a : Actor) (histogram word : ℕ) → Option ((look : Look) × (known : Known) × LooksOpen a histogram word look known)
 looks_open a histogram word =
-    then (looks a.place) (λ t. then (same t.0.histogram histogram) (λ here. then (is_number t.0.single word) (λ loaded. then (is_false (is_off word)) (λ still.
+    then (looks a.hand.place) (λ t. then (same t.0.histogram histogram) (λ here. then (is_number t.0.single word) (λ loaded. then (is_false (is_off word)) (λ still.
     then (buckets_at a histogram) (λ known. Some (t.0, known.0, (t.1, here, loaded, still, known.1)))))))
 
 abbrev looks_off : (a : Actor) → Option ((look : Look) × (known : Known) × LooksOff a look known)
 looks_off a =
-    then (looks a.place) (λ t. then (apart t.0.counts 0) (λ there. then (value_in t.0.single) (λ word. then (is_true (is_off word.0)) (λ off.
+    then (looks a.hand.place) (λ t. then (apart t.0.counts 0) (λ there. then (value_in t.0.single) (λ word. then (is_true (is_off word.0)) (λ off.
     then (buckets_at a t.0.histogram) (λ known. Some (t.0, known.0, (t.1, there, (word.0, word.1, off), known.1)))))))
 
 -- ---- counting
@@ -116,21 +116,21 @@ may_count_bucket a at units =
 
 abbrev may_count_sample : (a : Actor) (at units : ℕ) → Option (counting.MayCount a at units)
 may_count_sample a at units =
-    then (next_of a) (λ c. then (is_false (is_counted c.0)) (λ new. then (is_false (is_bound a.place)) (λ turns.
+    then (next_of a) (λ c. then (is_false (is_counted c.0)) (λ new. then (is_false (is_bound a.hand.place)) (λ turns.
     then (value_in (word_seen a.seen.words (at - 6 + 4))) (λ of. then (sparse_at a of.0) (λ k.
     then (same_bytes c.0.entry.name k.0.name) (λ named. then (same c.0.entry.units units) (λ many.
     then (is_first_sample a.seen k.0.reference c.0.entry.key (at - 6)) (λ first. then (same at (at - 6 + 6)) (λ here.
     Some (c.0, k.0, (c.1, new), named, many, inr (at - 6, turns, (k.1.0, refl, k.1.2), first, here)))))))))))
 
 abbrev pub may_count : (a : Actor) (event : CountingEvent) → Option (counting.Ready a event)
-may_count a (load_counts histogram) = then (is_false (is_bound a.place)) (λ turns. then (buckets_at a histogram) (λ known. Some (turns, known)))
+may_count a (load_counts histogram) = then (is_false (is_bound a.hand.place)) (λ turns. then (buckets_at a histogram) (λ known. Some (turns, known)))
 may_count a (add_count at units) = or_else (may_count_bucket a at units) (may_count_sample a at units)
 may_count a (add_sum histogram amount) =
-    then (is_false (is_bound a.place)) (λ turns. then (next_of a) (λ c. then (known_at a histogram) (λ k. then (is_true (is_counted c.0)) (λ counted.
+    then (is_false (is_bound a.hand.place)) (λ turns. then (next_of a) (λ c. then (known_at a histogram) (λ k. then (is_true (is_counted c.0)) (λ counted.
     then (is_false (is_summed c.0)) (λ new. then (same_integer c.0.entry.amount amount) (λ much. then (same_bytes k.0.name c.0.entry.name) (λ named.
     Some (turns, c.0, k.0, (c.1, counted, new), much, k.1, k.2, named))))))))
 may_count a (add_redundant histogram units) =
-    then (is_false (is_bound a.place)) (λ turns. then (next_of a) (λ c. then (known_at a histogram) (λ k. then (is_true (is_counted c.0)) (λ counted.
+    then (is_false (is_bound a.hand.place)) (λ turns. then (next_of a) (λ c. then (known_at a histogram) (λ k. then (is_true (is_counted c.0)) (λ counted.
     then (is_true (is_summed c.0)) (λ summed. then (same c.0.entry.units units) (λ many. then (same_bytes k.0.name c.0.entry.name) (λ named.
     Some (turns, c.0, k.0, (c.1, counted, summed), many, k.1, k.2, named))))))))
 
@@ -139,14 +139,14 @@ may_count a (add_redundant histogram units) =
 pub only_next : (list : List Counting) (c first : Counting) (rest others : List Counting) → list ≡ first ∷ others → list ≡ c ∷ rest → first ≡ c
 only_next list c first rest others is other = let same : first ∷ others ≡ c ∷ rest = sym is ∙ other in cc
 
-pub counts_in : (a : Actor) (known : Known) (first : Counting) → a.taking ≡ false → IsNext a first → is_counted first ≡ false → first.entry.name ≡ known.name
+pub counts_in : (a : Actor) (known : Known) (first : Counting) → a.deltas.taking ≡ false → IsNext a first → is_counted first ≡ false → first.entry.name ≡ known.name
     → CountsIn a known
 counts_in a known first no_delta is new named =
     (no_delta, λ c other. subst (λ (x : Counting). (is_counted x ≡ false) × (x.entry.name ≡ known.name)) (only_next _ c first other.0 is.0 is.1 other.1) (new, named))
 
 abbrev makes_room : (a : Actor) (known : Known) → Option (CountsIn a known)
 makes_room a known =
-    then (is_false a.taking) (λ no_delta. then (next_of a) (λ c. then (is_false (is_counted c.0)) (λ new. then (same_bytes c.0.entry.name known.name) (λ named.
+    then (is_false a.deltas.taking) (λ no_delta. then (next_of a) (λ c. then (is_false (is_counted c.0)) (λ new. then (same_bytes c.0.entry.name known.name) (λ named.
     Some (counts_in a known c.0 no_delta c.1 new named)))))
 
 abbrev packs : (bucket units old new : ℕ) → Option (IsPacking bucket units old new)
@@ -163,19 +163,19 @@ is_blank own n =
     Some (tag, off, blank, room)))))
 
 abbrev pub may_pack : (a : Actor) (event : PackingEvent) → Option (packing.Ready a event)
-may_pack a (load_single histogram) = then (is_false (is_bound a.place)) (λ turns. then (buckets_at a histogram) (λ known. Some (turns, known)))
+may_pack a (load_single histogram) = then (is_false (is_bound a.hand.place)) (λ turns. then (buckets_at a histogram) (λ known. Some (turns, known)))
 may_pack a (pack histogram old new) =
     then (next_of a) (λ c. then (is_false (is_counted c.0)) (λ fresh. then (looks_open a histogram old) (λ t. then (same_bytes c.0.entry.name t.1.name) (λ named.
     let bucket = new / 2 ^ 32 in
     then (has_key t.1 bucket c.0.entry.key) (λ keyed. then (packs bucket c.0.entry.units old new) (λ packing.
     Some (c.0, t.0, t.1, bucket, (c.1, fresh), t.2, named, keyed, packing)))))))
 may_pack a (mount_counts histogram at) =
-    then (own_at a at) (λ o. then (is_false (is_bound a.place)) (λ turns. then (buckets_at a histogram) (λ k. then (makes_room a k.0) (λ room.
+    then (own_at a at) (λ o. then (is_false (is_bound a.hand.place)) (λ turns. then (buckets_at a histogram) (λ k. then (makes_room a k.0) (λ room.
     then (is_blank o.0 (buckets_of k.0.spec)) (λ blank. Some (o.0, k.0, turns, o.1, o.2, k.1, room, blank))))))
-may_pack a (purge_block at) = loses a.place at
+may_pack a (purge_block at) = loses a.hand.place at
 may_pack a (disable histogram old) =
     then (looks_open a histogram old) (λ t. then (apart t.0.counts 0) (λ there. then (makes_room a t.1) (λ room. Some (t.0, t.1, t.2, there, room))))
-may_pack a (add_moved counts bucket units) = then (moves a.place bucket units) (λ t. then (same t.0.counts counts) (λ there. Some (t.0, t.1, there)))
+may_pack a (add_moved counts bucket units) = then (moves a.hand.place bucket units) (λ t. then (same t.0.counts counts) (λ there. Some (t.0, t.1, there)))
 
 -- ---- taking
 
@@ -185,7 +185,7 @@ last_of (t ∷ rest) = or_else (then (empty rest) (λ e. Some ([], t, ap (λ lis
 
 abbrev takes_at : (a : Actor) (histogram : ℕ) → Option ((known : Known) × Takes a histogram known)
 takes_at a histogram =
-    then (is_true a.taking) (λ going. then (known_at a histogram) (λ k. then (last_of a.taken) (λ t. then (same_bytes t.1.name k.0.name) (λ named.
+    then (is_true a.deltas.taking) (λ going. then (known_at a histogram) (λ k. then (last_of a.deltas.taken) (λ t. then (same_bytes t.1.name k.0.name) (λ named.
     Some (k.0, (going, k.1, k.2, (t.0, t.1, t.2, named)))))))
 
 pub none_unlike : (bucket : ℕ) → None ≢ Some bucket
@@ -212,7 +212,7 @@ loads_bucket a at = or_else
     (then (looks_off a) (λ t.
     let bucket = at - (t.0.counts + 4) in
     then (below bucket (buckets_of t.1.spec)) (λ within. then (same at (t.0.counts + 4 + bucket)) (λ here. Some (inl (t.0, t.1, bucket, inl t.2, within, here))))))
-    (then (counts_loaded a.place) (λ t. then (buckets_at a t.0.histogram) (λ k.
+    (then (counts_loaded a.hand.place) (λ t. then (buckets_at a t.0.histogram) (λ k.
     let bucket = at - (t.0.counts + 4) in
     then (below bucket (buckets_of k.0.spec)) (λ within. then (same at (t.0.counts + 4 + bucket)) (λ here.
     Some (inl (t.0, k.0, bucket, inr (t.1, t.2, t.3, k.1), within, here)))))))
@@ -224,11 +224,11 @@ loads_sample a at =
     then (value_in (word_seen a.seen.words (sample + 4))) (λ of. then (value_in (word_seen a.seen.words (sample + 5))) (λ word. then (sparse_at a of.0) (λ k.
     let value = cast_signed w64 word.0 in
     then (member a.seen.chain sample) (λ met. then (saw_sample a.seen k.0.reference value sample) (λ seen. then (same at (sample + 6)) (λ here.
-    then (is_false (is_bound a.place)) (λ turns. then (is_false (is_looking a.place)) (λ away.
+    then (is_false (is_bound a.hand.place)) (λ turns. then (is_false (is_looking a.hand.place)) (λ away.
     Some (inr (k.0, sample, value, (k.1.0, refl, k.1.2), met, seen, here, turns, away))))))))))
 
-abbrev loaded_now : (a : Actor) (count : ℕ) → Option ((look : Look) × (bucket : ℕ) × (a.place ≡ CountLoaded look bucket count))
-loaded_now a count = then (counts_loaded a.place) (λ t. then (same t.2 count) (λ e. Some (t.0, t.1, t.3 ∙ ap (λ n. CountLoaded t.0 t.1 n) e)))
+abbrev loaded_now : (a : Actor) (count : ℕ) → Option ((look : Look) × (bucket : ℕ) × (a.hand.place ≡ CountLoaded look bucket count))
+loaded_now a count = then (counts_loaded a.hand.place) (λ t. then (same t.2 count) (λ e. Some (t.0, t.1, t.3 ∙ ap (λ n. CountLoaded t.0 t.1 n) e)))
 
 abbrev raises_bucket : (a : Actor) (at least : ℕ) → Option (taking.MayRaise a at least)
 raises_bucket a at least =
@@ -242,7 +242,7 @@ sample_loaded _ count = None
 
 abbrev raises_sample : (a : Actor) (at least : ℕ) → Option (taking.MayRaise a at least)
 raises_sample a at least =
-    then (at_most 1 least) (λ some. then (sample_loaded a.place least) (λ t. then (value_in (word_seen a.seen.words (t.0 + 4))) (λ of.
+    then (at_most 1 least) (λ some. then (sample_loaded a.hand.place least) (λ t. then (value_in (word_seen a.seen.words (t.0 + 4))) (λ of.
     then (takes_at a of.0) (λ k. then (same at (t.0 + 7)) (λ here. Some (some, inr (t.0, of.0, k.0, t.1, of.1, k.1, here)))))))
 
 abbrev pub may_take : (a : Actor) (event : TakingEvent) → Option (taking.Ready a event)
@@ -250,13 +250,13 @@ may_take a (load_count at) = or_else (loads_bucket a at) (loads_sample a at)
 may_take a (raise_mark at least) = or_else (raises_bucket a at least) (raises_sample a at least)
 may_take a (raise_single_mark histogram least) =
     then (at_most 1 least) (λ some. then (takes_at a histogram) (λ k. or_else
-    (then (looks a.place) (λ l. then (value_in l.0.single) (λ word. then (looks_open a histogram word.0) (λ t.
-    then (saw (drop a.since_singles a.seen.singles) (histogram + 9) word.0) (λ since. then (same least (units_in (form_seen a histogram word.0))) (λ all.
+    (then (looks a.hand.place) (λ l. then (value_in l.0.single) (λ word. then (looks_open a histogram word.0) (λ t.
+    then (saw (drop a.since.singles a.seen.singles) (histogram + 9) word.0) (λ since. then (same least (units_in (form_seen a histogram word.0))) (λ all.
     Some (some, k, inl (t.0, t.1, word.0, t.2, since, all))))))))
-    (then (counts_loaded a.place) (λ t. then (same t.0.histogram histogram) (λ here. then (value_in t.0.single) (λ word.
+    (then (counts_loaded a.hand.place) (λ t. then (same t.0.histogram histogram) (λ here. then (value_in t.0.single) (λ word.
     then (is_number (packed_bucket (form_seen a histogram word.0)) t.1) (λ packed. then (same least (t.2 + units_in (form_seen a histogram word.0))) (λ all.
     Some (some, k, inr (t.0, t.1, t.2, word.0, t.3, here, word.1, packed, all))))))))))
-may_take a (load_sum histogram) = then (is_false (is_bound a.place)) (λ turns. then (known_at a histogram) (λ k. Some (turns, (k.0, k.1, k.2))))
+may_take a (load_sum histogram) = then (is_false (is_bound a.hand.place)) (λ turns. then (known_at a histogram) (λ k. Some (turns, (k.0, k.1, k.2))))
 may_take a (swap_sum_mark histogram sum) =
-    then (takes_at a histogram) (λ k. then (sum_loaded a.place histogram sum) (λ stands. Some (k.0, k.1, stands)))
-may_take a (load_redundant histogram) = then (is_false (is_bound a.place)) (λ turns. then (known_at a histogram) (λ k. Some (turns, (k.0, k.1, k.2))))
+    then (takes_at a histogram) (λ k. then (sum_loaded a.hand.place histogram sum) (λ stands. Some (k.0, k.1, stands)))
+may_take a (load_redundant histogram) = then (is_false (is_bound a.hand.place)) (λ turns. then (known_at a histogram) (λ k. Some (turns, (k.0, k.1, k.2))))

@@ -28,7 +28,7 @@ use Rattle.segment_machine.specs.declared.seen.Seen.{Seen}
 use Rattle.segment_machine.specs.declared.seen.Sighting.{Sighting}
 use Rattle.segment_machine.specs.Entry.{AreWithin, has_ended, tally_noted, tally_sum}
 use Rattle.segment_machine.specs.Form.{is_off}
-use Rattle.segment_machine.specs.Actor.{is_bound, bucket_key, has_buckets, word_seen}
+use Rattle.segment_machine.specs.Actor.{is_bound, bucket_key, has_buckets, word_seen, is_opener}
 use Rattle.segment_machine.specs.Made.{AreNameWords, SawSample, SawName, SawOtherName, SawSpec}
 use Rattle.segment_machine.specs.Note.{Note, begins, goes_on, asks, knows, takes, has_taken, looks, answers, moment_of, ends, MayNote, SawBucket, IsMarkOf, TookBucket, TookSample, TookAll, SawAll, Notes, noted}
 use Rattle.segment_machine.specs.Worked.{noted_by}
@@ -44,9 +44,9 @@ not_spent place free spent = true≢false (sym (ap is_bound spent) ∙ free)
 pub named_among : (names : List (List ℕ)) (name found : List ℕ) → Contains names found → found ≡ name → Contains names name
 named_among names name found there is = subst (λ (n : List ℕ). Contains names n) is there
 
-abbrev among_names : (a : Actor) (name : List ℕ) → Option (Contains (map (λ (known : Known). known.name) a.names) name)
+abbrev among_names : (a : Actor) (name : List ℕ) → Option (Contains (map (λ (known : Known). known.name) a.answers.names) name)
 among_names a name =
-    then (some_of (λ found. same_bytes found name) (map (λ (known : Known). known.name) a.names)) (λ t. Some (named_among _ name t.0 t.1 t.2))
+    then (some_of (λ found. same_bytes found name) (map (λ (known : Known). known.name) a.answers.names)) (λ t. Some (named_among _ name t.0 t.1 t.2))
 
 abbrev are_within : (name : List ℕ) (cost : ℕ) (entries : List Entry) → Option (AreWithin name cost entries)
 are_within name cost entries =
@@ -129,24 +129,24 @@ saw_at list at least =
 
 abbrev saw_bucket : (a : Actor) (known : Known) (bucket : ℕ) → Option ((total : ℕ) × SawBucket a known bucket total)
 saw_bucket a known bucket =
-    then (saw_at (drop a.since_singles a.seen.singles) (known.reference + 9) 0) (λ t.
-    let form = single_of a.version (buckets_of known.spec) t.0 in
+    then (saw_at (drop a.since.singles a.seen.singles) (known.reference + 9) 0) (λ t.
+    let form = single_of a.segment.version (buckets_of known.spec) t.0 in
     or_else (then (is_false (is_off t.0)) (λ still. Some (units_packed form bucket, (t.0, t.1, inl (still, refl)))))
     (then (is_true (is_off t.0)) (λ off. then (value_in (word_seen a.seen.words (known.reference + 8))) (λ counts.
-    then (saw_at (drop a.since_counts a.seen.counts) (counts.0 + 4 + bucket) 0) (λ count.
+    then (saw_at (drop a.since.counts a.seen.counts) (counts.0 + 4 + bucket) 0) (λ count.
     Some (count.0 + units_packed form bucket, (t.0, t.1, inr (off, (counts.0, count.0, counts.1, count.1, refl)))))))))
 
 abbrev mark_of : (a : Actor) (known : Known) (bucket : ℕ) → Option ((at : ℕ) × IsMarkOf a known bucket at)
 mark_of a known bucket = or_else
-    (then (saw_at (drop a.since_singles a.seen.singles) (known.reference + 9) 0) (λ t.
-    then (is_number (packed_bucket (single_of a.version (buckets_of known.spec) t.0)) bucket) (λ packed. Some (known.reference + 10, inl (t.0, t.1, packed, refl)))))
+    (then (saw_at (drop a.since.singles a.seen.singles) (known.reference + 9) 0) (λ t.
+    then (is_number (packed_bucket (single_of a.segment.version (buckets_of known.spec) t.0)) bucket) (λ packed. Some (known.reference + 10, inl (t.0, t.1, packed, refl)))))
     (then (value_in (word_seen a.seen.words (known.reference + 8))) (λ counts. Some (counts.0 + 4 + buckets_of known.spec + bucket, inr (counts.0, counts.1, refl))))
 
 abbrev took_bucket : (a : Actor) (known : Known) (bucket : ℕ) → Option (TookBucket a known bucket)
 took_bucket a known bucket =
     then (saw_bucket a known bucket) (λ t. or_else
     (then (same t.0 0) (λ none. Some (t.0, t.1, inl none)))
-    (then (mark_of a known bucket) (λ mark. then (saw_at (drop a.since_counts a.seen.counts) mark.0 t.0) (λ raised.
+    (then (mark_of a known bucket) (λ mark. then (saw_at (drop a.since.counts a.seen.counts) mark.0 t.0) (λ raised.
     Some (t.0, t.1, inr (mark.0, raised.0, mark.1, raised.1, raised.2))))))
 
 pub below_more : (F : ℕ → Type 0) (n : ℕ) → F n → ((i : ℕ) → i < n → F i) → (i : ℕ) → i < suc n → F i
@@ -165,9 +165,9 @@ not_sparse s has is = absurd (true≢false (sym has ∙ ap has_buckets is))
 -- what it saw of a sample was taken
 abbrev took_sample : (a : Actor) (sample : ℕ) → Option (TookSample a sample)
 took_sample a sample =
-    then (saw_at (drop a.since_counts a.seen.counts) (sample + 6) 0) (λ count. or_else
+    then (saw_at (drop a.since.counts a.seen.counts) (sample + 6) 0) (λ count. or_else
     (then (same count.0 0) (λ none. Some (count.0, count.1, inl none)))
-    (then (saw_at (drop a.since_counts a.seen.counts) (sample + 7) count.0) (λ mark. Some (count.0, count.1, inr (mark.0, mark.1, mark.2)))))
+    (then (saw_at (drop a.since.counts a.seen.counts) (sample + 7) count.0) (λ mark. Some (count.0, count.1, inr (mark.0, mark.1, mark.2)))))
 
 -- or it is none
 pub none_there : (a : Actor) (histogram sample tag : ℕ) → word_seen a.seen.words (sample + 2) ≡ Some tag → tag ≢ 3
@@ -190,7 +190,7 @@ took_each a histogram all value sample met saw = All-contains (TookThere a histo
 abbrev took_samples : (a : Actor) (known : Known) → Option (TookAll a known)
 took_samples a known =
     then (is_sparse_spec known.spec) (λ sparse. then (all_of (TookThere a known.reference) (took_there a known.reference) a.seen.chain) (λ all.
-    then (last_of a.taken) (λ t. then (same_bytes t.1.name known.name) (λ named. then (is_true t.1.swapped) (λ swapped.
+    then (last_of a.deltas.taken) (λ t. then (same_bytes t.1.name known.name) (λ named. then (is_true t.1.swapped) (λ swapped.
     Some (record {
       buckets = λ has. not_sparse known.spec has sparse;
       samples = λ _. took_each a known.reference all;
@@ -200,7 +200,7 @@ took_samples a known =
 abbrev took_buckets : (a : Actor) (known : Known) → Option (TookAll a known)
 took_buckets a known =
     then (is_true (has_buckets known.spec)) (λ has. then (each_below (TookBucket a known) (took_bucket a known) (buckets_of known.spec)) (λ buckets.
-    then (last_of a.taken) (λ t. then (same_bytes t.1.name known.name) (λ named. then (is_true t.1.swapped) (λ swapped.
+    then (last_of a.deltas.taken) (λ t. then (same_bytes t.1.name known.name) (λ named. then (is_true t.1.swapped) (λ swapped.
     Some (record {
       buckets = λ _. buckets;
       samples = λ sparse. not_sparse known.spec has sparse;
@@ -247,8 +247,8 @@ abbrev saw_all : (a : Actor) (known : Known) (answered : Answered) → Option (S
 saw_all a known answered =
     then (is_true (has_buckets known.spec)) (λ has.
     then (same_keys (map (λ (count : ℤ × ℕ). count.0) answered.counts) (map (bucket_key (Some known)) (range_with_len 0 (buckets_of known.spec)))) (λ keyed.
-    then (each_at (SawTotal a known) (saw_total a known) 0 answered.counts) (λ totals. then (sum_loaded a.place known.reference answered.sum) (λ summed.
-    then (last_of (drop a.since_counts a.seen.counts)) (λ t. then (same t.1.at (known.reference + 13)) (λ at. then (same t.1.word answered.redundant) (λ word.
+    then (each_at (SawTotal a known) (saw_total a known) 0 answered.counts) (λ totals. then (sum_loaded a.hand.place known.reference answered.sum) (λ summed.
+    then (last_of (drop a.since.counts a.seen.counts)) (λ t. then (same t.1.at (known.reference + 13)) (λ at. then (same t.1.word answered.redundant) (λ word.
     Some (record {
       buckets = λ _. (keyed, from_zero (SawTotal a known) answered.counts totals);
       samples = λ sparse. not_sparse known.spec has sparse;
@@ -267,30 +267,30 @@ same_moment m n =
 
 abbrev pub may_note : (a : Actor) (note : Note) → Option (MayNote a note)
 may_note a (begins name cost entries) =
-    then (is_false (is_bound a.place)) (λ turns. then (same a.opener 0) (λ recorder. then (empty a.running) (λ none. then (empty a.held) (λ free.
-    then (is_false a.taking) (λ no_delta. then (at_most cost a.share) (λ fits. then (among_names a name) (λ known. then (are_within name cost entries) (λ within.
-    Some (not_spent a.place turns, recorder, none, free, no_delta, fits, known, within)))))))))
+    then (is_false (is_bound a.hand.place)) (λ turns. then (is_false (is_opener a.role)) (λ recorder. then (empty a.entries.running) (λ none. then (empty a.units.held) (λ free.
+    then (is_false a.deltas.taking) (λ no_delta. then (at_most cost a.units.share) (λ fits. then (among_names a name) (λ known. then (are_within name cost entries) (λ within.
+    Some (not_spent a.hand.place turns, recorder, none, free, no_delta, fits, known, within)))))))))
 may_note a (goes_on entry cost) =
-    then (first_of_list a.running) (λ r. then (first_of_list a.held) (λ h. then (empty h.1) (λ one.
-    then (all_of (λ c. has_ended c ≡ true) (λ c. is_true (has_ended c)) a.running) (λ ended. then (at_most cost a.share) (λ fits.
-    then (are_within h.0.name (h.0.units + cost) (map (λ (c : Counting). c.entry) a.running ++ entry ∷ [])) (λ within.
-    Some (not_empty a.running r.0 r.1 r.2, ended, fits, (h.0.name, h.0.units, h.2 ∙ ap (λ rest. h.0 ∷ rest) one, within))))))))
+    then (first_of_list a.entries.running) (λ r. then (first_of_list a.units.held) (λ h. then (empty h.1) (λ one.
+    then (all_of (λ c. has_ended c ≡ true) (λ c. is_true (has_ended c)) a.entries.running) (λ ended. then (at_most cost a.units.share) (λ fits.
+    then (are_within h.0.name (h.0.units + cost) (map (λ (c : Counting). c.entry) a.entries.running ++ entry ∷ [])) (λ within.
+    Some (not_empty a.entries.running r.0 r.1 r.2, ended, fits, (h.0.name, h.0.units, h.2 ∙ ap (λ rest. h.0 ∷ rest) one, within))))))))
 may_note a (asks at made) = then (own_at a at) (λ t. then (nothing_in t.0.made) (λ none. Some (t.0, t.1, t.2, none)))
 may_note a (knows known) = may_know a known
 may_note a (takes name) =
-    then (is_false (is_bound a.place)) (λ turns. then (same a.opener 0) (λ recorder. then (empty a.running) (λ none. then (is_false a.taking) (λ no_delta.
-    then (among_names a name) (λ known. Some (not_spent a.place turns, recorder, none, no_delta, known))))))
+    then (is_false (is_bound a.hand.place)) (λ turns. then (is_false (is_opener a.role)) (λ recorder. then (empty a.entries.running) (λ none. then (is_false a.deltas.taking) (λ no_delta.
+    then (among_names a name) (λ known. Some (not_spent a.hand.place turns, recorder, none, no_delta, known))))))
 may_note a has_taken =
-    then (is_true a.taking) (λ going. then (last_of a.taken) (λ t. then (some_of (λ known. same_bytes known.name t.1.name) a.names) (λ k. then (took_all a k.0) (λ all.
+    then (is_true a.deltas.taking) (λ going. then (last_of a.deltas.taken) (λ t. then (some_of (λ known. same_bytes known.name t.1.name) a.answers.names) (λ k. then (took_all a k.0) (λ all.
     Some (going, (k.0, k.1, all))))))
 may_note a looks =
-    then (is_false (is_bound a.place)) (λ turns. then (same a.opener 0) (λ recorder. then (empty a.running) (λ none. then (is_false a.taking) (λ no_delta.
-    Some (not_spent a.place turns, recorder, none, no_delta)))))
+    then (is_false (is_bound a.hand.place)) (λ turns. then (is_false (is_opener a.role)) (λ recorder. then (empty a.entries.running) (λ none. then (is_false a.deltas.taking) (λ no_delta.
+    Some (not_spent a.hand.place turns, recorder, none, no_delta)))))
 may_note a (answers answered) =
-    then (some_of (λ known. same_bytes known.name answered.name) a.names) (λ k. then (saw_all a k.0 answered) (λ all. then (same_moment answered.moment (moment_of a)) (λ when.
+    then (some_of (λ known. same_bytes known.name answered.name) a.answers.names) (λ k. then (saw_all a k.0 answered) (λ all. then (same_moment answered.moment (moment_of a)) (λ when.
     Some (k.0, k.1, k.2, all, when))))
 may_note a ends =
-    then (is_false (is_bound a.place)) (λ turns. then (all_of (λ c. has_ended c ≡ true) (λ c. is_true (has_ended c)) a.running) (λ ended. Some (turns, ended)))
+    then (is_false (is_bound a.hand.place)) (λ turns. then (all_of (λ c. has_ended c ≡ true) (λ c. is_true (has_ended c)) a.entries.running) (λ ended. Some (turns, ended)))
 may_note a _ = None
 
 -- notes one after the other

@@ -1,5 +1,5 @@
 -- A run whose deeds may be done, each in its turn, leads from a state that is reached to one that is.
-use Rattle.std.proofs.Common.{◌⊎◌, ◌≤◌, ◌≡◌, ◌≢◌, ◌∙◌, ℕ, ◌+◌, true, Bool, ◌&&◌, List, [], ◌∷◌, length, refl, arith, length-append, length-set, take-append-drop, Option, Some, None}
+use Rattle.std.proofs.Common.{◌⊎◌, ◌≤◌, ◌≡◌, ◌≢◌, ◌∙◌, ℕ, ◌+◌, true, Bool, ◌&&◌, List, [], ◌∷◌, length, refl, arith, length-append, length-set, take-append-drop, Option, Some, None, false}
 use Rattle.std.specs.Option.{is_some}
 use Rattle.std.proofs.lemmas.Bool.{and_parts}
 use Rattle.std.proofs.lemmas.List.{length-take-le}
@@ -9,7 +9,7 @@ use Rattle.segment_image.specs.Words.{word_at}
 use Rattle.segment_machine.specs.declared.actor.Actor.{Actor}
 use Rattle.segment_machine.specs.declared.place.Place.{Place}
 use Rattle.segment_machine.specs.declared.place.Place.TheVariants.{Idle}
-use Rattle.segment_machine.specs.Actor.{is_bound}
+use Rattle.segment_machine.specs.Actor.{is_bound, is_opener, offered_of, outstanding_of}
 use Rattle.segment_machine.specs.Event.{Event, allocating_event, publishing_event, walking_event, counting_event, packing_event, taking_event, cursor_event, Ready, next, spot, after}
 use Rattle.segment_machine.specs.Note.{Note, Notes}
 use Rattle.segment_machine.specs.Seats.{MayOffer, MaySplit, MayJoin, spent}
@@ -17,7 +17,7 @@ use Rattle.segment_machine.specs.State.{State, memory}
 use Rattle.segment_machine.specs.Reached.{IsReached, IsState, new_state, started, stepped, offered, split, joined_in}
 use Rattle.segment_machine.specs.Examples.{shape, AreReady}
 use Rattle.segment_machine.specs.Worked.{Deed, acts, offers, makes, joins, noted_by, actor_of, done, played}
-use Rattle.segment_machine.proofs.Runs.Tests.{then, is_false, same, apart, at_most, below, empty, found_in}
+use Rattle.segment_machine.proofs.Runs.Tests.{then, is_false, apart, at_most, below, empty, found_in, is_true}
 use Rattle.segment_machine.proofs.Runs.Blocks.{may_allocate, may_publish, may_walk, may_share}
 use Rattle.segment_machine.proofs.Runs.Counts.{may_count, may_pack, may_take}
 use Rattle.segment_machine.proofs.Runs.Notes.{may_note_all}
@@ -53,7 +53,7 @@ abbrev LeadsOn : ℕ → State → State → Type 0
 LeadsOn version old new = (start : State) → IsReached version start old → IsReached version start new
 
 pub steps : (version : ℕ) (old : State) (id : ℕ) (before : List Note) (event : Event) (behind : List Note)
-    → get_elem? old.actors id ≡ core.some (actor_of old id) → (actor_of old id).opener ≡ 0 → Notes (actor_of old id) before (noted_by (actor_of old id) before)
+    → get_elem? old.actors id ≡ core.some (actor_of old id) → is_opener (actor_of old id).role ≡ false → Notes (actor_of old id) before (noted_by (actor_of old id) before)
     → Ready (noted_by (actor_of old id) before) event
     → (let a = next (noted_by (actor_of old id) before) event (word_at (memory old) (spot (length old.words) event)) in Notes a behind (noted_by a behind))
     → LeadsOn version old (done version old (acts id before event behind))
@@ -94,24 +94,24 @@ joins_in version old id other is that may start reached =
 abbrev may_do : (version : ℕ) (state : State) (deed : Deed) → Option (LeadsOn version state (done version state deed))
 may_do version state (acts id before event behind) =
     let a = actor_of state id in
-    then (there state id) (λ is. then (same a.opener 0) (λ recorder. then (may_note_all a before) (λ noted_before.
+    then (there state id) (λ is. then (is_false (is_opener a.role)) (λ recorder. then (may_note_all a before) (λ noted_before.
     then (may (noted_by a before) event) (λ ready.
     then (may_note_all (next (noted_by a before) event (word_at (memory state) (spot (length state.words) event))) behind) (λ noted_behind.
     Some (steps version state id before event behind is recorder noted_before ready noted_behind))))))
 may_do version state (offers units) =
     let a = actor_of state 0 in
-    then (there state 0) (λ is. then (idles a.place) (λ idle. then (same a.opener 1) (λ opener. then (at_most units a.share) (λ fits.
-    then (below a.outstanding 256) (λ few. Some (offers_more version state units is (idle, opener, fits, few)))))))
+    then (there state 0) (λ is. then (idles a.hand.place) (λ idle. then (is_true (is_opener a.role)) (λ opener. then (at_most units a.units.share) (λ fits.
+    then (below (outstanding_of a.role) 256) (λ few. Some (offers_more version state units is (idle, opener, fits, few)))))))
 may_do version state makes =
     let a = actor_of state 0 in
-    then (there state 0) (λ is. then (idles a.place) (λ idle. then (same a.opener 1) (λ opener. then (at_most a.offered a.share) (λ fits.
-    then (below a.outstanding 256) (λ few. Some (splits version state is (idle, opener, fits, few)))))))
+    then (there state 0) (λ is. then (idles a.hand.place) (λ idle. then (is_true (is_opener a.role)) (λ opener. then (at_most (offered_of a.role) a.units.share) (λ fits.
+    then (below (outstanding_of a.role) 256) (λ few. Some (splits version state is (idle, opener, fits, few)))))))
 may_do version state (joins id) =
     let a = actor_of state 0 in
     let b = actor_of state id in
-    then (apart 0 id) (λ other. then (there state 0) (λ is. then (there state id) (λ that. then (idles a.place) (λ idle. then (same a.opener 1) (λ opener.
-    then (at_most 1 a.outstanding) (λ some. then (is_false (is_bound b.place)) (λ turns. then (same b.opener 0) (λ recorder. then (empty b.held) (λ free.
-    then (empty b.running) (λ none. then (is_false b.taking) (λ no_delta. then (empty b.owed) (λ nothing.
+    then (apart 0 id) (λ other. then (there state 0) (λ is. then (there state id) (λ that. then (idles a.hand.place) (λ idle. then (is_true (is_opener a.role)) (λ opener.
+    then (at_most 1 (outstanding_of a.role)) (λ some. then (is_false (is_bound b.hand.place)) (λ turns. then (is_false (is_opener b.role)) (λ recorder. then (empty b.units.held) (λ free.
+    then (empty b.entries.running) (λ none. then (is_false b.deltas.taking) (λ no_delta. then (empty b.answers.owed) (λ nothing.
     Some (joins_in version state id other is that (idle, opener, some, turns, recorder, free, none, no_delta, nothing))))))))))))))
 
 abbrev pub may_play : ℕ → State → List Deed → Bool
@@ -129,7 +129,7 @@ played_reached version start state (deed ∷ rest) may reached =
 pub is_state : (version id cursors : ℕ) (deeds : List Deed) → (version ≡ 1) ⊎ (version ≡ 2) → cursors ≤ 8
     → may_play version (new_state shape version id cursors) deeds ≡ true → IsState shape version id cursors (played version (new_state shape version id cursors) deeds)
 is_state version id cursors deeds versions few may = (
-  record { wide = omega arith; one = omega arith; many = omega arith; whole = refl },
+  record { wide = omega arith; narrow = omega arith; even = refl; one = omega arith; many = omega arith; whole = refl },
   versions,
   few,
   played_reached version (new_state shape version id cursors) (new_state shape version id cursors) deeds may started,

@@ -23,16 +23,16 @@ use Rattle.segment_machine.specs.Allocating.{AllocatingEvent, load_flags, load_f
 use Rattle.segment_machine.specs.Stages.{allocates, StandsAt, AllocationsAgree}
 
 -- an actor stays in its segment
-shape_exchanged : (hit : Bool) (a : Actor) (old new found : ℕ) → (after_free hit a old new found).shape ≡ a.shape
+shape_exchanged : (hit : Bool) (a : Actor) (old new found : ℕ) → (after_free hit a old new found).segment.shape ≡ a.segment.shape
 shape_exchanged true a old new found = refl
 shape_exchanged false a old new found = refl
 
 shape_set : (corrupt : Bool) (a : Actor)
-    → (if corrupt then record a { place = Idle; spoiled = true } else record a { place = Idle; filled = true }).shape ≡ a.shape
+    → (if corrupt then record a { hand = record a.hand { place = Idle }; done = record a.done { spoiled = true } } else record a { hand = record a.hand { place = Idle }; done = record a.done { filled = true } }).segment.shape ≡ a.segment.shape
 shape_set true a = refl
 shape_set false a = refl
 
-shape_stays : (a : Actor) (act : AllocatingEvent) (found : ℕ) → (next a act found).shape ≡ a.shape
+shape_stays : (a : Actor) (act : AllocatingEvent) (found : ℕ) → (next a act found).segment.shape ≡ a.segment.shape
 shape_stays a load_flags found = refl
 shape_stays a load_free found = refl
 shape_stays a (exchange_free old new) found = shape_exchanged (found == old) a old new found
@@ -42,23 +42,23 @@ shape_stays a (store_type at tag) found = refl
 shape_stays a (store_payload at index value) found = refl
 shape_stays a (set_flag flag) found = shape_set (flag == 1) a
 
-module _ (a : Actor) (allocation : Allocation) (same : allocation.shape ≡ a.shape) (least : 1 ≤ allocation.tag) (most : allocation.tag ≤ 3) where
+module _ (a : Actor) (allocation : Allocation) (same : allocation.shape ≡ a.segment.shape) (least : 1 ≤ allocation.tag) (most : allocation.tag ≤ 3) where
   -- the allocation behind an event at a stage that found a number
   abbrev behind : ℕ → Stage → Allocation
   behind found stage = record allocation { seen = seen_after allocation found stage; stage = stage_after allocation found stage }
 
   flags_loaded : (clear : Bool) (now : Allocation)
-      → StandsAt (record a { place = if clear then FlagsLoaded else Idle }) now (if clear then LoadFree else Corrupt)
+      → StandsAt (record a { hand = record a.hand { place = if clear then FlagsLoaded else Idle } }) now (if clear then LoadFree else Corrupt)
   flags_loaded true now = refl
   flags_loaded false now = refl
 
-  planned_so : (found : ℕ) (stage : Stage) → is_pointer a.shape found ≡ true → (way : Planned)
+  planned_so : (found : ℕ) (stage : Stage) → is_pointer a.segment.shape found ≡ true → (way : Planned)
       → StandsAt (next a load_free found) (record allocation { seen = found; stage = stage }) (stage_of_plan found way)
   planned_so found stage lawful (plan.Claim size end) = (refl, lawful)
   planned_so found stage lawful (plan.Waste room) = (refl, lawful)
   planned_so found stage lawful plan.Full = refl
 
-  free_loaded : (found : ℕ) (stage : Stage) → is_pointer a.shape found ≡ true → (good : Bool) → good ≡ true → (way : Planned)
+  free_loaded : (found : ℕ) (stage : Stage) → is_pointer a.segment.shape found ≡ true → (good : Bool) → good ≡ true → (way : Planned)
       → StandsAt (next a load_free found) (record allocation { seen = found; stage = stage }) (if good then stage_of_plan found way else Corrupt)
   free_loaded found stage lawful true e way = planned_so found stage lawful way
   free_loaded found stage lawful false e way = absurd (true≢false (sym e))
@@ -68,10 +68,10 @@ module _ (a : Actor) (allocation : Allocation) (same : allocation.shape ≡ a.sh
   exchanged end found way now true e = ap (λ (at : ℕ). Raised at (end - at)) (sym (eqb-true found allocation.seen e))
   exchanged end found way now false e = refl
 
-  unbound : (place : Place) → a.place ≡ place → is_bound place ≡ false → is_bound a.place ≡ false
+  unbound : (place : Place) → a.hand.place ≡ place → is_bound place ≡ false → is_bound a.hand.place ≡ false
   unbound place stands free = ap is_bound stands ∙ free
 
-  cookie_stored : (at size found : ℕ) (way : Purpose) (now : Allocation) → a.place ≡ Sized at size
+  cookie_stored : (at size found : ℕ) (way : Purpose) (now : Allocation) → a.hand.place ≡ Sized at size
       → Ready a (store_cookie at (cookie_of way)) × StandsAt (next a (store_cookie at (cookie_of way)) found) now (stage_of_cookie at size way)
   cookie_stored at size found purpose.Claim now stands = (((size, stands), inl refl), ap (λ (place : Place). Marked at (size_at place)) stands)
   cookie_stored at size found purpose.Waste now stands = (((size, stands), inr refl), refl)
@@ -112,7 +112,7 @@ module _ (a : Actor) (allocation : Allocation) (same : allocation.shape ≡ a.sh
     ((words, stands), least, most),
     λ found learned. (
       refl,
-      subst (λ (n : ℕ). Contains (a.own ++ new_own at (size_at a.place) allocation.tag ∷ []) (new_own at n allocation.tag)) (ap size_at stands) (Contains-push _ _),
+      subst (λ (n : ℕ). Contains (a.hand.own ++ new_own at (size_at a.hand.place) allocation.tag ∷ []) (new_own at n allocation.tag)) (ap size_at stands) (Contains-push _ _),
     ),
   )
   goes size version event SetFull aimed stands is = (

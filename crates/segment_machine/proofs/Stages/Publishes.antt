@@ -51,13 +51,13 @@ module _ (at : ℕ) where
 -- ---- what the actor offers
 
 -- what may be published rests on the shape and on the histograms that are known
-may_still : (a b : Actor) (own : Own) (made : Made) (next : ℕ) → b.shape ≡ a.shape → b.names ≡ a.names → MayPublish a own made
+may_still : (a b : Actor) (own : Own) (made : Made) (next : ℕ) → b.segment.shape ≡ a.segment.shape → b.answers.names ≡ a.answers.names → MayPublish a own made
     → MayPublish b (record own { next = next }) made
 may_still a b own (Histogram name spec) next shape names (tag, named, lawful, fits) =
     (tag, named, lawful, rw shape fits)
 may_still a b own (Sample histogram value) next shape names (tag, least, small, known) = (tag, least, small, rw names known)
 
-offers_still : (a b : Actor) (reference : ℕ) (made : Made) (next : ℕ) → b.shape ≡ a.shape → b.names ≡ a.names → b.own ≡ a.own
+offers_still : (a b : Actor) (reference : ℕ) (made : Made) (next : ℕ) → b.segment.shape ≡ a.segment.shape → b.answers.names ≡ a.answers.names → b.hand.own ≡ a.hand.own
     → Offers a reference made next → Offers b reference made next
 offers_still a b reference made next shape names same (own, is, nexts, makes, payload, may) = (
   own,
@@ -73,7 +73,7 @@ offers_queued : (a : Actor) (reference found : ℕ) (made : Made) → Offers a r
     → Offers (next a (store_own_next reference) found) reference made 12
 offers_queued a reference found made (own, is, nexts, makes, payload, may) = (
   record own { next = 12 },
-  changed reference (λ own. record own { next = 12 }) own a.own (λ x. refl) is,
+  changed reference (λ own. record own { next = 12 }) own a.hand.own (λ x. refl) is,
   refl,
   makes,
   payload,
@@ -83,7 +83,7 @@ offers_queued a reference found made (own, is, nexts, makes, payload, may) = (
 -- ---- a link
 
 module _ (a : Actor) (reference : ℕ) (made : Made) (offers : Offers a reference made 12) where
-  linked_as : published_as (own_at a.own reference) reference ≡ record { reference = reference; made = made } ∷ []
+  linked_as : published_as (own_at a.hand.own reference) reference ≡ record { reference = reference; made = made } ∷ []
   linked_as =
       let own = offers.0 in
       ap (λ (block : Option Own). published_as block reference) offers.1
@@ -95,9 +95,9 @@ module _ (a : Actor) (reference : ℕ) (made : Made) (offers : Offers a referenc
   linked found tail n true good e lawful = (
     refl,
     subst
-        (λ list. Contains (a.published ++ list) (record { reference = reference; made = made }))
+        (λ list. Contains (a.done.published ++ list) (record { reference = reference; made = made }))
         (sym linked_as)
-        (Contains-push a.published (record { reference = reference; made = made })),
+        (Contains-push a.done.published (record { reference = reference; made = made })),
   )
   linked found tail n false true e lawful = (refl, offers_still a (after_link false a tail reference found) reference made 12 refl refl refl offers)
   linked found tail n false false e lawful = absurd (true≢false (sym lawful))
@@ -112,9 +112,9 @@ tail_loaded a reference found made false lawful offers = absurd (true≢false (s
 goes : (size version : ℕ) (a : Actor) (made : Made) (reference : ℕ) (stage : Stage) (event : atomic.Event)
     → PublishesAt a reference made stage → event_at reference stage ≡ Some event
     → (act : PublishingEvent) × (publishes reference stage ≡ Some act) × (operation size version act ≡ single event) × Ready a act
-    × ((found : ℕ) → Learned a act found → PublishesAt (next a act found) reference made (stage_after a.shape.size reference found stage))
+    × ((found : ℕ) → Learned a act found → PublishesAt (next a act found) reference made (stage_after a.segment.shape.size reference found stage))
 goes size version a made reference StoreOwnNext event (turns, offers) is =
-    let block = there reference offers.0 a.own offers.1 in (
+    let block = there reference offers.0 a.hand.own offers.1 in (
       store_own_next reference,
       refl,
       cc is,
@@ -122,20 +122,20 @@ goes size version a made reference StoreOwnNext event (turns, offers) is =
       λ found learned. (turns, offers_queued a reference found made offers),
     )
 goes size version a made reference LoadTail event (turns, offers) is =
-    let block = there reference offers.0 a.own offers.1 in (
+    let block = there reference offers.0 a.hand.own offers.1 in (
       load_tail,
       refl,
       cc is,
       (turns, (offers.0, (block.0, offers.2))),
-      λ found learned. tail_loaded a reference found made (is_reference a.shape.size found) learned offers,
+      λ found learned. tail_loaded a reference found made (is_reference a.segment.shape.size found) learned offers,
     )
 goes size version a made reference (Link tail) event (stands, offers) is =
-    let block = there reference offers.0 a.own offers.1 in (
+    let block = there reference offers.0 a.hand.own offers.1 in (
       link tail reference,
       refl,
       cc is,
       (offers.0, made, stands, (block.0, offers.2), block.1, offers.3, offers.4, offers.5),
-      λ found learned. linked a reference made offers found tail a.shape.size (found == 12) (is_reference a.shape.size found) refl learned.0,
+      λ found learned. linked a reference made offers found tail a.segment.shape.size (found == 12) (is_reference a.segment.shape.size found) refl learned.0,
     )
 goes size version a made reference (MoveTail old new true) event (stands, done) is =
     (move_tail old new, refl, cc is, inl stands, λ found learned. (refl, done))

@@ -77,8 +77,8 @@ walks_agree size version a given (turns, (rest, is)) = (
     ⊎_elim inl (λ met. inr (inl (subst (λ (l : List ℕ). Contains l (stands_behind given)) (sym is) (Contains-append_left given rest _ met)))) (stands_among given),
   ),
   λ found learned. (
-    may_turn a.place (stands_behind given) found turns,
-    gives given rest a.seen.chain a.shape.size found (found == 12) (is_reference a.shape.size found) is
+    may_turn a.hand.place (stands_behind given) found turns,
+    gives given rest a.seen.chain a.segment.shape.size found (found == 12) (is_reference a.segment.shape.size found) is
         (λ passed. learned.again (length given) passed (place_of given rest a.seen.chain is)) refl,
   ),
 )

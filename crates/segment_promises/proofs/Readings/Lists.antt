@@ -40,7 +40,7 @@ module _ (shape : Dimensions) (opened : Anatomy) (state : State) (kept : Invaria
       by_made : (l : Listed) (m : std.Option Made) → StandsAs kept.anatomy.pieces l m → is_block state.words (head_of state.words) l.reference ≡ true
       by_made l (Some (made.Histogram name spec)) (r, has, named, specified) = published_lawful l.reference _ has refl
       by_made l (Some (made.Sample of value)) (s, has, mine, valued) = published_lawful l.reference _ has refl
-      by_made l None (size, tag, next, payload, has, first, third, long) = published_lawful l.reference _ has refl
+      by_made l None (size, tag, next, payload, has, third, long) = published_lawful l.reference _ has refl
 
   pub is_chain : IsChain state.words (head_of state.words) order
   is_chain = chain_of state.words order (head_of state.words) kept.list.linked

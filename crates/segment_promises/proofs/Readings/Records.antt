@@ -1,5 +1,5 @@
 -- The record of a histogram in a kept state's words: the checks of its kind, name, spec, single word and sums find nothing.
-use Rattle.std.proofs.Common.{◌≡◌, ◌≢◌, ◌||◌, Bool, true, false, if◌then◌else◌, ℕ, ◌+◌, ◌-◌, ◌*◌, ◌^◌, ◌<◌, ℤ, pos, inl, inr, refl, ap, subst, ◌∙◌, arith, Option, Some, None}
+use Rattle.std.proofs.Common.{◌≡◌, ◌≢◌, ◌||◌, Bool, true, false, if◌then◌else◌, ℕ, ◌+◌, ◌-◌, ◌*◌, ◌^◌, ◌<◌, ℤ, pos, inl, inr, refl, ap, subst, ◌∙◌, arith, Option, Some, None, List, []}
 use Rattle.std.specs.Prelude.{not, ◌==◌, nat_lt, slice_index, unsigned_abs, ◌-ℤ◌}
 use Rattle.std.specs.Int.{w64, cast_signed}
 use Rattle.std.proofs.Math.IntN.{+ℤ_idr}
@@ -16,14 +16,15 @@ use Rattle.bucket_ranges.specs.Reading.{is_bad_kind, has_name, is_bad_spec, reco
 use Rattle.segment_machine.specs.State.{State}
 use Rattle.segment_machine.specs.Form.{is_off}
 use Rattle.segment_machine.specs.Actor.{units_of}
-use Rattle.segment_invariant.specs.Body.{Record, record_words, Anatomy}
+use Rattle.segment_invariant.specs.Body.{Record, record_words, Anatomy, layout_of}
 use Rattle.segment_invariant.specs.Ledger.{form_at}
 use Rattle.segment_invariant.specs.Seen.{HasRecord}
 use Rattle.segment_invariant.specs.Invariant.{summed_cost, IsSumOf, IsLawfulRecord, Invariant}
 use Rattle.segment_invariant.proofs.Counting.Learned.{summed_least}
 use Rattle.segment_invariant.proofs.Consistency.Records.{record_word}
 use Rattle.segment_invariant.proofs.Consistency.Specs.{form_is}
-use Rattle.segment_invariant.proofs.Consistency.Made.{holds_histogram}
+use Rattle.segment_invariant.proofs.Consistency.Made.{record_holds}
+use Rattle.alloc_core.specs.Layout.{IsShown}
 
 -- ---- a single word
 
@@ -52,39 +53,43 @@ single_lawful (Some FrozenEmpty) counts formed used = ne_eqb counts 0 (used refl
 single_lawful (Some (Frozen bucket units)) counts formed used = ne_eqb counts 0 (used refl)
 single_lawful None counts formed used = absurd (formed refl)
 
--- ---- a record of a kept state
+-- ---- a record among the words
+
+module _ (shape : Dimensions) (words : List ℕ) (anatomy : Anatomy) (shown : IsShown shape words (layout_of anatomy)) (version at : ℕ) (r : Record)
+    (has : HasRecord anatomy.pieces at r) (right : IsLawfulRecord version shape.page r) where
+  word : (j : ℕ) → j < 15 → field_at words at j ≡ slice_index (record_words r) j
+  word j below = record_word shape words anatomy shown at r j has below
+
+  pub kind_is_right : is_bad_kind words at ≡ false
+  kind_is_right =
+      let (tag, named, its_name, kind, specified, same, fits, letters) = record_holds shape words anatomy shown version [] at r has right in
+      let size = word 0 (omega arith) in
+      let least = right.least in
+      or_from _ _ (le-ltb (field_at words at 0) 16 (omega (arith, size, least))) (ap not kind)
+
+  pub name_is_right : not (has_name words at) ≡ false
+  name_is_right =
+      let (tag, named, its_name, kind, specified, same, fits, letters) = record_holds shape words anatomy shown version [] at r has right in ap not named
+
+  pub spec_is_right : is_bad_spec words (head_of words).shape.page at ≡ false
+  spec_is_right =
+      let (tag, named, its_name, kind, specified, same, fits, letters) = record_holds shape words anatomy shown version [] at r has right in
+      or_from _ _ (ap not specified) (le-ltb (head_of words).shape.page (4 + 2 * record_buckets words at) fits)
+
+  pub single_is_right : is_bad_record_single version words at ≡ false
+  single_is_right =
+      let form = form_is shape words anatomy shown version at r has right version in
+      let counts = word 8 (omega arith) in
+      (λ i. is_bad_single (form i) (counts i))
+      ∙ single_lawful (form_at version r) r.counts right.formed
+      (λ disabled. right.off (disabled_off version (buckets_of r.spec) r.single disabled))
+
+-- ---- its sums, in a kept state
 
 module _ (shape : Dimensions) (opened : Anatomy) (state : State) (kept : Invariant shape opened state) (at : ℕ) (r : Record)
     (has : HasRecord kept.anatomy.pieces at r) where
-  right : IsLawfulRecord kept.anatomy.version shape.page r
-  right = kept.records.lawful at r has
-
-  word : (j : ℕ) → j < 15 → field_at state.words at j ≡ slice_index (record_words r) j
-  word j below = record_word shape state.words kept.anatomy kept.shown at r j has below
-
-  pub kind_is_right : is_bad_kind state.words at ≡ false
-  kind_is_right =
-      let (tag, named, its_name, kind, specified, same, fits, letters) = holds_histogram shape opened state kept at r has in
-      let size = word 0 (omega arith) in
-      let least = right.least in
-      or_from _ _ (le-ltb (field_at state.words at 0) 16 (omega (arith, size, least))) (ap not kind)
-
-  pub name_is_right : not (has_name state.words at) ≡ false
-  name_is_right =
-      let (tag, named, its_name, kind, specified, same, fits, letters) = holds_histogram shape opened state kept at r has in ap not named
-
-  pub spec_is_right : is_bad_spec state.words (head_of state.words).shape.page at ≡ false
-  spec_is_right =
-      let (tag, named, its_name, kind, specified, same, fits, letters) = holds_histogram shape opened state kept at r has in
-      or_from _ _ (ap not specified) (le-ltb (head_of state.words).shape.page (4 + 2 * record_buckets state.words at) fits)
-
-  pub single_is_right : is_bad_record_single kept.anatomy.version state.words at ≡ false
-  single_is_right =
-      let form = form_is shape state.words kept.anatomy kept.shown kept.anatomy.version at r has right kept.anatomy.version in
-      let counts = word 8 (omega arith) in
-      (λ i. is_bad_single (form i) (counts i))
-      ∙ single_lawful (form_at kept.anatomy.version r) r.counts right.formed
-      (λ disabled. right.off (disabled_off kept.anatomy.version (buckets_of r.spec) r.single disabled))
+  word_is : (j : ℕ) → j < 15 → field_at state.words at j ≡ slice_index (record_words r) j
+  word_is j below = record_word shape state.words kept.anatomy kept.shown at r j has below
 
   -- two sums differ by no more than all units can have brought
   near : (x y : ℤ) → IsSumOf state.actors at r x → IsSumOf state.actors at r y → is_beyond (x -ℤ y) ≡ false
@@ -101,7 +106,7 @@ module _ (shape : Dimensions) (opened : Anatomy) (state : State) (kept : Invaria
   sum_is_right =
       let sum : ℤ = cast_signed w64 r.sum in
       let mark : ℤ = cast_signed w64 r.sum_mark in
-      let sum_word = ap (cast_signed w64) (word 11 (omega arith)) in
-      let mark_word = ap (cast_signed w64) (word 12 (omega arith)) in
+      let sum_word = ap (cast_signed w64) (word_is 11 (omega arith)) in
+      let mark_word = ap (cast_signed w64) (word_is 12 (omega arith)) in
       (λ i. is_bad_sum (sum_word i) (mark_word i))
       ∙ (λ i. small sum (inr (inl refl)) i || small mark (inr (inr (inl refl))) i || near sum mark (inr (inl refl)) (inr (inr (inl refl))) i)

@@ -6,6 +6,7 @@ use Rattle.segment_invariant.specs.Body.{Record}
 use Rattle.segment_machine.specs.Examples.{shape, letter_a}
 use Rattle.segment_machine.specs.Examples.{known_a}
 use Rattle.segment_invariant.proofs.laws.counts_owe.Goals as goal
+use Rattle.segment_machine.specs.declared.actor.Role.TheVariants.{Opener}
 
 -- the record that it looks at
 abbrev r : Record
@@ -25,7 +26,7 @@ r = record {
 }
 
 abbrev opener : Actor
-opener = record (opener_of shape 1 1) { made = 1; outstanding = 1 }
+opener = record (opener_of shape 1 1) { role = Opener 1 1 0 }
 
 pub returns : goal.returns
 returns c looks =

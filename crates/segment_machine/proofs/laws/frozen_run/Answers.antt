@@ -9,7 +9,7 @@ use Rattle.segment_machine.proofs.laws.frozen_run.Goals as goal
 
 -- the last of its deltas, and those before
 abbrev before : List Taken
-before = take 3 (actor_of (worked 2) 0).taken
+before = take 3 (actor_of (worked 2) 0).deltas.taken
 
 abbrev final : Taken
 final = record {

@@ -97,7 +97,7 @@ reached =
     joins
 
 lawful : IsShape shape
-lawful = record { wide = omega arith; one = omega arith; many = omega arith; whole = refl }
+lawful = record { wide = omega arith; narrow = omega arith; even = refl; one = omega arith; many = omega arith; whole = refl }
 
 pub returns : goal.returns
 returns c = ((lawful, inl refl, omega arith, reached), (refl, refl), refl, refl, refl, refl, refl)

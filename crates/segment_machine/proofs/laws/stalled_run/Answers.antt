@@ -1,7 +1,10 @@
-use Rattle.std.proofs.Common.{inl, refl, arith}
+use Rattle.std.proofs.Common.{inl, inr, refl, arith}
 use Rattle.segment_machine.specs.Races.{stalling}
 use Rattle.segment_machine.proofs.Runs.Reached.{is_state}
 use Rattle.segment_machine.proofs.laws.stalled_run.Goals as goal
 
 pub returns : goal.returns
-returns c = (is_state 1 7 0 stalling (inl refl) (omega arith) refl, refl, refl, refl, refl, refl)
+returns c = (
+  (is_state 1 7 0 (stalling 1) (inl refl) (omega arith) refl, refl, refl, refl, refl, refl),
+  (is_state 2 7 0 (stalling 2) (inr refl) (omega arith) refl, refl, refl, refl, refl, refl),
+)

@@ -1,0 +1,5 @@
+mod Boards
+mod NewBoards
+mod Parts
+mod Runners
+mod Worlds

@@ -1,0 +1,7 @@
+-- Parts of calls: an actor goes along with an allocation, a publish and a walk.
+pub mod Alone
+pub mod Allocations
+pub mod Claims
+pub mod Fills
+pub mod Publishes
+pub mod Walks

@@ -1,0 +1,154 @@
+-- An actor goes along with an allocation and with a publish.
+use Rattle.std.proofs.Common.{◌≡◌, ℕ, ◌+◌, ◌==◌, Bool, true, false, List, [], ◌∷◌, ◌++◌, length, refl, sym, ap, subst, ◌∙◌}
+use Rattle.std.specs.Prelude.{not, ◌&&◌, if◌then◌else◌, slice_index}
+use Rattle.std.proofs.lemmas.List.{append-nil}
+use lib.Seq.{set-get_or}
+use Rattle.list_core.specs.Chain.{stops}
+use Rattle.list_core.specs.Walk.{IsPrefix, said_of, given_after, stands_behind}
+use Rattle.segment_image.specs.Words.{word_at}
+use Rattle.alloc_core.specs.Alloc.{Allocation, IsLawful, IsAimed}
+use Rattle.alloc_core.specs.Alloc as alloc
+use Rattle.alloc_core.specs.declared.alloc.AllocStep.{AllocStep}
+use Rattle.list_core.specs.Publish.{Publishing}
+use Rattle.list_core.specs.Publish as publish
+use Rattle.list_core.specs.declared.publish.PubStep.{PubStep}
+use Rattle.segment_machine.specs.declared.actor.Actor.{Actor}
+use Rattle.segment_machine.specs.declared.actor.Made.{Made}
+use Rattle.segment_machine.specs.Event.{operation, spot, next, allocating_event, publishing_event, walking_event}
+use Rattle.segment_machine.specs.Walking.{load_next, extended}
+use Rattle.segment_machine.specs.Allocating.{AllocatingEvent, load_flags, load_free, exchange_free, store_size, store_cookie, store_type, store_payload, set_flag}
+use Rattle.segment_machine.specs.Publishing.{PublishingEvent, store_own_next, load_tail, link, move_tail}
+use Rattle.segment_machine.specs.Stages.{Allocates, PublishesAt, Walks}
+use Rattle.segment_machine.proofs.Stages.Allocations.{allocations_agree}
+use Rattle.segment_machine.proofs.Stages.Publishes.{publishes_agree}
+use Rattle.segment_machine.proofs.Stages.Walks.{walks_agree}
+use Rattle.hist_core.proofs.Parts.Alone.{acts_there, makes_so, allocating_beside, publishing_beside}
+use Rattle.hist_core.specs.Goes.{Beside, AreApart, Goes}
+
+-- what was seen of the chain is the front of what is seen of it behind a next
+longer : (more : Bool) (chain : List ℕ) (found : ℕ) → IsPrefix chain (if more then chain ++ found ∷ [] else chain)
+longer true chain found = (found ∷ [], refl)
+longer false chain found = ([], sym (append-nil chain))
+
+extended_behind : (chain : List ℕ) (at found : ℕ) → IsPrefix chain (extended chain at found)
+extended_behind chain at found = longer ((slice_index (stops chain) (length chain) == at) && not (found == 12)) chain found
+
+-- ---- an allocation
+
+-- what its events do hangs neither on the size of the segment nor on its version
+allocating_alike : (act : AllocatingEvent) (size version : ℕ) → operation 0 version (allocating_event act) ≡ operation size 1 (allocating_event act)
+allocating_alike load_flags size version = refl
+allocating_alike load_free size version = refl
+allocating_alike (exchange_free old new) size version = refl
+allocating_alike (store_size at words) size version = refl
+allocating_alike (store_cookie at cookie) size version = refl
+allocating_alike (store_type at tag) size version = refl
+allocating_alike (store_payload at index value) size version = refl
+allocating_alike (set_flag flag) size version = refl
+
+pub allocates_on : (version : ℕ) (a : Actor) (old new : Allocation) (words new_words : List ℕ) (said : AllocStep) → Allocates a old
+    → length words ≡ a.segment.shape.size → alloc.IsStep old words new new_words said
+    → Goes a.segment.shape.size version a words new_words (λ b. Beside a b × AreApart b × Allocates b new)
+allocates_on version a old new words new_words said goes long step =
+    let size : ℕ = a.segment.shape.size in
+    let agrees = allocations_agree size 1 a old step.event goes step.next in
+    let act : AllocatingEvent = agrees.0 in
+    let acts = agrees.2 in
+    let changes = allocating_alike act size version ∙ acts in
+    let there = acts_there size version (allocating_event act) step.event acts changes in
+    let found : ℕ = word_at words (spot size (allocating_event act)) in
+    record {
+      before = [];
+      at = a;
+      told = refl;
+      event = allocating_event act;
+      ready = agrees.3;
+      words_are = step.words_are ∙ sym (makes_so size version (allocating_event act) step.event acts changes words);
+      goes = λ learned apart. (
+        [],
+        next a (allocating_event act) found,
+        refl,
+        (
+          allocating_beside a act found,
+          apart,
+          subst (Allocates (next a (allocating_event act) found))
+              (ap (λ (n : ℕ). alloc.moved old (word_at words n)) there ∙ sym step.new_is) (agrees.4 found learned),
+        ),
+      );
+    }
+
+-- ---- a publish
+
+publishing_alike : (act : PublishingEvent) (size version : ℕ) → operation 0 version (publishing_event act) ≡ operation size 1 (publishing_event act)
+publishing_alike (store_own_next at) size version = refl
+publishing_alike load_tail size version = refl
+publishing_alike (link tail at) size version = refl
+publishing_alike (move_tail old new) size version = refl
+
+pub publishes_on : (version : ℕ) (a : Actor) (made : Made) (old new : Publishing) (words new_words : List ℕ) (said : PubStep)
+    → PublishesAt a old.reference made old.stage → length words ≡ a.segment.shape.size → publish.IsStep old words new new_words said
+    → Goes a.segment.shape.size version a words new_words (λ b. Beside a b × PublishesAt b new.reference made new.stage)
+publishes_on version a made old new words new_words said stands long step =
+    let size : ℕ = a.segment.shape.size in
+    let agrees = publishes_agree size 1 a made old step.event stands step.next in
+    let act : PublishingEvent = agrees.0 in
+    let acts = agrees.2 in
+    let changes = publishing_alike act size version ∙ acts in
+    let there = acts_there size version (publishing_event act) step.event acts changes in
+    let found : ℕ = word_at words (spot size (publishing_event act)) in
+    record {
+      before = [];
+      at = a;
+      told = refl;
+      event = publishing_event act;
+      ready = agrees.3;
+      words_are = step.words_are ∙ sym (makes_so size version (publishing_event act) step.event acts changes words);
+      goes = λ learned apart. (
+        [],
+        next a (publishing_event act) found,
+        refl,
+        (
+          publishing_beside a act found,
+          subst (λ (p : Publishing). PublishesAt (next a (publishing_event act) found) p.reference made p.stage)
+              ((λ i. publish.moved (sym long i) old (word_at words (there i))) ∙ sym step.new_is) (agrees.4 found learned),
+        ),
+      );
+    }
+
+-- ---- a walk
+
+-- the next of the record where a walk stands
+pub walks_on : (version : ℕ) (a : Actor) (given words : List ℕ) → Walks a given → length words ≡ a.segment.shape.size
+    → Goes a.segment.shape.size version a words words
+    (λ b. Beside a b × Walks b (given_after given (said_of (length words) (word_at words (stands_behind given + 3)))))
+walks_on version a given words walks long =
+    let size : ℕ = a.segment.shape.size in
+    let agrees = walks_agree size 1 a given walks in
+    let event = walking_event (load_next (stands_behind given)) in
+    let found : ℕ = word_at words (stands_behind given + 3) in
+    record {
+      before = [];
+      at = a;
+      told = refl;
+      event = event;
+      ready = agrees.1;
+      words_are = sym (set-get_or words (stands_behind given + 3) 0);
+      goes = λ learned apart. (
+        [],
+        next a event found,
+        refl,
+        (
+          record {
+            role = refl;
+            segment = refl;
+            units = refl;
+            entries = refl;
+            deltas = refl;
+            names = refl;
+            chain = extended_behind a.seen.chain (stands_behind given) found;
+            words = ([], sym (append-nil a.seen.words));
+          },
+          subst (λ (n : ℕ). Walks (next a event found) (given_after given (said_of n found))) (sym long) (agrees.2 found learned),
+        ),
+      );
+    }

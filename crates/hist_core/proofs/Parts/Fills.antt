@@ -1,0 +1,204 @@
+-- A `hist` stores the payload of its record, but for the words that are 0.
+use Rattle.std.proofs.Common.{◌≡◌, ◌≢◌, ℕ, zero, suc, ◌+◌, ◌-◌, ◌*◌, ◌<◌, ◌≤◌, ◌==◌, Bool, true, false, List, [], ◌∷◌, ◌++◌, length, take, get_or, replicate, refl, sym, ap, subst, ◌∙◌, arith, append_assoc, eqb-true}
+use Rattle.std.specs.Prelude.{Some, if◌then◌else◌, slice_index, nat_lt, nat_le}
+use Rattle.std.specs.List.{Contains}
+use Rattle.std.proofs.lemmas.List.{append-nil, replicate-append-replicate, length-take-le}
+use Rattle.std.proofs.Math.Seq.{take-suc, take-length}
+use Rattle.std.proofs.lemmas.Bool.{leb-true, leb-false, ltb-true, ltb-false}
+use mathlib.Core.Option.{some}
+use Rattle.segment_invariant.proofs.Lists.Elements.{at_from, contains_at}
+use Rattle.segment_image.specs.Shape.{Dimensions}
+use Rattle.bucket_ranges.specs.Spec.{buckets_of}
+use Rattle.alloc_core.specs.Event as atomic
+use Rattle.list_core.specs.Publish as publish
+use Rattle.segment_machine.specs.declared.actor.Actor.{Actor}
+use Rattle.segment_machine.specs.declared.actor.Own.{Own}
+use Rattle.segment_machine.specs.Allocating.{store_payload, stored}
+use Rattle.segment_machine.specs.Event.{Event, next, allocating_event}
+use Rattle.segment_machine.specs.Publishing.{own_at}
+use Rattle.hist_core.specs.declared.hist.Hist.{Hist}
+use Rattle.hist_core.specs.declared.hist.HistStep.TheVariants.{More}
+use Rattle.hist_core.specs.declared.hist.Stage.{Stage}
+use Rattle.hist_core.specs.declared.hist.Stage.TheVariants.{Filling, Publishing}
+use Rattle.hist_core.specs.Goes.{Beside, Goes}
+use Rattle.hist_core.specs.Hist.{IsHist, IsFilledTo, IsNextFilled, IsFilled, StandsAtStage, HistGives}
+use Rattle.hist_core.proofs.Parts.Alone.{makes_so, allocating_beside}
+use Rattle.hist_core.proofs.Parts.Claims.{changed_at}
+use Rattle.hist_core.proofs.Parts.Walks.{others_still, asks_on, is_wide}
+
+-- ---- the words that are stored
+
+-- words that are 0 go on from a front
+zeros_behind : (all : List ℕ) (n k : ℕ) → n + k ≤ length all → ((i : ℕ) → n ≤ i → i < n + k → get_or all i 0 ≡ 0) → take n all ++ replicate k 0 ≡ take (n + k) all
+zeros_behind all n zero inside zeros = let none : n ≡ n + zero = omega arith in append-nil (take n all) ∙ ap (λ (m : ℕ). take m all) none
+zeros_behind all n (suc k) inside zeros =
+    let one : k + 1 ≡ suc k = omega arith in
+    let last : suc (n + k) ≡ n + suc k = omega arith in
+    ap (λ (l : List ℕ). take n all ++ l) (sym (replicate-append-replicate k 1 0 ∙ ap (λ (m : ℕ). replicate m 0) one))
+    ∙ sym (append_assoc (take n all) (replicate k 0) (replicate 1 0))
+    ∙ ap (λ (l : List ℕ). l ++ 0 ∷ []) (zeros_behind all n k (omega (arith, inside)) (λ i from to. zeros i from (omega (arith, to))))
+    ∙ ap (λ (m : ℕ). take (n + k) all ++ m ∷ []) (sym (zeros (n + k) (omega arith) (omega arith)))
+    ∙ sym (take-suc all (n + k) 0 (omega (arith, inside)))
+    ∙ ap (λ (m : ℕ). take m all) last
+
+-- a word more is stored
+stored_is : (all front : List ℕ) (index : ℕ) → IsFilledTo all index front → index < length all → stored front index (get_or all index 0) ≡ take (suc index) all
+stored_is all front index filled inside = ap (λ (l : List ℕ). l ++ get_or all index 0 ∷ []) filled.words ∙ sym (take-suc all index 0 inside)
+
+-- the words before the next one are stored then
+then_filled : (all : List ℕ) (index next : ℕ) → index < length all → IsNextFilled all (index + 1) next → IsFilledTo all next (take (suc index) all)
+then_filled all index ends_at inside goes =
+    let count = length-take-le (suc index) all (omega (arith, inside)) in
+    let behind = goes.behind in
+    let before = goes.before in
+    let exact : suc index + (ends_at - suc index) ≡ ends_at = omega (arith, behind) in
+    record {
+      short = omega (arith, count, behind);
+      words = ap (λ (n : ℕ). take (suc index) all ++ replicate (ends_at - n) 0) count
+          ∙ zeros_behind all (suc index) (ends_at - suc index) (omega (arith, exact, before)) (λ i from to. goes.zeros i (omega (arith, from)) (omega (arith, to, exact)))
+          ∙ ap (λ (n : ℕ). take n all) exact;
+    }
+
+-- where none is left, the last was stored, which is not 0: so they are all
+all_stored : (all : List ℕ) (index next : ℕ) → index < length all → IsNextFilled all (index + 1) next → get_or all (length all - 1) 0 ≢ 0
+    → length all ≤ next → take (suc index) all ≡ all
+all_stored all index ends_at inside goes last none =
+    let ends : length all ≤ suc index = by (nat_le (length all) (suc index)) refl in
+    let same : suc index ≡ length all = omega (arith, ends, inside) in
+    ap (λ (n : ℕ). take n all) same ∙ take-length all
+  where
+    by : (whole : Bool) → nat_le (length all) (suc index) ≡ whole → length all ≤ suc index
+    by true e = leb-true (length all) (suc index) e
+    by false e =
+        let more = leb-false (length all) (suc index) e in
+        absurd (last (goes.zeros (length all - 1) (omega (arith, more)) (omega (arith, none, more))))
+
+-- ---- its own block
+
+-- a block that is found stands there
+own_there : (list : List Own) (at : ℕ) (x : Own) → own_at list at ≡ Some x → Contains list x × (x.at ≡ at)
+own_there [] at x is = cc is
+own_there (own ∷ rest) at x is = by (own.at == at) refl (own_there rest at x) is
+  where
+    by : (here : Bool) → (own.at == at) ≡ here → (own_at rest at ≡ Some x → Contains rest x × (x.at ≡ at)) → (if here then Some own else own_at rest at) ≡ Some x
+        → Contains (own ∷ rest) x × (x.at ≡ at)
+    by true e behind found = let same : own ≡ x = cc found in (contains_at (own ∷ rest) 0 x (ap some same), subst (λ (o : Own). o.at ≡ at) same (eqb-true own.at at e))
+    by false e behind found = let has = behind found in let there = at_from rest x has.0 in (contains_at (own ∷ rest) (suc there.0) x there.1, has.1)
+
+-- ---- a step
+
+module _ (shape : Dimensions) (version : ℕ) (h : Hist) (a : Actor) (words : List ℕ) (long : length words ≡ shape.size) (is : IsHist shape h a) (at index : ℕ)
+    (fills : h.stage ≡ Filling at index) where
+  stands : StandsAtStage shape h a is.given (Filling at index)
+  stands = subst (StandsAtStage shape h a is.given) fills is.stands
+
+  abbrev all : List ℕ
+  all = h.payload.items
+
+  abbrev own : Own
+  own = stands.5.0
+
+  abbrev value : ℕ
+  value = slice_index all index
+
+  -- what it does
+  abbrev event : Event
+  event = allocating_event (store_payload at index value)
+
+  abbrev acted : Actor
+  acted = next a event 0
+
+  -- its block behind that
+  abbrev fuller : Own
+  fuller = record own { payload = stored own.payload index value }
+
+  fuller_is : own_at acted.hand.own at ≡ Some fuller
+  fuller_is = changed_at a.hand.own at (λ o. record o { payload = stored o.payload index value }) own (λ o. refl) stands.5.1.0
+
+  whole_front : fuller.payload ≡ take (suc index) all
+  whole_front = stored_is all own.payload index stands.5.2 stands.2
+
+  -- the next word, or the publish
+  pub fills_so : (new_words : List ℕ) (new : Hist) → new_words ≡ atomic.after (atomic.store_payload at index value) words → IsFilled h at (index + 1) new
+      → Goes shape.size version a words new_words (HistGives shape new More a)
+  fills_so new_words new are (then_at, goes, new_is) = record {
+    before = [];
+    at = a;
+    told = refl;
+    event = event;
+    ready = (
+      own,
+      ((own_there a.hand.own at own stands.5.1.0).0, stands.5.1.1),
+      (own_there a.hand.own at own stands.5.1.0).1,
+      stands.5.2.short,
+      (let size = stands.5.1.4 in let inside = stands.2 in omega (arith, size, inside)),
+    );
+    words_are = are ∙ sym (makes_so shape.size version event (atomic.store_payload at index value) refl refl words);
+    goes = λ learned apart. ([], acted, refl, (allocating_beside a (store_payload at index value) 0, subst (λ (n : Hist). IsHist shape n acted) (sym new_is) (stood (nat_lt then_at (length all)) refl)));
+  }
+    where
+      beside : Beside a acted
+      beside = allocating_beside a (store_payload at index value) 0
+
+      kept : (stage : Stage) → StandsAtStage shape (record h { stage = stage }) acted is.given stage → IsHist shape (record h { stage = stage }) acted
+      kept stage then_stands = record {
+        asking = asks_on shape h is.asking h.reference h.walk stage;
+        segment = is.segment;
+        lawful_shape = is.lawful_shape;
+        given = is.given;
+        walk = is.walk;
+        reach = is.reach;
+        front = is.front;
+        stands = then_stands;
+      }
+
+      stood : (more : Bool) → nat_lt then_at (length all) ≡ more
+          → IsHist shape (record h { stage = if more then Filling at then_at else Publishing (publish.started at) }) acted
+      stood true e =
+          let inside = ltb-true then_at (length all) e in
+          kept (Filling at then_at) (
+            stands.0,
+            others_still a acted beside h is.given stands.1,
+            inside,
+            goes.stored inside,
+            stands.4,
+            (
+              fuller,
+              (fuller_is, stands.5.1.1, stands.5.1.2, stands.5.1.3, stands.5.1.4),
+              subst (IsFilledTo all then_at) (sym whole_front) (then_filled all index then_at stands.2 goes),
+            ),
+          )
+      stood false e =
+          let none = ltb-false then_at (length all) e in
+          let whole = whole_front ∙ all_stored all index then_at stands.2 goes is.asking.last none in
+          let ends = stands.4.1 in
+          let some = stands.2 in
+          kept (Publishing (publish.started at)) (
+            others_still a acted beside h is.given stands.1,
+            (
+              stands.0,
+              (
+                fuller,
+                fuller_is,
+                stands.5.1.1,
+                stands.5.1.2,
+                (is.asking.letters, is.asking.spells, whole ∙ is.asking.payload),
+                (stands.5.1.3, is.asking.name, is.asking.lawful, subst (λ (d : Dimensions). 4 + 2 * buckets_of h.asked.spec ≤ d.page) (sym is.segment) is.asking.fits),
+              ),
+            ),
+            refl,
+            record {
+              headed = let wide = is_wide shape h a is in omega (arith, wide);
+              from = stands.4.0;
+              ends = omega (arith, ends, some);
+              within = tt;
+            },
+          )
+
+  -- what it stores lies in the payload and in the words, which are few
+  pub fill_bounds : (index < length all) × (at + (4 + length all) ≤ length words) × (length words ≤ 1048576)
+  fill_bounds = (
+    stands.2,
+    subst (λ (n : ℕ). at + (4 + length all) ≤ n) (sym long) stands.4.1,
+    subst (λ (n : ℕ). n ≤ 1048576) (sym long) is.lawful_shape.many,
+  )

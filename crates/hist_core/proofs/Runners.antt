@@ -1,0 +1,62 @@
+-- How the running call of an actor goes on, by what its next event is.
+use Rattle.std.proofs.Common.{◌≡◌, ◌≤◌, ℕ, List, [], inl, refl, subst}
+use Rattle.std.specs.Prelude.{Some, None}
+use Rattle.segment_image.specs.Shape.{Dimensions}
+use Rattle.segment_image.specs.Words.{word_at}
+use Rattle.segment_image.specs.declared.layout.TheConstants.{HEADER_WORDS}
+use Rattle.alloc_core.specs.Event as atomic
+use Rattle.segment_machine.specs.declared.actor.Actor.{Actor}
+use Rattle.segment_machine.specs.Event.{allocating_event, next}
+use Rattle.segment_machine.specs.Allocating.{set_flag}
+use Rattle.hist_core.specs.declared.runner.Running.{Running}
+use Rattle.hist_core.specs.declared.runner.Running.TheVariants.{SetCorrupt}
+use Rattle.hist_core.specs.declared.runner.Runner.{Runner}
+use Rattle.hist_core.specs.Runner.{IsRun, StandsIn, Advances}
+
+-- the one event of `set_corrupt`
+pub sets_corrupt : (shape : Dimensions) (version : ℕ) (a : Actor) (old : Runner) (words new_words : List ℕ) → HEADER_WORDS ≤ shape.size
+    → IsRun shape version old a → old.running ≡ Some SetCorrupt → new_words ≡ atomic.after (atomic.set_flag 1) words
+    → Advances shape version old words (record old { running = None }) new_words a
+sets_corrupt shape version a old words new_words long run is stored =
+    let stands = subst (λ running. StandsIn running a) is run.stands in
+    record {
+      before = [];
+      at = a;
+      told = refl;
+      event = allocating_event (set_flag 1);
+      ready = (stands.0, inl refl);
+      words_are = stored;
+      goes = λ learned apart. (
+        [],
+        next a (allocating_event (set_flag 1)) (word_at words 6),
+        refl,
+        record {
+          records = run.records;
+          segment = run.segment;
+          first = run.first;
+          within = run.within;
+          ended = run.ended;
+          begun = run.begun;
+          untaken = run.untaken;
+          stands = (refl, stands.1);
+        },
+      );
+    }
+
+-- there is no other call yet
+pub is_set_corrupt : (running : Running) → running ≡ SetCorrupt
+is_set_corrupt SetCorrupt = refl
+
+-- who rests begins it, which is no event
+pub begins_set_corrupt : (shape : Dimensions) (version : ℕ) (r : Runner) (a : Actor) → r.running ≡ None → IsRun shape version r a
+    → IsRun shape version (record r { running = Some SetCorrupt }) a
+begins_set_corrupt shape version r a rests run = record {
+  records = run.records;
+  segment = run.segment;
+  first = run.first;
+  within = run.within;
+  ended = run.ended;
+  begun = run.begun;
+  untaken = run.untaken;
+  stands = subst (λ running. StandsIn running a) rests run.stands;
+}

@@ -1,0 +1,40 @@
+use Rattle.std.proofs.Common.{◌∙◌, true, false, refl, ap, vec_len, arith}
+use Rattle.std.specs.Prelude.{not}
+use Rattle.hist_core.proofs.Boards.{is_there, has_header, is_long}
+use Rattle.hist_core.proofs.Worlds.{second_fails, none_fails, rests_as, is_busy}
+use Rattle.std.proofs.lemmas.Bool.{lt-leb}
+use Rattle.std.proofs.Props.{props}
+use Rattle.std.proofs.Math.Logic.{∥∥₁_elim}
+use Rattle.hist_core.proofs.world.World.step.Goals as goal
+
+pub returns-then-is_none-clause-faults : goal.returns-then-is_none-clause-faults
+returns-then-is_none-clause-faults c =
+    let board = c.args.self.now.board in let r = c.index.result.now in
+    let at = is_there board.runners.items (vec_len board.runners) c.args.actor r board.runners.ok.0 (omega (arith, c.if-actor-len.false, c.len.ensures)) c.index.ensures in
+    second_fails _ _ _ _ _ _ (lt-leb (vec_len board.runners) c.args.actor (omega (arith, c.if-actor-len.false, c.len.ensures)))
+    (rests_as board c.args.actor r at true (c.is_none.ensures ∙ ap not c.if-is_none.true)) refl
+
+pub step-requires-clause-long : goal.step-requires-clause-long
+step-requires-clause-long c =
+    let board = c.args.self.now.board in let long = has_header board c.args.self.now.reached in let ok = board.words.ok.0 in omega (arith, long, ok)
+
+pub step-requires-clause-size : goal.step-requires-clause-size
+step-requires-clause-size c = let board = c.args.self.now.board in board.words.ok.0 ∙ is_long board c.args.self.now.reached
+
+pub step-requires-clause-busy : goal.step-requires-clause-busy
+step-requires-clause-busy c =
+    let board = c.args.self.now.board in let r = c.index.result.now in
+    let at = is_there board.runners.items (vec_len board.runners) c.args.actor r board.runners.ok.0 (omega (arith, c.if-actor-len.false, c.len.ensures)) c.index.ensures in
+    is_busy board c.args.actor r at (c.is_none.ensures ∙ ap not c.if-is_none.false)
+
+pub invariant_of-self-2 : goal.invariant_of-self-2
+invariant_of-self-2 c = record {
+  reached = ∥∥₁_elim c.args.self.now.reached (hlevel props) (λ (state, reach). let did = c.step.ensures.steps state reach in ∣ (did.1, did.3) ∣₁);
+}
+
+pub returns-clause-faults : goal.returns-clause-faults
+returns-clause-faults c =
+    let board = c.args.self.now.board in let r = c.index.result.now in
+    let at = is_there board.runners.items (vec_len board.runners) c.args.actor r board.runners.ok.0 (omega (arith, c.if-actor-len.false, c.len.ensures)) c.index.ensures in
+    none_fails _ _ _ _ _ _ (lt-leb (vec_len board.runners) c.args.actor (omega (arith, c.if-actor-len.false, c.len.ensures)))
+    (rests_as board c.args.actor r at false (c.is_none.ensures ∙ ap not c.if-is_none.false)) refl

@@ -1,0 +1,8 @@
+use Rattle.hist_core.proofs.Boards.{is_consistent_now, is_read_now}
+use Rattle.hist_core.proofs.world.World.words.Goals as goal
+
+pub returns-clause-consistent : goal.returns-clause-consistent
+returns-clause-consistent c = is_consistent_now c.args.self.now.board c.args.self.now.reached
+
+pub returns-clause-reads : goal.returns-clause-reads
+returns-clause-reads c = is_read_now c.args.self.now.board c.args.self.now.reached

@@ -1,0 +1,105 @@
+-- The words of a segment with its actors, and the states of the machine that they stand for.
+use Rattle.std.specs.Prelude.{◌≡◌, ◌≢◌, ℕ, ◌+◌, true, List, [], ◌∷◌, IsSome, None, All, vec_len, ⊤}
+use mathlib.Core.Option.{some}
+use lib.ListN.{get_elem?}
+use Rattle.std.specs.List.{Contains}
+use Rattle.segment_image.specs.Shape.{Dimensions}
+use Rattle.segment_image.specs.Head.{head_of}
+use Rattle.bucket_ranges.specs.Reading.{Histogram, Reading, IsReading}
+use Rattle.alloc_core.specs.Layout.{render, fresh}
+use Rattle.segment_machine.specs.declared.place.Place.TheVariants.{Idle}
+use Rattle.segment_machine.specs.declared.actor.Actor.{Actor}
+use Rattle.segment_machine.specs.Actor.{is_opener, offered_of}
+use Rattle.segment_machine.specs.Event.{Event}
+use Rattle.segment_machine.specs.State.{State, IsStep}
+use Rattle.segment_machine.specs.Reached.{IsState}
+use Rattle.segment_invariant.specs.Body.{blank}
+use Rattle.segment_invariant.specs.Consistent.{IsConsistent, new_opening}
+use Rattle.segment_invariant.specs.Invariant.{Invariant}
+use Rattle.segment_promises.specs.Reads.{HasNoFault, ReadsHead, ReadsNames, ReadsUnits, ReadsAmounts}
+use Rattle.hist_core.specs.declared.call.Stepped.{Stepped}
+use Rattle.hist_core.specs.declared.runner.Runner.{Runner}
+use Rattle.hist_core.specs.declared.board.Board.{Board}
+use Rattle.hist_core.specs.Runner.{IsFresh, IsRun, Answers}
+
+-- a new segment with so many actors, which have done nothing
+pub record IsNewBoard (shape : Dimensions) (version id actors : ℕ) (board : Board) : Type 0 where
+  pub shaped : board.shape ≡ shape
+  pub versioned : board.version ≡ version
+  pub words : board.words.items ≡ render shape (fresh shape version id)
+  pub count : vec_len board.runners ≡ actors
+  pub rest : All IsFresh board.runners.items
+
+-- ---- the state of the machine
+
+-- each actor of a world stands for a recorder, in the same order
+abbrev pub AreRun : Dimensions → ℕ → List Runner → List Actor → Type 0
+AreRun shape version [] [] = ⊤
+AreRun shape version [] (a ∷ rest) = ⊥
+AreRun shape version (runner ∷ runners) [] = ⊥
+AreRun shape version (runner ∷ runners) (a ∷ rest) = IsRun shape version runner a × AreRun shape version runners rest
+
+-- The words are those of a state of the machine, without shared cursors. Its first actor is the opener, which has made the others: a
+-- recorder for each actor of the world.
+pub record Shows (board : Board) (state : State) : Type 0 where
+  pub words : state.words ≡ board.words.items
+  pub cursors : state.cursors ≡ []
+  pub opener : Actor
+  pub recorders : List Actor
+  pub actors : state.actors ≡ opener ∷ recorders
+  pub opens : is_opener opener.role ≡ true
+  pub waits : opener.hand.place ≡ Idle
+  pub offers : offered_of opener.role ≡ 0
+  pub runs : AreRun board.shape board.version board.runners.items recorders
+
+-- a state that the machine reaches, and that these words and actors stand for
+pub record IsReachedAs (board : Board) (state : State) : Type 0 where
+  pub id : ℕ
+  pub reached : IsState board.shape board.version id 0 state
+  pub shows : Shows board state
+
+-- the machine reaches such a state
+abbrev pub IsReached : Board → Type 0
+IsReached board = (state : State) × IsReachedAs board state
+
+-- ---- a step
+
+-- a call of an actor is going on
+abbrev pub IsBusy : Board → ℕ → Type 0
+IsBusy board actor = (runner : Runner) → get_elem? board.runners.items actor ≡ some runner → IsSome runner.running
+
+-- no call of an actor is going on
+abbrev pub Rests : Board → ℕ → Type 0
+Rests board actor = (runner : Runner) → get_elem? board.runners.items actor ≡ some runner → runner.running ≡ None
+
+-- one event of the actor leads from a state to another
+abbrev pub StepsTo : Board → ℕ → State → Board → Type 0
+StepsTo old actor state new =
+    (event : Event) × (then_is : State) × IsStep old.version state (actor + 1) event then_is × IsReachedAs new then_is
+
+-- the shape and the version stay, and so do all other actors
+pub record OthersStay (actor : ℕ) (old new : Board) : Type 0 where
+  pub shape : new.shape ≡ old.shape
+  pub version : new.version ≡ old.version
+  pub count : vec_len new.runners ≡ vec_len old.runners
+  pub others : (other : ℕ) → other ≢ actor → get_elem? new.runners.items other ≡ get_elem? old.runners.items other
+
+-- what the call of the actor says
+abbrev pub Says : ℕ → Board → Board → Stepped → Type 0
+Says actor old new said = (before behind : Runner) → get_elem? old.runners.items actor ≡ some before → get_elem? new.runners.items actor ≡ some behind
+    → Answers before old.words.items behind new.words.items said
+
+-- ---- at any moment
+
+-- the state is consistent, in all eight parts
+abbrev pub IsConsistentAs : Board → Type 0
+IsConsistentAs board = (state : State) × (reach : IsReachedAs board state) × IsConsistent (new_opening board.shape board.version reach.id) state
+
+-- Stopped here, the words read back as exactly the histograms that were published, each once, every bucket holding no unit that was not
+-- begun and all ended ones but those in transit: in a state that they stand for.
+abbrev pub IsReadAs : Board → Type 0
+IsReadAs board = (state : State) × (reach : IsReachedAs board state) × (kept : Invariant board.shape (blank board.version reach.id board.shape.size) state)
+    × ((reading : Reading) → IsReading state.words (head_of state.words) reading
+    → HasNoFault reading × ReadsHead (blank board.version reach.id board.shape.size) state reading × ReadsNames kept.anatomy.records reading
+    × ((h : Histogram) → Contains reading.hists h
+    → ReadsUnits board.version state h × ReadsAmounts (blank board.version reach.id board.shape.size) state h))

@@ -1,0 +1,193 @@
+-- A `hist` that is going on.
+use Rattle.std.specs.Prelude.{◌≡◌, ◌≢◌, ℕ, ◌+◌, ◌-◌, ◌*◌, ◌<◌, ◌≤◌, ◌==◌, nat_lt, true, List, [], ◌∷◌, ◌++◌, length, replicate, take, slice_index, is_some, ⊤, Some, None, if◌then◌else◌, vec_len}
+use Rattle.std.specs.List.{All}
+use Rattle.bucket_ranges.specs.Spec.{spec_fault, spec_fields, spec_ranges, buckets_of}
+use Rattle.bucket_ranges.specs.Reading.{is_name}
+use Rattle.segment_image.specs.declared.layout.TheConstants.{BLOCK_HEADER, BLOCK_TYPE, HEADER_WORDS, TYPE_HISTOGRAM}
+use Rattle.segment_image.specs.Shape.{Dimensions}
+use Rattle.alloc_core.specs.Layout.{IsShape}
+use Rattle.alloc_core.specs.Alloc as alloc
+use Rattle.alloc_core.specs.declared.alloc.AllocStep.{AllocStep}
+use Rattle.alloc_core.specs.declared.alloc.AllocStep.TheVariants as said
+use Rattle.hist_core.specs.declared.refusal.Refusal.TheVariants as why
+use Rattle.list_core.specs.declared.publish.PubStep.{PubStep}
+use Rattle.list_core.specs.declared.publish.PubStep.TheVariants as put
+use Rattle.list_core.specs.Publish as publish
+use Rattle.list_core.specs.Chain.{is_reference}
+use Rattle.list_core.specs.Walk.{IsPrefix, stands_behind}
+use Rattle.segment_machine.specs.declared.actor.Actor.{Actor}
+use Rattle.segment_machine.specs.declared.actor.Known.{Known as MachineKnown}
+use Rattle.segment_machine.specs.declared.actor.Made.{Made}
+use Rattle.segment_machine.specs.declared.actor.Made.TheVariants.{Histogram}
+use Rattle.segment_machine.specs.declared.actor.Own.{Own}
+use Rattle.segment_machine.specs.declared.seen.Seen.{Seen}
+use Rattle.segment_machine.specs.Actor.{word_seen}
+use Rattle.segment_machine.specs.Calls.{MayTurn}
+use Rattle.segment_machine.specs.Made.{AreNameWords, SawOtherName}
+use Rattle.segment_machine.specs.Note.{MayNote, knows}
+use Rattle.segment_machine.specs.Publishing.{own_at}
+use Rattle.segment_machine.specs.Stages.{Allocates, PublishesAt}
+use Rattle.hist_core.specs.declared.hist.Hist.{Hist}
+use Rattle.hist_core.specs.declared.hist.Known.{Known}
+use Rattle.hist_core.specs.declared.hist.HistStep.{HistStep}
+use Rattle.hist_core.specs.declared.hist.HistStep.TheVariants.{More, Done, Refused}
+use Rattle.hist_core.specs.Goes.{Beside, Goes}
+use Rattle.hist_core.specs.declared.hist.Stage.{Stage}
+use Rattle.hist_core.specs.declared.hist.Stage.TheVariants.{Walking, Comparing, Allocating, Filling, Publishing}
+
+-- ---- what it asks for
+
+-- what it asks for, as the machine knows it, with the record that its walk gave last
+abbrev pub asked_of : Hist → MachineKnown
+asked_of h = record { name = h.asked.name.items; spec = h.asked.spec; reference = h.reference }
+
+-- what its record is to hold
+abbrev pub made_of : Hist → Made
+made_of h = Histogram h.asked.name.items h.asked.spec
+
+-- the words of the payload of a histogram's record
+abbrev pub payload_words : Known → List ℕ → List ℕ
+payload_words asked letters =
+    spec_fields asked.spec ++ 0 ∷ 0 ∷ 0 ∷ 0 ∷ 0 ∷ 0 ∷ length asked.name.items ∷ (letters ++ spec_ranges asked.spec)
+
+-- Its name and its spec are lawful, its record and its counts fit in a page, and it has the words of its payload, of which the last is
+-- not 0.
+pub record IsAsking (shape : Dimensions) (h : Hist) : Type 0 where
+  pub shaped : h.shape ≡ shape
+  pub name : is_name h.asked.name.items ≡ true
+  pub lawful : spec_fault h.asked.spec ≡ None
+  pub fits : BLOCK_HEADER + 2 * buckets_of h.asked.spec ≤ shape.page
+  pub one_page : BLOCK_HEADER + length h.payload.items ≤ shape.page
+  pub last : slice_index h.payload.items (length h.payload.items - 1) ≢ 0
+  pub letters : List ℕ
+  pub spells : AreNameWords h.asked.name.items letters
+  pub count : h.letters ≡ length letters
+  pub payload : h.payload.items ≡ payload_words h.asked letters
+
+-- ---- what it compares
+
+-- The words of a record that it compares with its own, in this order: the type; then, by their places in the payload, the length of the
+-- name, the words of the name, the four numbers of the spec, and the ranges behind the name.
+abbrev pub compared_place : ℕ → ℕ → ℕ
+compared_place letters k =
+    if k == 1 then 10
+    else (if nat_lt k (letters + 2) then k + 9 else (if nat_lt k (letters + 6) then k - letters - 2 else k + 5))
+
+abbrev pub compared_index : ℕ → ℕ → ℕ
+compared_index letters k = if k == 0 then BLOCK_TYPE else BLOCK_HEADER + compared_place letters k
+
+abbrev pub compared_word : Hist → ℕ → ℕ
+compared_word h k = if k == 0 then TYPE_HISTOGRAM else slice_index h.payload.items (compared_place h.letters k)
+
+-- so many were the same
+abbrev pub AreSame : Seen → Hist → ℕ → Type 0
+AreSame seen h k = (j : ℕ) → j < k → word_seen seen.words (h.reference + compared_index h.letters j) ≡ Some (compared_word h j)
+
+-- all that tell it from others, and with them its spec
+abbrev pub comparisons : Hist → ℕ
+comparisons h = length h.payload.items - 5
+
+-- ---- what it stores
+
+-- the front of a payload, up to its last word that was stored, while the words before an index are stored: those that are 0 are not
+pub record IsFilledTo (payload : List ℕ) (index : ℕ) (front : List ℕ) : Type 0 where
+  pub short : length front ≤ index
+  pub words : front ++ replicate (index - length front) 0 ≡ take index payload
+
+-- the next word to be stored, from an index on: the first that is not 0, or the end
+pub record IsNextFilled (payload : List ℕ) (from next : ℕ) : Type 0 where
+  pub behind : from ≤ next
+  pub before : next ≤ length payload
+  pub zeros : (i : ℕ) → from ≤ i → i < next → slice_index payload i ≡ 0
+  pub stored : next < length payload → slice_index payload next ≢ 0
+
+-- its own block at a word, which is to hold its record
+abbrev pub HasBlock : Hist → ℕ → Actor → Own → Type 0
+HasBlock h at a own =
+    (own_at a.hand.own at ≡ Some own) × (own.next ≡ 0) × (own.made ≡ Some (made_of h)) × (own.tag ≡ TYPE_HISTOGRAM)
+    × (BLOCK_HEADER + length h.payload.items ≤ own.size)
+
+-- ---- where it stands
+
+-- none of these records has its name
+abbrev pub HaveOtherNames : Hist → Actor → List ℕ → Type 0
+HaveOtherNames h a records = All (SawOtherName a.seen h.asked.name.items) records
+
+-- Where its actor stands, whose walk has given these records: none of them has the name, but for the last while it is compared.
+abbrev pub StandsAtStage : Dimensions → Hist → Actor → List ℕ → Stage → Type 0
+StandsAtStage shape h a given Walking = MayTurn a × HaveOtherNames h a given
+StandsAtStage shape h a given (Comparing same) =
+    MayTurn a × ((front : List ℕ) × (given ≡ front ++ h.reference ∷ []) × HaveOtherNames h a front)
+    × (h.reference + 5 ≤ shape.size) × (same < comparisons h) × AreSame a.seen h same
+StandsAtStage shape h a given (Allocating allocation) =
+    HaveOtherNames h a given × Allocates a allocation × (is_some (alloc.next_event allocation) ≡ true) × (allocation.tag ≡ TYPE_HISTOGRAM)
+    × (BLOCK_HEADER + length h.payload.items ≤ allocation.size)
+StandsAtStage shape h a given (Filling at index) =
+    MayTurn a × HaveOtherNames h a given × (index < length h.payload.items) × (slice_index h.payload.items index ≢ 0)
+    × ((HEADER_WORDS ≤ at) × (at + (BLOCK_HEADER + length h.payload.items) ≤ shape.size))
+    × ((own : Own) × HasBlock h at a own × IsFilledTo h.payload.items index own.payload)
+StandsAtStage shape h a given (Publishing publishing) =
+    HaveOtherNames h a given × PublishesAt a publishing.reference (made_of h) publishing.stage × (is_some (publish.next_event publishing) ≡ true)
+    × publish.IsReach shape.size publishing
+
+-- Its walk has given the front of the chain that its actor has seen.
+pub record IsHist (shape : Dimensions) (h : Hist) (a : Actor) : Type 0 where
+  pub asking : IsAsking shape h
+  pub segment : a.segment.shape ≡ shape
+  pub lawful_shape : IsShape shape
+  pub given : List ℕ
+  pub walk : h.walk ≡ stands_behind given
+  pub reach : is_reference shape.size h.walk ≡ true
+  pub front : IsPrefix given a.seen.chain
+  pub stands : StandsAtStage shape h a given h.stage
+
+-- What a step says: it goes on; the record that was compared last is the one that is asked for; or the call is refused, and its actor may
+-- turn to another.
+abbrev pub HistGives : Dimensions → Hist → HistStep → Actor → Actor → Type 0
+HistGives shape new More a b = Beside a b × IsHist shape new b
+HistGives shape new Done a b = Beside a b × MayTurn b × MayNote b (knows (asked_of new))
+HistGives shape new (Refused why) a b = Beside a b × MayTurn b
+
+-- what a step makes of the words, and of whatever actor stands so
+abbrev pub HistSteps : Hist → List ℕ → Hist → List ℕ → HistStep → Type 0
+HistSteps old words new new_words said = (shape : Dimensions) (version : ℕ) (a : Actor) → length words ≡ shape.size → IsHist shape old a
+    → Goes shape.size version a words new_words (HistGives shape new said a)
+
+-- a `hist` that stands so somewhere, in so many words
+abbrev pub IsSomeHist : ℕ → Hist → Type 0
+IsSomeHist n h = (shape : Dimensions) × (a : Actor) × (n ≡ shape.size) × IsHist shape h a
+
+-- it begins to allocate a block for its record, where that fits in a page
+abbrev pub BeginsToAllocate : Hist → Hist → HistStep → Type 0
+BeginsToAllocate old new More =
+    new ≡ record old { stage = Allocating (alloc.first_of old.shape (vec_len old.payload) TYPE_HISTOGRAM) }
+BeginsToAllocate old new Done = ⊥
+BeginsToAllocate old new (Refused why) = new ≡ old
+
+-- it is allocating
+abbrev pub IsAllocating : Stage → Type 0
+IsAllocating (Allocating allocation) = ⊤
+IsAllocating _ = ⊥
+
+-- what becomes of it by what a step of its allocation said: it goes on, or stores the payload in its block, or is refused
+abbrev pub IsAllocated : Hist → AllocStep → Hist → HistStep → Type 0
+IsAllocated old said.More new result = (new ≡ old) × (result ≡ More)
+IsAllocated old (said.Done at) new result = (new ≡ record old { stage = Filling at 0 }) × (result ≡ More)
+IsAllocated old said.Full new result = (new ≡ old) × (result ≡ Refused why.Full)
+IsAllocated old said.Corrupt new result = (new ≡ old) × (result ≡ Refused why.Corrupt)
+
+-- it is publishing
+abbrev pub IsPublishing : Stage → Type 0
+IsPublishing (Publishing publishing) = ⊤
+IsPublishing _ = ⊥
+
+-- what becomes of it by what a step of its publish said: it goes on, or the same walk does
+abbrev pub IsPublished : Hist → PubStep → Hist → HistStep → Type 0
+IsPublished old put.More new result = (new ≡ old) × (result ≡ More)
+IsPublished old put.Done new result = (new ≡ record old { stage = Walking }) × (result ≡ More)
+IsPublished old put.Stray new result = (new ≡ old) × (result ≡ More)
+
+-- the words of the payload before an index are stored: it stores the next that is not 0, or publishes its record
+abbrev pub IsFilled : Hist → ℕ → ℕ → Hist → Type 0
+IsFilled old at from new = (next : ℕ) × IsNextFilled old.payload.items from next
+    × (new ≡ record old { stage = if nat_lt next (length old.payload.items) then Filling at next else Publishing (publish.started at) })

@@ -1,0 +1,7 @@
+pub mod Refusal
+pub mod WorldFault
+pub mod Goes
+pub mod Runner
+pub mod Board
+pub mod World
+pub mod Hist

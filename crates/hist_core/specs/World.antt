@@ -1,0 +1,55 @@
+-- What a world shows, and why it takes no move.
+use Rattle.std.specs.Prelude.{Bool, false, not, ◌&&◌, ◌||◌, ◌==◌, nat_lt, nat_le, ℕ, List, [], ◌∷◌, vec_len, is_some}
+use mathlib.Core.Option.{Option, some, none}
+use lib.ListN.{get_elem?}
+use Rattle.segment_image.specs.Shape.{is_page, is_size}
+use Rattle.hist_core.specs.declared.entry.Entry.{Entry}
+use Rattle.hist_core.specs.declared.entry.Taken.{Taken}
+use Rattle.hist_core.specs.declared.fault.WorldFault.{WorldFault}
+use Rattle.hist_core.specs.declared.fault.WorldFault.TheVariants.{BadShape, NoActor, Busy, Idle}
+use Rattle.hist_core.specs.declared.runner.Runner.{Runner}
+use Rattle.hist_core.specs.declared.board.Board.{Board}
+use Rattle.hist_core.specs.Runner.{ended_by, begun_by}
+
+-- ---- what it shows of an actor, where that is there
+
+abbrev pub of_actor : {X : Type 0} → (Runner → List X) → Option Runner → List X
+of_actor shown none = []
+of_actor shown (some runner) = shown runner
+
+abbrev pub ended_of : Board → ℕ → List Entry
+ended_of board actor = of_actor ended_by (get_elem? board.runners.items actor)
+
+abbrev pub begun_of : Board → ℕ → List Entry
+begun_of board actor = of_actor begun_by (get_elem? board.runners.items actor)
+
+abbrev pub taken_of : Board → ℕ → List Taken
+taken_of board actor = of_actor (λ runner. runner.taken.items) (get_elem? board.runners.items actor)
+
+-- ---- what can be wrong
+
+-- with a new world: its page, its size, the number of its actors, its version
+abbrev pub world_checks : ℕ → ℕ → ℕ → ℕ → List (Bool × WorldFault)
+world_checks size page actors version =
+    (not (is_page page), BadShape)
+    ∷ (not (is_size size page), BadShape)
+    ∷ ((actors == 0) || nat_lt 64 actors, BadShape)
+    ∷ (not (version == 1) && not (version == 2), BadShape)
+    ∷ []
+
+-- a call of an actor is going on, or it rests
+abbrev pub runs : Option Runner → Bool
+runs none = false
+runs (some runner) = is_some runner.running
+
+abbrev pub rests : Option Runner → Bool
+rests none = false
+rests (some runner) = not (is_some runner.running)
+
+-- with the begin of a call: there is no such actor, or a call of it is going on
+abbrev pub begin_checks : Board → ℕ → List (Bool × WorldFault)
+begin_checks board actor = (nat_le (vec_len board.runners) actor, NoActor) ∷ (runs (get_elem? board.runners.items actor), Busy) ∷ []
+
+-- with a step: there is no such actor, or it runs no call
+abbrev pub step_checks : Board → ℕ → List (Bool × WorldFault)
+step_checks board actor = (nat_le (vec_len board.runners) actor, NoActor) ∷ (rests (get_elem? board.runners.items actor), Idle) ∷ []

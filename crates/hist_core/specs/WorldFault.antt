@@ -1,0 +1,13 @@
+-- Why a world takes no move.
+use Rattle.std.specs.Prelude.{ℕ}
+use Rattle.hist_core.specs.declared.fault.WorldFault.{WorldFault}
+use Rattle.hist_core.specs.declared.fault.WorldFault.TheVariants.{BadShape, NoActor, Busy, Idle, Unknown, NoMemory}
+
+-- the number of a fault
+abbrev pub world_fault_number : WorldFault → ℕ
+world_fault_number BadShape = 1
+world_fault_number NoActor = 2
+world_fault_number Busy = 3
+world_fault_number Idle = 4
+world_fault_number Unknown = 5
+world_fault_number NoMemory = 6

@@ -1,0 +1,67 @@
+//! The calls of a world's actors, and what they answer.
+
+use crate::{BatchRefusal, Delta, Refusal, Snapshot};
+use bucket_ranges::Spec;
+
+/// A call on a segment.
+#[derive(Debug, Drop)]
+pub enum Call {
+    /// The histogram of a name and a spec, which is made where there is none.
+    Hist(Vec<u8>, Spec),
+    /// Counts a value in the histogram of a name, so many times.
+    Add(Vec<u8>, i32, u32),
+    /// What was counted in the histogram of a name since the deltas before.
+    Delta(Vec<u8>),
+    /// What is counted in the histogram of a name.
+    Snapshot(Vec<u8>),
+    /// Counts values in the histogram of a name, each so many times, and adds to its sum.
+    Batch(Vec<u8>, Vec<(i32, u32)>, i64),
+    /// Marks the segment as corrupt.
+    SetCorrupt,
+}
+
+/// What a call answers.
+#[derive(Debug, Drop)]
+pub enum Answer {
+    /// The reference of the histogram's record.
+    Hist(u64),
+    /// The samples, or the batch, are counted.
+    Added,
+    /// What the delta took.
+    Delta(Delta),
+    /// What the snapshot saw.
+    Snapshot(Snapshot),
+    /// The corrupt flag is set.
+    Flagged,
+    /// Why the call is refused, which is no batch.
+    Refused(Refusal),
+    /// How much of the batch is counted, and why the rest is refused.
+    BatchRefused(BatchRefusal),
+}
+
+/// A move of a schedule.
+#[derive(Debug, Drop)]
+pub enum Move {
+    /// An actor begins a call.
+    Begin(usize, Call),
+    /// An actor goes on with its call by one event.
+    Step(usize),
+}
+
+/// What the begin of a call says.
+#[derive(Debug, Drop)]
+pub enum Begun {
+    /// The call goes on, an event a step.
+    Going,
+    /// The call needs no event, and has ended.
+    Ended(Answer),
+}
+
+/// What a step says.
+#[derive(Debug, Drop)]
+pub enum Stepped {
+    /// The call goes on.
+    More,
+    /// The call has ended.
+    Done(Answer),
+}

@@ -1,0 +1,215 @@
+//! A `hist` that is going on: it walks the list for the first record of its name, and makes one where there is none.
+
+ghost use Rattle.std.specs.Prelude.{◌≡◌, ◌≢◌, ◌≤◌, ◌<◌, ℕ, List, length};
+
+use crate::refusal::Refusal;
+use alloc_core::event::store;
+use alloc_core::{Alloc, AllocStep};
+use bucket_ranges::{Ranges, Spec};
+use list_core::{PubStep, Publish, Walk, WalkStep};
+use segment_image::Shape;
+use segment_image::layout::{BLOCK_HEADER, BLOCK_TYPE, HISTOGRAM_NAME_LENGTH, TYPE_HISTOGRAM};
+
+/// A histogram that an actor knows, or asks for.
+#[derive(Debug, Drop)]
+pub(crate) struct Known {
+    pub(crate) name: Vec<u8>,
+    pub(crate) spec: Spec,
+    pub(crate) ranges: Ranges,
+    // The reference of its record, 0 while that is asked for.
+    pub(crate) reference: u64,
+}
+
+/// What a `hist` does next.
+#[derive(Debug, Drop)]
+pub(crate) enum Stage {
+    /// It loads the next of where the walk stands.
+    Walking,
+    /// It loads a word of the record where the walk stands. So many before it were as they are to be.
+    Comparing { same: usize },
+    /// It claims the words of its record.
+    Allocating { alloc: Alloc },
+    /// It stores a word of the payload of its record, which is not 0.
+    Filling { at: u64, index: usize },
+    /// It puts its record on the list.
+    Publishing { publish: Publish },
+}
+
+/// What a step of a `hist` says.
+#[derive(Clone, Copy, Debug, PartialEq, Eq)]
+pub(crate) enum HistStep {
+    /// It goes on.
+    More,
+    /// The record where the walk stands is the first of its name, and has the same spec.
+    Done,
+    /// It is refused.
+    Refused(Refusal),
+}
+
+/// A `hist` that is going on.
+#[derive(Debug, Drop)]
+pub(crate) struct Hist {
+    pub(crate) shape: Shape,
+    pub(crate) asked: Known,
+    // What its record has behind its header, and how many words of that are the name's.
+    pub(crate) payload: Vec<u64>,
+    pub(crate) letters: usize,
+    pub(crate) walk: Walk,
+    // The record that the walk gave last.
+    pub(crate) reference: u64,
+    pub(crate) stage: Stage,
+}
+
+impl Hist {
+    ghost use Rattle.std.specs.Prelude.{◌+◌, ◌-◌, ◌*◌, ◌^◌, vec_len, slice_index};
+    ghost use Rattle.segment_machine.specs.declared.actor.Actor.{Actor};
+    ghost use Rattle.hist_core.specs.Hist.{compared_place, compared_index, compared_word, IsSomeHist, HistSteps, BeginsToAllocate, IsAllocated, IsAllocating, IsPublished, IsPublishing, IsNextFilled, IsFilled};
+    ghost use Rattle.alloc_core.specs.Layout.{IsShape};
+    ghost use Rattle.hist_core.specs.declared.hist.Stage.TheVariants.{Walking, Filling};
+
+    // The place in the payload of the word that is compared k-th, from 1 on: the length of the name, the name, the spec, and
+    // the ranges behind the name.
+    fn compared_place(&self, k: usize) -> usize
+        requires small { (k < 2 ^ 60) × (self.now.letters < 2 ^ 60) }
+        ensures { result ≡ compared_place self.now.letters k }
+    {
+        let letters = self.letters;
+        if k == 1 {
+            HISTOGRAM_NAME_LENGTH - BLOCK_HEADER
+        } else if k < letters + 2 {
+            k + 9
+        } else if k < letters + 6 {
+            k - letters - 2
+        } else {
+            k + 5
+        }
+    }
+
+    // It loads the next of where the walk stands.
+    fn walk_on(&mut self, words: &[u64]) -> HistStep
+        requires walks { self.old.stage ≡ Walking }
+        requires stands { ∥ IsSomeHist (length words.now) self.old ∥₁ }
+        ensures { HistSteps self.old words.now self.new words.now result }
+    {
+        match self.walk.step(words) {
+            WalkStep::Record(reference) => {
+                self.reference = reference;
+                self.stage = Stage::Comparing { same: 0 };
+                HistStep::More
+            }
+            WalkStep::End => self.begin_allocating(),
+            WalkStep::Stray => HistStep::More,
+        }
+    }
+
+    // There is no record of the name so far.
+    fn begin_allocating(&mut self) -> HistStep
+        requires lawful { IsShape self.old.shape }
+        ensures { BeginsToAllocate self.old self.new result }
+    {
+        match Alloc::start(self.shape, self.payload.len() as u64, TYPE_HISTOGRAM) {
+            Ok(alloc) => {
+                self.stage = Stage::Allocating { alloc };
+                HistStep::More
+            }
+            Err(_) => HistStep::Refused(Refusal::TooLarge),
+        }
+    }
+
+    // What becomes of it by what a step of its allocation said.
+    fn allocated(&mut self, said: AllocStep) -> HistStep
+        ensures { IsAllocated self.old said self.new result }
+    {
+        match said {
+            AllocStep::More => HistStep::More,
+            AllocStep::Done(at) => {
+                self.stage = Stage::Filling { at, index: 0 };
+                HistStep::More
+            }
+            AllocStep::Full => HistStep::Refused(Refusal::Full),
+            AllocStep::Corrupt => HistStep::Refused(Refusal::Corrupt),
+        }
+    }
+
+    // It goes on with claiming the words of its record.
+    fn allocate(&mut self, words: &mut [u64]) -> HistStep
+        requires allocates { IsAllocating self.old.stage }
+        requires stands { ∥ IsSomeHist (length words.old) self.old ∥₁ }
+        ensures { HistSteps self.old words.old self.new words.new result }
+    {
+        match &mut self.stage {
+            Stage::Allocating { alloc } => {
+                let said = alloc.step(words);
+                self.allocated(said)
+            }
+            _ => HistStep::More,
+        }
+    }
+
+    // What becomes of it by what a step of its publish said: the same walk goes on.
+    fn published(&mut self, said: PubStep) -> HistStep
+        ensures { IsPublished self.old said self.new result }
+    {
+        if said == PubStep::Done {
+            self.stage = Stage::Walking;
+        }
+        HistStep::More
+    }
+
+    // It goes on with putting its record on the list.
+    fn publish(&mut self, words: &mut [u64]) -> HistStep
+        requires publishes { IsPublishing self.old.stage }
+        requires stands { ∥ IsSomeHist (length words.old) self.old ∥₁ }
+        ensures { HistSteps self.old words.old self.new words.new result }
+    {
+        match &mut self.stage {
+            Stage::Publishing { publish } => {
+                let said = publish.step(words);
+                self.published(said)
+            }
+            _ => HistStep::More,
+        }
+    }
+
+    // The next word of the payload from an index on that is not 0, or the end.
+    fn next_filled(&self, from: usize) -> usize
+        requires { from ≤ vec_len self.now.payload }
+        ensures { IsNextFilled self.now.payload.items from result }
+    {
+        let mut next = from;
+        while next < self.payload.len() && self.payload[next] == 0 {
+            next += 1;
+        }
+        next
+    }
+
+    // The words of the payload before an index are stored: it stores the next, or publishes its record.
+    fn filled(&mut self, at: u64, from: usize)
+        requires { from ≤ vec_len self.old.payload }
+        ensures { IsFilled self.old at from self.new }
+    {
+        let index = self.next_filled(from);
+        self.stage = if index < self.payload.len() {
+            Stage::Filling { at, index }
+        } else {
+            Stage::Publishing {
+                publish: Publish::start(at),
+            }
+        };
+    }
+
+    // It stores a word of the payload.
+    fn fill(&mut self, words: &mut [u64], at: u64, index: usize) -> HistStep
+        requires fills { self.old.stage ≡ Filling at index }
+        requires stands { ∥ IsSomeHist (length words.old) self.old ∥₁ }
+        ensures { HistSteps self.old words.old self.new words.new result }
+    {
+        store(
+            words,
+            at as usize + (BLOCK_HEADER + index),
+            self.payload[index],
+        );
+        self.filled(at, index + 1);
+        HistStep::More
+    }
+}

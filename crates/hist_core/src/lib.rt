@@ -1,0 +1,22 @@
+//! The calls on a segment as plain data that runs, one event a step; and what they answer: why a call is refused, what a
+//! delta took, and what a snapshot saw, which are the types of every crate that runs a segment.
+#![tactic(auto)]
+
+mod answer;
+mod board;
+mod call;
+mod entry;
+mod fault;
+mod hist;
+mod refusal;
+mod runner;
+#[cfg(test)]
+mod tests;
+mod world;
+
+pub use answer::{Delta, Snapshot};
+pub use call::{Answer, Begun, Call, Move, Stepped};
+pub use entry::{Entry, Taken};
+pub use fault::WorldFault;
+pub use refusal::{BatchRefusal, Refusal};
+pub use world::{MAX_ACTORS, World};

@@ -1,0 +1,153 @@
+//! A segment and the actors that call on it, as plain data: one event a step.
+
+use crate::board::Board;
+use crate::call::{Begun, Call, Stepped};
+use crate::entry::{Entry, Taken};
+use crate::fault::WorldFault;
+use segment_image::Shape;
+use segment_image::layout::{VERSION_FROZEN, VERSION_MOVING};
+use std::alloc::{AllocError, Global};
+
+/// The most actors of a world.
+pub const MAX_ACTORS: usize = 64;
+
+/// A segment with its actors. Each has one call at most that goes on, and each step is one event of it. So a world can be
+/// looked at after any event of any interleaving: what it shows is a state that the machine reaches.
+#[derive(Debug, Drop)]
+pub struct World {
+    board: Board,
+    ghost reached: { ∥ IsReached board ∥₁ },
+}
+
+ghost use Rattle.hist_core.specs.Board.{IsReached};
+
+impl World {
+    ghost use Rattle.std.specs.Prelude.{◌≡◌, ◌≢◌, ◌≤◌, ◌<◌, ◌⊎◌, ℕ, Ok, Err, OnOk, OnErr, IfOk, IsOk, MatchOption, MatchResult, vec_len};
+    ghost use Rattle.segment_image.specs.Checks.{first_fault};
+    ghost use Rattle.alloc_core.specs.Layout.{IsShape};
+    ghost use Rattle.segment_machine.specs.State.{State};
+    ghost use Rattle.hist_core.specs.Board.{IsReachedAs, IsNewBoard, StepsTo, IsBusy, OthersStay, Says, IsConsistentAs, IsReadAs};
+    ghost use Rattle.hist_core.specs.World.{world_checks, begin_checks, step_checks, ended_of, begun_of, taken_of};
+
+    /// A new segment of `size` words in pages of `page` words, of version 1 or 2, with so many actors that have done nothing.
+    ///
+    /// `BadShape` where page or size is not lawful, the actors are not 1 to 64, or the version is another; then `NoMemory`.
+    pub fn new(
+        alloc: Global,
+        size: u64,
+        page: u64,
+        id: u64,
+        actors: usize,
+        version: u64,
+    ) -> Result<World, WorldFault>
+        ensures { MatchOption (first_fault (world_checks size page actors version)) (MatchResult result (λ world. IsNewBoard (record { size = size; page = page }) version id actors world.board) (λ fault. fault ≡ WorldFault.NoMemory)) (λ fault. result ≡ Err fault) }
+    {
+        let Ok(shape) = Shape::of(size, page) else {
+            return Err(WorldFault::BadShape);
+        };
+        if actors == 0 || actors > MAX_ACTORS {
+            return Err(WorldFault::BadShape);
+        }
+        if version != VERSION_MOVING && version != VERSION_FROZEN {
+            return Err(WorldFault::BadShape);
+        }
+        World::open(alloc, shape, id, actors, version).map_err(|_| WorldFault::NoMemory)
+    }
+
+    // The world that is made so.
+    fn open(
+        alloc: Global,
+        shape: Shape,
+        id: u64,
+        actors: usize,
+        version: u64,
+    ) -> Result<World, AllocError>
+        requires shaped { IsShape shape }
+        requires few { actors ≤ 64 }
+        requires versioned { (version ≡ 1) ⊎ (version ≡ 2) }
+        ensures { IfOk result (λ world. IsNewBoard shape version id actors world.board) }
+    {
+        Ok(World {
+            board: Board::new(alloc, shape, version, id, actors)?,
+        })
+    }
+
+    /// The words of the segment. What they show is consistent; and whenever the world is looked at, they read back as exactly
+    /// the published histograms, each once, with no unit that was not begun and all ended ones but those in transit.
+    pub fn words(&self) -> &[u64]
+        ensures words { result.now ≡ self.now.board.words.items }
+        ensures consistent { ∥ IsConsistentAs self.now.board ∥₁ }
+        ensures reads { ∥ IsReadAs self.now.board ∥₁ }
+    {
+        self.board.words.as_slice()
+    }
+
+    /// The entries of an actor's ended calls and, from its first event on, those of its running call.
+    pub fn begun(&self, actor: usize) -> &[Entry]
+        requires { actor < vec_len self.now.board.runners }
+        ensures { result.now ≡ begun_of self.now.board actor }
+    {
+        let runner = &self.board.runners[actor];
+        &runner.entries[..runner.begun]
+    }
+
+    /// The entries of an actor's ended calls, in order.
+    pub fn ended(&self, actor: usize) -> &[Entry]
+        requires { actor < vec_len self.now.board.runners }
+        ensures { result.now ≡ ended_of self.now.board actor }
+    {
+        let runner = &self.board.runners[actor];
+        &runner.entries[..runner.ended]
+    }
+
+    /// An actor begins to mark the segment as corrupt, which is one event. The other calls are to come.
+    ///
+    /// `NoActor` where there is no such actor, then `Busy` where a call of it is going on.
+    pub fn begin(&mut self, actor: usize, call: &Call) -> Result<Begun, WorldFault>
+        requires { call.now ≡ Call.SetCorrupt }
+        ensures faults { MatchOption (first_fault (begin_checks self.old.board actor)) (IsOk result) (λ fault. result ≡ Err fault) }
+        ensures fault { OnErr result (self.new.board ≡ self.old.board) }
+        ensures begins { OnOk result ((state : State) → IsReachedAs self.old.board state → IsReachedAs self.new.board state) }
+        ensures others { OnOk result (OthersStay actor self.old.board self.new.board) }
+        ensures runs { OnOk result (IsBusy self.new.board actor) }
+    {
+        let _ = call;
+        let board = &mut self.board;
+        if actor >= board.runners.len() {
+            return Err(WorldFault::NoActor);
+        }
+        if board.runners[actor].running.is_some() {
+            return Err(WorldFault::Busy);
+        }
+        board.begin_set_corrupt(actor);
+        Ok(Begun::Going)
+    }
+
+    /// An actor goes on with its call by one event.
+    ///
+    /// `NoActor` where there is no such actor, then `Idle` where no call of it is going on. It takes no memory.
+    pub fn step(&mut self, actor: usize) -> Result<Stepped, WorldFault>
+        ensures faults { MatchOption (first_fault (step_checks self.old.board actor)) (IsOk result) (λ fault. result ≡ Err fault) }
+        ensures fault { OnErr result (self.new.board ≡ self.old.board) }
+        ensures steps { OnOk result ((state : State) → IsReachedAs self.old.board state → StepsTo self.old.board actor state self.new.board) }
+        ensures others { OnOk result (OthersStay actor self.old.board self.new.board) }
+        ensures says { IfOk result (λ said. Says actor self.old.board self.new.board said) }
+    {
+        let board = &mut self.board;
+        if actor >= board.runners.len() {
+            return Err(WorldFault::NoActor);
+        }
+        if board.runners[actor].running.is_none() {
+            return Err(WorldFault::Idle);
+        }
+        Ok(board.step(actor))
+    }
+
+    /// What an actor's deltas took, in order; the last may still be going on.
+    pub fn taken(&self, actor: usize) -> &[Taken]
+        requires { actor < vec_len self.now.board.runners }
+        ensures { result.now ≡ taken_of self.now.board actor }
+    {
+        self.board.runners[actor].taken.as_slice()
+    }
+}

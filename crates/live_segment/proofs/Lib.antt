@@ -1,0 +1,6 @@
+mod Allowed
+mod Told
+mod Closing
+mod Copies
+mod Seated
+mod Tries

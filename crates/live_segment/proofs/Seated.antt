@@ -1,0 +1,124 @@
+-- That the rule of a segment's table allows what becomes of seats: a table is opened, units are offered, a recorder is made and joined.
+use Rattle.std.proofs.Common.{◌≡◌, ◌≢◌, ◌⊎◌, ℕ, ◌≤◌, Bool, true, true≢false, if◌then◌else◌, sum_by, ◌==◌, ◌+◌, slice_index, List, [], ◌∷◌, take, drop, refl, sym, ap, subst, ◌∙◌, arith}
+use mathlib.Core.Option.{none, some, some-injective}
+use lib.ListN.{get_elem?}
+use lib.Seq.{set-get_or, take-append_seam}
+use prog.Atomic.{either}
+use Rattle.atomic_table.specs.Table.{step, opening, keeps, stepped, Allows, Splits, Joins, Final, Seen}
+use Rattle.atomic_table.proofs.Lists.{exchanged, set_again, set_else}
+use Rattle.alloc_core.specs.Layout.{IsShape}
+use Rattle.alloc_core.proofs.Layouts.{length_shown}
+use Rattle.segment_machine.specs.declared.actor.Actor.{Actor}
+use Rattle.segment_machine.specs.declared.place.Place.TheVariants.{Spent}
+use Rattle.segment_machine.specs.Actor.{is_bound, is_opener, outstanding_of, cost_total, units_of}
+use Rattle.segment_machine.specs.Seats.{MayOffer, offering, MaySplit, parent, newcomer, joined, spent}
+use Rattle.segment_machine.specs.State.{memory}
+use Rattle.segment_invariant.specs.Body.{layout_of}
+use Rattle.segment_invariant.specs.Invariant.{is_living, RolesAreKept}
+use Rattle.segment_invariant.proofs.Openings.Segments.{opening_is_kept}
+use Rattle.segment_invariant.proofs.Frames.OneActor.{lives_on}
+use Rattle.segment_invariant.proofs.Frames.Roles.{opens_first}
+use Rattle.segment_invariant.proofs.Lists.Elements.{sum_at_least}
+use Rattle.segment_promises.proofs.Tables.{tables_open, tables_close, tables_offer, tables_split, tables_join}
+use Rattle.live_segment.specs.declared.rule.Announcement.{Announcement}
+use Rattle.live_segment.specs.declared.rule.Announcement.TheVariants.{Units}
+use Rattle.live_segment.specs.declared.rule.Setting.{Setting}
+use Rattle.live_segment.specs.declared.segment.Segment.{Segment}
+use Rattle.live_segment.specs.declared.opener.Opener.{Opener}
+use Rattle.live_segment.specs.Holders.{view_of_opener}
+use Rattle.live_segment.specs.Rule.{opened_of, opening_state, first_view, Runs, Closes}
+use Rattle.live_segment.specs.Steps.{Pass, Sat, IsAtRest, Joinable, Offers, Bounds}
+
+-- an exchange of 0 for 0 changes nothing
+pub nothing_exchanged : (n : ℕ) → either (n == 0) 0 n ≡ n
+nothing_exchanged n = exchanged n 0 0 (λ x. x ≡ n) (λ e. sym e) (λ _. refl)
+
+pub opens : (setting : Setting) (words : List ℕ) → IsShape setting.shape → (setting.version ≡ 1) ⊎ (setting.version ≡ 2)
+    → words ≡ 0 ∷ memory (opening_state setting) → Runs setting (opening words [] (first_view setting))
+opens setting words shaped versioned same =
+    let kept = opening_is_kept setting.shape setting.version setting.id setting.cursors shaped versioned in
+    subst (λ (ws : List ℕ). Runs setting (opening {S = Announcement} ws [] (first_view setting))) (sym same)
+    (tables_open Announcement setting.shape (opened_of setting) (opening_state setting) (first_view setting) 0 [] kept refl)
+
+-- the words of a closed table behind the first one, as many as the segment has, are those of a kept state
+closes_as : (setting : Setting) (words image : List ℕ) (xs : List Announcement) (opener : Actor)
+    → Final (Seen (Runs setting) 0 opener) words xs → image ≡ take setting.shape.size (drop 1 words) → Closes setting opener image
+closes_as setting words image xs opener final same =
+    let (anchor, state, all, kept, stands) = tables_close Announcement setting.shape (opened_of setting) words xs opener final in
+    let long = length_shown setting.shape state.words (layout_of kept.anatomy) kept.shown in
+    let front : take setting.shape.size (memory state) ≡ state.words =
+    ap (λ (n : ℕ). take n (memory state)) (sym long) ∙ take-append_seam state.words state.cursors in record {
+      state = state;
+      words_are = same ∙ (ap (λ (ws : List ℕ). take setting.shape.size (drop 1 ws)) all ∙ front);
+      kept = kept;
+      stands = stands;
+    }
+
+-- they were copied into a row, the first so many, and the row was cut behind these
+pub closes : (segment : Segment) (opener : Opener) (seat : Pass) (words row image : List ℕ) (xs : List Announcement) (i size : ℕ)
+    → seat ≡ opener.seat → Final (Seen (Runs segment.table.shared.key) seat.id seat.me.0) words xs
+    → size ≤ i → i ≤ size → size ≡ segment.setting.shape.size → take i row ≡ take i (drop 1 words) → image ≡ take size row
+    → Closes segment.setting (view_of_opener opener) image
+closes segment opener seat words row image xs i size seated final from to all copied cut =
+    let setting = segment.setting in
+    let ended : i ≡ size = omega arith in
+    let whole = subst (λ (n : ℕ). take n row ≡ take n (drop 1 words)) (ended ∙ all) copied in
+    let first : seat.id ≡ 0 = ap (λ (s : Pass). s.id) seated ∙ opener.opens.0 in
+    let keyed = subst (λ (k : Setting). Final (Seen (Runs k) seat.id seat.me.0) words xs) segment.keyed final in
+    let placed = subst (λ (n : ℕ). Final (Seen (Runs setting) n seat.me.0) words xs) first keyed in
+    closes_as setting words image xs (view_of_opener opener)
+    (subst (λ (s : Pass). Final (Seen (Runs setting) 0 s.me.0) words xs) seated placed)
+    (cut ∙ (ap (λ (n : ℕ). take n row) all ∙ whole))
+
+module _ (setting : Setting) (slots id : ℕ) (me : Sat) where
+  pub offers : (units : ℕ) → MayOffer me.0 units
+      → Allows (Runs setting) slots id me 0 (λ n. either (n == 0) 0 n) (Offers (step slots 0 0 0 (some (Units units))) me)
+  offers units may s run wide mine small =
+      let (view, act, valid, holds, told) =
+      tables_offer Announcement setting.shape (opened_of setting) units slots id me (λ n. either (n == 0) 0 n) nothing_exchanged may s run wide mine small in
+      (view, act, valid, holds, λ said e. (told.0 ∙ ap (λ (n : ℕ). offering me.0 n) (same said e), told.1))
+    where
+      units_said : Announcement → ℕ
+      units_said (Units n) = n
+
+      same : (said : ℕ) → some (Units units) ≡ some (Units said) → units ≡ said
+      same said e = ap units_said (some-injective (Units units) (Units said) e)
+
+  pub bounds : Allows (Runs setting) slots id me 0 (λ n. n) (Bounds (step slots 0 0 0 none) me)
+  bounds s run wide mine small =
+      let there : get_elem? run.segment.actors id ≡ some me.0 = ap (λ list. get_elem? list id) (sym run.views) ∙ mine in
+      let all : sum_by units_of run.segment.actors ≡ 4294967295 = run.kept.pool in
+      let part : units_of me.0 ≤ sum_by units_of run.segment.actors = sum_at_least units_of run.segment.actors id me.0 there in
+      let first = set-get_or s.words 0 0 in
+      let view = set_again s.views id me.0 mine in
+      let same : stepped s 0 (slice_index s.words 0) id me.1 me.0 keeps ≡ s = λ i. record { words = first i; homes = s.homes; views = view i } in
+      let few : units_of me.0 ≤ 4294967295 = subst (λ (n : ℕ). units_of me.0 ≤ n) all part in
+      (me.0, keeps, tt, subst (Runs setting) (sym same) run, (refl, refl, most me.0.units.share (cost_total me.0.units.costs) (cost_total me.0.units.held) few))
+    where
+      most : (share costs held : ℕ) → share + costs + held ≤ 4294967295 → share ≤ 4294967295
+      most share costs held few = omega arith
+
+pub splits : (setting : Setting) (id : ℕ) (a : Actor) → MaySplit a → Splits (Runs setting) id a (parent a) (newcomer a)
+splits setting id a may = tables_split Announcement setting.shape (opened_of setting) id a may
+
+-- who stands beside a recorder that lives has one outstanding
+stands_out : (actors : List Actor) (roles : RolesAreKept actors) (id other : ℕ) (a b : Actor) → get_elem? actors id ≡ some a
+    → get_elem? actors other ≡ some b → is_opener a.role ≡ true → IsAtRest b → 1 ≤ outstanding_of a.role
+stands_out actors roles id other a b there beside opener rest =
+    let live : b.hand.place ≢ Spent = λ e. true≢false (sym (ap is_bound e) ∙ rest.free) in
+    let counts = λ (c : Actor). if is_living c then 1 else 0 in
+    let lives : is_living b ≡ true = lives_on b rest.recorder live in
+    let part : counts b ≤ sum_by counts actors = sum_at_least counts actors other b beside in
+    let mine : sum_by counts actors ≡ outstanding_of a.role = roles.living ∙ ap (λ (c : Actor). outstanding_of c.role) (opens_first actors roles id a there opener).1 in
+    subst (λ (n : ℕ). 1 ≤ n) mine (subst (λ (x : Bool). (if x then 1 else 0) ≤ sum_by counts actors) lives part)
+
+pub joins : (setting : Setting) (id other : ℕ) (a b : Actor) → Joinable a b → Joins (Runs setting) id a other b (joined a b) spent
+joins setting id other a b may s run mine apart theirs =
+    let seg = run.segment in
+    let there : get_elem? seg.actors id ≡ some a = ap (λ list. get_elem? list id) (sym run.views) ∙ mine in
+    let beside : get_elem? seg.actors other ≡ some b =
+    ap (λ list. get_elem? list other) (sym run.views) ∙ (sym (set_else s.views id other (joined a b) apart) ∙ theirs) in
+    let (idle, opener, rest) = may in
+    let one : 1 ≤ outstanding_of a.role = stands_out seg.actors run.kept.roles id other a b there beside opener rest in
+    tables_join Announcement setting.shape (opened_of setting) id other a b
+    (idle, opener, one, rest.free, rest.recorder, rest.holds, rest.runs, rest.takes, rest.owes) s run mine apart theirs

@@ -1,0 +1,34 @@
+use Rattle.std.proofs.Common.{sym, ap, subst, is_ok, arith}
+use Rattle.std.specs.Slots.{slots_items}
+use Rattle.live_segment.specs.Rule.{Closes}
+use Rattle.live_segment.specs.Holders.{view_of_opener}
+use Rattle.live_segment.proofs.Copies.{copied}
+use Rattle.live_segment.proofs.Seated.{closes}
+use Rattle.live_segment.proofs.Closing.Joined.{image_of, joined, deltas, snapshots}
+use Rattle.live_segment.proofs.Closing.Stopped.{stopped}
+use Rattle.live_segment.proofs.segment.Segment.close.Goals as goal
+
+pub loop-i-preserved : goal.loop-i-preserved
+loop-i-preserved c = record {
+  long = c.loop-i.invariant.long;
+  same = copied c.loop-i.image.items (slots_items c.close_with-closed.result.words) c.loop-i.i c.word.result (let e = c.loop-i.image.ok.0 in omega arith) c.word.ensures c.loop-i.invariant.same;
+}
+
+pub of-requires : goal.of-requires
+of-requires c =
+    let is = closes c.args.self c.args.opener _ _ _ _ _ _ _ c.into_seat.ensures c.close_with-closed.ensures.values.2 c.loop-i-test.false c.loop-i.auto.i-end
+    c.size-size.ensures.value c.loop-i.invariant.same c.truncate.ensures.items in
+    ap is_ok (image_of c.args.self.setting (view_of_opener c.args.opener) _ is).header
+
+pub returns : goal.returns
+returns c =
+    let is = subst (Closes c.args.self.setting (view_of_opener c.args.opener)) (sym c.of.ensures)
+    (closes c.args.self c.args.opener _ _ _ _ _ _ _ c.into_seat.ensures c.close_with-closed.ensures.values.2 c.loop-i-test.false c.loop-i.auto.i-end
+    c.size-size.ensures.value c.loop-i.invariant.same c.truncate.ensures.items) in
+    record {
+      image = image_of c.args.self.setting (view_of_opener c.args.opener) _ is;
+      joined = joined c.args.self.setting (view_of_opener c.args.opener) _ is;
+      deltas = deltas c.args.self.setting (view_of_opener c.args.opener) _ is;
+      snapshots = snapshots c.args.self.setting (view_of_opener c.args.opener) _ is;
+      stopped = stopped c.args.self.setting (view_of_opener c.args.opener) _ is;
+    }

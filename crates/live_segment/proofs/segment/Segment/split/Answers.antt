@@ -1,0 +1,6 @@
+use Rattle.std.proofs.Common.{rules}
+use Rattle.live_segment.proofs.Seated.{splits}
+use Rattle.live_segment.proofs.segment.Segment.split.Goals as goal
+
+pub split_seat-requires : goal.split_seat-requires
+split_seat-requires c = (search rules, search rules, splits c.args.self.now.table.shared.key _ _ c.requires.may)

@@ -1,0 +1,73 @@
+-- What a sample makes of the recorder that adds it, accepted and refused.
+use Rattle.std.specs.Prelude.{◌≡◌, Bool, true, false, nat_lt, ◌==◌, ℕ, ◌+◌, ◌*◌, ◌<◌, if◌then◌else◌, ℤ, List, [], ◌∷◌, ◌++◌, drop, length, None}
+use Rattle.std.specs.List.{All, Contains}
+use Rattle.std.specs.Str.{bytes_eq}
+use Rattle.segment_image.specs.declared.layout.TheConstants.{BLOCK_HEADER, HISTOGRAM_COUNTS, HISTOGRAM_SINGLE, SAMPLE_LEAST}
+use Rattle.hist_core.specs.declared.refusal.Refusal.{Refusal}
+use Rattle.hist_core.specs.declared.refusal.Refusal.TheVariants.{ZeroCount, NoUnits, Corrupt, Full}
+use Rattle.bucket_ranges.specs.declared.spec.Spec.TheVariants as spec
+use Rattle.bucket_ranges.specs.Ranges.{boundaries_of}
+use Rattle.bucket_ranges.specs.Spec.{buckets_of}
+use Rattle.segment_machine.specs.declared.actor.Actor.{Actor}
+use Rattle.segment_machine.specs.declared.actor.Known.{Known}
+use Rattle.segment_machine.specs.Actor.{cost_of, has_buckets, log_of, word_seen}
+use Rattle.segment_machine.specs.Calls.{IsKeyOfBucket}
+use Rattle.segment_machine.specs.Entry.{key_of, sample_entry}
+use Rattle.segment_machine.specs.Form.{is_off, IsPacking}
+use Rattle.segment_machine.specs.Made.{SawOther}
+use Rattle.live_segment.specs.Onward.{GoesOn}
+
+-- ---- accepted
+
+-- units of a name were taken from the share, and are spent for it
+pub record Pays (name : List ℕ) (units : ℕ) (old new : Actor) : Type 0 where
+  pub share : new.units.share + units ≡ old.units.share
+  pub spent : (other : List ℕ) → cost_of new.units.costs other ≡ cost_of old.units.costs other + (if bytes_eq name other then units else 0)
+
+-- The one entry of an accepted sample stands at the end of the log, under the key of its value's bucket, and its units are taken from the
+-- share. No allocation was refused, and all else that a recorder has is as before.
+pub record IsAdded (known : Known) (value : ℤ) (count : ℕ) (old new : Actor) : Type 0 where
+  pub logged : log_of new ≡ log_of old ++ sample_entry known.name (boundaries_of known.spec) (value, count) ∷ []
+  pub pays : Pays known.name count old new
+  pub filled : new.done.filled ≡ old.done.filled
+  pub onward : GoesOn old new
+
+-- ---- refused
+
+-- why a sample is refused before anything happens, in order
+abbrev pub add_checks : Actor → ℕ → List (Bool × Refusal)
+add_checks a count = (count == 0, ZeroCount) ∷ (nat_lt a.units.share count, NoUnits) ∷ []
+
+-- A refused sample: log and share are as before, and so is all else that a recorder has. It has counted no unit and added no amount, and
+-- has come to no count, mark or redundant count.
+pub record IsRefused (name : List ℕ) (old new : Actor) : Type 0 where
+  pub logged : new.entries ≡ old.entries
+  pub pays : Pays name 0 old new
+  pub untouched : new.seen.counts ≡ old.seen.counts
+  pub onward : GoesOn old new
+
+-- the words of the block that a histogram may need when units are counted: its counts and marks, or one sample
+abbrev pub block_words : Known → ℕ
+block_words known = if has_buckets known.spec then BLOCK_HEADER + 2 * buckets_of known.spec else SAMPLE_LEAST
+
+-- Units of a value need a block. With buckets: the call has loaded a single word that is not off and cannot take the units, and no
+-- recorder's counts were there for it. Without: it has walked to the end of the list and met no sample of the value.
+pub record NeedsBlock (known : Known) (value : ℤ) (count : ℕ) (old new : Actor) : Type 0 where
+  pub buckets : has_buckets known.spec ≡ true
+      → ((word : ℕ) × Contains (drop (length old.seen.singles) new.seen.singles) (record { at = known.reference + HISTOGRAM_SINGLE; word = word })
+      × (is_off word ≡ false)
+      × ((bucket packed : ℕ) → IsKeyOfBucket known bucket (key_of (boundaries_of known.spec) value) → ¬ (IsPacking bucket count word packed)))
+      × (word_seen new.seen.words (known.reference + HISTOGRAM_COUNTS) ≡ None)
+  pub values : known.spec ≡ spec.Sparse
+      → (front behind : List ℕ) × (new.seen.chain ≡ front ++ known.reference ∷ behind) × All (SawOther new.seen known.reference value) behind
+
+-- Why a block could not be claimed: so many words pass the end of the segment from the free pointer that was loaded last, and the full
+-- flag is set; or the corrupt flag was loaded.
+abbrev pub HasNoRoom : Refusal → ℕ → Actor → Type 0
+HasNoRoom Full words a = (a.done.filled ≡ true) × (a.segment.shape.size < a.seen.free + words)
+HasNoRoom Corrupt words a = Unit {0}
+HasNoRoom _ words a = ⊥
+
+-- a block was needed, and could not be claimed
+abbrev pub LacksBlock : Refusal → Known → ℤ → ℕ → Actor → Actor → Type 0
+LacksBlock why known value count old new = NeedsBlock known value count old new × HasNoRoom why (block_words known) new

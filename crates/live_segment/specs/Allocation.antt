@@ -1,0 +1,48 @@
+-- What an allocation makes of a recorder: it has a block of its own, or why it has none.
+use Rattle.std.specs.Prelude.{◌≡◌, true, ℕ, ◌+◌, ◌-◌, ◌<◌, ◌≤◌, [], ◌∷◌, ◌++◌, Result, Ok, Err}
+use Rattle.hist_core.specs.declared.refusal.Refusal.{Refusal}
+use Rattle.hist_core.specs.declared.refusal.Refusal.TheVariants.{Full, Corrupt}
+use Rattle.alloc_core.specs.Alloc.{IsPlace}
+use Rattle.segment_image.specs.declared.layout.TheConstants.{BLOCK_LEAST}
+use Rattle.segment_machine.specs.declared.actor.Actor.{Actor}
+use Rattle.segment_machine.specs.declared.place.Place.{Place}
+use Rattle.segment_machine.specs.declared.place.Place.TheVariants.{Idle}
+use Rattle.segment_machine.specs.Allocating.{new_own}
+
+-- it has seen a free pointer, and otherwise is as it was
+abbrev pub saw_free : Actor → Place → ℕ → Actor
+saw_free a place free = record a { hand = record a.hand { place = place }; seen = record a.seen { free = free } }
+
+-- it has set the full flag
+abbrev pub filled : Actor → Actor
+filled a = record a { done = record a.done { filled = true } }
+
+-- it has set the corrupt flag
+abbrev pub spoiled : Actor → Actor
+spoiled a = record a { hand = record a.hand { place = Idle }; done = record a.done { spoiled = true } }
+
+-- it has claimed the words from one free pointer to the next for a block of a type
+abbrev pub claimed : Actor → ℕ → ℕ → ℕ → Actor
+claimed a at next tag = record a {
+  hand = record { place = Idle; own = a.hand.own ++ new_own at (next - at) tag ∷ [] };
+  done = record a.done { claimed = a.done.claimed ++ record { at = at; size = next - at } ∷ [] };
+  seen = record a.seen { free = next };
+}
+
+-- another recorder was first, and went five words further at least
+pub record IsLost (a : Actor) (free : ℕ) (b : Actor) : Type 0 where
+  pub found : ℕ
+  pub view : b ≡ saw_free a Idle found
+  pub further : free + BLOCK_LEAST ≤ found
+  pub within : found ≤ a.segment.shape.size
+
+-- A block of so many words or up to four more is its own, of a type, behind all that it had seen claimed. Or there is none: `Full` where
+-- the words pass the end of the segment from a free pointer that it loaded, `Corrupt` where it loaded the corrupt flag.
+abbrev pub Allocates : ℕ → ℕ → Actor → Result ℕ Refusal → Actor → Type 0
+Allocates size tag a (Ok at) b =
+    (next : ℕ) × (b ≡ claimed a at next tag) × (a.seen.free ≤ at) × (at + size ≤ next) × (next < at + size + BLOCK_LEAST)
+    × IsPlace a.segment.shape at (next - at)
+Allocates size tag a (Err Full) b =
+    (free : ℕ) × (b ≡ filled (saw_free a Idle free)) × (a.seen.free ≤ free) × (a.segment.shape.size < free + size)
+Allocates size tag a (Err Corrupt) b = (free : ℕ) × (b ≡ saw_free a Idle free) × (a.seen.free ≤ free)
+Allocates size tag a (Err _) b = ⊥

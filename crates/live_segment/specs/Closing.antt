@@ -1,0 +1,98 @@
+-- What the image of a closed segment reads as, for who had its opener: once all recorders are joined, and whatever is outstanding.
+use Rattle.std.specs.Prelude.{◌≡◌, ℕ, ◌+◌, ◌-◌, ◌≤◌, ℤ, List, map, sum_by, Ok}
+use Rattle.std.specs.List.{Contains, All}
+use Rattle.segment_image.specs.Head.{header_of, head_of}
+use Rattle.bucket_ranges.specs.Spec.{SameSpec}
+use Rattle.bucket_ranges.specs.Reading.{Histogram, Reading, IsReading}
+use Rattle.segment_machine.specs.declared.entry.Entry.{Entry}
+use Rattle.segment_machine.specs.declared.actor.Actor.{Actor}
+use Rattle.segment_machine.specs.declared.actor.Answered.{Answered}
+use Rattle.segment_machine.specs.declared.actor.Known.{Known}
+use Rattle.segment_machine.specs.declared.actor.Taken.{Taken}
+use Rattle.segment_machine.specs.Entry.{tally_units, tally_sum, tally_noted}
+use Rattle.segment_machine.specs.Actor.{log_of, units_of, units_listed, taken_of, taken_units, taken_sum, IsFinal, made_of}
+use Rattle.segment_machine.specs.State.{State}
+use Rattle.segment_invariant.specs.Body.{Listed}
+use Rattle.segment_invariant.specs.Ledger.{all_moving}
+use Rattle.segment_promises.specs.Reads.{units_read, mark_read, HasNoFault, ReadsHead, ReadsNames, ReadsUnits, ReadsAmounts, ReadsAnswers}
+use Rattle.live_segment.specs.declared.rule.Setting.{Setting}
+use Rattle.live_segment.specs.Rule.{opened_of, Closes}
+
+-- ---- the words
+
+-- the header of words is lawful and says what the segment was made as, and the words have a reading
+pub record IsImageOf (setting : Setting) (words : List ℕ) : Type 0 where
+  pub header : header_of words ≡ Ok (head_of words)
+  pub shape : (head_of words).shape ≡ setting.shape
+  pub version : (head_of words).version ≡ setting.version
+  pub id : (head_of words).id ≡ setting.id
+  pub reading : (reading : Reading) × IsReading words (head_of words) reading
+
+-- ---- once all recorders are joined
+
+-- A histogram that is read has what the opener's log adds up to: the units of each key, and the sum. Its redundant count is the units
+-- of the same entries; its marks and its sum mark are what deltas took.
+pub record IsTally (opener : Actor) (h : Histogram) : Type 0 where
+  pub units : (key : ℤ) → units_read h key ≡ tally_units (log_of opener) h.name key
+  pub sum : h.sum ≡ tally_sum (log_of opener) h.name
+  pub redundant : h.redundant ≡ tally_noted (map (λ c. c.entry) opener.entries.log) h.name
+  pub marks : (key : ℤ) → mark_read h key ≡ taken_units (taken_of opener) h.name key
+  pub sum_mark : h.sum_mark ≡ taken_sum (taken_of opener) h.name
+
+-- No record is bad, and the list does not stop. The names are exactly those that a `hist` was answered Ok with, each once, with the
+-- spec of each answer. A flag is set where a call has set it.
+pub record IsJoinedReading (setting : Setting) (opener : Actor) (reading : Reading) : Type 0 where
+  pub lawful : HasNoFault reading
+  pub answers : ReadsAnswers opener.answers.names reading
+  pub tallies : (h : Histogram) → Contains reading.hists h → IsTally opener h
+  pub id : reading.id ≡ setting.id
+  pub corrupt : reading.corrupt ≡ opener.done.spoiled
+  pub full : reading.full ≡ opener.done.filled
+
+abbrev pub ReadsJoined : Setting → Actor → List ℕ → Type 0
+ReadsJoined setting opener words = (reading : Reading) → IsReading words (head_of words) reading → IsJoinedReading setting opener reading
+
+-- with a final delta of a histogram, all deltas together took its totals and its sum
+abbrev pub DeltasAddUp : Actor → Type 0
+DeltasAddUp opener = (delta : Taken) → Contains opener.deltas.taken delta → IsFinal (made_of opener.role) (log_of opener) delta.name delta.moment
+    → ((key : ℤ) → taken_units (taken_of opener) delta.name key ≡ tally_units (log_of opener) delta.name key)
+    × (taken_sum (taken_of opener) delta.name ≡ tally_sum (log_of opener) delta.name)
+
+-- no bucket and no value of a snapshot is above its total, and a final one has the totals, the sum and the redundant count
+pub record SnapshotsAgree (opener : Actor) : Type 0 where
+  pub below : (answer : Answered) → Contains opener.deltas.snapshots answer
+      → All (λ count. count.1 ≤ tally_units (log_of opener) answer.name count.0) answer.counts
+  pub exact : (answer : Answered) → Contains opener.deltas.snapshots answer → IsFinal (made_of opener.role) (log_of opener) answer.name answer.moment
+      → ((key : ℤ) → units_listed answer.counts key ≡ tally_units (log_of opener) answer.name key)
+      × (answer.sum ≡ tally_sum (log_of opener) answer.name)
+      × (answer.redundant ≡ tally_noted (map (λ c. c.entry) opener.entries.log) answer.name)
+
+-- ---- whatever is outstanding
+
+-- the units that are read of each key beyond those that a log has of it
+abbrev pub units_beyond : List Entry → Histogram → ℕ
+units_beyond log h = sum_by (λ count. count.1 - tally_units log h.name count.0) h.counts
+
+-- the units that were handed out and have not come back: all of a segment but those that its opener has, and those that joined
+-- recorders have spent
+abbrev pub units_out : Actor → ℕ
+units_out opener = 4294967295 - units_of opener
+
+-- What is read of the words of a state that holds between two steps: exactly the histograms that were published, with all units but those
+-- in transit. Each histogram that a joined recorder was answered with is among them. Of each key the total, in version 1 with its units
+-- in transit, is at least what the log has; and all units beyond the log are at most those handed out that have not come back.
+pub record IsStoppedReading (setting : Setting) (opener : Actor) (state : State) (records : List Listed) (reading : Reading) : Type 0 where
+  pub lawful : HasNoFault reading
+  pub head : ReadsHead (opened_of setting) state reading
+  pub names : ReadsNames records reading
+  pub each : (h : Histogram) → Contains reading.hists h → ReadsUnits setting.version state h × ReadsAmounts (opened_of setting) state h
+  pub answered : (known : Known) → Contains opener.answers.names known
+      → (h : Histogram) × Contains reading.hists h × (h.name ≡ known.name) × (h.reference ≡ known.reference) × SameSpec h.spec known.spec
+  pub least : (h : Histogram) (key : ℤ) → Contains reading.hists h
+      → tally_units (log_of opener) h.name key ≤ units_read h key + all_moving h.name key state.actors
+  pub most : sum_by (units_beyond (log_of opener)) reading.hists ≤ units_out opener
+
+-- there is such a state, in which the opener has done and seen this
+pub record ReadsStopped (setting : Setting) (opener : Actor) (words : List ℕ) : Type 0 where
+  pub closed : Closes setting opener words
+  pub reads : (reading : Reading) → IsReading words (head_of words) reading → IsStoppedReading setting opener closed.state closed.kept.anatomy.records reading

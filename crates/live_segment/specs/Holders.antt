@@ -1,0 +1,59 @@
+-- Who holds a segment, an opener or a recorder: what it has done and seen, and which segment that is.
+use Rattle.std.specs.Prelude.{◌≡◌, false, ◌<◌, length}
+use Rattle.atomic_table.specs.Seated.{TableId}
+use Rattle.segment_machine.specs.declared.actor.Actor.{Actor}
+use Rattle.live_segment.specs.declared.rule.Setting.{Setting}
+use Rattle.live_segment.specs.declared.segment.Segment.{Segment}
+use Rattle.live_segment.specs.declared.opener.Opener.{Opener}
+use Rattle.live_segment.specs.declared.recorder.Recorder.{Recorder}
+use Rattle.live_segment.specs.declared.recorder.Hist.{Hist}
+use Rattle.segment_machine.specs.Actor.{is_opener}
+use Rattle.segment_machine.specs.Event.{Event, Ready}
+use Rattle.live_segment.specs.Steps.{Pass}
+use Rattle.live_segment.specs.Rule.{first_view, IsOf}
+
+-- the table that has the words of a segment
+abbrev pub table_of : Segment → TableId
+table_of segment = segment.table.shared.table_id
+
+-- what an opener and a recorder have done and seen
+abbrev pub view_of_opener : Opener → Actor
+view_of_opener opener = opener.seat.me.0
+
+abbrev pub view_of_recorder : Recorder → Actor
+view_of_recorder recorder = recorder.seat.me.0
+
+-- a recorder's seat at a segment may do an event
+pub record MayStep (segment : Segment) (seat : Pass) (event : Event) : Type 0 where
+  pub table : seat.table_id ≡ table_of segment
+  pub recorder : is_opener seat.me.0.role ≡ false
+  pub ready : Ready seat.me.0 event
+
+-- an opener was made with a segment
+pub record IsMadeWith (segment : Segment) (opener : Opener) : Type 0 where
+  pub table : opener.seat.table_id ≡ table_of segment
+  pub of : IsOf segment.setting (view_of_opener opener)
+
+-- a new segment that is made so, and its opener
+pub record IsNew (setting : Setting) (segment : Segment) (opener : Opener) : Type 0 where
+  pub setting_is : segment.setting ≡ setting
+  pub made : IsMadeWith segment opener
+  pub view : view_of_opener opener ≡ first_view setting
+
+-- an opener goes on with the same segment
+pub record IsSameOpener (old new : Opener) : Type 0 where
+  pub table : new.seat.table_id ≡ old.seat.table_id
+
+-- a recorder is one of the segment that an opener was made with
+abbrev pub IsRecorderOf : Recorder → Opener → Type 0
+IsRecorderOf recorder opener = recorder.seat.table_id ≡ opener.seat.table_id
+
+-- a recorder goes on with the same segment, and knows the same histograms
+pub record IsSameRecorder (old new : Recorder) : Type 0 where
+  pub segment : new.segment ≡ old.segment
+  pub table : new.seat.table_id ≡ old.seat.table_id
+  pub known : new.known ≡ old.known
+
+-- a histogram is one that a recorder knows
+abbrev pub Knows : Recorder → Hist → Type 0
+Knows recorder histogram = histogram.index < length (view_of_recorder recorder).answers.names

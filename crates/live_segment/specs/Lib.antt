@@ -1,0 +1,11 @@
+pub mod Fault
+pub mod Rule
+pub mod Known
+pub mod Steps
+pub mod Holders
+pub mod Closing
+pub mod Allocation
+pub mod Onward
+pub mod Adding
+pub mod Batching
+pub mod Telling

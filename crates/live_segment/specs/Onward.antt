@@ -1,0 +1,41 @@
+-- What a call of a recorder leaves as it was, and what only grows.
+use Rattle.std.specs.Prelude.{◌≡◌, ◌≤◌, true, List, ◌++◌}
+use Rattle.segment_machine.specs.declared.actor.Actor.{Actor}
+use Rattle.segment_machine.specs.declared.actor.Done.{Done}
+use Rattle.segment_machine.specs.declared.seen.Seen.{Seen}
+
+-- a list has grown at its end
+abbrev pub Grows : {X : Type 0} → List X → List X → Type 0
+Grows {X} old new = (more : List X) × (new ≡ old ++ more)
+
+-- what an actor had seen it has still seen, and it may have seen more
+pub record SeesOn (old new : Seen) : Type 0 where
+  pub free : old.free ≤ new.free
+  pub chain : Grows old.chain new.chain
+  pub tails : Grows old.tails new.tails
+  pub singles : Grows old.singles new.singles
+  pub counts : Grows old.counts new.counts
+  pub words : Grows old.words new.words
+  pub cursors : Grows old.cursors new.cursors
+
+-- it may have claimed and published more, and set the full flag; once it has set the corrupt flag, it claims nothing
+pub record DoesOn (old new : Done) : Type 0 where
+  pub same : new ≡ record old { claimed = new.claimed; published = new.published; filled = new.filled; beaten = new.beaten }
+  pub claimed : Grows old.claimed new.claimed
+  pub published : Grows old.published new.published
+  pub filled : old.filled ≡ true → new.filled ≡ true
+  pub spoiled : old.spoiled ≡ true → new.claimed ≡ old.claimed
+
+-- A recorder goes on with a call that counts: what it is, what its calls were answered, took and were given, and the entries before its
+-- log are as they were. It has seen and done no less.
+pub record GoesOn (old new : Actor) : Type 0 where
+  pub same : new ≡ record old {
+    units = new.units;
+    entries = record old.entries { log = new.entries.log };
+    hand = new.hand;
+    done = new.done;
+    seen = new.seen;
+    since = new.since;
+  }
+  pub done : DoesOn old.done new.done
+  pub seen : SeesOn old.seen new.seen

@@ -1,0 +1,82 @@
+//! How a recorder claims a block.
+
+ghost use Rattle.std.specs.Prelude.{◌≡◌, ◌+◌, ◌-◌, ◌≤◌, true, false};
+ghost use Rattle.segment_image.specs.declared.layout.TheConstants.{BLOCK_HEADER};
+ghost use Rattle.segment_machine.specs.Event.{allocating_event};
+ghost use Rattle.segment_machine.specs.Actor.{is_bound, is_opener};
+ghost use Rattle.segment_machine.specs.Allocating.{exchange_free};
+ghost use Rattle.live_segment.specs.Rule.{IsOf};
+ghost use Rattle.live_segment.specs.Allocation.{Allocates, claimed, IsLost};
+
+use crate::rule::Pass;
+use crate::segment::Segment;
+use alloc_core::{Planned, plan};
+use hist_core::Refusal;
+use segment_image::layout::{CLAIMED_COOKIE, FLAG_CORRUPT, FLAG_FULL, WASTED_COOKIE};
+
+impl Segment {
+    ghost use Rattle.live_segment.specs.Holders.{MayStep, table_of};
+    ghost use Rattle.live_segment.specs.Steps.{IsSame};
+
+    /// Claims a block of a type with so many words, its header among them, or up to four more.
+    ///
+    /// `Corrupt` where the corrupt flag was loaded, `Full` where the words pass the end of the segment.
+    pub(crate) fn allocate(&self, seat: &mut Pass, size: u64, tag: u64) -> Result<u64, Refusal>
+        requires seat { (seat.old.table_id ≡ table_of self.now) × (is_opener seat.old.me.0.role ≡ false) × IsOf self.now.setting seat.old.me.0 }
+        requires free { is_bound seat.old.me.0.hand.place ≡ false }
+        requires size { (5 ≤ size) × (size ≤ self.now.setting.shape.page) }
+        requires tag { (1 ≤ tag) × (tag ≤ 3) }
+        ensures same { IsSame seat.old seat.new }
+        ensures outcome { Allocates size tag seat.old.me.0 result seat.new.me.0 }
+    {
+        loop {
+            if self.load_flags(seat) & FLAG_CORRUPT != 0 {
+                return Err(Refusal::Corrupt);
+            }
+            let free = self.load_free(seat);
+            match plan(free, size, self.setting.shape) {
+                Planned::Claim { next, .. } => {
+                    if self.claim(seat, free, next, tag) {
+                        return Ok(free);
+                    }
+                }
+                Planned::Waste { room } => self.waste(seat, free, free + room),
+                Planned::Full => {
+                    self.set_flag(seat, FLAG_FULL);
+                    return Err(Refusal::Full);
+                }
+            }
+        }
+    }
+
+    // Takes the words from a free pointer to the next for a block of a type; false where another recorder was first.
+    fn claim(&self, seat: &mut Pass, free: u64, next: u64, tag: u64) -> bool
+        requires may { MayStep self.now seat.old (allocating_event (exchange_free free next)) }
+        requires shape { seat.old.me.0.segment.shape ≡ self.now.setting.shape }
+        requires tag { (1 ≤ tag) × (tag ≤ 3) }
+        ensures same { IsSame seat.old seat.new }
+        ensures done { result ≡ true → seat.new.me.0 ≡ claimed seat.old.me.0 free next tag }
+        ensures lost { result ≡ false → IsLost seat.old.me.0 free seat.new.me.0 }
+    {
+        if self.exchange_free(seat, free, next) != free {
+            return false;
+        }
+        self.store_size(seat, free, next - free);
+        self.store_cookie(seat, free, CLAIMED_COOKIE);
+        self.store_type(seat, free, tag);
+        true
+    }
+
+    // Gives up the rest of a page, from a free pointer to the next.
+    fn waste(&self, seat: &mut Pass, free: u64, next: u64)
+        requires may { MayStep self.now seat.old (allocating_event (exchange_free free next)) }
+        requires shape { seat.old.me.0.segment.shape ≡ self.now.setting.shape }
+        ensures same { IsSame seat.old seat.new }
+        ensures lost { IsLost seat.old.me.0 free seat.new.me.0 }
+    {
+        if self.exchange_free(seat, free, next) == free {
+            self.store_size(seat, free, next - free);
+            self.store_cookie(seat, free, WASTED_COOKIE);
+        }
+    }
+}

@@ -1,0 +1,23 @@
+//! A running segment: threads record in it at once, without locks.
+//!
+//! The words of a [`Segment`] change by single atomic steps. Its [`Opener`] makes a [`Recorder`] for each thread and takes
+//! it back; when the segment is closed, its words are those of an image. What holds between any two steps is the
+//! invariant of `segment_invariant`: it is the rule of the table that has the words, so each step is proved to keep it.
+//! What a thread has done and seen is the view of its seat at that table, which takes no memory.
+#![tactic(auto)]
+
+mod allocation;
+mod fault;
+mod opener;
+mod recorder;
+mod rule;
+mod seats;
+mod segment;
+mod steps;
+#[cfg(test)]
+mod tests;
+
+pub use fault::OpenFault;
+pub use opener::Opener;
+pub use recorder::{Hist, Recorder};
+pub use segment::{MAX_CURSORS, Segment};

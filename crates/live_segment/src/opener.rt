@@ -1,0 +1,109 @@
+//! Who makes recorders and takes them back.
+
+ghost use Rattle.std.specs.Prelude.{◌≡◌, ◌≤◌, true, []};
+ghost use Rattle.segment_machine.specs.declared.place.Place.TheVariants.{Idle};
+ghost use Rattle.segment_machine.specs.Actor.{is_opener, outstanding_of};
+ghost use Rattle.std.proofs.Props.{props};
+
+use crate::recorder::Recorder;
+use crate::rule::Pass;
+use crate::segment::Segment;
+use hist_core::Refusal;
+use std::alloc::Global;
+
+/// The most recorders that are made and not joined.
+const MAX_RECORDERS: u32 = 256;
+
+/// Makes the recorders of a segment, and takes them back.
+#[derive(Drop)]
+pub struct Opener {
+    // For the lists of its recorders.
+    alloc: Global,
+    seat: Pass,
+    // Those that no recorder has.
+    units: u32,
+    outstanding: u32,
+    ghost opens: { (seat.id ≡ 0) × (is_opener seat.me.0.role ≡ true) × (seat.me.0.hand.place ≡ Idle) × (outstanding_of seat.me.0.role ≤ 256) },
+    ghost counted: { (units ≡ seat.me.0.units.share) × (outstanding ≡ outstanding_of seat.me.0.role) },
+}
+
+impl Opener {
+    ghost use Rattle.std.specs.Prelude.{Ok, Err, MatchOption, MatchResult};
+    ghost use Rattle.segment_image.specs.Checks.{first_fault};
+    ghost use Rattle.segment_machine.specs.Seats.{offering, parent, newcomer, joined};
+    ghost use Rattle.live_segment.specs.Steps.{recorder_checks, IsSame};
+    ghost use Rattle.live_segment.specs.Holders.{IsMadeWith, IsRecorderOf, IsSameOpener, view_of_opener, view_of_recorder};
+
+    // The opener of a new segment.
+    pub(crate) fn new(alloc: Global, seat: Pass) -> Opener
+        requires seat { (seat.id ≡ 0) × (is_opener seat.me.0.role ≡ true) × (seat.me.0.hand.place ≡ Idle) }
+        requires new { (seat.me.0.units.share ≡ 4294967295) × (outstanding_of seat.me.0.role ≡ 0) }
+        ensures { result.seat ≡ seat }
+    {
+        Opener {
+            alloc,
+            seat,
+            units: u32::MAX,
+            outstanding: 0,
+        }
+    }
+
+    pub(crate) fn into_seat(self) -> Pass
+        ensures { result ≡ self.seat }
+    {
+        let Opener { seat, .. } = self;
+        seat
+    }
+
+    /// The units that no recorder has.
+    pub fn units(&self) -> u32
+        ensures { result ≡ (view_of_opener self.now).units.share }
+    {
+        self.units
+    }
+
+    /// How many recorders were made and are not joined.
+    pub fn outstanding(&self) -> u32
+        ensures { result ≡ outstanding_of (view_of_opener self.now).role }
+    {
+        self.outstanding
+    }
+
+    /// A recorder with so many units, which may be 0. It may move to another thread. The opener was made with the segment.
+    ///
+    /// `NoUnits` where the opener has fewer, then `TooMany` where 256 recorders are not joined. It takes no memory.
+    pub fn recorder<'a>(
+        &mut self,
+        segment: &'a Segment,
+        units: u32,
+    ) -> Result<Recorder<'a>, Refusal>
+        requires { IsMadeWith segment.now self.old }
+        ensures mine { MatchResult result (λ _. IsSameOpener self.old self.new × (view_of_opener self.new ≡ parent (offering (view_of_opener self.old) units))) (λ _. self.new ≡ self.old) }
+        ensures theirs { MatchOption (first_fault (recorder_checks (view_of_opener self.old) units)) (MatchResult result (λ recorder. (recorder.segment ≡ segment.entry) × (view_of_recorder recorder ≡ newcomer (offering (view_of_opener self.old) units))) (λ _. ⊥)) (λ why. result ≡ Err why) }
+    {
+        if units > self.units {
+            return Err(Refusal::NoUnits);
+        }
+        if self.outstanding == MAX_RECORDERS {
+            return Err(Refusal::TooMany);
+        }
+        segment.offer(&mut self.seat, units);
+        let seat = segment.split(&mut self.seat);
+        self.units -= units;
+        self.outstanding += 1;
+        Ok(Recorder::new(self.alloc, segment, seat, units))
+    }
+
+    /// Takes a recorder of the same segment back: its log, its deltas, its snapshots and what shared cursors gave it stand
+    /// behind the opener's, and the rest of its units comes back. It takes no memory.
+    pub fn join(&mut self, recorder: Recorder)
+        requires { IsRecorderOf recorder self.old }
+        ensures { IsSameOpener self.old self.new × (view_of_opener self.new ≡ joined (view_of_opener self.old) (view_of_recorder recorder.entry)) }
+    {
+        let (segment, seat, units) = recorder.into_parts();
+        segment.join(&mut self.seat, seat);
+        segment.bound(&mut self.seat);
+        self.units += units;
+        self.outstanding = self.outstanding.saturating_sub(1);
+    }
+}

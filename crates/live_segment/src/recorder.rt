@@ -1,0 +1,100 @@
+//! What one thread records with.
+
+ghost use Rattle.std.specs.Prelude.{◌≡◌, [], map};
+ghost use Rattle.segment_machine.specs.Seats.{newcomer};
+ghost use Rattle.live_segment.specs.Rule.{IsOf};
+ghost use Rattle.live_segment.specs.Steps.{IsAtRest};
+ghost use Rattle.live_segment.specs.Known.{known_view};
+ghost use Rattle.std.proofs.Props.{props};
+
+use crate::rule::Pass;
+use crate::segment::Segment;
+use bucket_ranges::Spec;
+use segment_image::layout::FLAG_CORRUPT;
+use std::alloc::Global;
+
+/// A histogram that a recorder knows: its place in the list of those.
+#[derive(Clone, Copy, Debug, PartialEq, Eq)]
+pub struct Hist {
+    index: usize,
+}
+
+/// A histogram that a recorder was answered with.
+#[derive(Drop)]
+pub(crate) struct KnownHistogram {
+    pub(crate) name: Vec<u8>,
+    pub(crate) spec: Spec,
+    pub(crate) reference: u64,
+}
+
+/// Records for one thread. It may move to another.
+#[derive(Drop)]
+pub struct Recorder<'a> {
+    segment: &'a Segment,
+    seat: Pass,
+    units: u32,
+    known: Vec<KnownHistogram>,
+    ghost fits: { seat.table_id ≡ segment.now.table.shared.table_id },
+    ghost set: { IsOf segment.now.setting seat.me.0 },
+    ghost rests: { IsAtRest seat.me.0 },
+    ghost counted: { units ≡ seat.me.0.units.share },
+    ghost listed: { map known_view known.items ≡ seat.me.0.answers.names },
+    ghost free: { seat.me.1 ≡ [] } by { Prim.hlevel props },
+}
+
+impl<'a> Recorder<'a> {
+    ghost use Rattle.std.specs.Prelude.{◌↔◌, IsTrue, ◌<◌, length};
+    ghost use Rattle.live_segment.specs.Allocation.{spoiled};
+    ghost use Rattle.live_segment.specs.Holders.{view_of_recorder, IsSameRecorder, Knows};
+
+    // A recorder that has done nothing.
+    pub(crate) fn new(alloc: Global, segment: &'a Segment, seat: Pass, units: u32) -> Recorder<'a>
+        requires fits { (seat.table_id ≡ segment.now.table.shared.table_id) × (seat.me.1 ≡ []) }
+        requires set { IsOf segment.now.setting seat.me.0 }
+        requires rests { IsAtRest seat.me.0 × (units ≡ seat.me.0.units.share) × (seat.me.0.answers.names ≡ []) }
+        ensures { (result.segment ≡ segment.entry) × (result.seat ≡ seat) }
+    {
+        Recorder {
+            segment,
+            seat,
+            units,
+            known: Vec::new(alloc),
+        }
+    }
+
+    // The segment, the seat and the units that are left.
+    pub(crate) fn into_parts(self) -> (&'a Segment, Pass, u32)
+        ensures parts { (result.0 ≡ self.entry.segment) × (result.1 ≡ self.entry.seat) × (result.2 ≡ self.entry.units) }
+        ensures rests { IsAtRest result.1.me.0 × (result.2 ≡ result.1.me.0.units.share) × (result.1.me.1 ≡ []) × (result.1.table_id ≡ result.0.now.table.shared.table_id) }
+    {
+        let Recorder {
+            segment,
+            seat,
+            units,
+            known: _,
+        } = self;
+        (segment, seat, units)
+    }
+
+    /// The units that it may still spend.
+    pub fn units(&self) -> u32
+        ensures { result ≡ (view_of_recorder self.now).units.share }
+    {
+        self.units
+    }
+
+    /// Whether it knows a histogram: the calls that take one ask for that.
+    pub fn knows(&self, histogram: Hist) -> bool
+        ensures { IsTrue result ↔ Knows self.now histogram }
+    {
+        histogram.index < self.known.len()
+    }
+
+    /// Marks the segment as corrupt for good: from then on no block is claimed in it. It is never refused.
+    pub fn set_corrupt(&mut self)
+        ensures same { IsSameRecorder self.old self.new }
+        ensures flag { view_of_recorder self.new ≡ spoiled (view_of_recorder self.old) }
+    {
+        self.segment.set_flag(&mut self.seat, FLAG_CORRUPT);
+    }
+}

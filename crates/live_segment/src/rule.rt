@@ -1,0 +1,35 @@
+//! What holds of the words and of all who step on them.
+
+use atomic_table::{Seat, TableRule};
+use segment_image::Shape;
+use segment_machine::Actor;
+
+/// What a segment is made as.
+#[derive(Clone, Copy, Debug, PartialEq, Eq)]
+pub(crate) struct Setting {
+    pub(crate) shape: Shape,
+    pub(crate) version: u64,
+    pub(crate) id: u64,
+    pub(crate) cursors: usize,
+}
+
+/// What a step says that its word cannot tell.
+#[derive(Debug, Drop)]
+pub(crate) enum Announcement {
+    /// The units that the next recorder is to have.
+    Units(u32),
+}
+
+/// What holds between any two steps.
+pub(crate) struct SegmentRule;
+
+impl TableRule<Announcement, Actor, Setting> for SegmentRule {
+    ghost use Rattle.live_segment.specs.Rule.{Runs, first_view};
+
+    ghost holds = { Runs };
+
+    ghost first = { first_view };
+}
+
+/// What one holder knows of the segment. It has no bytes.
+pub(crate) type Pass = Seat<Announcement, Actor>;

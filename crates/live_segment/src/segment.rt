@@ -1,0 +1,192 @@
+//! One segment, from its first words to its last.
+
+ghost use Rattle.std.specs.Prelude.{◌≡◌, ◌+◌, ◌≤◌, ◌∷◌, [], IfOk, vec_len};
+ghost use Rattle.alloc_core.specs.Layout.{IsShape};
+ghost use Rattle.segment_machine.specs.State.{memory};
+ghost use Rattle.live_segment.specs.Rule.{opening_state};
+
+use crate::fault::OpenFault;
+use crate::opener::Opener;
+use crate::rule::{Announcement, Pass, SegmentRule, Setting};
+use crate::seats::{Bound, Cut, Glue, Offer};
+use atomic_table::Table;
+use segment_image::layout::{
+    HEADER_WORDS, QUEUE, QUEUE_COOKIE, QUEUE_SIZE, SEGMENT_COOKIE, STATE_READY, TYPE_PURGED,
+    VERSION_FROZEN, VERSION_MOVING,
+};
+use segment_image::{Image, Shape};
+use segment_machine::Actor;
+use std::alloc::{AllocError, Global};
+
+/// The most shared cursors of a segment.
+pub const MAX_CURSORS: usize = 8;
+
+/// A segment whose words threads share. Word 0 of its table never changes, and the segment's words and those of the
+/// shared cursors stand behind it.
+#[derive(Drop)]
+pub struct Segment {
+    pub(crate) table: Table<Announcement, Actor, Setting, SegmentRule, Global>,
+    pub(crate) setting: Setting,
+    // Where the words go when it is closed.
+    image: Vec<u64>,
+    ghost keyed: { table.shared.key ≡ setting },
+    ghost counts: { (table.shared.table_id.words ≡ setting.shape.size + 1 + setting.cursors) × (table.shared.table_id.slots ≡ 0) },
+    ghost room: { vec_len image ≡ setting.shape.size + 1 + setting.cursors },
+    ghost shaped: { IsShape setting.shape },
+}
+
+// The words of the table of a new segment.
+fn opening_words(alloc: Global, setting: &Setting) -> Result<Vec<u64>, AllocError>
+    requires shaped { IsShape setting.now.shape }
+    requires few { setting.now.cursors ≤ 8 }
+    ensures { IfOk result (λ words. words.items ≡ 0 ∷ memory (opening_state setting.now)) }
+{
+    let size = setting.shape.size();
+    let mut words = vec![in alloc;
+        0,
+        SEGMENT_COOKIE,
+        setting.version,
+        size,
+        setting.shape.page(),
+        setting.id,
+        STATE_READY,
+        0,
+        HEADER_WORDS as u64,
+        QUEUE,
+        0,
+        0,
+        0,
+        QUEUE_SIZE,
+        QUEUE_COOKIE,
+        TYPE_PURGED,
+        QUEUE,
+    ]?;
+    words.resize(size as usize + 1, 0)?;
+    words.resize(size as usize + 1 + setting.cursors, QUEUE)?;
+    Ok(words)
+}
+
+impl Segment {
+    ghost use Rattle.std.specs.Prelude.{◌≡◌, ◌≤◌, ◌⊎◌, Err, MatchOption, MatchResult};
+    ghost use Rattle.segment_image.specs.Checks.{first_fault};
+    ghost use Rattle.segment_machine.specs.Actor.{outstanding_of};
+    ghost use Rattle.segment_machine.specs.Seats.{MayOffer, offering, MaySplit, parent, newcomer, joined};
+    ghost use Rattle.live_segment.specs.Closing.{IsImageOf, ReadsJoined, DeltasAddUp, SnapshotsAgree, ReadsStopped};
+    ghost use Rattle.live_segment.specs.Rule.{open_checks};
+    ghost use Rattle.live_segment.specs.Steps.{IsSame, Joinable};
+    ghost use Rattle.live_segment.specs.Holders.{IsNew, IsMadeWith, view_of_opener};
+
+    /// A new segment of `size` words in pages of `page` words with so many shared cursors, and its opener, which has all
+    /// its units.
+    ///
+    /// The first fault is answered: `BadShape` where page, size or version is not lawful, `BadCursors` where there are to
+    /// be more than eight; then `NoMemory`.
+    pub fn create(
+        alloc: Global,
+        size: u64,
+        page: u64,
+        id: u64,
+        cursors: usize,
+        version: u64,
+    ) -> Result<(Segment, Opener), OpenFault>
+        ensures { MatchOption (first_fault (open_checks size page cursors version)) (MatchResult result (λ made. IsNew (record { shape = record { size = size; page = page }; version = version; id = id; cursors = cursors }) made.0 made.1) (λ fault. fault ≡ OpenFault.NoMemory)) (λ fault. result ≡ Err fault) }
+    {
+        let Ok(shape) = Shape::of(size, page) else {
+            return Err(OpenFault::BadShape);
+        };
+        if version != VERSION_MOVING && version != VERSION_FROZEN {
+            return Err(OpenFault::BadShape);
+        }
+        if cursors > MAX_CURSORS {
+            return Err(OpenFault::BadCursors);
+        }
+        let setting = Setting {
+            shape,
+            version,
+            id,
+            cursors,
+        };
+        Segment::open(alloc, setting).map_err(|_| OpenFault::NoMemory)
+    }
+
+    // The segment that is made so.
+    fn open(alloc: Global, setting: Setting) -> Result<(Segment, Opener), AllocError>
+        requires shaped { IsShape setting.shape }
+        requires few { setting.cursors ≤ 8 }
+        requires versioned { (setting.version ≡ 1) ⊎ (setting.version ≡ 2) }
+        ensures { IfOk result (λ made. IsNew setting made.0 made.1) }
+    {
+        let image = opening_words(alloc, &setting)?;
+        let (table, seat) = Table::of_words(alloc, image.as_slice(), &setting)?;
+        let segment = Segment {
+            table,
+            setting,
+            image,
+        };
+        Ok((segment, Opener::new(alloc, seat)))
+    }
+
+    /// Ends the segment, which no recorder holds any more, and gives its image. The opener was made with it.
+    pub fn close(self, opener: Opener) -> Image
+        requires { IsMadeWith self opener }
+        ensures image { IsImageOf self.setting result }
+        ensures joined { outstanding_of (view_of_opener opener).role ≡ 0 → ReadsJoined self.setting (view_of_opener opener) result }
+        ensures deltas { outstanding_of (view_of_opener opener).role ≡ 0 → DeltasAddUp (view_of_opener opener) }
+        ensures snapshots { outstanding_of (view_of_opener opener).role ≡ 0 → SnapshotsAgree (view_of_opener opener) }
+        ensures stopped { ReadsStopped self.setting (view_of_opener opener) result }
+    {
+        let Segment {
+            table,
+            setting,
+            mut image,
+        } = self;
+        let closed = table.close_with(opener.into_seat());
+        let size = setting.shape.size() as usize;
+        for i in 0..size {
+            image[i] = closed.word(i + 1);
+        }
+        closed.free();
+        image.truncate(size);
+        Image::of(image)
+    }
+
+    // The opener says how many units its next recorder is to have.
+    pub(crate) fn offer(&self, seat: &mut Pass, units: u32)
+        requires fits { seat.old.table_id ≡ self.now.table.shared.table_id }
+        requires may { MayOffer seat.old.me.0 units }
+        ensures { IsSame seat.old seat.new × (seat.new.me.0 ≡ offering seat.old.me.0 units) }
+    {
+        let said = Announcement::Units(units);
+        self.table
+            .shared
+            .compare_exchange_with::<Offer>(seat, 0, 0, 0, &said);
+    }
+
+    // The seat of that recorder.
+    pub(crate) fn split(&self, seat: &mut Pass) -> Pass
+        requires fits { seat.old.table_id ≡ self.now.table.shared.table_id }
+        requires may { MaySplit seat.old.me.0 }
+        ensures mine { IsSame seat.old seat.new × (seat.new.me.0 ≡ parent seat.old.me.0) }
+        ensures theirs { (result.table_id ≡ seat.old.table_id) × (result.me ≡ (newcomer seat.old.me.0, [])) }
+    {
+        self.table.shared.split_seat::<Cut>(seat)
+    }
+
+    // The seat of the opener takes in that of a recorder.
+    pub(crate) fn join(&self, seat: &mut Pass, other: Pass)
+        requires fits { (seat.old.table_id ≡ self.now.table.shared.table_id) × (other.table_id ≡ self.now.table.shared.table_id) × (other.me.1 ≡ []) }
+        requires may { Joinable seat.old.me.0 other.me.0 }
+        ensures { IsSame seat.old seat.new × (seat.new.me.0 ≡ joined seat.old.me.0 other.me.0) }
+    {
+        self.table.shared.join_seat::<Glue>(seat, other);
+    }
+
+    // Nobody has more units than a segment has.
+    pub(crate) fn bound(&self, seat: &mut Pass)
+        requires { seat.old.table_id ≡ self.now.table.shared.table_id }
+        ensures same { IsSame seat.old seat.new × (seat.new.me.0 ≡ seat.old.me.0) }
+        ensures few { seat.old.me.0.units.share ≤ 4294967295 }
+    {
+        self.table.shared.load::<Bound>(seat, 0);
+    }
+}

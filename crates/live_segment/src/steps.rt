@@ -1,0 +1,8 @@
+//! The steps of a recorder, one for each kind of event: a family in each file. A step is the event and nothing else.
+
+pub(crate) mod allocating;
+pub(crate) mod counting;
+pub(crate) mod packing;
+
+/// Where the first word of the segment stands in its table.
+pub(crate) const FIRST: usize = 1;

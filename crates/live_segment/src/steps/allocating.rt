@@ -1,0 +1,124 @@
+//! The steps that claim a block, store into it, and set flags.
+
+ghost use Rattle.std.specs.Prelude.{◌+◌, ◌≤◌};
+ghost use Rattle.segment_machine.specs.Event.{allocating_event};
+ghost use Rattle.segment_machine.specs.Allocating.{load_flags, load_free, exchange_free, store_size, store_cookie, store_type, set_flag};
+ghost use Rattle.live_segment.specs.Steps.{Does, DoesAt};
+
+use crate::rule::{Announcement, Pass};
+use crate::segment::Segment;
+use crate::steps::FIRST;
+use atomic_table::Play;
+use segment_image::layout::{BLOCK_COOKIE, BLOCK_SIZE, BLOCK_TYPE, FLAGS_WORD, FREE_WORD};
+use segment_machine::Actor;
+
+pub(crate) struct LoadFlags;
+
+impl Play<Announcement, Actor> for LoadFlags {
+    ghost then = { λ st. Does (allocating_event load_flags) };
+}
+
+pub(crate) struct LoadFree;
+
+impl Play<Announcement, Actor> for LoadFree {
+    ghost then = { λ st. Does (allocating_event load_free) };
+}
+
+pub(crate) struct ExchangeFree;
+
+impl Play<Announcement, Actor> for ExchangeFree {
+    ghost then = { λ st. Does (allocating_event (exchange_free st.first st.second)) };
+}
+
+pub(crate) struct StoreSize;
+
+impl Play<Announcement, Actor> for StoreSize {
+    ghost then = { λ st. DoesAt (λ at. allocating_event (store_size at st.first)) st.word };
+}
+
+pub(crate) struct StoreCookie;
+
+impl Play<Announcement, Actor> for StoreCookie {
+    ghost then = { λ st. DoesAt (λ at. allocating_event (store_cookie at st.first)) st.word };
+}
+
+pub(crate) struct StoreType;
+
+impl Play<Announcement, Actor> for StoreType {
+    ghost then = { λ st. DoesAt (λ at. allocating_event (store_type at st.first)) st.word };
+}
+
+pub(crate) struct SetFlag;
+
+impl Play<Announcement, Actor> for SetFlag {
+    ghost then = { λ st. Does (allocating_event (set_flag st.first)) };
+}
+
+impl Segment {
+    ghost use Rattle.live_segment.specs.Holders.{MayStep};
+    ghost use Rattle.live_segment.specs.Steps.{Stepped};
+
+    pub(crate) fn load_flags(&self, seat: &mut Pass) -> u64
+        requires { MayStep self.now seat.old (allocating_event load_flags) }
+        ensures { Stepped seat.old (allocating_event load_flags) result seat.new }
+    {
+        self.table
+            .shared
+            .load::<LoadFlags>(seat, FIRST + FLAGS_WORD)
+    }
+
+    pub(crate) fn load_free(&self, seat: &mut Pass) -> u64
+        requires { MayStep self.now seat.old (allocating_event load_free) }
+        ensures { Stepped seat.old (allocating_event load_free) result seat.new }
+    {
+        self.table.shared.load::<LoadFree>(seat, FIRST + FREE_WORD)
+    }
+
+    pub(crate) fn exchange_free(&self, seat: &mut Pass, old: u64, new: u64) -> u64
+        requires { MayStep self.now seat.old (allocating_event (exchange_free old new)) }
+        ensures { Stepped seat.old (allocating_event (exchange_free old new)) result seat.new }
+    {
+        self.table
+            .shared
+            .compare_exchange::<ExchangeFree>(seat, FIRST + FREE_WORD, old, new)
+    }
+
+    pub(crate) fn store_size(&self, seat: &mut Pass, at: u64, size: u64)
+        requires may { MayStep self.now seat.old (allocating_event (store_size at size)) }
+        requires room { at + 5 ≤ self.now.setting.shape.size }
+        ensures { Stepped seat.old (allocating_event (store_size at size)) size seat.new }
+    {
+        self.table
+            .shared
+            .store::<StoreSize>(seat, FIRST + at as usize + BLOCK_SIZE, size);
+    }
+
+    pub(crate) fn store_cookie(&self, seat: &mut Pass, at: u64, cookie: u64)
+        requires may { MayStep self.now seat.old (allocating_event (store_cookie at cookie)) }
+        requires room { at + 5 ≤ self.now.setting.shape.size }
+        ensures { Stepped seat.old (allocating_event (store_cookie at cookie)) cookie seat.new }
+    {
+        self.table
+            .shared
+            .store::<StoreCookie>(seat, FIRST + at as usize + BLOCK_COOKIE, cookie);
+    }
+
+    pub(crate) fn store_type(&self, seat: &mut Pass, at: u64, tag: u64)
+        requires may { MayStep self.now seat.old (allocating_event (store_type at tag)) }
+        requires room { at + 5 ≤ self.now.setting.shape.size }
+        ensures { Stepped seat.old (allocating_event (store_type at tag)) tag seat.new }
+    {
+        self.table
+            .shared
+            .store::<StoreType>(seat, FIRST + at as usize + BLOCK_TYPE, tag);
+    }
+
+    pub(crate) fn set_flag(&self, seat: &mut Pass, flag: u64) -> u64
+        requires { MayStep self.now seat.old (allocating_event (set_flag flag)) }
+        ensures { Stepped seat.old (allocating_event (set_flag flag)) result seat.new }
+    {
+        self.table
+            .shared
+            .fetch_or::<SetFlag>(seat, FIRST + FLAGS_WORD, flag)
+    }
+}

@@ -1,0 +1,120 @@
+-- What is said of a record, of its counts, and of an actor, where some of it is shown anew and the rest rests on what stays.
+use Rattle.std.proofs.Common.{◌≡◌, ◌≢◌, ℕ, ◌+◌, ◌<◌, ◌≤◌, ℤ, List, ◌++◌, true, false}
+use Rattle.std.specs.Prelude.{◌^◌, max, slice_index, Some, None}
+use Rattle.std.specs.Int.{w64, cast_signed}
+use Rattle.std.specs.List.{All, Contains}
+use Rattle.bucket_ranges.specs.declared.spec.Spec.TheVariants as spec
+use Rattle.bucket_ranges.specs.Single.{packed_bucket, units_packed}
+use Rattle.segment_image.specs.Shape.{Dimensions}
+use Rattle.segment_machine.specs.declared.entry.Entry.{Entry}
+use Rattle.segment_machine.specs.declared.place.Place.{Place}
+use Rattle.segment_machine.specs.declared.place.Place.TheVariants.{SumLoaded}
+use Rattle.segment_machine.specs.declared.actor.Actor.{Actor}
+use Rattle.segment_machine.specs.declared.actor.Role.{Role}
+use Rattle.segment_machine.specs.declared.seen.Seen.{Seen}
+use Rattle.segment_machine.specs.Actor.{counted_of, is_opener}
+use Rattle.segment_machine.specs.Form.{is_off}
+use Rattle.segment_machine.specs.Made.{SawSample}
+use Rattle.segment_invariant.specs.Body.{Record, Counts, Anatomy}
+use Rattle.segment_invariant.specs.Consistent.{IsWithinCounts}
+use Rattle.segment_invariant.specs.Ledger.{form_at}
+use Rattle.segment_invariant.specs.Seen.{HasRecord, IsFirst, IsFirstOf}
+use Rattle.segment_invariant.specs.Invariant.{IsLawfulRecord, IsCountsOf, IsAlone, CallsRight, LooksBack, FinalsAreExact, Fits}
+
+-- ---- a record
+
+-- a record is lawful with other words that change, where what is said of these is shown
+pub lawful_anew : (version page : ℕ) (r : Record) (counts single mark sum sum_mark noted : ℕ) → IsLawfulRecord version page r
+    → form_at version (record r { single = single }) ≢ None → (packed_bucket (form_at version (record r { single = single })) ≡ None → mark ≡ 0)
+    → (is_off single ≡ true → counts ≢ 0) → (r.spec ≡ spec.Sparse → (counts ≡ 0) × (single ≡ 0) × (mark ≡ 0))
+    → (sum < 2 ^ 64) × (sum_mark < 2 ^ 64)
+    → IsLawfulRecord version page (record r { counts = counts; single = single; mark = mark; sum = sum; sum_mark = sum_mark; noted = noted })
+lawful_anew version page r counts single mark sum sum_mark noted is formed unpacked off sparse narrow = record {
+  sized = is.sized;
+  least = is.least;
+  named = is.named;
+  lettered = is.lettered;
+  lawful = is.lawful;
+  fields = is.fields;
+  fits = is.fits;
+  formed = formed;
+  unpacked = unpacked;
+  off = off;
+  sparse = sparse;
+  narrow = narrow;
+}
+
+-- and its counts are those of the record with another single word and single mark
+pub counts_anew : (version at : ℕ) (r : Record) (single mark : ℕ) (c : Counts) → IsCountsOf version at r c
+    → ((i : ℕ) → packed_bucket (form_at version (record r { single = single })) ≡ Some i → slice_index c.marks i ≡ 0)
+    → (is_off single ≡ false → All (λ n. n ≡ 0) c.units × All (λ n. n ≡ 0) c.marks)
+    → (version ≡ 1 → (i : ℕ) → packed_bucket (form_at version (record r { single = single })) ≡ Some i
+    → mark ≤ max (slice_index c.units i + units_packed (form_at version (record r { single = single })) i) 65535)
+    → IsCountsOf version at (record r { single = single; mark = mark }) c
+counts_anew version at r single mark c is packed unused low = record {
+  mine = is.mine;
+  named = is.named;
+  same = is.same;
+  units = is.units;
+  marks = is.marks;
+  sized = is.sized;
+  packed = packed;
+  unused = unused;
+  mark = low;
+}
+
+-- ---- an actor
+
+-- its calls are right on the records of another list, with what it saw of the samples there
+pub calls_anew : (old new : Anatomy) (a : Actor) (seen : Seen) → CallsRight old a
+    → ((entry : Entry) (of : ℕ) → Contains (a.entries.inherited ++ counted_of a) entry → 0 < entry.units → IsFirst new.records entry.name spec.Sparse of
+    → (at : ℕ) × IsFirstOf new.records of entry.key at × Contains seen.chain at × SawSample seen of entry.key at)
+    → CallsRight new (record a { seen = seen })
+calls_anew old new a seen calls met = record {
+  ordered = calls.ordered;
+  within = calls.within;
+  held = calls.held;
+  ended = calls.ended;
+  spent = calls.spent;
+  met = met;
+  taking = calls.taking;
+}
+
+-- at another place it looks back at the same, but for a sum that it has loaded there
+pub looks_anew_at : (anatomy : Anatomy) (actors : List Actor) (opener a : Actor) (place : Place) → LooksBack anatomy actors opener a
+    → ((reference : ℕ) (sum : ℤ) (r : Record) → place ≡ SumLoaded reference sum → IsAlone actors a → HasRecord anatomy.pieces reference r
+    → sum ≡ cast_signed w64 r.sum)
+    → LooksBack anatomy actors opener (record a { hand = record a.hand { place = place } })
+looks_anew_at anatomy actors opener a place looks sum = record {
+  most = looks.most;
+  packed = looks.packed;
+  counted = looks.counted;
+  samples = looks.samples;
+  rising = looks.rising;
+  leading = looks.leading;
+  closed = looks.closed;
+  begun = looks.begun;
+  noted = looks.noted;
+  sum = sum;
+}
+
+-- beside other actors, with another share and another role, it fits where what rests on these is shown
+pub fits_anew : (shape : Dimensions) (anatomy : Anatomy) (cursors : List ℕ) (old new : List Actor) (opener later : Actor) (id : ℕ) (a : Actor) (share : ℕ) (role : Role)
+    → let b = record a { units = record a.units { share = share }; role = role } in Fits shape anatomy cursors old opener id a
+    → (is_opener role ≡ false → LooksBack anatomy new later b) → FinalsAreExact new later id b → All (IsWithinCounts new) a.deltas.snapshots
+    → Fits shape anatomy cursors new later id b
+fits_anew shape anatomy cursors old new opener later id a share role fit looks finals snapshots = record {
+  shaped = fit.shaped;
+  versioned = fit.versioned;
+  numbered = fit.numbered;
+  sees = fit.sees;
+  ahead = fit.ahead;
+  names = fit.names;
+  own = fit.own;
+  apart = fit.apart;
+  owes = fit.owes;
+  calls = fit.calls;
+  looks = looks;
+  finals = finals;
+  snapshots = snapshots;
+}

@@ -1,0 +1,44 @@
+-- What was taken, as the portions of the deltas that took it: what it comes to, and whose each portion is.
+use Rattle.std.proofs.Common.{◌≡◌, ◌⊎◌, ℕ, ◌+◌, ℤ, pos, ◌+ℤ◌, List, [], ◌∷◌, ◌++◌, map, Contains, inl, inr, ⊎_elim, sym, ap, ◌∙◌, append_assoc}
+use Rattle.std.specs.Prelude.{if◌then◌else◌}
+use Rattle.std.specs.Str.{bytes_eq}
+use Rattle.std.proofs.lemmas.List.{map-append}
+use Rattle.std.proofs.lemmas.List.Elements.{Contains-append_cases, Contains-append_left, Contains-append_right}
+use Rattle.std.proofs.lemmas.List.Sums.{sum_by-append}
+use Rattle.segment_machine.specs.declared.actor.Actor.{Actor}
+use Rattle.segment_machine.specs.declared.actor.Portion.{Portion}
+use Rattle.segment_machine.specs.declared.actor.Taken.{Taken}
+use Rattle.segment_machine.specs.Actor.{units_listed, portion_of, taken_of, taken_units, taken_sum}
+use Rattle.segment_invariant.proofs.Lists.Maps.{contains_map, contains_mapped}
+use Rattle.segment_invariant.proofs.Lists.Sums.{IsTotal, amounts_total}
+
+-- ---- what it comes to
+
+pub taken_total : (name : List ℕ) (key : ℤ) → IsTotal ◌+◌ (λ list. taken_units list name key)
+taken_total name key = sum_by-append (λ (t : Portion). if bytes_eq t.name name then units_listed t.counts key else 0)
+
+pub taken_sum_total : (name : List ℕ) → IsTotal ◌+ℤ◌ (λ list. taken_sum list name)
+taken_sum_total name = amounts_total (λ (t : Portion). if bytes_eq t.name name then t.sum else pos 0)
+
+-- ---- one delta more
+
+pub portions_push : (first : List Portion) (front : List Taken) (t : Taken)
+    → first ++ map portion_of (front ++ t ∷ []) ≡ (first ++ map portion_of front) ++ portion_of t ∷ []
+portions_push first front t =
+    ap (λ (list : List Portion). first ++ list) (map-append portion_of front (t ∷ [])) ∙ sym (append_assoc first (map portion_of front) (portion_of t ∷ []))
+
+-- ---- whose it is
+
+pub portion_in : (a : Actor) (t : Taken) → Contains a.deltas.taken t → Contains (taken_of a) (portion_of t)
+portion_in a t has = Contains-append_right a.deltas.first_taken (map portion_of a.deltas.taken) (portion_of t) (contains_map portion_of a.deltas.taken t has)
+
+pub portion_from : (first : List Portion) (list : List Taken) (p : Portion) → Contains (first ++ map portion_of list) p
+    → Contains first p ⊎ ((t : Taken) × Contains list t × (portion_of t ≡ p))
+portion_from first list p has = ⊎_elim
+    (λ old. inl old)
+    (λ new. inr (contains_mapped portion_of list p new))
+    (Contains-append_cases first (map portion_of list) p has)
+
+-- what had been taken before is with any deltas behind it
+pub portion_first : (first : List Portion) (list : List Taken) (p : Portion) → Contains first p → Contains (first ++ map portion_of list) p
+portion_first first list p has = Contains-append_left first (map portion_of list) p has

@@ -1,0 +1,13 @@
+pub mod Blocks
+pub mod Bodies
+pub mod Cuts
+pub mod Distinct
+pub mod FirstEntries
+pub mod Headers
+pub mod Images
+pub mod Kept
+pub mod Opened
+pub mod Openers
+pub mod Slices
+pub mod Sums
+pub mod Units

@@ -1,0 +1,115 @@
+-- The histograms of a kept state's list are the first of their names or later ones. In a later one nothing is counted. So the totals and
+-- marks of each are bounded.
+use Rattle.std.proofs.Common.{◌≡◌, ◌≢◌, ◌⊎◌, Bool, true, false, ℕ, zero, suc, List, [], ◌∷◌, ◌++◌, inl, inr, refl, sym, ap, subst, ◌∙◌, arith, Option, Some, None}
+use Rattle.std.specs.Prelude.{◌==◌}
+use Rattle.std.specs.Str.{bytes_eq}
+use Rattle.std.specs.List.{All, Contains}
+use Rattle.std.proofs.lemmas.Bool.{eqb-true, eqb-false}
+use Rattle.std.proofs.lemmas.List.Elements.{All-nil, All-cons}
+use Rattle.std.proofs.lemmas.Slice.Eq.{bytes_eq-Decides}
+use mathlib.Core.Option.{some, none, some-injective, some-ne-none}
+use lib.ListN.{get_elem?}
+use Rattle.segment_image.specs.Shape.{Dimensions}
+use Rattle.segment_image.specs.Blocks.{field_at}
+use Rattle.bucket_ranges.specs.declared.single.SingleWord.TheVariants.{Empty}
+use Rattle.bucket_ranges.specs.declared.spec.Spec.{Spec}
+use Rattle.bucket_ranges.specs.Single.{single_of}
+use Rattle.bucket_ranges.specs.Spec.{buckets_of}
+use Rattle.bucket_ranges.specs.Reading.{record_buckets, record_single, mark_at, total_of, mark_of}
+use Rattle.bucket_ranges.specs.Units.{total_at}
+use Rattle.segment_machine.specs.declared.actor.Made.{Made}
+use Rattle.segment_machine.specs.declared.actor.Made.TheVariants as made
+use Rattle.segment_machine.specs.State.{State}
+use Rattle.segment_invariant.specs.Body.{Record, histogram, Listed, Anatomy}
+use Rattle.segment_invariant.specs.Seen.{HasRecord, IsNamed, IsFirst}
+use Rattle.segment_invariant.specs.Invariant.{CountsNothing, Invariant}
+use Rattle.segment_invariant.proofs.Lists.Elements.{at_from}
+use Rattle.segment_invariant.proofs.Blocks.Pieces.{one_stands}
+use Rattle.segment_invariant.proofs.Consistency.Records.{record_word}
+use Rattle.segment_invariant.proofs.Consistency.Specs.{form_is}
+use Rattle.segment_invariant.proofs.Consistency.Firsts.{record_of_first}
+use Rattle.segment_promises.proofs.Readings.Bounds.{AreBounded, first_bounded}
+
+-- ---- there is a first one
+
+-- of those of which something is told one is the first in a list
+abbrev pub HasFirst : {X : Type 0} → (X → Type 0) → List X → Type 0
+HasFirst {X} P l = (front behind : List X) × (y : X) × (l ≡ front ++ y ∷ behind) × All (λ z. ¬ (P z)) front × P y
+
+pub first_of_those : {X : Type 0} (P : X → Type 0) → ((x : X) → P x ⊎ (¬ (P x))) → (l : List X) (k : ℕ) (x : X) → get_elem? l k ≡ some x → P x
+    → HasFirst P l
+first_of_those P either [] k x there this = absurd (some-ne-none x (sym there))
+first_of_those {X} P either (z ∷ zs) k x there this = by_head k there (either z) (λ k there. first_of_those P either zs k x there this)
+  where
+    by_head : (k : ℕ) → get_elem? (z ∷ zs) k ≡ some x → P z ⊎ (¬ (P z)) → ((k : ℕ) → get_elem? zs k ≡ some x → HasFirst P zs) → HasFirst P (z ∷ zs)
+    by_head k there (inl here) rest = ([], zs, z, refl, All-nil _, here)
+    by_head zero there (inr absent) rest = absurd (absent (subst P (sym (some-injective z x there)) this))
+    by_head (suc k) there (inr absent) rest =
+        let (front, behind, y, is, none_before, first) = rest k there in
+        (z ∷ front, behind, y, ap (λ (l : List X). z ∷ l) is, All-cons (λ z. ¬ (P z)) z front absent none_before, first)
+
+-- a record is of a name or not
+pub named_or_not : (name : List ℕ) (l : Listed) → IsNamed name l ⊎ (¬ (IsNamed name l))
+named_or_not name l = by_made l.made refl
+  where
+    by_made : (m : Option Made) → l.made ≡ m → IsNamed name l ⊎ (¬ (IsNamed name l))
+    by_made (Some (made.Histogram other spec)) is = by_test (bytes_eq other name) refl
+      where
+        by_test : (b : Bool) → bytes_eq other name ≡ b → IsNamed name l ⊎ (¬ (IsNamed name l))
+        by_test true same = inl (spec, is ∙ ap (λ (name : List ℕ). Some (made.Histogram name spec)) ((bytes_eq-Decides other name).0 same))
+        by_test false apart = inr (λ (kind, named).
+            let equal : other ≡ name = cc (is, named) in
+            cc (apart, (bytes_eq-Decides other name).1 equal))
+    by_made (Some (made.Sample of value)) is = inr (λ (kind, named). cc (is, named))
+    by_made None is = inr (λ (kind, named). cc (is, named))
+
+-- so a name that is on a list has a first record there
+pub first_there : (records : List Listed) (name : List ℕ) (l : Listed) → Contains records l → IsNamed name l
+    → (kind : Spec) × (place : ℕ) × IsFirst records name kind place
+first_there records name l there named =
+    let (k, at) = at_from records l there in
+    let (front, behind, first, is, none_before, (kind, its)) = first_of_those (IsNamed name) (named_or_not name) records k l at named in
+    (kind, first.reference, (front, behind, is ∙ ap (λ (m : Option Made). front ++ record { reference = first.reference; made = m } ∷ behind) its, none_before))
+
+-- ---- a kept state
+
+module _ (shape : Dimensions) (opened : Anatomy) (state : State) (kept : Invariant shape opened state) (at : ℕ) (r : Record)
+    (has : HasRecord kept.anatomy.pieces at r) where
+  -- the name of a record has a first one
+  pub its_first : (kind : Spec) × (place : ℕ) × IsFirst kept.anatomy.records r.name kind place
+  its_first = first_there kept.anatomy.records r.name _ (kept.list.alone at (histogram r) has) (r.spec, refl)
+
+  -- what counts nothing is bounded
+  pub nothing_bounded : CountsNothing r → AreBounded kept.anatomy.version state.words at (buckets_of r.spec)
+  nothing_bounded nothing = record {
+    total = λ i below. let e = total_none i in omega (arith, e);
+    mark = λ i below. let e = mark_none i in inl (omega (arith, e));
+  }
+    where
+      counts_none : field_at state.words at 8 ≡ 0
+      counts_none = record_word shape state.words kept.anatomy kept.shown at r 8 has (omega arith) ∙ nothing.0
+
+      form_none : record_single kept.anatomy.version state.words at ≡ Some Empty
+      form_none =
+          form_is shape state.words kept.anatomy kept.shown kept.anatomy.version at r has (kept.records.lawful at r has) kept.anatomy.version
+          ∙ ap (single_of kept.anatomy.version (buckets_of r.spec)) nothing.1
+
+      total_none : (i : ℕ) → total_of kept.anatomy.version state.words at i ≡ 0
+      total_none i = λ j. total_at state.words (counts_none j) (form_none j) i
+
+      mark_none : (i : ℕ) → mark_of kept.anatomy.version state.words at i ≡ 0
+      mark_none i = λ j. mark_at state.words (counts_none j) (record_buckets state.words at) (form_none j) (field_at state.words at 10) i
+
+  -- the totals and marks of each record are bounded
+  pub all_bounded : AreBounded kept.anatomy.version state.words at (buckets_of r.spec)
+  all_bounded = let (kind, place, first) = its_first in by_place kind place first (place == at) (eqb-true place at) (eqb-false place at)
+    where
+      by_place : (kind : Spec) (place : ℕ) → IsFirst kept.anatomy.records r.name kind place → (b : Bool) → (b ≡ true → place ≡ at) → (b ≡ false → place ≢ at)
+          → AreBounded kept.anatomy.version state.words at (buckets_of r.spec)
+      by_place kind place first true same apart =
+          let here = subst (λ (at : ℕ). IsFirst kept.anatomy.records r.name kind at) (same refl) first in
+          let (q, (stands, named, specified)) = record_of_first shape opened state kept r.name kind at here in
+          let bodies : histogram q ≡ histogram r = (one_stands shape state.words kept.anatomy kept.shown at none none (histogram q) (histogram r) stands has).1 in
+          let equal : q ≡ r = cc bodies in
+          first_bounded shape opened state kept at r has kind here (sym (ap (λ (r : Record). r.spec) equal) ∙ specified)
+      by_place kind place first false same apart = nothing_bounded (kept.records.later at place r kind has first (apart refl))

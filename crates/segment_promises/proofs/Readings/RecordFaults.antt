@@ -1,0 +1,51 @@
+-- No record of a histogram in a kept state's words has a fault.
+use Rattle.std.proofs.Common.{◌≡◌, ℕ, [], ◌∷◌, ap, ◌∙◌, None, List, true, false}
+use Rattle.segment_image.specs.Shape.{Dimensions}
+use Rattle.segment_image.specs.Checks.{first_fault}
+use Rattle.segment_image.specs.Head.{head_of}
+use Rattle.bucket_ranges.specs.declared.reading.RecordFault.TheVariants.{BadKind, BadName, BadSpec, BadCounts, BadSingle, BadMark, BadSum}
+use Rattle.bucket_ranges.specs.Reading.{is_bad_record_single, is_bad_mark, record_fault, has_counts, is_bad_record_sum}
+use Rattle.segment_machine.specs.State.{State}
+use Rattle.segment_invariant.specs.Body.{Record, Anatomy, layout_of, histogram, Listed}
+use Rattle.segment_invariant.specs.Seen.{HasRecord}
+use Rattle.segment_invariant.specs.Invariant.{Invariant, IsLawfulRecord, IsPassedOver}
+use Rattle.segment_promises.proofs.Readings.Heads.{version_is}
+use Rattle.segment_promises.proofs.Readings.Records.{kind_is_right, name_is_right, spec_is_right, single_is_right, sum_is_right}
+use Rattle.segment_promises.proofs.Readings.Counts.{counts_are_right}
+use Rattle.segment_promises.proofs.Readings.Marks.{marks_are_right}
+use Rattle.segment_promises.proofs.Readings.Later.{all_bounded}
+use Rattle.alloc_core.specs.Layout.{IsShown}
+use Rattle.segment_invariant.proofs.Consistency.PassedOver.{told, told_shown, told_stands}
+use Rattle.segment_invariant.proofs.Consistency.Forms.{counts_are, told_counts, tells_passed}
+use Rattle.segment_promises.proofs.Readings.PassedOver.{passed_bounded, passed_sum}
+use Rattle.bucket_ranges.specs.Spec.{buckets_of}
+use Rattle.segment_promises.proofs.Readings.Bounds.{AreBounded}
+
+-- a record whose counts are there, whose totals and marks are bounded, and whose sums are lawful
+module _ (shape : Dimensions) (words : List ℕ) (anatomy : Anatomy) (shown : IsShown shape words (layout_of anatomy)) (version at : ℕ) (r : Record)
+    (has : HasRecord anatomy.pieces at r) (right : IsLawfulRecord version shape.page r) where
+  pub no_fault_of : (head_of words).version ≡ version → has_counts words (head_of words) at ≡ true → AreBounded version words at (buckets_of r.spec)
+      → is_bad_record_sum words at ≡ false → record_fault words (head_of words) at ≡ None
+  no_fault_of version_is there bounded sum =
+      let kind = kind_is_right shape words anatomy shown version at r has right in
+      let name = name_is_right shape words anatomy shown version at r has right in
+      let spec = spec_is_right shape words anatomy shown version at r has right in
+      let counts = counts_are_right shape words anatomy shown version at r has right bounded there version_is in
+      let single = ap (λ (v : ℕ). is_bad_record_single v words at) version_is ∙ single_is_right shape words anatomy shown version at r has right in
+      let marks = ap (λ (v : ℕ). is_bad_mark v words at) version_is ∙ marks_are_right shape words anatomy shown version at r has right bounded in
+      λ i. first_fault ((kind i, BadKind) ∷ (name i, BadName) ∷ (spec i, BadSpec) ∷ (counts i, BadCounts) ∷ (single i, BadSingle) ∷ (marks i, BadMark) ∷ (sum i, BadSum) ∷ [])
+
+module _ (shape : Dimensions) (opened : Anatomy) (state : State) (kept : Invariant shape opened state) where
+  -- so is each record in which somebody counts, or nobody has
+  pub no_record_fault : (at : ℕ) (r : Record) → HasRecord kept.anatomy.pieces at r → record_fault state.words (head_of state.words) at ≡ None
+  no_record_fault at r has =
+      no_fault_of shape state.words kept.anatomy kept.shown kept.anatomy.version at r has (kept.records.lawful at r has) (version_is shape opened state kept)
+      (counts_are shape opened state kept at r has) (all_bounded shape opened state kept at r has) (sum_is_right shape opened state kept at r has)
+
+  -- and each that is passed over
+  pub no_passed_fault : (front : List Listed) (at : ℕ) (r : Record) → IsPassedOver kept.anatomy.version shape.page kept.anatomy.pieces front at r
+      → record_fault state.words (head_of state.words) at ≡ None
+  no_passed_fault front at r over =
+      no_fault_of shape state.words (told shape opened state kept at (histogram r) over.stands) (told_shown shape opened state kept at (histogram r) over.stands)
+      kept.anatomy.version at r (told_stands shape opened state kept at (histogram r) over.stands) over.lawful (version_is shape opened state kept)
+      (told_counts state.words shape.page kept.anatomy.version at r (tells_passed shape opened state kept front at r over)) (passed_bounded shape opened state kept front at r over) (passed_sum shape opened state kept front at r over)

@@ -30,10 +30,10 @@ fn corrupt_flag(rt: HostRuntime) -> Result<(), Fail> {
     let mut world = World::new(rt.alloc(), 128, 64, 7, 2, 1).expect(&rt, "memory");
     let begun = world.begin(1, &Call::SetCorrupt).expect(&rt, "a begin");
     assert!(rt; matches!(begun, Begun::Going));
-    assert!(rt; world.words()[6] == 0);
+    assert!(rt; world.words().get(6) == Some(&0));
     let said = world.step(1).expect(&rt, "a step");
     assert!(rt; matches!(said, Stepped::Done(Answer::Flagged)));
-    assert!(rt; world.words()[6] == 1);
+    assert!(rt; world.words().get(6) == Some(&1));
     Ok(())
 }
 
@@ -46,7 +46,7 @@ fn world_faults(rt: HostRuntime) -> Result<(), Fail> {
     assert!(rt; fault_of(World::new(alloc, 128, 64, 7, 65, 1)) == 1);
     assert!(rt; fault_of(World::new(alloc, 128, 64, 7, 1, 3)) == 1);
     let mut world = World::new(alloc, 128, 64, 7, 64, 2).expect(&rt, "memory");
-    assert!(rt; world.words()[1] == 2);
+    assert!(rt; world.words().get(1) == Some(&2));
     assert!(rt; fault_of(world.begin(64, &Call::SetCorrupt)) == 2);
     assert!(rt; fault_of(world.step(64)) == 2);
     assert!(rt; fault_of(world.step(63)) == 4);

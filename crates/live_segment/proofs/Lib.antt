@@ -4,3 +4,4 @@ mod Closing
 mod Copies
 mod Seated
 mod Tries
+mod Listed

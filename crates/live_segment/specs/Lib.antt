@@ -9,3 +9,4 @@ pub mod Onward
 pub mod Adding
 pub mod Batching
 pub mod Telling
+pub mod Listing

@@ -3,6 +3,7 @@
 pub(crate) mod allocating;
 pub(crate) mod counting;
 pub(crate) mod packing;
+pub(crate) mod walking;
 
 /// Where the first word of the segment stands in its table.
 pub(crate) const FIRST: usize = 1;

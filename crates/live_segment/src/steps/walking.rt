@@ -1,0 +1,51 @@
+//! The steps that walk along the list: the next of a block, and a word of a published record that never changes.
+
+ghost use Rattle.std.specs.Prelude.{◌+◌, ◌<◌, ◌≤◌};
+ghost use Rattle.segment_machine.specs.Event.{walking_event};
+ghost use Rattle.segment_machine.specs.Walking.{load_next, load_published};
+ghost use Rattle.live_segment.specs.Steps.{DoesAt};
+ghost use Rattle.live_segment.specs.Listing.{LoadsPublished};
+
+use crate::rule::{Announcement, Pass};
+use crate::segment::Segment;
+use crate::steps::FIRST;
+use atomic_table::Play;
+use segment_image::layout::BLOCK_NEXT;
+use segment_machine::Actor;
+
+pub(crate) struct LoadNext;
+
+impl Play<Announcement, Actor> for LoadNext {
+    ghost then = { λ st. DoesAt (λ at. walking_event (load_next at)) st.word };
+}
+
+pub(crate) struct LoadPublished;
+
+impl Play<Announcement, Actor> for LoadPublished {
+    ghost then = { λ st. LoadsPublished st.word };
+}
+
+impl Segment {
+    ghost use Rattle.live_segment.specs.Holders.{MayStep};
+    ghost use Rattle.live_segment.specs.Steps.{Stepped};
+
+    pub(crate) fn load_next(&self, seat: &mut Pass, at: u64) -> u64
+        requires may { MayStep self.now seat.old (walking_event (load_next at)) }
+        requires room { at + 5 ≤ self.now.setting.shape.size }
+        ensures { Stepped seat.old (walking_event (load_next at)) result seat.new }
+    {
+        self.table
+            .shared
+            .load::<LoadNext>(seat, FIRST + at as usize + BLOCK_NEXT)
+    }
+
+    pub(crate) fn load_published(&self, seat: &mut Pass, at: u64, index: usize) -> u64
+        requires may { MayStep self.now seat.old (walking_event (load_published at index)) }
+        requires room { at + index < self.now.setting.shape.size }
+        ensures { Stepped seat.old (walking_event (load_published at index)) result seat.new }
+    {
+        self.table
+            .shared
+            .load::<LoadPublished>(seat, FIRST + at as usize + index)
+    }
+}

@@ -4,12 +4,13 @@ ghost use Rattle.std.specs.Prelude.{◌≡◌, [], map};
 ghost use Rattle.segment_machine.specs.Seats.{newcomer};
 ghost use Rattle.live_segment.specs.Rule.{IsOf};
 ghost use Rattle.live_segment.specs.Steps.{IsAtRest};
-ghost use Rattle.live_segment.specs.Known.{known_view};
+ghost use Rattle.live_segment.specs.Known.{known_view, KnowsRight};
+ghost use Rattle.std.specs.List.{All};
 ghost use Rattle.std.proofs.Props.{props};
 
 use crate::rule::Pass;
 use crate::segment::Segment;
-use bucket_ranges::Spec;
+use bucket_ranges::{Ranges, Spec};
 use segment_image::layout::FLAG_CORRUPT;
 use std::alloc::Global;
 
@@ -24,6 +25,7 @@ pub struct Hist {
 pub(crate) struct KnownHistogram {
     pub(crate) name: Vec<u8>,
     pub(crate) spec: Spec,
+    pub(crate) ranges: Ranges,
     pub(crate) reference: u64,
 }
 
@@ -39,6 +41,7 @@ pub struct Recorder<'a> {
     ghost rests: { IsAtRest seat.me.0 },
     ghost counted: { units ≡ seat.me.0.units.share },
     ghost listed: { map known_view known.items ≡ seat.me.0.answers.names },
+    ghost right: { All (KnowsRight segment.now.setting seat.me.0) known.items } by { Prim.hlevel props },
     ghost free: { seat.me.1 ≡ [] } by { Prim.hlevel props },
 }
 

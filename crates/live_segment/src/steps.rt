@@ -2,6 +2,7 @@
 
 pub(crate) mod allocating;
 pub(crate) mod counting;
+pub(crate) mod cursors;
 pub(crate) mod packing;
 pub(crate) mod walking;
 

@@ -1,0 +1,53 @@
+//! The steps on a shared cursor. Their words stand behind those of the segment.
+
+ghost use Rattle.std.specs.Prelude.{◌≡◌, ◌<◌};
+ghost use Rattle.segment_machine.specs.Event.{cursor_event};
+ghost use Rattle.segment_machine.specs.Cursors.{load_cursor, move_cursor};
+ghost use Rattle.live_segment.specs.Steps.{DoesAt};
+
+use crate::rule::{Announcement, Pass};
+use crate::segment::Segment;
+use crate::steps::FIRST;
+use atomic_table::Play;
+use segment_machine::Actor;
+
+pub(crate) struct LoadCursor;
+
+impl Play<Announcement, Actor> for LoadCursor {
+    ghost then = { λ st. DoesAt (λ cursor. cursor_event (load_cursor cursor)) st.word };
+}
+
+pub(crate) struct MoveCursor;
+
+impl Play<Announcement, Actor> for MoveCursor {
+    ghost then = { λ st. DoesAt (λ cursor. cursor_event (move_cursor cursor st.first st.second)) st.word };
+}
+
+impl Segment {
+    ghost use Rattle.live_segment.specs.Holders.{MayStep};
+    ghost use Rattle.live_segment.specs.Steps.{Stepped};
+
+    pub(crate) fn load_cursor(&self, seat: &mut Pass, cursor: usize) -> u64
+        requires may { MayStep self.now seat.old (cursor_event (load_cursor cursor)) }
+        requires shape { seat.old.me.0.segment.shape ≡ self.now.setting.shape }
+        requires room { cursor < self.now.setting.cursors }
+        ensures { Stepped seat.old (cursor_event (load_cursor cursor)) result seat.new }
+    {
+        let size = self.setting.shape.size() as usize;
+        self.table
+            .shared
+            .load::<LoadCursor>(seat, FIRST + size + cursor)
+    }
+
+    pub(crate) fn move_cursor(&self, seat: &mut Pass, cursor: usize, old: u64, new: u64) -> u64
+        requires may { MayStep self.now seat.old (cursor_event (move_cursor cursor old new)) }
+        requires shape { seat.old.me.0.segment.shape ≡ self.now.setting.shape }
+        requires room { cursor < self.now.setting.cursors }
+        ensures { Stepped seat.old (cursor_event (move_cursor cursor old new)) result seat.new }
+    {
+        let size = self.setting.shape.size() as usize;
+        self.table
+            .shared
+            .compare_exchange::<MoveCursor>(seat, FIRST + size + cursor, old, new)
+    }
+}

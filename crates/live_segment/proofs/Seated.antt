@@ -80,6 +80,7 @@ module _ (setting : Setting) (slots id : ℕ) (me : Sat) where
     where
       units_said : Announcement → ℕ
       units_said (Units n) = n
+      units_said _ = 0
 
       same : (said : ℕ) → some (Units units) ≡ some (Units said) → units ≡ said
       same said e = ap units_said (some-injective (Units units) (Units said) e)

@@ -21,7 +21,7 @@ pub struct Hist {
 }
 
 /// A histogram that a recorder was answered with.
-#[derive(Drop)]
+#[derive(Debug, Drop)]
 pub(crate) struct KnownHistogram {
     pub(crate) name: Vec<u8>,
     pub(crate) spec: Spec,

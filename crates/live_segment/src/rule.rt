@@ -1,5 +1,6 @@
 //! What holds of the words and of all who step on them.
 
+use crate::recorder::KnownHistogram;
 use atomic_table::{Seat, TableRule};
 use segment_image::Shape;
 use segment_machine::Actor;
@@ -18,6 +19,10 @@ pub(crate) struct Setting {
 pub(crate) enum Announcement {
     /// The units that the next recorder is to have.
     Units(u32),
+    /// A histogram that a record is to hold, or that a `hist` was answered with or refused.
+    Histogram(KnownHistogram),
+    /// The sample of a sparse histogram that a record is to hold.
+    Sample { histogram: u64, value: i32 },
 }
 
 /// What holds between any two steps.

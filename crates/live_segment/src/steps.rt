@@ -4,6 +4,7 @@ pub(crate) mod allocating;
 pub(crate) mod counting;
 pub(crate) mod cursors;
 pub(crate) mod packing;
+pub(crate) mod publishing;
 pub(crate) mod walking;
 
 /// Where the first word of the segment stands in its table.

@@ -3,12 +3,13 @@ use Rattle.std.specs.Prelude.{◌≡◌, ◌≢◌, ℕ, ◌+◌, ◌-◌, ◌*�
 use Rattle.std.specs.List.{All}
 use Rattle.bucket_ranges.specs.Spec.{spec_fault, spec_fields, spec_ranges, buckets_of}
 use Rattle.bucket_ranges.specs.Reading.{is_name}
-use Rattle.segment_image.specs.declared.layout.TheConstants.{BLOCK_HEADER, BLOCK_TYPE, HEADER_WORDS, TYPE_HISTOGRAM}
+use Rattle.segment_image.specs.declared.layout.TheConstants.{BLOCK_HEADER, BLOCK_LEAST, BLOCK_TYPE, HEADER_WORDS, HISTOGRAM_NAME, TYPE_HISTOGRAM}
 use Rattle.segment_image.specs.Shape.{Dimensions}
 use Rattle.alloc_core.specs.Layout.{IsShape}
 use Rattle.alloc_core.specs.Alloc as alloc
 use Rattle.alloc_core.specs.declared.alloc.AllocStep.{AllocStep}
 use Rattle.alloc_core.specs.declared.alloc.AllocStep.TheVariants as said
+use Rattle.hist_core.specs.declared.refusal.Refusal.{Refusal}
 use Rattle.hist_core.specs.declared.refusal.Refusal.TheVariants as why
 use Rattle.list_core.specs.declared.publish.PubStep.{PubStep}
 use Rattle.list_core.specs.declared.publish.PubStep.TheVariants as put
@@ -23,7 +24,7 @@ use Rattle.segment_machine.specs.declared.actor.Own.{Own}
 use Rattle.segment_machine.specs.declared.seen.Seen.{Seen}
 use Rattle.segment_machine.specs.Actor.{word_seen}
 use Rattle.segment_machine.specs.Calls.{MayTurn}
-use Rattle.segment_machine.specs.Made.{AreNameWords, SawOtherName}
+use Rattle.segment_machine.specs.Made.{AreNameWords, IsFirstNamed, SawOtherName, SawOtherSpec}
 use Rattle.segment_machine.specs.Note.{MayNote, knows}
 use Rattle.segment_machine.specs.Publishing.{own_at}
 use Rattle.segment_machine.specs.Stages.{Allocates, PublishesAt}
@@ -87,6 +88,26 @@ AreSame seen h k = (j : ℕ) → j < k → word_seen seen.words (h.reference + c
 abbrev pub comparisons : Hist → ℕ
 comparisons h = length h.payload.items - 5
 
+-- where the words of a record end at the earliest, as so many that were the same tell it: the type has the fixed words behind it, the
+-- length of the name its words, the number of ranges the ranges
+pub record Reaches (size : ℕ) (h : Hist) (k : ℕ) : Type 0 where
+  pub header : h.reference + BLOCK_LEAST ≤ size
+  pub fixed : 0 < k → h.reference + HISTOGRAM_NAME ≤ size
+  pub name : 1 < k → h.reference + (HISTOGRAM_NAME + h.letters) ≤ size
+  pub ranges : h.letters + 5 < k → h.reference + (BLOCK_HEADER + length h.payload.items) ≤ size
+
+-- a word more was the same: it compares the next, or all were
+abbrev pub IsMatched : Hist → ℕ → Hist → HistStep → Type 0
+IsMatched old k new More = (k + 1 < comparisons old) × (new ≡ record old { stage = Comparing (k + 1) })
+IsMatched old k new Done = (comparisons old ≤ k + 1) × (new ≡ old)
+IsMatched old k new (Refused why) = ⊥
+
+-- it is another: of the type or the name, so that the walk goes on, or of the spec
+abbrev pub IsDifferent : Hist → ℕ → Hist → HistStep → Type 0
+IsDifferent old k new More = (k < old.letters + 2) × (new ≡ record old { stage = Walking })
+IsDifferent old k new Done = ⊥
+IsDifferent old k new (Refused cause) = (old.letters + 2 ≤ k) × (new ≡ old) × (cause ≡ why.OtherSpec)
+
 -- ---- what it stores
 
 -- the front of a payload, up to its last word that was stored, while the words before an index are stored: those that are 0 are not
@@ -118,7 +139,7 @@ abbrev pub StandsAtStage : Dimensions → Hist → Actor → List ℕ → Stage 
 StandsAtStage shape h a given Walking = MayTurn a × HaveOtherNames h a given
 StandsAtStage shape h a given (Comparing same) =
     MayTurn a × ((front : List ℕ) × (given ≡ front ++ h.reference ∷ []) × HaveOtherNames h a front)
-    × (h.reference + 5 ≤ shape.size) × (same < comparisons h) × AreSame a.seen h same
+    × Reaches shape.size h same × (same < comparisons h) × AreSame a.seen h same
 StandsAtStage shape h a given (Allocating allocation) =
     HaveOtherNames h a given × Allocates a allocation × (is_some (alloc.next_event allocation) ≡ true) × (allocation.tag ≡ TYPE_HISTOGRAM)
     × (BLOCK_HEADER + length h.payload.items ≤ allocation.size)
@@ -141,12 +162,22 @@ pub record IsHist (shape : Dimensions) (h : Hist) (a : Actor) : Type 0 where
   pub front : IsPrefix given a.seen.chain
   pub stands : StandsAtStage shape h a given h.stage
 
+-- what its actor has seen or done that is refused: the first record of the name has another spec; an allocation has set the full flag;
+-- or it found the corrupt one
+abbrev pub IsCause : Dimensions → Hist → Refusal → Actor → Type 0
+IsCause shape h why.OtherSpec b =
+    (at : ℕ) × (letters : List ℕ) × IsFirstNamed b.seen h.asked.name.items at × AreNameWords h.asked.name.items letters
+    × SawOtherSpec b.seen h.asked.spec (length letters) at
+IsCause shape h why.Full b = b.done.filled ≡ true
+IsCause shape h why.Corrupt b = ⊤
+IsCause shape h cause b = ⊥
+
 -- What a step says: it goes on; the record that was compared last is the one that is asked for; or the call is refused, and its actor may
 -- turn to another.
 abbrev pub HistGives : Dimensions → Hist → HistStep → Actor → Actor → Type 0
 HistGives shape new More a b = Beside a b × IsHist shape new b
 HistGives shape new Done a b = Beside a b × MayTurn b × MayNote b (knows (asked_of new))
-HistGives shape new (Refused why) a b = Beside a b × MayTurn b
+HistGives shape new (Refused cause) a b = Beside a b × MayTurn b × IsCause shape new cause b
 
 -- what a step makes of the words, and of whatever actor stands so
 abbrev pub HistSteps : Hist → List ℕ → Hist → List ℕ → HistStep → Type 0
@@ -162,7 +193,7 @@ abbrev pub BeginsToAllocate : Hist → Hist → HistStep → Type 0
 BeginsToAllocate old new More =
     new ≡ record old { stage = Allocating (alloc.first_of old.shape (vec_len old.payload) TYPE_HISTOGRAM) }
 BeginsToAllocate old new Done = ⊥
-BeginsToAllocate old new (Refused why) = new ≡ old
+BeginsToAllocate old new (Refused cause) = ⊥
 
 -- it is allocating
 abbrev pub IsAllocating : Stage → Type 0

@@ -63,7 +63,7 @@ pub(crate) struct Hist {
 impl Hist {
     ghost use Rattle.std.specs.Prelude.{◌+◌, ◌-◌, ◌*◌, ◌^◌, vec_len, slice_index};
     ghost use Rattle.segment_machine.specs.declared.actor.Actor.{Actor};
-    ghost use Rattle.hist_core.specs.Hist.{compared_place, compared_index, compared_word, IsSomeHist, HistSteps, BeginsToAllocate, IsAllocated, IsAllocating, IsPublished, IsPublishing, IsNextFilled, IsFilled};
+    ghost use Rattle.hist_core.specs.Hist.{compared_place, compared_index, compared_word, IsSomeHist, HistSteps, BeginsToAllocate, IsAllocated, IsAllocating, IsPublished, IsPublishing, IsNextFilled, IsFilled, IsMatched, IsDifferent};
     ghost use Rattle.alloc_core.specs.Layout.{IsShape};
     ghost use Rattle.hist_core.specs.declared.hist.Stage.TheVariants.{Walking, Filling};
 
@@ -82,6 +82,57 @@ impl Hist {
             k - letters - 2
         } else {
             k + 5
+        }
+    }
+
+    // The place in the record of that word, from 0 on: the type first.
+    fn compared_index(&self, k: usize) -> usize
+        requires small { (k < 2 ^ 60) × (self.now.letters < 2 ^ 60) }
+        ensures { result ≡ compared_index self.now.letters k }
+    {
+        if k == 0 {
+            BLOCK_TYPE
+        } else {
+            BLOCK_HEADER + self.compared_place(k)
+        }
+    }
+
+    // What that word of its own record is to be.
+    fn compared_word(&self, k: usize) -> u64
+        requires small { (k < 2 ^ 60) × (self.now.letters < 2 ^ 60) }
+        requires inside { 0 < k → compared_place self.now.letters k < vec_len self.now.payload }
+        ensures { result ≡ compared_word self.now k }
+    {
+        if k == 0 {
+            TYPE_HISTOGRAM
+        } else {
+            self.payload[self.compared_place(k)]
+        }
+    }
+
+    // One word more was as it is to be.
+    fn matched(&mut self, same: usize) -> HistStep
+        requires { same < vec_len self.old.payload }
+        ensures { IsMatched self.old same self.new result }
+    {
+        if same + 6 < self.payload.len() {
+            self.stage = Stage::Comparing { same: same + 1 };
+            HistStep::More
+        } else {
+            HistStep::Done
+        }
+    }
+
+    // The word is another: the record has another name, or the name and another spec.
+    fn differed(&mut self, same: usize) -> HistStep
+        requires { self.old.letters < 2 ^ 60 }
+        ensures { IsDifferent self.old same self.new result }
+    {
+        if same < self.letters + 2 {
+            self.stage = Stage::Walking;
+            HistStep::More
+        } else {
+            HistStep::Refused(Refusal::OtherSpec)
         }
     }
 
@@ -105,6 +156,7 @@ impl Hist {
     // There is no record of the name so far.
     fn begin_allocating(&mut self) -> HistStep
         requires lawful { IsShape self.old.shape }
+        requires one_page { BLOCK_HEADER + vec_len self.old.payload ≤ self.old.shape.page }
         ensures { BeginsToAllocate self.old self.new result }
     {
         match Alloc::start(self.shape, self.payload.len() as u64, TYPE_HISTOGRAM) {

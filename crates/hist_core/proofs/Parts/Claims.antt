@@ -36,7 +36,7 @@ use Rattle.hist_core.specs.declared.hist.HistStep.{HistStep}
 use Rattle.hist_core.specs.declared.hist.HistStep.TheVariants.{More, Refused}
 use Rattle.hist_core.specs.declared.hist.Stage.TheVariants.{Allocating, Filling}
 use Rattle.hist_core.specs.Goes.{Beside, AreApart, Goes}
-use Rattle.hist_core.specs.Hist.{made_of, IsHist, StandsAtStage, HistGives, IsAllocated}
+use Rattle.hist_core.specs.Hist.{made_of, IsHist, StandsAtStage, HistGives, IsAllocated, IsCause}
 use Rattle.hist_core.proofs.Parts.Allocations.{allocates_on}
 use Rattle.hist_core.proofs.Parts.Walks.{others_still, goes_with, asks_on, some_to_compare_is}
 
@@ -133,6 +133,19 @@ rests_at b y (StoreCookie at n wants) ends stands = absurd (ends refl)
 rests_at b y (StoreType at n) ends stands = absurd (ends refl)
 rests_at b y SetFull ends stands = absurd (ends refl)
 
+-- and where it was refused for want of room, it has set the full flag
+filled_at : (b : Actor) (y : Allocation) (stage : AllocStage) → answer stage ≡ said.Full → StandsAt b y stage → b.done.filled ≡ true
+filled_at b y Full ends stands = stands.1
+filled_at b y (Claimed at size) ends stands = cc ends
+filled_at b y Corrupt ends stands = cc ends
+filled_at b y LoadFlags ends stands = cc ends
+filled_at b y LoadFree ends stands = cc ends
+filled_at b y (ExchangeFree next wants) ends stands = cc ends
+filled_at b y (StoreSize at n wants) ends stands = cc ends
+filled_at b y (StoreCookie at n wants) ends stands = cc ends
+filled_at b y (StoreType at n) ends stands = cc ends
+filled_at b y SetFull ends stands = cc ends
+
 -- ---- a step
 
 module _ (shape : Dimensions) (version : ℕ) (h : Hist) (a : Actor) (words : List ℕ) (long : length words ≡ shape.size) (is : IsHist shape h a) (x : Allocation)
@@ -170,8 +183,8 @@ module _ (shape : Dimensions) (version : ℕ) (h : Hist) (a : Actor) (words : Li
     ))
 
     -- it is refused
-    pub is_refused : (why : Refusal) (new : Hist) → ((b : Actor) → Allocates b y → b.hand.place ≡ Idle) → Goes shape.size version a words new_words (HistGives shape new (Refused why) a)
-    is_refused why new idle = goes_with claims (λ b (beside, apart, goes). (beside, ap is_bound (idle b goes)))
+    pub is_refused : (why : Refusal) (new : Hist) → ((b : Actor) → Allocates b y → b.hand.place ≡ Idle) → ((b : Actor) → Allocates b y → IsCause shape new why b) → Goes shape.size version a words new_words (HistGives shape new (Refused why) a)
+    is_refused why new idle cause = goes_with claims (λ b (beside, apart, goes). (beside, ap is_bound (idle b goes), cause b goes))
 
     -- it has a block, which is to hold its record: it stores the payload there
     pub has_claimed : (at : ℕ) → says ≡ said.Done at → Goes shape.size version a words new_words (HistGives shape (record h { stage = Filling at 0 }) More a)
@@ -247,10 +260,11 @@ module _ (shape : Dimensions) (version : ℕ) (h : Hist) (a : Actor) (words : Li
       (has_claimed y new_words (said.Done at) step at refl)
   allocates_so y new_words said.Full new result step more (new_is, result_is) =
       subst (λ (r : HistStep). Goes shape.size version a words new_words (HistGives shape new r a)) (sym result_is)
-      (is_refused y new_words said.Full step why.Full new (λ b goes. rests_at b y y.stage (λ e. cc (step.answers ∙ e)) goes.stands))
+      (is_refused y new_words said.Full step why.Full new (λ b goes. rests_at b y y.stage (λ e. cc (step.answers ∙ e)) goes.stands)
+      (λ b goes. filled_at b y y.stage (sym step.answers) goes.stands))
   allocates_so y new_words said.Corrupt new result step more (new_is, result_is) =
       subst (λ (r : HistStep). Goes shape.size version a words new_words (HistGives shape new r a)) (sym result_is)
-      (is_refused y new_words said.Corrupt step why.Corrupt new (λ b goes. rests_at b y y.stage (λ e. cc (step.answers ∙ e)) goes.stands))
+      (is_refused y new_words said.Corrupt step why.Corrupt new (λ b goes. rests_at b y y.stage (λ e. cc (step.answers ∙ e)) goes.stands) (λ b goes. tt))
 
   -- what the step of its allocation asks for
   pub asks_long : length words ≡ x.shape.size

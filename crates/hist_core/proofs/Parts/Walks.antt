@@ -134,7 +134,12 @@ module _ (shape : Dimensions) (version : ℕ) (h : Hist) (a : Actor) (words : Li
           stands = (
             walk_on.0,
             (is.given, refl, others_still a b beside h is.given stands.1),
-            within,
+            record {
+              header = within;
+              fixed = λ some. absurd (omega (arith, some));
+              name = λ some. absurd (omega (arith, some));
+              ranges = λ some. absurd (omega (arith, some));
+            },
             some_to_compare,
             λ j below. absurd (omega (arith, below)),
           );
@@ -201,4 +206,4 @@ module _ (shape : Dimensions) (version : ℕ) (h : Hist) (a : Actor) (words : Li
     subst (λ (n : Hist). IsHist shape n b) (sym begins) (begun walk (vec_len h.payload) b h.payload.ok.0 here walked),
   ))
   ends walk new Done says here begins = absurd begins
-  ends walk new (Refused why) says here begins = goes_with (loads End says) (λ b walked. (walked.0, walked.1.0))
+  ends walk new (Refused why) says here begins = absurd begins

@@ -1,6 +1,7 @@
-use Rattle.std.proofs.Common.{◌≡◌, ℕ, true, sym, subst, arith}
+use Rattle.std.proofs.Common.{◌≡◌, ◌≤◌, ◌+◌, ℕ, length, true, sym, subst, arith}
 use Rattle.std.proofs.Props.{props}
 use Rattle.std.proofs.Math.Logic.{∥∥₁_elim}
+use Rattle.segment_image.specs.Shape.{Dimensions}
 use Rattle.alloc_core.specs.Layout.{IsShape}
 use Rattle.list_core.specs.Chain.{is_reference}
 use Rattle.hist_core.proofs.Parts.Walks.{meets, strays, ends, is_wide}
@@ -16,6 +17,9 @@ step-requires-clause-reach c =
 pub begin_allocating-requires : goal.begin_allocating-requires
 begin_allocating-requires c = record {
   lawful = ∥∥₁_elim c.requires.stands (hlevel props) (λ (shape, a, long, is). subst IsShape (sym is.asking.shaped) is.lawful_shape);
+  one_page = ∥∥₁_elim c.requires.stands (hlevel props)
+      (λ (shape, a, long, is). subst (λ (n : ℕ). 4 + n ≤ c.args.self.now.shape.page) (sym c.args.self.now.payload.ok.0)
+      (subst (λ (d : Dimensions). 4 + length c.args.self.now.payload.items ≤ d.page) (sym is.asking.shaped) is.asking.one_page));
 }
 
 pub returns-in-Record : goal.returns-in-Record

@@ -2,6 +2,7 @@
 pub mod Alone
 pub mod Allocations
 pub mod Claims
+pub mod Compares
 pub mod Comparisons
 pub mod Fills
 pub mod Publishes

@@ -26,7 +26,7 @@ use Rattle.live_segment.proofs.Allowed.{does}
 -- ---- one account fits
 
 -- a histogram that is known alone by its reference
-one_known : (a : Actor) (x y : Known) → x.reference ≡ y.reference → KnowsAlone a x → KnowsAlone a y → x ≡ y
+pub one_known : (a : Actor) (x y : Known) → x.reference ≡ y.reference → KnowsAlone a x → KnowsAlone a y → x ≡ y
 one_known a x y same one other =
     let both : Some x ≡ Some y = sym one ∙ (ap (known_at a.answers.names) same ∙ other) in cc
 

@@ -10,3 +10,4 @@ pub mod Adding
 pub mod Batching
 pub mod Telling
 pub mod Listing
+pub mod Taking

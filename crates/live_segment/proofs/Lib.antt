@@ -2,6 +2,7 @@ mod Allowed
 mod Told
 mod Closing
 mod Copies
+mod Sharing
 mod Seated
 mod Tries
 mod Listed

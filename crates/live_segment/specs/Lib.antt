@@ -11,3 +11,4 @@ pub mod Batching
 pub mod Telling
 pub mod Listing
 pub mod Taking
+pub mod Cursors

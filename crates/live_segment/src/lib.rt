@@ -13,6 +13,7 @@ mod recorder;
 mod rule;
 mod seats;
 mod segment;
+mod shared_cursors;
 mod steps;
 #[cfg(test)]
 mod tests;

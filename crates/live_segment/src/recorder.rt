@@ -46,8 +46,9 @@ pub struct Recorder<'a> {
 }
 
 impl<'a> Recorder<'a> {
-    ghost use Rattle.std.specs.Prelude.{◌↔◌, IsTrue, ◌<◌, length};
+    ghost use Rattle.std.specs.Prelude.{◌↔◌, IsTrue, ◌<◌, ◌++◌, length};
     ghost use Rattle.live_segment.specs.Allocation.{spoiled};
+    ghost use Rattle.live_segment.specs.Cursors.{AnswersNext, gift};
     ghost use Rattle.live_segment.specs.Holders.{view_of_recorder, IsSameRecorder, Knows};
 
     // A recorder that has done nothing.
@@ -99,5 +100,17 @@ impl<'a> Recorder<'a> {
         ensures flag { view_of_recorder self.new ≡ spoiled (view_of_recorder self.old) }
     {
         self.segment.set_flag(&mut self.seat, FLAG_CORRUPT);
+    }
+    /// The next record of a cursor that all recorders share, and the cursor stands there then: each record goes to one
+    /// recorder alone. None where the list ends behind the cursor; a later call may answer again.
+    ///
+    /// The cursor is below the number that [`Segment::create`] was given.
+    pub fn next_shared(&mut self, cursor: usize) -> Option<u64>
+        requires { cursor < (view_of_recorder self.old).segment.cursors }
+        ensures same { IsSameRecorder self.old self.new }
+        ensures answer { AnswersNext cursor (view_of_recorder self.old) result (view_of_recorder self.new) }
+        ensures given { (view_of_recorder self.new).done.given ≡ (view_of_recorder self.old).done.given ++ gift cursor result }
+    {
+        self.segment.next_shared(&mut self.seat, cursor)
     }
 }

@@ -1,9 +1,10 @@
 //! The steps on a shared cursor. Their words stand behind those of the segment.
 
-ghost use Rattle.std.specs.Prelude.{◌≡◌, ◌<◌};
+ghost use Rattle.std.specs.Prelude.{◌≡◌, ◌<◌, length};
 ghost use Rattle.segment_machine.specs.Event.{cursor_event};
 ghost use Rattle.segment_machine.specs.Cursors.{load_cursor, move_cursor};
 ghost use Rattle.live_segment.specs.Steps.{DoesAt};
+ghost use Rattle.live_segment.specs.Cursors.{LoadsCursor};
 
 use crate::rule::{Announcement, Pass};
 use crate::segment::Segment;
@@ -14,7 +15,7 @@ use segment_machine::Actor;
 pub(crate) struct LoadCursor;
 
 impl Play<Announcement, Actor> for LoadCursor {
-    ghost then = { λ st. DoesAt (λ cursor. cursor_event (load_cursor cursor)) st.word };
+    ghost then = { λ st. LoadsCursor st.word };
 }
 
 pub(crate) struct MoveCursor;
@@ -31,7 +32,8 @@ impl Segment {
         requires may { MayStep self.now seat.old (cursor_event (load_cursor cursor)) }
         requires shape { seat.old.me.0.segment.shape ≡ self.now.setting.shape }
         requires room { cursor < self.now.setting.cursors }
-        ensures { Stepped seat.old (cursor_event (load_cursor cursor)) result seat.new }
+        ensures step { Stepped seat.old (cursor_event (load_cursor cursor)) result seat.new }
+        ensures counts { length seat.old.me.0.done.lost ≡ seat.old.me.0.segment.cursors }
     {
         let size = self.setting.shape.size() as usize;
         self.table

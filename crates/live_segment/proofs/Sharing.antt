@@ -1,0 +1,292 @@
+-- A try of a call on a shared cursor: what a recorder knows once it has loaded the cursor and the next behind it, and once its exchange
+-- took or came too late.
+use Rattle.std.proofs.Common.{◌≡◌, ◌≢◌, ℕ, ◌+◌, ◌-◌, ◌*◌, ◌<◌, ◌≤◌, ◌==◌, ◌&&◌, Bool, true, false, true≢false, not, if◌then◌else◌, List, [], ◌∷◌, ◌++◌, length, set, slice_index, inr, refl, sym, ap, subst, ◌∙◌, ⊎_elim, eq-eqb, ne_eqb, arith, All}
+use Rattle.std.specs.List.{Contains}
+use lib.ListN.{get_elem?}
+use Rattle.std.proofs.lemmas.Bool.{or_cases, and_parts, eqb-true, leb-true}
+use Rattle.std.proofs.lemmas.List.{append-nil, append_assoc, set-set, set-get_or, get_or-set_same}
+use Rattle.std.proofs.lemmas.List.Elements.{All-push}
+use Rattle.atomic_table.specs.Table.{Allows}
+use Rattle.segment_image.specs.Shape.{Dimensions}
+use Rattle.alloc_core.specs.Layout.{IsShape}
+use Rattle.list_core.specs.Chain.{is_reference, stops}
+use Rattle.list_core.specs.Walk.{IsPrefix}
+use Rattle.segment_machine.specs.declared.actor.Actor.{Actor}
+use Rattle.segment_machine.specs.declared.place.Place.{Place}
+use Rattle.segment_machine.specs.declared.place.Place.TheVariants.{Spent, Idle, CursorLoaded, BehindCursor}
+use Rattle.segment_machine.specs.declared.seen.Sighting.{Sighting}
+use Rattle.segment_machine.specs.Actor.{is_bound, is_opener}
+use Rattle.segment_machine.specs.Calls.{sight}
+use Rattle.segment_machine.specs.Cursors.{load_cursor, move_cursor, after_cursor}
+use Rattle.segment_machine.specs.Event.{cursor_event, walking_event, change, spot, next, Ready}
+use Rattle.segment_machine.specs.Walking.{load_next, extended, behind, records_met, IsNextOf}
+use Rattle.live_segment.specs.declared.rule.Setting.{Setting}
+use Rattle.live_segment.specs.declared.segment.Segment.{Segment}
+use Rattle.live_segment.specs.Rule.{Runs, IsOf}
+use Rattle.live_segment.specs.Steps.{Pass, Sat, IsSame, Stepped}
+use Rattle.live_segment.specs.Holders.{table_of, MayStep}
+use Rattle.live_segment.specs.Onward.{Grows}
+use Rattle.live_segment.specs.Cursors.{LoadsCursor, IsLate, IsGivenNext, IsAtEnd, at_cursor, ended_at}
+use Rattle.live_segment.proofs.Allowed.{does_at}
+
+-- ---- its steps
+
+module _ (setting : Setting) (slots id : ℕ) (me : Sat) (word : ℕ) (records : is_opener me.0.role ≡ false) where
+  -- a cursor is loaded by a recorder that counts for each of them how often it came too late
+  pub loads_cursor : (cursor : ℕ) → word ≡ spot setting.shape.size (cursor_event (load_cursor cursor)) + 1
+      → ((y : ℕ) → word ≡ spot me.0.segment.shape.size (cursor_event (load_cursor y)) + 1 → cursor ≡ y)
+      → Ready me.0 (cursor_event (load_cursor cursor))
+      → Allows (Runs setting) slots id me word (change setting.version (cursor_event (load_cursor cursor))) (LoadsCursor word me)
+  loads_cursor cursor is one ready s run wide mine small =
+      let (view, act, valid, holds, told) =
+      does_at setting slots id me word records (λ (x : ℕ). cursor_event (load_cursor x)) cursor is one ready s run wide mine small in
+      let live : me.0.hand.place ≢ Spent = λ e. true≢false (sym (ap is_bound e) ∙ ready.0) in
+      let fits = run.kept.each id me.0 (ap (λ list. get_elem? list id) (sym run.views) ∙ mine) live in
+      (view, act, valid, holds, (told, fits.ahead.many ∙ sym fits.numbered))
+
+-- ---- numbers
+
+-- a reference lies within a segment of a lawful shape
+reference_within : (shape : Dimensions) (at : ℕ) → IsShape shape → is_reference shape.size at ≡ true → at + 5 ≤ shape.size
+reference_within shape at shaped is =
+    let from = shaped.wide in
+    let to = shaped.one in
+    ⊎_elim (λ queue. let e = eqb-true at 12 queue in omega (arith, e, from, to))
+    (λ record_is. leb-true (at + 5) shape.size (and_parts _ _ record_is).1) (or_cases _ _ is)
+
+-- one that is no queue block is behind the header
+reference_behind : (size at : ℕ) → is_reference size at ≡ true → at ≢ 12 → (16 ≤ at) × (at + 5 ≤ size)
+reference_behind size at is miss =
+    ⊎_elim (λ queue. absurd (miss (eqb-true at 12 queue)))
+    (λ record_is. let (low, high) = and_parts _ _ record_is in (leb-true 16 at low, leb-true (at + 5) size high)) (or_cases _ _ is)
+
+-- ---- what came before
+
+pub late_not : (cursor : ℕ) (a : Actor) → is_bound a.hand.place ≡ false → IsLate cursor a a
+late_not cursor a free = record {
+  same = refl;
+  free = free;
+  lost = sym (set-get_or a.done.lost cursor 0);
+  more = omega arith;
+  chain = ([], sym (append-nil a.seen.chain));
+  sights = [];
+  cursors = sym (append-nil a.seen.cursors);
+  of = λ k d low. absurd (omega arith);
+}
+
+-- a test whether a number is another
+same_test : (n : ℕ) → (n == n) ≡ true
+same_test n = eq-eqb n n refl
+
+-- the chain that it has seen only grows
+extended_grows : (chain : List ℕ) (at found : ℕ) → Grows chain (extended chain at found)
+extended_grows chain at found = by ((slice_index (stops chain) (length chain) == at) && not (found == 12))
+  where
+    by : (b : Bool) → Grows chain (if b then chain ++ found ∷ [] else chain)
+    by true = (found ∷ [], refl)
+    by false = ([], sym (append-nil chain))
+
+grows_on : {X : Type 0} (a b c : List X) → Grows a b → Grows b c → Grows a c
+grows_on a b c (xs, first) (ys, second) = (xs ++ ys, second ∙ (ap (λ l. l ++ ys) first ∙ append_assoc a xs ys))
+
+-- at the end of the list nothing is added to the chain
+extended_end : (chain : List ℕ) (at found : ℕ) → found ≡ 12 → extended chain at found ≡ chain
+extended_end chain at found end = by (slice_index (stops chain) (length chain) == at) (found == 12) (eq-eqb found 12 end)
+  where
+    by : (b e : Bool) → e ≡ true → (if b && not e then chain ++ found ∷ [] else chain) ≡ chain
+    by true true is = refl
+    by true false is = absurd (true≢false (sym is))
+    by false e is = refl
+
+-- where a recorder stands that has loaded the next behind a shared cursor
+behind_end : (cursor at found : ℕ) → found ≡ 12 → behind (CursorLoaded cursor at) at found ≡ Idle
+behind_end cursor at found end =
+    ap (λ (b : Bool). if b then (if found == 12 then Idle else BehindCursor cursor at found) else CursorLoaded cursor at) (same_test at)
+    ∙ ap (λ (b : Bool). if b then Idle else BehindCursor cursor at found) (eq-eqb found 12 end)
+
+behind_record : (cursor at found : ℕ) → found ≢ 12 → behind (CursorLoaded cursor at) at found ≡ BehindCursor cursor at found
+behind_record cursor at found miss =
+    ap (λ (b : Bool). if b then (if found == 12 then Idle else BehindCursor cursor at found) else CursorLoaded cursor at) (same_test at)
+    ∙ ap (λ (b : Bool). if b then Idle else BehindCursor cursor at found) (ne_eqb found 12 miss)
+
+-- ---- what it was given
+
+pub gives_one : (cursor reference : ℕ) (old new : Actor) → IsGivenNext cursor old reference new
+    → new.done.given ≡ old.done.given ++ record { cursor = cursor; reference = reference } ∷ []
+gives_one cursor reference old new is =
+    ap (λ (a : Actor). a.done.given) is.view
+    ∙ ap (λ (a : Actor). a.done.given ++ record { cursor = cursor; reference = reference } ∷ []) is.before.same
+
+pub gives_none : (cursor : ℕ) (old new : Actor) → IsAtEnd cursor old new → new.done.given ≡ old.done.given ++ []
+gives_none cursor old new is =
+    ap (λ (a : Actor). a.done.given) is.view ∙ (ap (λ (a : Actor). a.done.given) is.before.same ∙ sym (append-nil old.done.given))
+
+-- ---- a try
+
+-- it is the same seat still
+same_on : (a b c : Pass) → IsSame a b → IsSame b c → IsSame a c
+same_on a b c one two = (two.0 ∙ one.0, two.1 ∙ one.1, two.2 ∙ one.2)
+
+-- what it is once it has loaded a cursor and the next behind that
+abbrev followed : Actor → ℕ → ℕ → ℕ → Actor
+followed a cursor at found = next (at_cursor a cursor at) (walking_event (load_next at)) found
+
+module _ (segment : Segment) (cursor : ℕ) (first old : Pass) (table : first.table_id ≡ table_of segment)
+    (records : is_opener first.me.0.role ≡ false) (of : IsOf segment.setting first.me.0) (few : cursor < segment.setting.cursors)
+    (same : IsSame first old) (late : IsLate cursor first.me.0 old.me.0) where
+  numbered : old.me.0.segment.cursors ≡ segment.setting.cursors
+  numbered = ap (λ (a : Actor). a.segment.cursors) late.same ∙ of.cursors
+
+  old_shape : old.me.0.segment.shape ≡ segment.setting.shape
+  old_shape = ap (λ (a : Actor). a.segment.shape) late.same ∙ of.shape
+
+  old_records : is_opener old.me.0.role ≡ false
+  old_records = ap (λ (a : Actor). is_opener a.role) late.same ∙ records
+
+  pub shape_is : old.me.0.segment.shape ≡ segment.setting.shape
+  shape_is = old_shape
+
+  pub may_load : MayStep segment old (cursor_event (load_cursor cursor))
+  may_load = record {
+    table = same.0 ∙ table;
+    recorder = old_records;
+    ready = (late.free, subst (λ (n : ℕ). cursor < n) (sym numbered) few);
+  }
+
+  module _ (at : ℕ) (mid : Pass) (load : Stepped old (cursor_event (load_cursor cursor)) at mid) where
+    place : mid.me.0.hand.place ≡ CursorLoaded cursor at
+    place = ap (λ (a : Actor). a.hand.place) load.view
+
+    pub may_follow : MayStep segment mid (walking_event (load_next at))
+    may_follow = record {
+      table = load.same.0 ∙ (same.0 ∙ table);
+      recorder = ap (λ (a : Actor). is_opener a.role) load.view ∙ old_records;
+      ready = (ap is_bound place, inr (inr (cursor, place)));
+    }
+
+    pub room : at + 5 ≤ segment.setting.shape.size
+    room =
+        reference_within segment.setting.shape at segment.shaped
+        (subst (λ (s : Dimensions). is_reference s.size at ≡ true) old_shape load.learned)
+
+    module _ (found : ℕ) (new : Pass) (follow : Stepped mid (walking_event (load_next at)) found new) where
+      view : new.me.0 ≡ followed old.me.0 cursor at found
+      view = follow.view ∙ ap (λ (a : Actor). next a (walking_event (load_next at)) found) load.view
+
+      learned : IsNextOf (at_cursor old.me.0 cursor at) at found
+      learned = subst (λ (a : Actor). IsNextOf a at found) load.view follow.learned
+
+      pub same_still : IsSame first new
+      same_still = same_on first mid new (same_on first old mid same load.same) follow.same
+
+      pub new_shape : new.me.0.segment.shape ≡ segment.setting.shape
+      new_shape = ap (λ (a : Actor). a.segment.shape) view ∙ old_shape
+
+      -- the list ends there
+      pub ended : found ≡ 12 → IsAtEnd cursor first.me.0 new.me.0
+      ended end =
+          let last : new.me.0 ≡ ended_at old.me.0 cursor at = view
+          ∙ (λ i. record old.me.0 {
+            hand = record old.me.0.hand { place = behind_end cursor at found end i };
+            seen = record old.me.0.seen { chain = extended_end old.me.0.seen.chain at found end i; cursors = old.me.0.seen.cursors ++ sight cursor at };
+          }) in
+          let (chain, seen, ends, met) = learned.given cursor refl end in record {
+            late = old.me.0;
+            before = late;
+            at = at;
+            next = subst (λ (n : ℕ). IsNextOf (at_cursor old.me.0 cursor at) at n) end learned;
+            view = last;
+            chain = chain;
+            seen = subst (λ (a : Actor). IsPrefix a.seen.chain chain) (sym last) seen;
+            ends = ends;
+            met = subst (λ (a : Actor). All (Contains chain) (records_met a)) (sym last) met;
+          }
+
+      module _ (miss : found ≢ 12) where
+        stands : new.me.0.hand.place ≡ BehindCursor cursor at found
+        stands = ap (λ (a : Actor). a.hand.place) view ∙ behind_record cursor at found miss
+
+        pub may_move : MayStep segment new (cursor_event (move_cursor cursor at found))
+        may_move = record {
+          table = follow.same.0 ∙ (load.same.0 ∙ (same.0 ∙ table));
+          recorder = ap (λ (a : Actor). is_opener a.role) view ∙ old_records;
+          ready = stands;
+        }
+
+        module _ (other : ℕ) (last : Pass) (move : Stepped new (cursor_event (move_cursor cursor at found)) other last) where
+          pub same_last : IsSame first last
+          same_last = same_on first new last same_still move.same
+
+          moved : last.me.0 ≡ after_cursor (other == at) (followed old.me.0 cursor at found) cursor found other
+          moved = move.view ∙ ap (λ (a : Actor). after_cursor (other == at) a cursor found other) view
+
+          -- the exchange took
+          pub given : other ≡ at → IsGivenNext cursor first.me.0 found last.me.0
+          given took =
+              let shape : old.me.0.segment.shape ≡ first.me.0.segment.shape = ap (λ (a : Actor). a.segment.shape) late.same in
+              let (low, high) = reference_behind first.me.0.segment.shape.size found
+              (subst (λ (s : Dimensions). is_reference s.size found ≡ true) shape learned.reference) miss in record {
+                late = old.me.0;
+                before = late;
+                at = at;
+                next = learned;
+                behind = low;
+                within = high;
+                view = moved ∙ ap (λ (b : Bool). after_cursor b (followed old.me.0 cursor at found) cursor found other) (eq-eqb other at took);
+              }
+
+          -- it came too late
+          module _ (beaten : other ≢ at) where
+            again : last.me.0 ≡ after_cursor false (followed old.me.0 cursor at found) cursor found other
+            again = moved ∙ ap (λ (b : Bool). after_cursor b (followed old.me.0 cursor at found) cursor found other) (ne_eqb other at beaten)
+
+            losses : last.me.0.done.lost ≡ set old.me.0.done.lost cursor (slice_index old.me.0.done.lost cursor + 1)
+            losses = ap (λ (a : Actor). a.done.lost) again
+
+            counted : length old.me.0.done.lost ≡ old.me.0.segment.cursors
+                → slice_index last.me.0.done.lost cursor ≡ slice_index old.me.0.done.lost cursor + 1
+            counted many =
+                ap (λ (l : List ℕ). slice_index l cursor) losses
+                ∙ get_or-set_same old.me.0.done.lost cursor (slice_index old.me.0.done.lost cursor + 1) 0 (omega (arith, many, numbered, few))
+
+            pub later : length old.me.0.done.lost ≡ old.me.0.segment.cursors → IsLate cursor first.me.0 last.me.0
+            later many =
+                let sum = counted many in
+                let were = late.lost in
+                let chains = ap (λ (a : Actor). a.seen.chain) again in record {
+                  same = again ∙ ap (λ (a : Actor). after_cursor false (followed a cursor at found) cursor found other) late.same
+                      ∙ (λ i. record first.me.0 {
+                        hand = record first.me.0.hand { place = Idle };
+                        done = record first.me.0.done { lost = sym losses i };
+                        seen = record first.me.0.seen { chain = sym chains i; cursors = sym (ap (λ (a : Actor). a.seen.cursors) again) i };
+                      })
+                      ∙ ap (λ (p : Place). record first.me.0 {
+                        hand = record first.me.0.hand { place = p };
+                        done = record first.me.0.done { lost = last.me.0.done.lost };
+                        seen = record first.me.0.seen { chain = last.me.0.seen.chain; cursors = last.me.0.seen.cursors };
+                      }) (sym (ap (λ (a : Actor). a.hand.place) again));
+                  free = ap (λ (a : Actor). is_bound a.hand.place) again;
+                  lost = losses ∙ (ap (λ (l : List ℕ). set l cursor (slice_index old.me.0.done.lost cursor + 1)) were
+                      ∙ (set-set first.me.0.done.lost cursor _ _
+                      ∙ ap (set first.me.0.done.lost cursor) (sym sum)));
+                  more = let rose = late.more in omega (arith, sum, rose);
+                  chain = grows_on first.me.0.seen.chain old.me.0.seen.chain last.me.0.seen.chain late.chain
+                      (subst (Grows old.me.0.seen.chain) (sym chains) (extended_grows old.me.0.seen.chain at found));
+                  sights = (late.sights ++ sight cursor at) ++ sight cursor other;
+                  cursors = ap (λ (a : Actor). a.seen.cursors) again
+                      ∙ (ap (λ (l : List Sighting). (l ++ sight cursor at) ++ sight cursor other) late.cursors
+                      ∙ (ap (λ (l : List Sighting). l ++ sight cursor other) (append_assoc first.me.0.seen.cursors late.sights (sight cursor at))
+                      ∙ append_assoc first.me.0.seen.cursors (late.sights ++ sight cursor at) (sight cursor other)));
+                  of = All-push (λ (s : Sighting). s.at ≡ cursor) (late.sights ++ sight cursor at) (record { at = cursor; word = other })
+                      (All-push (λ (s : Sighting). s.at ≡ cursor) late.sights (record { at = cursor; word = at }) late.of refl) refl;
+                }
+
+            -- that happens few times
+            pub falls : length old.me.0.done.lost ≡ old.me.0.segment.cursors
+                → segment.setting.shape.size - slice_index last.me.0.done.lost cursor < segment.setting.shape.size - slice_index old.me.0.done.lost cursor
+            falls many =
+                let sum = counted many in
+                let lost : new.me.0.done.lost ≡ old.me.0.done.lost = ap (λ (a : Actor). a.done.lost) view in
+                let few_more : 5 * (slice_index old.me.0.done.lost cursor + 1) + 16 ≤ segment.setting.shape.size =
+                subst (λ (p : Dimensions × List ℕ). 5 * (slice_index p.1 cursor + 1) + 16 ≤ p.0.size) (λ i. (new_shape i, lost i)) (move.learned.1 beaten) in
+                omega (arith, sum, few_more)

@@ -1,0 +1,62 @@
+use Rattle.std.proofs.Common.{refl}
+use Rattle.live_segment.proofs.Sharing.{late_not, may_load, shape_is, may_follow, room, same_still, new_shape, ended, may_move, same_last, given, later, falls, gives_none, gives_one}
+use Rattle.live_segment.proofs.segment.Segment.next_shared.Goals as goal
+
+pub loop-cursor-init : goal.loop-cursor-init
+loop-cursor-init c = record { same = (refl, refl, refl); late = late_not c.args.cursor c.args.seat.now.me.0 c.requires.free }
+
+pub load_cursor-at-requires-clause-may : goal.load_cursor-at-requires-clause-may
+load_cursor-at-requires-clause-may c =
+    may_load c.args.self.now c.args.cursor c.args.seat.now _ c.requires.seat.0 c.requires.seat.1 c.requires.seat.2 c.requires.cursor c.loop-cursor.invariant.same c.loop-cursor.invariant.late
+
+pub load_cursor-at-requires-clause-shape : goal.load_cursor-at-requires-clause-shape
+load_cursor-at-requires-clause-shape c =
+    shape_is c.args.self.now c.args.cursor c.args.seat.now _ c.requires.seat.0 c.requires.seat.1 c.requires.seat.2 c.requires.cursor c.loop-cursor.invariant.same c.loop-cursor.invariant.late
+
+pub load_next-next-requires-clause-may : goal.load_next-next-requires-clause-may
+load_next-next-requires-clause-may c =
+    may_follow c.args.self.now c.args.cursor c.args.seat.now _ c.requires.seat.0 c.requires.seat.1 c.requires.seat.2 c.requires.cursor c.loop-cursor.invariant.same c.loop-cursor.invariant.late _ _ c.load_cursor-at.ensures.step
+
+pub load_next-next-requires-clause-room : goal.load_next-next-requires-clause-room
+load_next-next-requires-clause-room c =
+    room c.args.self.now c.args.cursor c.args.seat.now _ c.requires.seat.0 c.requires.seat.1 c.requires.seat.2 c.requires.cursor c.loop-cursor.invariant.same c.loop-cursor.invariant.late _ _ c.load_cursor-at.ensures.step
+
+pub returns-then-next-eq-QUEUE-clause-same : goal.returns-then-next-eq-QUEUE-clause-same
+returns-then-next-eq-QUEUE-clause-same c =
+    same_still c.args.self.now c.args.cursor c.args.seat.now _ c.requires.seat.0 c.requires.seat.1 c.requires.seat.2 c.requires.cursor c.loop-cursor.invariant.same c.loop-cursor.invariant.late _ _ c.load_cursor-at.ensures.step _ _ c.load_next-next.ensures
+
+pub returns-then-next-eq-QUEUE-clause-answer : goal.returns-then-next-eq-QUEUE-clause-answer
+returns-then-next-eq-QUEUE-clause-answer c =
+    ended c.args.self.now c.args.cursor c.args.seat.now _ c.requires.seat.0 c.requires.seat.1 c.requires.seat.2 c.requires.cursor c.loop-cursor.invariant.same c.loop-cursor.invariant.late _ _ c.load_cursor-at.ensures.step _ _ c.load_next-next.ensures c.if-next-eq-QUEUE.true
+
+pub returns-then-next-eq-QUEUE-clause-given : goal.returns-then-next-eq-QUEUE-clause-given
+returns-then-next-eq-QUEUE-clause-given c =
+    gives_none _ _ _ (ended c.args.self.now c.args.cursor c.args.seat.now _ c.requires.seat.0 c.requires.seat.1 c.requires.seat.2 c.requires.cursor c.loop-cursor.invariant.same c.loop-cursor.invariant.late _ _ c.load_cursor-at.ensures.step _ _ c.load_next-next.ensures c.if-next-eq-QUEUE.true)
+
+pub move_cursor-requires-clause-may : goal.move_cursor-requires-clause-may
+move_cursor-requires-clause-may c =
+    may_move c.args.self.now c.args.cursor c.args.seat.now _ c.requires.seat.0 c.requires.seat.1 c.requires.seat.2 c.requires.cursor c.loop-cursor.invariant.same c.loop-cursor.invariant.late _ _ c.load_cursor-at.ensures.step _ _ c.load_next-next.ensures c.if-next-eq-QUEUE.false
+
+pub move_cursor-requires-clause-shape : goal.move_cursor-requires-clause-shape
+move_cursor-requires-clause-shape c =
+    new_shape c.args.self.now c.args.cursor c.args.seat.now _ c.requires.seat.0 c.requires.seat.1 c.requires.seat.2 c.requires.cursor c.loop-cursor.invariant.same c.loop-cursor.invariant.late _ _ c.load_cursor-at.ensures.step _ _ c.load_next-next.ensures
+
+pub returns-then-move_cursor-at-clause-same : goal.returns-then-move_cursor-at-clause-same
+returns-then-move_cursor-at-clause-same c =
+    same_last c.args.self.now c.args.cursor c.args.seat.now _ c.requires.seat.0 c.requires.seat.1 c.requires.seat.2 c.requires.cursor c.loop-cursor.invariant.same c.loop-cursor.invariant.late _ _ c.load_cursor-at.ensures.step _ _ c.load_next-next.ensures c.if-next-eq-QUEUE.false _ _ c.move_cursor.ensures
+
+pub returns-then-move_cursor-at-clause-answer : goal.returns-then-move_cursor-at-clause-answer
+returns-then-move_cursor-at-clause-answer c =
+    given c.args.self.now c.args.cursor c.args.seat.now _ c.requires.seat.0 c.requires.seat.1 c.requires.seat.2 c.requires.cursor c.loop-cursor.invariant.same c.loop-cursor.invariant.late _ _ c.load_cursor-at.ensures.step _ _ c.load_next-next.ensures c.if-next-eq-QUEUE.false _ _ c.move_cursor.ensures c.if-move_cursor-at.true
+
+pub returns-then-move_cursor-at-clause-given : goal.returns-then-move_cursor-at-clause-given
+returns-then-move_cursor-at-clause-given c =
+    gives_one _ _ _ _ (given c.args.self.now c.args.cursor c.args.seat.now _ c.requires.seat.0 c.requires.seat.1 c.requires.seat.2 c.requires.cursor c.loop-cursor.invariant.same c.loop-cursor.invariant.late _ _ c.load_cursor-at.ensures.step _ _ c.load_next-next.ensures c.if-next-eq-QUEUE.false _ _ c.move_cursor.ensures c.if-move_cursor-at.true)
+
+pub loop-cursor-smaller : goal.loop-cursor-smaller
+loop-cursor-smaller c =
+    falls c.args.self.now c.args.cursor c.args.seat.now _ c.requires.seat.0 c.requires.seat.1 c.requires.seat.2 c.requires.cursor c.loop-cursor.invariant.same c.loop-cursor.invariant.late _ _ c.load_cursor-at.ensures.step _ _ c.load_next-next.ensures c.if-next-eq-QUEUE.false _ _ c.move_cursor.ensures c.if-move_cursor-at.false c.load_cursor-at.ensures.counts
+
+pub loop-cursor-preserved : goal.loop-cursor-preserved
+loop-cursor-preserved c =
+    record { same = same_last c.args.self.now c.args.cursor c.args.seat.now _ c.requires.seat.0 c.requires.seat.1 c.requires.seat.2 c.requires.cursor c.loop-cursor.invariant.same c.loop-cursor.invariant.late _ _ c.load_cursor-at.ensures.step _ _ c.load_next-next.ensures c.if-next-eq-QUEUE.false _ _ c.move_cursor.ensures; late = later c.args.self.now c.args.cursor c.args.seat.now _ c.requires.seat.0 c.requires.seat.1 c.requires.seat.2 c.requires.cursor c.loop-cursor.invariant.same c.loop-cursor.invariant.late _ _ c.load_cursor-at.ensures.step _ _ c.load_next-next.ensures c.if-next-eq-QUEUE.false _ _ c.move_cursor.ensures c.if-move_cursor-at.false c.load_cursor-at.ensures.counts }

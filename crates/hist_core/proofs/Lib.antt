@@ -1,3 +1,4 @@
+mod Adds
 mod Boards
 mod NewBoards
 mod Parts

@@ -2,9 +2,11 @@
 //! delta took, and what a snapshot saw, which are the types of every crate that runs a segment.
 #![tactic(auto)]
 
+mod add;
 mod answer;
 mod board;
 mod call;
+mod counting;
 mod entry;
 mod fault;
 mod hist;

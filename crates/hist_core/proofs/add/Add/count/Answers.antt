@@ -1,0 +1,19 @@
+use Rattle.std.proofs.Common.{subst, sym}
+use Rattle.hist_core.specs.declared.add.Add.{Add}
+use Rattle.hist_core.specs.declared.add.AddStep.TheVariants.{More}
+use Rattle.hist_core.specs.Goes.{Goes}
+use Rattle.hist_core.specs.Add.{AddGives}
+use Rattle.std.proofs.Props.{props}
+use Rattle.std.proofs.Math.Logic.{∥∥₁_elim}
+use Rattle.hist_core.proofs.Adds.Counts.{count_inside, counts_so}
+use Rattle.hist_core.proofs.add.Add.count.Goals as goal
+
+pub fetch_add-requires : goal.fetch_add-requires
+fetch_add-requires c =
+    ∥∥₁_elim c.requires.stands (hlevel props)
+    (λ (shape, known, a, long, is). count_inside shape known c.args.self.now a c.args.words.now is c.args.at c.requires.counts long)
+
+pub returns : goal.returns
+returns c = λ shape known a long is.
+    subst (λ (n : Add). Goes shape.size c.args.self.now.version a c.args.words.now c.fetch_add.new.words (AddGives shape known n More a)) (sym c.counted.ensures)
+    (counts_so shape known c.args.self.now a c.args.words.now is c.args.at c.requires.counts c.fetch_add.new.words c.fetch_add.ensures)

@@ -1,0 +1,147 @@
+-- An `add` that is going on.
+use Rattle.std.specs.Prelude.{◌≡◌, Bool, true, false, ◌⊎◌, ◌||◌, ◌==◌, if◌then◌else◌, ℕ, ◌+◌, ◌*◌, ◌<◌, ◌≤◌, ℤ, pos, List, [], ◌∷◌, ◌++◌, length, Some}
+use Rattle.std.specs.List.{Contains}
+use Rattle.std.specs.Ordering.{int_eq}
+use Rattle.bucket_ranges.specs.Ranges.{boundaries_of}
+use Rattle.bucket_ranges.specs.Spec.{buckets_of}
+use Rattle.bucket_ranges.specs.Tally.{amount_of}
+use Rattle.segment_image.specs.declared.layout.TheConstants.{BLOCK_HEADER, HISTOGRAM_NAME, HISTOGRAM_SINGLE, SAMPLE_COUNT}
+use Rattle.segment_image.specs.Shape.{Dimensions}
+use Rattle.alloc_core.specs.Layout.{IsShape}
+use Rattle.list_core.specs.Walk.{IsPrefix}
+use Rattle.segment_machine.specs.declared.actor.Actor.{Actor}
+use Rattle.segment_machine.specs.declared.actor.Known.{Known}
+use Rattle.segment_machine.specs.declared.entry.Counting.{Counting as MachineCounting}
+use Rattle.segment_machine.specs.declared.entry.Entry.{Entry}
+use Rattle.segment_machine.specs.declared.place.Look.{Look}
+use Rattle.segment_machine.specs.declared.place.Place.TheVariants.{Looking}
+use Rattle.segment_machine.specs.declared.seen.Sighting.{Sighting}
+use Rattle.segment_machine.specs.Actor.{cost_of, has_buckets, known_at, Sparse}
+use Rattle.segment_machine.specs.Calls.{IsKeyOfBucket, LooksOff, MayTurn}
+use Rattle.segment_machine.specs.Entry.{has_ended, key_of, sample_entry}
+use Rattle.segment_machine.specs.Form.{is_off, IsPacking}
+use Rattle.segment_machine.specs.Made.{IsFirstSample}
+use Rattle.hist_core.specs.declared.add.Add.{Add}
+use Rattle.hist_core.specs.declared.add.AddStep.{AddStep}
+use Rattle.hist_core.specs.declared.add.AddStep.TheVariants.{More, Done, Refused}
+use Rattle.hist_core.specs.declared.add.Stage.{Stage}
+use Rattle.hist_core.specs.declared.add.Stage.TheVariants.{LoadingSingle, Packing, LoadingCounts, SeekingCounts, Counting, Summing, Noting}
+use Rattle.hist_core.specs.Goes.{Goes}
+
+-- ---- what it counts
+
+-- its entry: its units of the key of its value, and the value as often as it has units
+abbrev pub counted_entry : Known → Add → Entry
+counted_entry known add = sample_entry known.name (boundaries_of known.spec) (add.value, add.units)
+
+-- It counts some units of a value in a known histogram, whose record lies in the segment, and whose counts fit in a page. The bucket is
+-- that of the value.
+pub record IsCounting (shape : Dimensions) (known : Known) (add : Add) : Type 0 where
+  pub shaped : add.shape ≡ shape
+  pub versions : (add.version ≡ 1) ⊎ (add.version ≡ 2)
+  pub reference : known.reference ≡ add.histogram
+  pub within : add.histogram + HISTOGRAM_NAME ≤ shape.size
+  pub some : (add.units == 0) ≡ false
+  pub few : add.units ≤ 4294967295
+  pub amount : add.amount ≡ amount_of (boundaries_of known.spec) (add.value, add.units)
+  pub buckets : add.buckets ≡ buckets_of known.spec
+  pub fits : BLOCK_HEADER + 2 * add.buckets ≤ shape.page
+  pub bucket : has_buckets known.spec ≡ true → IsKeyOfBucket known add.bucket (key_of (boundaries_of known.spec) add.value)
+
+-- ---- where it stands
+
+-- its entry is that of the running call; whether it is counted, and summed. It is not noted
+abbrev pub HasEntry : Known → Add → Actor → Bool → Bool → Type 0
+HasEntry known add a counted summed =
+    a.entries.running ≡ record { entry = counted_entry known add; counted = counted; summed = summed; noted = false } ∷ []
+
+-- its actor looks at the histogram: it has loaded this single word, and this counts reference, or 0
+abbrev pub Looks : Known → Actor → ℕ → ℕ → Type 0
+Looks known a word counts = a.hand.place ≡ Looking (record { histogram = known.reference; single = Some word; counts = counts })
+
+abbrev pub HasSeenSingle : Known → Actor → ℕ → Type 0
+HasSeenSingle known a word = Contains a.seen.singles (record { at = known.reference + HISTOGRAM_SINGLE; word = word })
+
+-- the count of its value stands at a word: that of its bucket, where the counts are in use; or that of the first sample of the value
+abbrev pub IsCountOf : Known → Add → Actor → ℕ → Type 0
+IsCountOf known add a at =
+    ((look : Look) × LooksOff a look known × (at ≡ look.counts + BLOCK_HEADER + add.bucket))
+    ⊎ ((sample : ℕ) × MayTurn a × Sparse a known.reference known × IsFirstSample a.seen known.reference add.value sample
+    × (at ≡ sample + SAMPLE_COUNT))
+
+-- Where its actor stands, and what has happened of its entry.
+abbrev pub StandsAtStage : Dimensions → Known → Add → Actor → Stage → Type 0
+StandsAtStage shape known add a LoadingSingle = MayTurn a × (has_buckets known.spec ≡ true) × HasEntry known add a false false
+StandsAtStage shape known add a (Packing old new) =
+    (has_buckets known.spec ≡ true) × HasEntry known add a false false × ((counts : ℕ) × Looks known a old counts) × (is_off old ≡ false)
+    × IsPacking add.bucket add.units old new
+StandsAtStage shape known add a LoadingCounts =
+    (has_buckets known.spec ≡ true) × HasEntry known add a false false
+    × ((word counts : ℕ) × Looks known a word counts × HasSeenSingle known a word × (is_off word ≡ true))
+StandsAtStage shape known add a SeekingCounts = MayTurn a × (has_buckets known.spec ≡ true) × HasEntry known add a false false
+StandsAtStage shape known add a (Counting at) = HasEntry known add a false false × IsCountOf known add a at × (at < shape.size)
+StandsAtStage shape known add a Summing = MayTurn a × HasEntry known add a true false × (int_eq add.amount (pos 0) ≡ false)
+StandsAtStage shape known add a Noting =
+    MayTurn a × ((summed : Bool) × HasEntry known add a true summed × ((summed || int_eq add.amount (pos 0)) ≡ true))
+
+-- Its actor knows the histogram, which alone has its reference there, takes nothing, and holds the units.
+pub record IsAdd (shape : Dimensions) (known : Known) (add : Add) (a : Actor) : Type 0 where
+  pub counting : IsCounting shape known add
+  pub segment : a.segment.shape ≡ shape
+  pub version : a.segment.version ≡ add.version
+  pub lawful_shape : IsShape shape
+  pub knows : Contains a.answers.names known
+  pub alone : known_at a.answers.names known.reference ≡ Some known
+  pub rests : a.deltas.taking ≡ false
+  pub held : a.units.held ≡ record { name = known.name; units = add.units } ∷ []
+  pub stands : StandsAtStage shape known add a add.stage
+
+-- ---- what a step makes of its actor
+
+-- What it leaves as it was: its role, its segment, its deltas, and the names that it was answered with. Of the chain and of the words of
+-- records it has seen no less.
+pub record Aside (a b : Actor) : Type 0 where
+  pub role : b.role ≡ a.role
+  pub segment : b.segment ≡ a.segment
+  pub deltas : b.deltas ≡ a.deltas
+  pub names : b.answers.names ≡ a.answers.names
+  pub chain : IsPrefix a.seen.chain b.seen.chain
+  pub words : (more : List Sighting) × (b.seen.words ≡ a.seen.words ++ more)
+
+-- while it goes on: units and log are as before
+abbrev pub StaysOpen : Actor → Actor → Type 0
+StaysOpen a b = (b.units ≡ a.units) × (b.entries ≡ record a.entries { running = b.entries.running })
+
+-- accepted: the entry, of which all has happened, is the last of the log, and what was held is spent
+pub record IsAccepted (entry : Entry) (a b : Actor) : Type 0 where
+  pub last : MachineCounting
+  pub counted : last.entry ≡ entry
+  pub ended : has_ended last ≡ true
+  pub entries : b.entries ≡ record a.entries { log = a.entries.log ++ last ∷ []; running = [] }
+  pub units : b.units ≡ record a.units { costs = a.units.costs ++ a.units.held; held = [] }
+
+-- refused: no entry is left of it, what was held has come back, and nothing is spent
+pub record IsTakenBack (units : ℕ) (a b : Actor) : Type 0 where
+  pub entries : b.entries ≡ record a.entries { running = [] }
+  pub share : b.units.share ≡ a.units.share + units
+  pub spent : (name : List ℕ) → cost_of b.units.costs name ≡ cost_of a.units.costs name
+  pub held : b.units.held ≡ []
+
+-- What a step says: it goes on; it is accepted; or it is refused. Its actor may turn to another call then.
+abbrev pub AddGives : Dimensions → Known → Add → AddStep → Actor → Actor → Type 0
+AddGives shape known new More a b = Aside a b × StaysOpen a b × IsAdd shape known new b
+AddGives shape known new Done a b = Aside a b × MayTurn b × IsAccepted (counted_entry known new) a b
+AddGives shape known new (Refused why) a b = Aside a b × MayTurn b × IsTakenBack new.units a b
+
+-- what a step makes of the words, and of whatever actor stands so
+abbrev pub AddSteps : Add → List ℕ → Add → List ℕ → AddStep → Type 0
+AddSteps old words new new_words said = (shape : Dimensions) (known : Known) (a : Actor) → length words ≡ shape.size → IsAdd shape known old a
+    → Goes shape.size old.version a words new_words (AddGives shape known new said a)
+
+-- an `add` that stands so somewhere, in so many words
+abbrev pub IsSomeAdd : ℕ → Add → Type 0
+IsSomeAdd n add = (shape : Dimensions) × (known : Known) × (a : Actor) × (n ≡ shape.size) × IsAdd shape known add a
+
+-- what it does behind the event that counts its units: it adds its amount, where that is not 0
+abbrev pub behind_count : ℤ → Stage
+behind_count amount = if int_eq amount (pos 0) then Noting else Summing

@@ -5,4 +5,7 @@ mod Copies
 mod Sharing
 mod Seated
 mod Tries
+mod Ranks
+mod Proceeding
+mod Beginning
 mod Listed

@@ -9,6 +9,7 @@ pub mod Onward
 pub mod Adding
 pub mod Batching
 pub mod Telling
+pub mod Working
 pub mod Listing
 pub mod Taking
 pub mod Cursors

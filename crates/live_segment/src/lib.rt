@@ -7,6 +7,7 @@
 #![tactic(auto)]
 
 mod allocation;
+mod counting;
 mod fault;
 mod opener;
 mod recorder;

@@ -34,7 +34,7 @@ on_by n word false true rest is zero_is formed = packed_by (is_packed_word n wor
     packed_by true formed = inr (refl, refl)
     packed_by false formed = absurd (formed refl)
 
-on_form : (version n word : ℕ) → single_of version n word ≢ None → is_off word ≡ false
+pub on_form : (version n word : ℕ) → single_of version n word ≢ None → is_off word ≡ false
     → (word ≡ 0) ⊎ ((is_packed_word n word ≡ true) × (single_of version n word ≡ Some (Packed (word / 2 ^ 32) (word % 2 ^ 32))))
 on_form version n word formed on =
     on_by n word (word == 0) (nat_lt word (2 ^ 63)) _ (lt-ltb word (2 ^ 63) (leb-false (2 ^ 63) word on)) (eqb-true word 0) formed

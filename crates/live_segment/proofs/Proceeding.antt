@@ -1,0 +1,95 @@
+-- A call of a recorder goes on, step by step.
+use Rattle.std.proofs.Common.{◌≡◌, ℕ, ◌==◌, Bool, true, false, if◌then◌else◌, List, [], ◌∷◌, ◌++◌, refl, ap, ◌∙◌, arith}
+use Rattle.std.proofs.lemmas.Bool.{eqb-true, eq-eqb}
+use Rattle.std.proofs.lemmas.List.{append_assoc}
+use Rattle.segment_machine.specs.declared.actor.Actor.{Actor}
+use Rattle.segment_machine.specs.declared.actor.Done.{Done}
+use Rattle.segment_machine.specs.declared.seen.Seen.{Seen}
+use Rattle.segment_machine.specs.declared.place.Look.{Look}
+use Rattle.segment_machine.specs.declared.place.Place.{Place}
+use Rattle.segment_machine.specs.declared.place.Place.TheVariants.{Looking}
+use Rattle.segment_machine.specs.Calls.{look_of, nothing_of}
+use Rattle.live_segment.specs.Onward.{Grows, DoesOn, SeesOn}
+use Rattle.live_segment.specs.Working.{Proceeds, LooksOn}
+
+-- ---- lists that grow
+
+pub grows_by : {X : Type 0} (list more : List X) → Grows list (list ++ more)
+grows_by list more = (more, refl)
+
+pub grows_not : {X : Type 0} (list : List X) → Grows list list
+grows_not [] = ([], refl)
+grows_not (x ∷ list) = let (more, is) = grows_not list in (more, ap (λ l. x ∷ l) is)
+
+pub grows_on : {X : Type 0} (a b c : List X) → Grows a b → Grows b c → Grows a c
+grows_on a b c (more, first) (rest, second) = (more ++ rest, second ∙ (ap (λ l. l ++ rest) first ∙ append_assoc a more rest))
+
+-- ---- what is done and seen
+
+pub does_not : (a : Done) → DoesOn a a
+does_not a = record { same = refl; claimed = grows_not a.claimed; published = grows_not a.published; filled = λ e. e; spoiled = λ e. refl }
+
+pub sees_not : (a : Seen) → SeesOn a a
+sees_not a = record {
+  free = omega arith;
+  chain = grows_not a.chain;
+  tails = grows_not a.tails;
+  singles = grows_not a.singles;
+  counts = grows_not a.counts;
+  words = grows_not a.words;
+  cursors = grows_not a.cursors;
+}
+
+does_on : (a b c : Done) → DoesOn a b → DoesOn b c → DoesOn a c
+does_on a b c first second = record {
+  same = second.same ∙ ap (λ (d : Done). record d { claimed = c.claimed; published = c.published; filled = c.filled; beaten = c.beaten }) first.same;
+  claimed = grows_on a.claimed b.claimed c.claimed first.claimed second.claimed;
+  published = grows_on a.published b.published c.published first.published second.published;
+  filled = λ e. second.filled (first.filled e);
+  spoiled = λ e. second.spoiled (ap (λ (d : Done). d.spoiled) first.same ∙ e) ∙ first.spoiled e;
+}
+
+sees_on : (a b c : Seen) → SeesOn a b → SeesOn b c → SeesOn a c
+sees_on a b c first second = record {
+  free = let x = first.free in let y = second.free in omega (arith, x, y);
+  chain = grows_on a.chain b.chain c.chain first.chain second.chain;
+  tails = grows_on a.tails b.tails c.tails first.tails second.tails;
+  singles = grows_on a.singles b.singles c.singles first.singles second.singles;
+  counts = grows_on a.counts b.counts c.counts first.counts second.counts;
+  words = grows_on a.words b.words c.words first.words second.words;
+  cursors = grows_on a.cursors b.cursors c.cursors first.cursors second.cursors;
+}
+
+-- ---- a call that goes on
+
+pub proceeds_on : (a b c : Actor) → Proceeds a b → Proceeds b c → Proceeds a c
+proceeds_on a b c first second = record {
+  same = second.same ∙ ap (λ (d : Actor). record d { units = c.units; entries = c.entries; hand = c.hand; done = c.done; seen = c.seen }) first.same;
+  free = second.free;
+  done = does_on a.done b.done c.done first.done second.done;
+  seen = sees_on a.seen b.seen c.seen first.seen second.seen;
+}
+
+pub looks_on : (a b c : Actor) → LooksOn a b → LooksOn b c → LooksOn a c
+looks_on a b c first second = record {
+  proceeds = proceeds_on a b c first.proceeds second.proceeds;
+  units = second.units ∙ first.units;
+  entries = second.entries ∙ first.entries;
+}
+
+-- ---- what it looks at
+
+-- what it goes on with is of the histogram that it looks at
+pub looks_there : (place : Place) (histogram : ℕ) → (look_of place histogram).histogram ≡ histogram
+looks_there (Looking look) histogram = by_test (look.histogram == histogram) refl
+  where
+    by_test : (b : Bool) → (look.histogram == histogram) ≡ b → (if b then look else nothing_of histogram).histogram ≡ histogram
+    by_test true same = eqb-true look.histogram histogram same
+    by_test false apart = refl
+looks_there place histogram = refl
+
+-- where it looked at that before, it goes on with that
+pub looks_again : (place : Place) (look : Look) (histogram : ℕ) → place ≡ Looking look → look.histogram ≡ histogram → look_of place histogram ≡ look
+looks_again place look histogram placed same =
+    ap (λ (p : Place). look_of p histogram) placed
+    ∙ ap (λ (b : Bool). if b then look else nothing_of histogram) (eq-eqb look.histogram histogram same)

@@ -1,0 +1,7 @@
+use Rattle.std.proofs.Common.{◌%◌, ◌^◌, ◌≤◌, inr, ⊎_elim, arith}
+use Rattle.live_segment.proofs.counting.packed_with.Goals as goal
+
+pub returns : goal.returns
+returns c =
+    let some_there : 1 ≤ c.args.word % 2 ^ 32 = ⊎_elim (λ none. omega arith) (λ one. one) c.requires.formed in
+    (omega arith, inr (c.args.word % 2 ^ 32, some_there, omega arith, omega arith, omega arith))

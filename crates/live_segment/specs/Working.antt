@@ -1,0 +1,77 @@
+-- What becomes of a recorder while a call of it counts: it looks at a histogram, packs units, or makes room for them and adds them to a count.
+use Rattle.std.specs.Prelude.{◌≡◌, ◌≢◌, true, false, ℕ, ◌+◌, ◌*◌, ◌≤◌, [], drop, length, Option, Some}
+use Rattle.std.specs.List.{Contains}
+use Rattle.segment_image.specs.declared.layout.TheConstants.{BLOCK_HEADER, HISTOGRAM_SINGLE}
+use Rattle.bucket_ranges.specs.Spec.{buckets_of}
+use Rattle.segment_machine.specs.declared.actor.Actor.{Actor}
+use Rattle.segment_machine.specs.declared.actor.Known.{Known}
+use Rattle.segment_machine.specs.declared.actor.Entries.{Entries}
+use Rattle.segment_machine.specs.declared.place.Place.TheVariants.{Looking}
+use Rattle.segment_machine.specs.Actor.{has_buckets, is_bound, is_opener}
+use Rattle.segment_machine.specs.Calls.{count_next}
+use Rattle.segment_machine.specs.Form.{is_off, IsPacking}
+use Rattle.segment_promises.specs.Follows.{noted_by}
+use Rattle.live_segment.specs.declared.counting.Packing.{Packing}
+use Rattle.live_segment.specs.declared.counting.Packing.TheVariants.{Packed, Off, Passed}
+use Rattle.live_segment.specs.Onward.{DoesOn, SeesOn}
+use Rattle.live_segment.specs.Telling.{KnowsAlone, bucket_notes}
+
+-- A call of a recorder goes on: what only an ended call changes is as it was, and it has seen and done no less.
+pub record Proceeds (old new : Actor) : Type 0 where
+  pub same : new ≡ record old { units = new.units; entries = new.entries; hand = new.hand; done = new.done; seen = new.seen }
+  pub free : is_bound new.hand.place ≡ false
+  pub done : DoesOn old.done new.done
+  pub seen : SeesOn old.seen new.seen
+
+-- it has looked, and may have claimed a block or set the full flag: its units and entries are as they were
+pub record LooksOn (old new : Actor) : Type 0 where
+  pub proceeds : Proceeds old new
+  pub units : new.units ≡ old.units
+  pub entries : new.entries ≡ old.entries
+
+-- a recorder whose call may begin with so many units of a histogram with buckets that it knows
+pub record MayBegin (a : Actor) (known : Known) (units : ℕ) : Type 0 where
+  pub recorder : is_opener a.role ≡ false
+  pub free : is_bound a.hand.place ≡ false
+  pub takes : a.deltas.taking ≡ false
+  pub runs : a.entries.running ≡ []
+  pub holds : a.units.held ≡ []
+  pub alone : KnowsAlone a known
+  pub bucketed : has_buckets known.spec ≡ true
+  pub some : 1 ≤ units
+  pub enough : units ≤ a.units.share
+
+-- it looks at a histogram: the single word that it loaded, where that stands, and the counts
+abbrev pub LooksAt : Actor → ℕ → Option ℕ → ℕ → Type 0
+LooksAt a histogram single counts = a.hand.place ≡ Looking (record { histogram = histogram; single = single; counts = counts })
+
+-- counts of a histogram with so many buckets lie within the segment
+abbrev pub CountsWithin : Actor → Known → ℕ → Type 0
+CountsWithin a known counts = (counts ≢ 0) × (counts + (BLOCK_HEADER + 2 * buckets_of known.spec) ≤ a.segment.shape.size)
+
+-- the running entry that is next is counted
+abbrev pub counted_next : Entries → Entries
+counted_next e = record e { running = count_next e.running }
+
+-- units of a bucket were counted, by a call that began with them or went on
+pub record HasCounted (known : Known) (bucket units : ℕ) (old new : Actor) : Type 0 where
+  pub proceeds : Proceeds old new
+  pub units_are : new.units ≡ (noted_by old (bucket_notes old known bucket units)).units
+  pub entries_are : new.entries ≡ counted_next (noted_by old (bucket_notes old known bucket units)).entries
+  pub filled : new.done.filled ≡ old.done.filled
+
+-- a single word that it saw since, which is not off and cannot take units of a bucket
+abbrev pub CannotPack : Known → ℕ → ℕ → Actor → Actor → Type 0
+CannotPack known bucket units old new =
+    (word : ℕ) × Contains (drop (length old.seen.singles) new.seen.singles) (record { at = known.reference + HISTOGRAM_SINGLE; word = word })
+    × (is_off word ≡ false) × ((packed : ℕ) → ¬ (IsPacking bucket units word packed))
+
+-- How an attempt to pack units ended. They are packed; or it only looked, and the single word that it loaded last is off or cannot take them.
+abbrev pub Tries : Known → ℕ → ℕ → Actor → Packing → Actor → Type 0
+Tries known bucket units old Packed new = HasCounted known bucket units old new
+Tries known bucket units old Off new =
+    LooksOn old new × (new.done ≡ old.done) × (new.seen.counts ≡ old.seen.counts)
+    × ((word counts : ℕ) × LooksAt new known.reference (Some word) counts × (is_off word ≡ true)
+    × Contains new.seen.singles (record { at = known.reference + HISTOGRAM_SINGLE; word = word }))
+Tries known bucket units old Passed new =
+    LooksOn old new × (new.done ≡ old.done) × (new.seen.counts ≡ old.seen.counts) × CannotPack known bucket units old new

@@ -65,7 +65,7 @@ impl Hist {
     ghost use Rattle.segment_machine.specs.declared.actor.Actor.{Actor};
     ghost use Rattle.hist_core.specs.Hist.{compared_place, compared_index, compared_word, IsSomeHist, HistSteps, BeginsToAllocate, IsAllocated, IsAllocating, IsPublished, IsPublishing, IsNextFilled, IsFilled, IsMatched, IsDifferent};
     ghost use Rattle.alloc_core.specs.Layout.{IsShape};
-    ghost use Rattle.hist_core.specs.declared.hist.Stage.TheVariants.{Walking, Filling};
+    ghost use Rattle.hist_core.specs.declared.hist.Stage.TheVariants.{Walking, Comparing, Filling};
 
     // The place in the payload of the word that is compared k-th, from 1 on: the length of the name, the name, the spec, and
     // the ranges behind the name.
@@ -133,6 +133,20 @@ impl Hist {
             HistStep::More
         } else {
             HistStep::Refused(Refusal::OtherSpec)
+        }
+    }
+
+    // It loads one more word of the record where the walk stands.
+    fn compare(&mut self, words: &[u64], same: usize) -> HistStep
+        requires compares { self.old.stage ≡ Comparing same }
+        requires stands { ∥ IsSomeHist (length words.now) self.old ∥₁ }
+        ensures { HistSteps self.old words.now self.new words.now result }
+    {
+        let found = words[self.reference as usize + self.compared_index(same)];
+        if found == self.compared_word(same) {
+            self.matched(same)
+        } else {
+            self.differed(same)
         }
     }
 

@@ -1,5 +1,5 @@
 -- The words of a record that a `hist` compares, and what each of them tells.
-use Rattle.std.proofs.Common.{◌≡◌, ◌≢◌, ◌⊎◌, ℕ, ◌+◌, ◌-◌, ◌<◌, ◌≤◌, ◌==◌, Bool, true, false, List, [], ◌∷◌, ◌++◌, length, get_or, inl, inr, refl, sym, ap, subst, ◌∙◌, arith, length-append, eqb-true, ne_eqb, ◌^◌}
+use Rattle.std.proofs.Common.{◌≡◌, ◌≢◌, ◌⊎◌, ℕ, ◌+◌, ◌-◌, ◌<◌, ◌≤◌, ◌==◌, Bool, true, false, List, [], ◌∷◌, ◌++◌, length, inl, inr, refl, sym, ap, ◌∙◌, arith, length-append, eqb-true, ne_eqb, ◌^◌}
 use Rattle.std.specs.Prelude.{if◌then◌else◌, slice_index, nat_lt}
 use Rattle.std.specs.Int.{from_le_bytes, w64}
 use Rattle.std.proofs.lemmas.Bool.{eqb-false, lt-ltb, le-ltb, ltb-true, ltb-false}
@@ -11,7 +11,6 @@ use Rattle.bucket_ranges.specs.declared.spec.Spec.{Spec}
 use Rattle.bucket_ranges.specs.declared.spec.Spec.TheVariants.{Linear, Boolean, Custom, Sparse}
 use Rattle.bucket_ranges.specs.Spec.{spec_fields, spec_ranges}
 use Rattle.hist_core.specs.declared.hist.Hist.{Hist}
-use Rattle.hist_core.specs.declared.hist.Known.{Known}
 use Rattle.hist_core.specs.Hist.{IsAsking, payload_words, compared_place, compared_index, compared_word, comparisons}
 
 -- ---- words and their bytes
@@ -49,7 +48,7 @@ module _ (letters k : ℕ) where
       ∙ (second_of (nat_lt k (letters + 2)) (k + 9) _ (le-ltb k (letters + 2) (omega (arith, from)))
       ∙ second_of (nat_lt k (letters + 6)) (k - letters - 2) _ (le-ltb k (letters + 6) from))
 
-  index_of_rest : 1 ≤ k → compared_index letters k ≡ 4 + compared_place letters k
+  pub index_of_rest : 1 ≤ k → compared_index letters k ≡ 4 + compared_place letters k
   index_of_rest some = second_of (k == 0) 2 _ (ne_eqb k 0 (λ e. omega (arith, e, some)))
 
 -- ---- what they are

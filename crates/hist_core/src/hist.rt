@@ -278,4 +278,18 @@ impl Hist {
         self.filled(at, index + 1);
         HistStep::More
     }
+
+    // Goes on by one event.
+    pub(crate) fn step(&mut self, words: &mut [u64]) -> HistStep
+        requires stands { ∥ IsSomeHist (length words.old) self.old ∥₁ }
+        ensures { HistSteps self.old words.old self.new words.new result }
+    {
+        match self.stage {
+            Stage::Walking => self.walk_on(words),
+            Stage::Comparing { same } => self.compare(words, same),
+            Stage::Allocating { .. } => self.allocate(words),
+            Stage::Filling { at, index } => self.fill(words, at, index),
+            Stage::Publishing { .. } => self.publish(words),
+        }
+    }
 }

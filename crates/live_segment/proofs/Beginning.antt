@@ -1,5 +1,5 @@
 -- A call begins with units of a bucket: it may say so, its entry is then next, and once it is counted the call goes on.
-use Rattle.std.proofs.Common.{◌≡◌, ℕ, suc, ◌+◌, ◌-◌, ◌*◌, ◌≤◌, ◌==◌, not, ◌||◌, ◌&&◌, Bool, true, false, true≢false, if◌then◌else◌, pos, List, [], ◌∷◌, ◌++◌, Some, refl, sym, ap, ◌∙◌, subst, arith}
+use Rattle.std.proofs.Common.{◌≡◌, ℕ, suc, ◌+◌, ◌-◌, ◌*◌, ◌≤◌, ◌==◌, not, ◌||◌, ◌&&◌, Bool, true, false, true≢false, if◌then◌else◌, pos, List, [], ◌∷◌, ◌++◌, Some, refl, sym, ap, ◌∙◌, subst, arith, filter, inl, inr, ◌⊎◌}
 use Rattle.std.specs.Prelude.{unsigned_abs, fold, ◌+ℤ◌}
 use Rattle.std.specs.List.{Contains}
 use Rattle.std.specs.Str.{bytes_eq}
@@ -17,14 +17,14 @@ use Rattle.segment_machine.specs.declared.seen.Sighting.{Sighting}
 use Rattle.segment_machine.specs.Actor.{is_bound, is_opener, known_at, Buckets}
 use Rattle.segment_machine.specs.Calls.{IsNext}
 use Rattle.segment_machine.specs.Entry.{AreWithin, fresh, has_ended}
-use Rattle.segment_machine.specs.Note.{Note, begins}
+use Rattle.segment_machine.specs.Note.{Note, MayNote, begins, goes_on, noted}
 use Rattle.segment_promises.specs.Follows.{MayTell, noted_by}
 use Rattle.segment_invariant.proofs.Lists.Elements.{all_from, each_of_one}
 use Rattle.segment_invariant.proofs.Lists.Maps.{contains_map}
 use Rattle.live_segment.specs.Onward.{DoesOn, SeesOn}
 use Rattle.live_segment.specs.Telling.{bucket_entry, bucket_notes, opening_notes}
-use Rattle.live_segment.specs.Working.{LooksOn, MayBegin, HasCounted, counted_next}
-use Rattle.live_segment.proofs.Proceeding.{does_not, grows_by, grows_not, proceeds_on}
+use Rattle.live_segment.specs.Working.{Proceeds, LooksOn, MayCount, HasNotBegun, Waits, HasBegun, LooksFor, HasCounted, counted_next}
+use Rattle.live_segment.proofs.Proceeding.{does_not, sees_not, grows_by, grows_not, proceeds_on}
 
 -- ---- what is known
 
@@ -67,28 +67,27 @@ singled a place more free = record {
   entries = refl;
 }
 
-pub may_still : (a b : Actor) (known : Known) (units : ℕ) → MayBegin a known units → LooksOn a b → MayBegin b known units
-may_still a b known units may looks =
-    let same = looks.proceeds.same in record {
-      recorder = ap (λ (x : Actor). is_opener x.role) same ∙ may.recorder;
-      free = looks.proceeds.free;
-      takes = ap (λ (x : Actor). x.deltas.taking) same ∙ may.takes;
-      runs = ap (λ (e : Entries). e.running) looks.entries ∙ may.runs;
-      holds = ap (λ (u : Units). u.held) looks.units ∙ may.holds;
-      alone = ap (λ (x : Actor). known_at x.answers.names known.reference) same ∙ may.alone;
-      bucketed = may.bucketed;
-      some = may.some;
-      enough = subst (λ (u : Units). units ≤ u.share) (sym looks.units) may.enough;
-    }
-
 -- ---- how it begins
 
--- its notes
-abbrev pub begun : Known → ℕ → ℕ → List Note
+-- the notes of a call that has not begun
+abbrev begun : Known → ℕ → ℕ → List Note
 begun known bucket units = begins known.name units (bucket_entry known bucket units ∷ []) ∷ []
 
-pub notes_are : (a : Actor) (known : Known) (bucket units : ℕ) → MayBegin a known units → bucket_notes a known bucket units ≡ begun known bucket units
-notes_are a known bucket units may = ap (λ (r : List Counting). opening_notes r (bucket_entry known bucket units) units) may.runs
+notes_new : (a : Actor) (known : Known) (bucket units : ℕ) → HasNotBegun a units → bucket_notes a known bucket units ≡ begun known bucket units
+notes_new a known bucket units new = ap (λ (r : List Counting). opening_notes r (bucket_entry known bucket units) units) new.0
+
+-- what waits has not ended
+open_still : (known : Known) (bucket units : ℕ) → 1 ≤ units → has_ended (fresh (bucket_entry known bucket units)) ≡ false
+open_still known bucket units some =
+    let none : (units == 0) ≡ false = ne_eqb units 0 (λ e. omega (arith, e, some)) in
+    ap (λ (z : Bool). (false || z) && true && (false || z)) none
+
+-- one that waits notes nothing
+notes_waiting : (a : Actor) (known : Known) (bucket units : ℕ) → 1 ≤ units → Waits a known bucket units → bucket_notes a known bucket units ≡ []
+notes_waiting a known bucket units some waits =
+    let e = bucket_entry known bucket units in
+    ap (λ (r : List Counting). opening_notes r e units) waits
+    ∙ ap (λ (b : Bool). if b && true then goes_on e units ∷ [] else []) (open_still known bucket units some)
 
 within : (known : Known) (bucket units : ℕ) → AreWithin known.name units (bucket_entry known bucket units ∷ [])
 within known bucket units = record {
@@ -109,73 +108,186 @@ within known bucket units = record {
     nothing true = omega arith
     nothing false = omega arith
 
-pub may_tell : (a : Actor) (known : Known) (bucket units : ℕ) → MayBegin a known units → MayTell a (begun known bucket units)
-may_tell a known bucket units may = (
-  (
-    λ e. true≢false (sym (ap is_bound e) ∙ may.free),
-    may.recorder,
-    may.runs,
-    may.holds,
-    may.takes,
-    may.enough,
-    contains_map (λ (k : Known). k.name) a.answers.names known (known_there a.answers.names known.reference known may.alone).0,
-    within known bucket units,
-  ),
-  refl,
-)
+pub may_tell : (a : Actor) (known : Known) (bucket units : ℕ) → MayCount a known bucket units → MayTell a (bucket_notes a known bucket units)
+may_tell a known bucket units may = by may.begun
+  where
+    by : HasNotBegun a units ⊎ Waits a known bucket units → MayTell a (bucket_notes a known bucket units)
+    by (inl new) = subst (MayTell a) (sym (notes_new a known bucket units new)) (
+      (
+        λ e. true≢false (sym (ap is_bound e) ∙ may.free),
+        may.recorder,
+        new.0,
+        new.1,
+        may.takes,
+        new.2,
+        contains_map (λ (k : Known). k.name) a.answers.names known (known_there a.answers.names known.reference known may.alone).0,
+        within known bucket units,
+      ),
+      refl,
+    )
+    by (inr waits) = subst (MayTell a) (sym (notes_waiting a known bucket units may.some waits)) refl
 
--- the entry is then next
-pub is_next : (a : Actor) (known : Known) (bucket units : ℕ) → 1 ≤ units
-    → IsNext (noted_by a (begun known bucket units)) (fresh (bucket_entry known bucket units))
-is_next a known bucket units some =
-    let c = fresh (bucket_entry known bucket units) in
-    let none : (units == 0) ≡ false = ne_eqb units 0 (λ e. omega (arith, e, some)) in
-    let open_still : not (has_ended c) ≡ true = ap (λ (z : Bool). not ((false || z) && true && (false || z))) none in
-    ([], ap (λ (b : Bool). if b then c ∷ [] else []) open_still)
+-- the entry then waits
+pub then_waits : (a : Actor) (known : Known) (bucket units : ℕ) → MayCount a known bucket units
+    → Waits (noted_by a (bucket_notes a known bucket units)) known bucket units
+then_waits a known bucket units may = by may.begun
+  where
+    by : HasNotBegun a units ⊎ Waits a known bucket units → Waits (noted_by a (bucket_notes a known bucket units)) known bucket units
+    by (inl new) = ap (λ (ns : List Note). (noted_by a ns).entries.running) (notes_new a known bucket units new)
+    by (inr waits) = ap (λ (ns : List Note). (noted_by a ns).entries.running) (notes_waiting a known bucket units may.some waits) ∙ waits
 
-pub knows : (a : Actor) (known : Known) (units : ℕ) → MayBegin a known units → Buckets a known.reference known
-knows a known units may = ((known_there a.answers.names known.reference known may.alone).0, refl, may.bucketed)
+-- and is next
+pub is_next : (a : Actor) (known : Known) (bucket units : ℕ) → MayCount a known bucket units
+    → IsNext (noted_by a (bucket_notes a known bucket units)) (fresh (bucket_entry known bucket units))
+is_next a known bucket units may =
+    let c = fresh (bucket_entry known bucket units) in (
+      [],
+      ap (filter (λ (x : Counting). not (has_ended x))) (then_waits a known bucket units may)
+          ∙ ap (λ (b : Bool). if not b then c ∷ [] else []) (open_still known bucket units may.some),
+    )
+
+-- nothing else changes
+pub only_begun : (a : Actor) (known : Known) (bucket units : ℕ) → MayCount a known bucket units
+    → noted_by a (bucket_notes a known bucket units)
+    ≡ (let x = noted_by a (bucket_notes a known bucket units) in record a { units = x.units; entries = x.entries })
+only_begun a known bucket units may = by may.begun
+  where
+    Same : List Note → Type 0
+    Same ns = noted_by a ns ≡ record a { units = (noted_by a ns).units; entries = (noted_by a ns).entries }
+
+    by : HasNotBegun a units ⊎ Waits a known bucket units → Same (bucket_notes a known bucket units)
+    by (inl new) = subst Same (sym (notes_new a known bucket units new)) refl
+    by (inr waits) = subst Same (sym (notes_waiting a known bucket units may.some waits)) refl
+
+pub knows : (a : Actor) (known : Known) (bucket units : ℕ) → MayCount a known bucket units → Buckets a known.reference known
+knows a known bucket units may = ((known_there a.answers.names known.reference known may.alone).0, refl, may.bucketed)
+
+-- ---- while it waits
+
+pub looks_for : (known : Known) (bucket units : ℕ) (a b : Actor) → LooksOn a b → LooksFor known bucket units a b
+looks_for known bucket units a b looks = record { proceeds = looks.proceeds; begun = inl (looks.units, looks.entries) }
+
+-- it may count them still
+pub may_still : (a b : Actor) (known : Known) (bucket units : ℕ) → MayCount a known bucket units → LooksFor known bucket units a b
+    → MayCount b known bucket units
+may_still a b known bucket units may looks =
+    let same = looks.proceeds.same in record {
+      recorder = ap (λ (x : Actor). is_opener x.role) same ∙ may.recorder;
+      free = looks.proceeds.free;
+      takes = ap (λ (x : Actor). x.deltas.taking) same ∙ may.takes;
+      begun = by looks.begun may.begun;
+      alone = ap (λ (x : Actor). known_at x.answers.names known.reference) same ∙ may.alone;
+      bucketed = may.bucketed;
+      some = may.some;
+    }
+  where
+    by : ((b.units ≡ a.units) × (b.entries ≡ a.entries)) ⊎ HasBegun known bucket units a b → HasNotBegun a units ⊎ Waits a known bucket units
+        → HasNotBegun b units ⊎ Waits b known bucket units
+    by (inl (same_units, same_entries)) (inl new) =
+        inl (
+          ap (λ (e : Entries). e.running) same_entries ∙ new.0,
+          ap (λ (u : Units). u.held) same_units ∙ new.1,
+          subst (λ (u : Units). units ≤ u.share) (sym same_units) new.2,
+        )
+    by (inl (same_units, same_entries)) (inr waits) = inr (ap (λ (e : Entries). e.running) same_entries ∙ waits)
+    by (inr (units_are, entries_are)) begun = inr (ap (λ (e : Entries). e.running) entries_are ∙ then_waits a known bucket units may)
+
+-- it begins only once
+pub begins_once : (a b : Actor) (known : Known) (bucket units : ℕ) → MayCount a known bucket units → LooksFor known bucket units a b
+    → let first = noted_by a (bucket_notes a known bucket units) in let next = noted_by b (bucket_notes b known bucket units) in
+    (next.units ≡ first.units) × (next.entries ≡ first.entries)
+begins_once a b known bucket units may looks = by looks.begun may.begun
+  where
+    notes : Actor → List Note
+    notes x = bucket_notes x known bucket units
+
+    entry : Counting
+    entry = fresh (bucket_entry known bucket units)
+
+    waiting : Waits b known bucket units → b.units ≡ (noted_by a (notes a)).units → b.entries ≡ (noted_by a (notes a)).entries
+        → ((noted_by b (notes b)).units ≡ (noted_by a (notes a)).units) × ((noted_by b (notes b)).entries ≡ (noted_by a (notes a)).entries)
+    waiting waits units_are entries_are =
+        let none = notes_waiting b known bucket units may.some waits in
+        (ap (λ (ns : List Note). (noted_by b ns).units) none ∙ units_are, ap (λ (ns : List Note). (noted_by b ns).entries) none ∙ entries_are)
+
+    by : ((b.units ≡ a.units) × (b.entries ≡ a.entries)) ⊎ HasBegun known bucket units a b → HasNotBegun a units ⊎ Waits a known bucket units
+        → ((noted_by b (notes b)).units ≡ (noted_by a (notes a)).units) × ((noted_by b (notes b)).entries ≡ (noted_by a (notes a)).entries)
+    by (inl (same_units, same_entries)) (inl new) =
+        let mine = notes_new a known bucket units new in
+        let again : notes b ≡ begun known bucket units =
+        ap (λ (e : Entries). opening_notes e.running (bucket_entry known bucket units) units) same_entries ∙ mine in (
+          ap (λ (ns : List Note). (noted_by b ns).units) again
+              ∙ (ap (λ (u : Units). record u { share = u.share - units; held = record { name = known.name; units = units } ∷ [] }) same_units
+              ∙ sym (ap (λ (ns : List Note). (noted_by a ns).units) mine)),
+          ap (λ (ns : List Note). (noted_by b ns).entries) again
+              ∙ (ap (λ (e : Entries). record e { running = entry ∷ [] }) same_entries ∙ sym (ap (λ (ns : List Note). (noted_by a ns).entries) mine)),
+        )
+    by (inl (same_units, same_entries)) (inr waits) =
+        let mine = notes_waiting a known bucket units may.some waits in
+        waiting (ap (λ (e : Entries). e.running) same_entries ∙ waits)
+        (same_units ∙ sym (ap (λ (ns : List Note). (noted_by a ns).units) mine))
+        (same_entries ∙ sym (ap (λ (ns : List Note). (noted_by a ns).entries) mine))
+    by (inr (units_are, entries_are)) begun =
+        waiting (ap (λ (e : Entries). e.running) entries_are ∙ then_waits a known bucket units may) units_are entries_are
+
+pub looks_for_on : (a b c : Actor) (known : Known) (bucket units : ℕ) → MayCount a known bucket units → LooksFor known bucket units a b
+    → LooksFor known bucket units b c → LooksFor known bucket units a c
+looks_for_on a b c known bucket units may first second =
+    record { proceeds = proceeds_on a b c first.proceeds second.proceeds; begun = by first.begun second.begun }
+  where
+    by : ((b.units ≡ a.units) × (b.entries ≡ a.entries)) ⊎ HasBegun known bucket units a b
+        → ((c.units ≡ b.units) × (c.entries ≡ b.entries)) ⊎ HasBegun known bucket units b c
+        → ((c.units ≡ a.units) × (c.entries ≡ a.entries)) ⊎ HasBegun known bucket units a c
+    by (inl was) (inl is) = inl (is.0 ∙ was.0, is.1 ∙ was.1)
+    by (inr was) (inl is) = inr (is.0 ∙ was.0, is.1 ∙ was.1)
+    by was (inr is) = let once = begins_once a b known bucket units may first in inr (is.0 ∙ once.0, is.1 ∙ once.1)
+
+-- ---- an exchange
+
+-- one that comes too late has begun the call, and it has seen a single word
+pub late : (a b : Actor) (known : Known) (bucket units : ℕ) (hand : Hand) (more : List Sighting) → MayCount a known bucket units
+    → is_bound hand.place ≡ false
+    → b ≡ (let x = noted_by a (bucket_notes a known bucket units) in record x { hand = hand; seen = record x.seen { singles = x.seen.singles ++ more } })
+    → LooksFor known bucket units a b × (b.done ≡ a.done) × (b.seen.counts ≡ a.seen.counts) × (b.seen.singles ≡ a.seen.singles ++ more)
+late a b known bucket units hand more may free is =
+    let x = noted_by a (bucket_notes a known bucket units) in
+    let only = only_begun a known bucket units may in
+    let all : b ≡ record a { units = x.units; entries = x.entries; hand = hand; seen = record a.seen { singles = a.seen.singles ++ more } } =
+    is ∙ ap (λ (y : Actor). record y { hand = hand; seen = record y.seen { singles = y.seen.singles ++ more } }) only in (
+      subst (LooksFor known bucket units a) (sym all) (record {
+        proceeds = record { same = refl; free = free; done = does_not a.done; seen = sees_single a.seen more };
+        begun = inr (refl, refl);
+      }),
+      ap (λ (y : Actor). y.done) all,
+      ap (λ (y : Actor). y.seen.counts) all,
+      ap (λ (y : Actor). y.seen.singles) all,
+    )
 
 -- ---- once it is counted
 
--- what its units and entries become
-units_become : (a : Actor) (known : Known) (bucket units : ℕ) → MayBegin a known units
-    → (noted_by a (bucket_notes a known bucket units)).units ≡ record a.units { share = a.units.share - units; held = record { name = known.name; units = units } ∷ [] }
-units_become a known bucket units may = ap (λ (ns : List Note). (noted_by a ns).units) (notes_are a known bucket units may)
-
-entries_become : (a : Actor) (known : Known) (bucket units : ℕ) → MayBegin a known units
-    → (noted_by a (bucket_notes a known bucket units)).entries ≡ record a.entries { running = fresh (bucket_entry known bucket units) ∷ [] }
-entries_become a known bucket units may = ap (λ (ns : List Note). (noted_by a ns).entries) (notes_are a known bucket units may)
-
-pub counted : (a b : Actor) (known : Known) (bucket units : ℕ) (hand : Hand) (seen : Seen) → MayBegin a known units → is_bound hand.place ≡ false → SeesOn a.seen seen
+pub counted : (a b : Actor) (known : Known) (bucket units : ℕ) (hand : Hand) (seen : Seen) → MayCount a known bucket units
+    → is_bound hand.place ≡ false → SeesOn a.seen seen
     → b ≡ (let x = noted_by a (bucket_notes a known bucket units) in record x { hand = hand; entries = counted_next x.entries; seen = seen })
     → HasCounted known bucket units a b
 counted a b known bucket units hand seen may free sees is =
     let x = noted_by a (bucket_notes a known bucket units) in
-    let noted_is : x ≡ noted_by a (begun known bucket units) = ap (noted_by a) (notes_are a known bucket units may) in
-    subst (HasCounted known bucket units a) (sym is) (record {
-      proceeds = record {
-        same = ap (λ (y : Actor). record y { hand = hand; entries = counted_next x.entries; seen = seen; units = x.units; done = x.done }) noted_is;
-        free = free;
-        done = subst (λ (y : Actor). DoesOn a.done y.done) (sym noted_is) (does_not a.done);
-        seen = sees;
-      };
+    let only = only_begun a known bucket units may in
+    let all : b ≡ record a { units = x.units; entries = counted_next x.entries; hand = hand; seen = seen } =
+    is ∙ ap (λ (y : Actor). record y { hand = hand; entries = counted_next x.entries; seen = seen }) only in
+    subst (HasCounted known bucket units a) (sym all) (record {
+      proceeds = record { same = refl; free = free; done = does_not a.done; seen = sees };
       units_are = refl;
       entries_are = refl;
-      filled = ap (λ (y : Actor). y.done.filled) noted_is;
+      filled = refl;
     })
 
 -- it looked before
-pub counted_behind : (a b c : Actor) (known : Known) (bucket units : ℕ) → MayBegin a known units → LooksOn a b → b.done.filled ≡ a.done.filled
-    → HasCounted known bucket units b c → HasCounted known bucket units a c
+pub counted_behind : (a b c : Actor) (known : Known) (bucket units : ℕ) → MayCount a known bucket units → LooksFor known bucket units a b
+    → b.done.filled ≡ a.done.filled → HasCounted known bucket units b c → HasCounted known bucket units a c
 counted_behind a b c known bucket units may looks filled has =
-    let then_may = may_still a b known units may looks in record {
+    let once = begins_once a b known bucket units may looks in record {
       proceeds = proceeds_on a b c looks.proceeds has.proceeds;
-      units_are = has.units_are ∙ (units_become b known bucket units then_may
-          ∙ (ap (λ (u : Units). record u { share = u.share - units; held = record { name = known.name; units = units } ∷ [] }) looks.units
-          ∙ sym (units_become a known bucket units may)));
-      entries_are = has.entries_are ∙ (ap counted_next (entries_become b known bucket units then_may)
-          ∙ (ap (λ (e : Entries). counted_next (record e { running = fresh (bucket_entry known bucket units) ∷ [] })) looks.entries
-          ∙ sym (ap counted_next (entries_become a known bucket units may))));
+      units_are = has.units_are ∙ once.0;
+      entries_are = has.entries_are ∙ ap counted_next once.1;
       filled = has.filled ∙ filled;
     }

@@ -1,5 +1,5 @@
 -- What becomes of a recorder while a call of it counts: it looks at a histogram, packs units, or makes room for them and adds them to a count.
-use Rattle.std.specs.Prelude.{◌≡◌, ◌≢◌, true, false, ℕ, ◌+◌, ◌*◌, ◌≤◌, [], drop, length, Option, Some}
+use Rattle.std.specs.Prelude.{◌⊎◌, ◌≡◌, ◌≢◌, true, false, ℕ, ◌+◌, ◌*◌, ◌≤◌, [], ◌∷◌, drop, length, Option, Some}
 use Rattle.std.specs.List.{Contains}
 use Rattle.segment_image.specs.declared.layout.TheConstants.{BLOCK_HEADER, HISTOGRAM_SINGLE}
 use Rattle.bucket_ranges.specs.Spec.{buckets_of}
@@ -9,12 +9,13 @@ use Rattle.segment_machine.specs.declared.actor.Entries.{Entries}
 use Rattle.segment_machine.specs.declared.place.Place.TheVariants.{Looking}
 use Rattle.segment_machine.specs.Actor.{has_buckets, is_bound, is_opener}
 use Rattle.segment_machine.specs.Calls.{count_next}
+use Rattle.segment_machine.specs.Entry.{fresh}
 use Rattle.segment_machine.specs.Form.{is_off, IsPacking}
 use Rattle.segment_promises.specs.Follows.{noted_by}
 use Rattle.live_segment.specs.declared.counting.Packing.{Packing}
 use Rattle.live_segment.specs.declared.counting.Packing.TheVariants.{Packed, Off, Passed}
 use Rattle.live_segment.specs.Onward.{DoesOn, SeesOn}
-use Rattle.live_segment.specs.Telling.{KnowsAlone, bucket_notes}
+use Rattle.live_segment.specs.Telling.{KnowsAlone, bucket_entry, bucket_notes}
 
 -- A call of a recorder goes on: what only an ended call changes is as it was, and it has seen and done no less.
 pub record Proceeds (old new : Actor) : Type 0 where
@@ -29,17 +30,33 @@ pub record LooksOn (old new : Actor) : Type 0 where
   pub units : new.units ≡ old.units
   pub entries : new.entries ≡ old.entries
 
--- a recorder whose call may begin with so many units of a histogram with buckets that it knows
-pub record MayBegin (a : Actor) (known : Known) (units : ℕ) : Type 0 where
+-- no entry runs yet, and the share has so many units
+abbrev pub HasNotBegun : Actor → ℕ → Type 0
+HasNotBegun a units = (a.entries.running ≡ []) × (a.units.held ≡ []) × (units ≤ a.units.share)
+
+-- the one entry that runs is of units of a bucket, and nothing has happened of it
+abbrev pub Waits : Actor → Known → ℕ → ℕ → Type 0
+Waits a known bucket units = a.entries.running ≡ fresh (bucket_entry known bucket units) ∷ []
+
+-- a recorder whose call may count units of a bucket of a histogram that it knows: it has not begun, or has begun with them and waits
+pub record MayCount (a : Actor) (known : Known) (bucket units : ℕ) : Type 0 where
   pub recorder : is_opener a.role ≡ false
   pub free : is_bound a.hand.place ≡ false
   pub takes : a.deltas.taking ≡ false
-  pub runs : a.entries.running ≡ []
-  pub holds : a.units.held ≡ []
+  pub begun : HasNotBegun a units ⊎ Waits a known bucket units
   pub alone : KnowsAlone a known
   pub bucketed : has_buckets known.spec ≡ true
   pub some : 1 ≤ units
-  pub enough : units ≤ a.units.share
+
+-- a call that may count units of a bucket has begun with them, and they wait
+abbrev pub HasBegun : Known → ℕ → ℕ → Actor → Actor → Type 0
+HasBegun known bucket units old new =
+    let begun = noted_by old (bucket_notes old known bucket units) in (new.units ≡ begun.units) × (new.entries ≡ begun.entries)
+
+-- It has looked, and may have begun meanwhile: an exchange that comes too late has begun the call none the less.
+pub record LooksFor (known : Known) (bucket units : ℕ) (old new : Actor) : Type 0 where
+  pub proceeds : Proceeds old new
+  pub begun : ((new.units ≡ old.units) × (new.entries ≡ old.entries)) ⊎ HasBegun known bucket units old new
 
 -- it looks at a histogram: the single word that it loaded, where that stands, and the counts
 abbrev pub LooksAt : Actor → ℕ → Option ℕ → ℕ → Type 0
@@ -66,12 +83,12 @@ CannotPack known bucket units old new =
     (word : ℕ) × Contains (drop (length old.seen.singles) new.seen.singles) (record { at = known.reference + HISTOGRAM_SINGLE; word = word })
     × (is_off word ≡ false) × ((packed : ℕ) → ¬ (IsPacking bucket units word packed))
 
--- How an attempt to pack units ended. They are packed; or it only looked, and the single word that it loaded last is off or cannot take them.
+-- How an attempt to pack units ended. They are packed; or they are not counted, and the single word that it loaded last is off or cannot take them.
 abbrev pub Tries : Known → ℕ → ℕ → Actor → Packing → Actor → Type 0
 Tries known bucket units old Packed new = HasCounted known bucket units old new
 Tries known bucket units old Off new =
-    LooksOn old new × (new.done ≡ old.done) × (new.seen.counts ≡ old.seen.counts)
+    LooksFor known bucket units old new × (new.done ≡ old.done) × (new.seen.counts ≡ old.seen.counts)
     × ((word counts : ℕ) × LooksAt new known.reference (Some word) counts × (is_off word ≡ true)
     × Contains new.seen.singles (record { at = known.reference + HISTOGRAM_SINGLE; word = word }))
 Tries known bucket units old Passed new =
-    LooksOn old new × (new.done ≡ old.done) × (new.seen.counts ≡ old.seen.counts) × CannotPack known bucket units old new
+    LooksFor known bucket units old new × (new.done ≡ old.done) × (new.seen.counts ≡ old.seen.counts) × CannotPack known bucket units old new

@@ -86,3 +86,11 @@ impl ReadFault {
         *self as u32
     }
 }
+
+/// Why words could not be written.
+#[derive(Clone, Copy, Debug, PartialEq, Eq, Error)]
+pub enum WriteFault {
+    /// A write failed.
+    #[error("Device")]
+    Device = 1,
+}

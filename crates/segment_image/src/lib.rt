@@ -7,6 +7,7 @@
 //!   the first check that fails, in the order that [`ImageFault`] lists them. They take no memory.
 //! - [`read_bytes`] answers all bytes that a reader had left, up to a limit, and otherwise why there are none.
 //! - [`read_words`] answers the words whose bytes are all that a reader had left, and otherwise why there are none.
+//! - [`write_words`] writes the bytes that words are.
 //! - An [`Image`] has the words of a whole segment: those of a new one, or such as [`header`] accepts.
 //! - A [`Watched`] passes reads and writes on, and says whether one of them failed, and whether a flush went well
 //!   behind the last write.
@@ -22,11 +23,11 @@ mod transfer;
 mod watched;
 
 pub use blocks::{BlockHead, block};
-pub use fault::{ImageFault, ReadFault};
+pub use fault::{ImageFault, ReadFault, WriteFault};
 pub use head::{SegmentHead, header};
 pub use image::{Image, blank_is_ready};
 pub use shape::Shape;
-pub use transfer::{read_bytes, read_words};
+pub use transfer::{read_bytes, read_words, write_words};
 pub use watched::Watched;
 
 #[cfg(test)]

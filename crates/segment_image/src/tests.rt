@@ -1,9 +1,11 @@
-//! Tests of what no clause says: values from outside, texts, calls at their full sizes, and a reader that fails in
-//! mid-stream.
+//! Tests of what no clause says: values from outside, texts, calls at their full sizes, and a reader and a writer that
+//! fail in mid-stream.
 
-use crate::{Image, ImageFault, ReadFault, Shape, Watched, read_bytes, read_words};
+use crate::{
+    Image, ImageFault, ReadFault, Shape, Watched, WriteFault, read_bytes, read_words, write_words,
+};
 use std::io;
-use std::io::Read;
+use std::io::{Read, Write};
 use std::test::Fail;
 
 // The words of the packed sample and of the disabled single word.
@@ -45,6 +47,57 @@ fn a_read_that_fails_is_device(rt: HostRuntime) {
         let answer = read_words(rt.alloc(), &mut reader, 2);
         assert_eq!(rt; answer.err(), Some(ReadFault::Device), "{good_calls}");
     }
+}
+
+// Takes one byte a call, and fails at the call behind so many good ones.
+#[derive(Drop)]
+struct FailingWriter {
+    good_calls: usize,
+}
+
+impl Write for FailingWriter {
+    fn write(&mut self, buf: &[u8]) -> io::Result<usize> {
+        if self.good_calls == 0 {
+            return Err(io::ErrorKind::Other.into());
+        }
+        self.good_calls -= 1;
+        Ok(buf.len().min(1))
+    }
+
+    fn flush(&mut self) -> io::Result<()> {
+        Ok(())
+    }
+}
+
+// Sixteen bytes take sixteen calls.
+#[test]
+fn a_write_that_fails_is_device(rt: HostRuntime) {
+    for good_calls in 0..17 {
+        let fault = (good_calls < 16).then_some(WriteFault::Device);
+        let mut writer = Watched::new(FailingWriter { good_calls });
+        let answer = write_words(&mut writer, &WORDS);
+        assert_eq!(rt; answer.err(), fault, "{good_calls}");
+    }
+}
+
+#[test]
+fn words_to_bytes(rt: HostRuntime) -> Result<(), Fail> {
+    let mut writer = Watched::new(Vec::new(rt.alloc()));
+    write_words(&mut writer, &WORDS)?;
+    assert_eq!(rt; writer.into_inner().as_slice(), BYTES);
+    Ok(())
+}
+
+#[test]
+fn most_words_to_bytes(rt: HostRuntime) -> Result<(), Fail> {
+    let image = Image::blank(rt.alloc(), 1_048_576, 65_536, 7)?;
+    let mut writer = Watched::new(Vec::new(rt.alloc()));
+    write_words(&mut writer, image.words())?;
+    let bytes = writer.into_inner();
+    assert_eq!(rt; bytes.len(), 8_388_608);
+    let words = read_words(rt.alloc(), &mut Watched::new(bytes.as_slice()), 1_048_576)?;
+    assert!(rt; words.as_slice() == image.words());
+    Ok(())
 }
 
 #[test]
@@ -130,5 +183,9 @@ fn texts_of_faults(rt: HostRuntime) -> Result<(), Fail> {
     ] {
         assert_eq!(rt; fault.to_string(rt.alloc())?.as_str(), text);
     }
+    assert_eq!(rt;
+        WriteFault::Device.to_string(rt.alloc())?.as_str(),
+        "Device"
+    );
     Ok(())
 }

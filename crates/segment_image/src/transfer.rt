@@ -1,17 +1,17 @@
 //! Bytes and words from a device.
 
-ghost use Rattle.std.specs.Prelude.{◌≡◌, ◌≢◌, ◌↔◌, ◌+◌, ◌*◌, ◌<◌, ◌≤◌, ◌%◌, ◌++◌, true, false, length, take, IfSome, IfOk, IfErr, OnOk, OnErr, IsErrOf, MatchResult, vec_len};
-ghost use Rattle.std.specs.Io.KnownBytes.{Consumes, IsAtEnd};
+ghost use Rattle.std.specs.Prelude.{◌≡◌, ◌≢◌, ◌↔◌, ◌+◌, ◌*◌, ◌<◌, ◌≤◌, ◌%◌, ◌++◌, ◌||◌, true, false, length, take, is_err, IfSome, IfOk, IfErr, OnOk, OnErr, IsErrOf, MatchResult, vec_len};
+ghost use Rattle.std.specs.Io.KnownBytes.{Appends, Consumes, IsAtEnd};
 ghost use Rattle.byteorder.specs.Endian.{little_bytes};
 ghost use Rattle.segment_image.specs.Words.{bytes_of_words};
-ghost use Rattle.segment_image.specs.Watched.{has_failed, watched_inner};
+ghost use Rattle.segment_image.specs.Watched.{has_failed, is_flushed, watched_inner};
 ghost use Rattle.segment_image.specs.Transfer.{IsCausedBy, IsByteFault, TakesAtMost};
 
-use crate::fault::ReadFault;
+use crate::fault::{ReadFault, WriteFault};
 use crate::watched::Watched;
 use byteorder::{ByteOrder, LittleEndian};
 use std::alloc::{AllocError, Global};
-use std::io::Read;
+use std::io::{Read, Write};
 
 const BLOCK_WORDS: usize = 1024;
 
@@ -140,4 +140,22 @@ pub fn read_words<R: Read>(
             return Ok(words);
         }
     }
+}
+
+/// Writes words, eight bytes for each, the least byte first. It takes no memory, and does not flush.
+///
+/// `Device` where a write failed in this call, of whatever sort the failure is. How many of the bytes went out is then
+/// not said.
+pub fn write_words<W: Write>(writer: &mut Watched<W>, words: &[u64]) -> Result<(), WriteFault>
+    ensures bytes { OnOk result (Appends (W.contents (watched_inner writer.old)) (W.contents (watched_inner writer.new)) (bytes_of_words words.now)) }
+    ensures failed { has_failed writer.new ≡ (has_failed writer.old || is_err result) }
+    ensures flushed { 0 < length words.now → is_flushed writer.new ≡ false }
+{
+    let mut block = [0u8; BLOCK_BYTES];
+    for chunk in words.chunks(BLOCK_WORDS) {
+        let bytes = &mut block[..8 * chunk.len()];
+        LittleEndian::write_u64_into(chunk, bytes);
+        writer.write_all(bytes).map_err(|_| WriteFault::Device)?;
+    }
+    Ok(())
 }

@@ -2,6 +2,7 @@ pub mod Countings
 pub mod Elements
 pub mod Ends
 pub mod FewTerms
+pub mod Firsts
 pub mod Maps
 pub mod Pairs
 pub mod Portions

@@ -28,6 +28,7 @@ use Rattle.segment_machine.specs.declared.actor.Made.TheVariants.{Histogram, Sam
 use Rattle.segment_machine.specs.declared.actor.Published.{Published}
 use Rattle.segment_machine.specs.declared.seen.Sighting.{Sighting}
 use Rattle.segment_machine.specs.Entry.{has_ended, tally_units, tally_sum, tally_noted}
+use Rattle.segment_machine.specs.Firsts.{IsFirstThat}
 use Rattle.segment_machine.specs.Form.{is_off, Leads}
 use Rattle.segment_machine.specs.Actor.{Each, all_counted, all_summed, all_noted, all_taken, all_published, all_given, all_costs, taken_units, taken_sum, transit_of, units_of}
 use Rattle.segment_machine.specs.Made.{AreNameWords}
@@ -42,12 +43,8 @@ abbrev pub HasName : List ℕ → List ℕ → ℕ → Type 0
 HasName words name at = (field_at words at BLOCK_TYPE ≡ TYPE_HISTOGRAM) × (name_of words at ≡ name)
 
 -- the histogram of a name is the first record of it on the chain
-pub record IsHistogram (words chain name : List ℕ) (at : ℕ) : Type 0 where
-  pub front : List ℕ
-  pub behind : List ℕ
-  pub stands : chain ≡ front ++ at ∷ behind
-  pub first : All (λ other. ¬ (HasName words name other)) front
-  pub named : HasName words name at
+abbrev pub IsHistogram : (words chain name : List ℕ) → ℕ → Type 0
+IsHistogram words chain name = IsFirstThat (HasName words name) chain
 
 -- a record is a sample of a value of a histogram
 abbrev pub IsSampleOf : List ℕ → ℕ → ℤ → ℕ → Type 0
@@ -55,12 +52,8 @@ IsSampleOf words histogram value at =
     (field_at words at BLOCK_TYPE ≡ TYPE_SAMPLE) × (field_at words at SAMPLE_HISTOGRAM ≡ histogram) × (sample_value words at ≡ value)
 
 -- the sample of a value is the first record of it on the chain
-pub record IsSample (words chain : List ℕ) (histogram : ℕ) (value : ℤ) (at : ℕ) : Type 0 where
-  pub front : List ℕ
-  pub behind : List ℕ
-  pub stands : chain ≡ front ++ at ∷ behind
-  pub first : All (λ other. ¬ (IsSampleOf words histogram value other)) front
-  pub valued : IsSampleOf words histogram value at
+abbrev pub IsSample : (words chain : List ℕ) → ℕ → ℤ → ℕ → Type 0
+IsSample words chain histogram value = IsFirstThat (IsSampleOf words histogram value) chain
 
 -- ---- the keys of buckets
 

@@ -17,6 +17,7 @@ use Rattle.segment_machine.specs.declared.actor.Made.TheVariants as made
 use Rattle.segment_machine.specs.declared.actor.Own.{Own}
 use Rattle.segment_machine.specs.declared.seen.Sighting.{Sighting}
 use Rattle.bucket_ranges.specs.Single.{single_of}
+use Rattle.segment_machine.specs.Firsts.{IsFirstThat}
 use Rattle.segment_machine.specs.Form.{is_off, Leads}
 use Rattle.segment_machine.specs.Made.{SawSample}
 use Rattle.segment_invariant.specs.Body.{Record, Counts, Sample, Body, plain, held, histogram, counts, sample, other, words_of, Piece, Listed, Anatomy, order_of, free_of}
@@ -58,19 +59,17 @@ HoldsAs pieces at body =
 abbrev pub IsNamed : List ℕ → Listed → Type 0
 IsNamed name l = (spec : Spec) × (l.made ≡ Some (made.Histogram name spec))
 
+-- and one of a sample of a value
+abbrev pub IsValued : ℕ → ℤ → Listed → Type 0
+IsValued of value l = l.made ≡ Some (made.Sample of value)
+
 -- the histogram of a name is the first record of it on the list
 abbrev pub IsFirst : List Listed → List ℕ → Spec → ℕ → Type 0
-IsFirst records name spec at =
-    (front behind : List Listed)
-    × (records ≡ front ++ record { reference = at; made = Some (made.Histogram name spec) } ∷ behind)
-    × All (λ l. ¬ (IsNamed name l)) front
+IsFirst records name spec at = IsFirstThat (IsNamed name) records (record { reference = at; made = Some (made.Histogram name spec) })
 
 -- the sample of a value is the first record of it on the list
 abbrev pub IsFirstOf : List Listed → ℕ → ℤ → ℕ → Type 0
-IsFirstOf records of value at =
-    (front behind : List Listed)
-    × (records ≡ front ++ record { reference = at; made = Some (made.Sample of value) } ∷ behind)
-    × All (λ l. l.made ≢ Some (made.Sample of value)) front
+IsFirstOf records of value at = IsFirstThat (IsValued of value) records (record { reference = at; made = Some (made.Sample of value) })
 
 -- ---- words that are seen
 

@@ -2,6 +2,7 @@ pub use Rattle.segment_image.specs.Words
 pub use Rattle.segment_image.specs.Head
 pub use Rattle.bucket_ranges.specs.Reading
 pub use Rattle.list_core.specs.Chain
+pub mod Firsts
 pub mod Entry
 pub mod Form
 pub mod Actor

@@ -1,7 +1,6 @@
 -- What a record holds that was given to its maker, in the words of a payload and in what an actor has seen of it.
 use Rattle.std.specs.Prelude.{◌≡◌, ◌≢◌, ◌⊎◌, true, ℕ, ◌+◌, ◌<◌, ℤ, List, [], ◌∷◌, ◌++◌, length, replicate, slice_index, Some}
 use Rattle.std.specs.Int.{w64, cast_unsigned}
-use Rattle.std.specs.List.{All}
 use Rattle.segment_image.specs.declared.layout.TheConstants.{BLOCK_TYPE, HISTOGRAM_KIND, HISTOGRAM_NAME, HISTOGRAM_NAME_LENGTH, SAMPLE_HISTOGRAM, SAMPLE_VALUE, TYPE_HISTOGRAM, TYPE_SAMPLE}
 use Rattle.segment_image.specs.Words.{bytes_of_words}
 use Rattle.bucket_ranges.specs.declared.spec.Spec.{Spec}
@@ -11,6 +10,7 @@ use Rattle.segment_machine.specs.declared.seen.Seen.{Seen}
 use Rattle.segment_machine.specs.declared.actor.Made.{Made}
 use Rattle.segment_machine.specs.declared.actor.Made.TheVariants.{Histogram, Sample}
 use Rattle.segment_machine.specs.Actor.{word_seen}
+use Rattle.segment_machine.specs.Firsts.{ComesFirst}
 
 -- ---- in words
 
@@ -60,8 +60,7 @@ SawOtherSpec seen spec letters at =
 
 -- the first record of a name on the chain, as far as the actor walked along it
 abbrev pub IsFirstNamed : Seen → List ℕ → ℕ → Type 0
-IsFirstNamed seen name at =
-    (front behind : List ℕ) × (seen.chain ≡ front ++ at ∷ behind) × All (SawOtherName seen name) front × SawName seen name at
+IsFirstNamed seen name = ComesFirst (SawOtherName seen name) (SawName seen name) seen.chain
 
 -- it saw that a record is a sample of this value of a histogram. The value is one of an `i32`, since two numbers that differ by 2^64
 -- are one word
@@ -80,5 +79,5 @@ SawOther seen histogram value at =
 -- the first sample of a value behind the record of its histogram, as far as the actor walked along the chain
 abbrev pub IsFirstSample : Seen → ℕ → ℤ → ℕ → Type 0
 IsFirstSample seen histogram value at =
-    (front between behind : List ℕ) × (seen.chain ≡ front ++ histogram ∷ (between ++ at ∷ behind))
-    × All (SawOther seen histogram value) between × SawSample seen histogram value at
+    (front rest : List ℕ) × (seen.chain ≡ front ++ histogram ∷ rest)
+    × ComesFirst (SawOther seen histogram value) (SawSample seen histogram value) rest at

@@ -27,7 +27,7 @@ use Rattle.segment_machine.specs.State.{State}
 use Rattle.segment_invariant.specs.Body.{Listed, Anatomy}
 use Rattle.segment_invariant.specs.Seen.{IsFirstOf}
 use Rattle.segment_invariant.specs.Invariant.{Invariant}
-use Rattle.segment_invariant.proofs.Lists.Elements.{at_from, there_below, sum_at_least, first_unique}
+use Rattle.segment_invariant.proofs.Lists.Elements.{at_from, there_below, sum_at_least}
 use Rattle.segment_invariant.proofs.Lists.Maps.{contains_mapped, one_at}
 use Rattle.segment_invariant.proofs.Counting.Samples.{first_met}
 use Rattle.segment_promises.specs.Deltas.{SnapshotsSeeAccepted}
@@ -52,14 +52,6 @@ module _ (shape : Dimensions) (opened : Anatomy) (state : State) (kept : Invaria
   lives : a.hand.place ≢ Spent
   lives = knower_lives shape opened state kept id a mine known has
 
-  -- the first sample of a value is one
-  one_sample : (value : ℤ) (at place : ℕ) → IsFirstOf kept.anatomy.records known.reference value at → IsFirstOf kept.anatomy.records known.reference value place → at ≡ place
-  one_sample value at place (xs, rest, is, before) (ys, more, also, others) =
-      ap (λ (l : Listed). l.reference)
-      (first_unique (λ (l : Listed). l.made ≡ Some (made.Sample known.reference value)) xs ys
-      (record { reference = at; made = Some (made.Sample known.reference value) }) (record { reference = place; made = Some (made.Sample known.reference value) })
-      rest more (sym is ∙ also) before others refl refl)
-
   -- a value whose first sample was met has there what was seen of that sample
   value_listed : known.spec ≡ spec.Sparse → (value : ℤ) → CoversValue shape opened state kept id a mine known has records (units_listed answered.counts) value
   value_listed sparse value at least first (met, sampled) owes =
@@ -72,7 +64,7 @@ module _ (shape : Dimensions) (opened : Anatomy) (state : State) (kept : Invaria
       answered.counts c (saw.samples sparse) among in
       let also = subst (λ (v : ℤ). IsFirstOf kept.anatomy.records known.reference v sample) is
       (first_met shape opened state kept id a mine lives known.reference c.0 sample is_first) in
-      let same = one_sample value sample at also first in
+      let same = one_sample kept.anatomy.records known.reference value sample at also first in
       let le = owes c.1 (subst (λ (n : ℕ). SawCount a (n + 6) c.1) same its) in
       let (i, there) = at_from answered.counts c among in
       let more = listed_least answered.counts i c value there is in

@@ -20,7 +20,8 @@ use Rattle.segment_invariant.specs.Body.{Record, Counts, Sample, Body, queue, pl
 use Rattle.segment_invariant.specs.Ledger.{form_at, of_name, at_bucket, keyed, key_of_bucket, units_held, marks_held, all_held}
 use Rattle.segment_invariant.specs.Seen.{HasRecord, HasCounts, HasSample, IsNamed, IsFirst, IsFirstOf}
 use Rattle.segment_invariant.specs.Invariant.{Invariant, CountsNothing}
-use Rattle.segment_invariant.proofs.Lists.Elements.{at_from, split_at, first_unique}
+use Rattle.segment_invariant.proofs.Lists.Elements.{at_from, split_at}
+use Rattle.segment_invariant.proofs.Lists.Firsts.{first_longer, first_unique}
 use Rattle.segment_invariant.proofs.Blocks.Pieces.{one_piece, one_stands}
 use Rattle.segment_invariant.proofs.Lists.FewTerms.{sum_one, sum_pair}
 use Rattle.segment_invariant.proofs.Consistency.Blocks.{claimed_piece}
@@ -133,8 +134,8 @@ module _ (shape : Dimensions) (opened : Anatomy) (state : State) (kept : Invaria
   -- a name has one first record, and that one name
   pub one_first : (name : List ℕ) (kind kind' : Spec) (at place : ℕ) → IsFirst records name kind at → IsFirst records name kind' place
       → (at ≡ place) × (kind ≡ kind')
-  one_first name kind kind' at place (xs, rest, is, before) (ys, more, also, others) =
-      let same = first_unique (IsNamed name) xs ys (made_of at name kind) (made_of place name kind') rest more (sym is ∙ also) before others (kind, refl) (kind', refl) in
+  one_first name kind kind' at place first second =
+      let same = first_unique (IsNamed name) records (made_of at name kind) (made_of place name kind') first second in
       (ap (λ (l : Listed). l.reference) same, cc (ap (λ (l : Listed). l.made) same))
 
   pub one_name : (name mine : List ℕ) (kind kind' : Spec) (at : ℕ) → IsFirst records name kind at → IsFirst records mine kind' at → name ≡ mine
@@ -151,9 +152,9 @@ module _ (shape : Dimensions) (opened : Anatomy) (state : State) (kept : Invaria
       let l : Listed = record { reference = at; made = Some (made.Sample s.of s.value) } in
       let among = at_from records l (kept.list.alone at (sample s) has) in
       let (front, behind, split, others) = split_at records among.0 l among.1 in
-      let (name, (xs, ys, is, before), named) = kept.records.sampled front behind at s.of s.value split in
+      let (name, first, named) = kept.records.sampled front behind at s.of s.value split in
       subst (λ (name : List ℕ). IsFirst records name spec.Sparse s.of) (sym (named s has))
-      (xs, ys ++ l ∷ behind, split ∙ (ap (λ (front : List Listed). front ++ l ∷ behind) is ∙ append_assoc xs (made_of s.of name spec.Sparse ∷ ys) (l ∷ behind)), before)
+      (subst (λ (records : List Listed). IsFirst records name spec.Sparse s.of) (sym split) (first_longer (IsNamed name) front (l ∷ behind) _ first))
 
   module _ (name : List ℕ) (kind : Spec) (at : ℕ) (r : Record) (first : IsFirst records name kind at) (has : HasRecord pieces at r) (named : r.name ≡ name)
       (specified : r.spec ≡ kind) where

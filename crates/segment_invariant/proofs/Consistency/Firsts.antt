@@ -13,13 +13,15 @@ use Rattle.bucket_ranges.specs.Reading.{name_of}
 use Rattle.segment_machine.proofs.Values.{value_word}
 use Rattle.segment_machine.specs.declared.actor.Made.{Made}
 use Rattle.segment_machine.specs.declared.actor.Made.TheVariants as made
+use Rattle.segment_machine.specs.Firsts.{IsFirstThat}
 use Rattle.segment_machine.specs.State.{State}
 use Rattle.segment_invariant.specs.Consistent.{IsHistogram, IsSample, IsSampleOf}
 use Rattle.segment_invariant.specs.Consistent as consistent
 use Rattle.segment_invariant.specs.Body.{Record, Sample, Listed, Anatomy, order_of}
-use Rattle.segment_invariant.specs.Seen.{HasRecord, HasSample, IsNamed, IsFirst, IsFirstOf}
+use Rattle.segment_invariant.specs.Seen.{HasRecord, HasSample, IsNamed, IsValued, IsFirst, IsFirstOf}
 use Rattle.segment_invariant.specs.Invariant.{StandsAs, Invariant}
-use Rattle.segment_invariant.proofs.Lists.Elements.{all_from, all_at, contains_at, split_map, split_at, at_from, from_map}
+use Rattle.segment_invariant.proofs.Lists.Elements.{split_at, at_from, from_map}
+use Rattle.segment_invariant.proofs.Lists.Firsts.{OrBefore, split_among, first_image, first_from}
 use Rattle.segment_invariant.proofs.Blocks.Pieces.{piece_word}
 use Rattle.segment_invariant.proofs.Consistency.Records.{record_word, sample_type, record_name}
 use mathlib.Core.Option.{some}
@@ -27,54 +29,19 @@ use lib.ListN.{get_elem?}
 use Rattle.segment_invariant.proofs.Frames.PassedOver.{none_given, all_given, PassedOver}
 use Rattle.segment_invariant.proofs.Consistency.PassedOver.{passed_named}
 
--- ---- lists and what they map to
+-- ---- on the list
 
-unmapped : {X Y : Type 0} (f : X → Y) (P : Y → Type 0) (l : List X) → All P (map f l) → All (λ x. P (f x)) l
-unmapped f P l all = all_from (λ x. P (f x)) l (λ i x there. all_at P (map f l) i (f x) all (at_map f l i x there))
+-- the first of a name was given a spec with it
+pub first_named : (records : List Listed) (name : List ℕ) (l : Listed) (at : ℕ) → IsFirstThat (IsNamed name) records l → l.reference ≡ at
+    → (spec : Spec) × IsFirst records name spec at
+first_named records name l at first here =
+    let (spec, made) = first.4 in (spec, subst (IsFirstThat (IsNamed name) records) (λ i. record { reference = here i; made = made i }) first)
 
--- something is told of a record, or of one before it
-abbrev pub OrBefore : (Listed → Type 0) → List Listed → Listed → Type 0
-OrBefore P front l = P l ⊎ ((y : Listed) × Contains front y × P y)
-
--- What is told of records is told of their references; and what is told of a reference is told of its record, or of one before that. So the
--- first ones of which it is told are the same.
-module _ (records : List Listed) (P : Listed → Type 0) (Q : ℕ → Type 0) (to : (l : Listed) → Contains records l → P l → Q l.reference)
-    (from : (front behind : List Listed) (l : Listed) → records ≡ front ++ l ∷ behind → Q l.reference → OrBefore P front l) where
-  abbrev references : List Listed → List ℕ
-  references records = map (λ (l : Listed). l.reference) records
-
-  first_listed : (front behind : List ℕ) (at : ℕ) → references records ≡ front ++ at ∷ behind → All (λ other. ¬ (Q other)) front → Q at
-      → (xs ys : List Listed) × (l : Listed) × (records ≡ xs ++ l ∷ ys) × All (λ l. ¬ (P l)) xs × P l × (l.reference ≡ at)
-  first_listed front behind at is none this =
-      let (xs, ys, l, split, before, here) = split_map (λ (l : Listed). l.reference) records front behind at is in
-      let others = unmapped (λ (l : Listed). l.reference) (λ other. ¬ (Q other)) xs (subst (All (λ other. ¬ (Q other))) (sym before) none) in
-      let among = λ (m : Listed) (there : Contains (xs ++ l ∷ ys) m). subst (λ (records : List Listed). Contains records m) (sym split) there in
-      let absent : All (λ l. ¬ (P l)) xs = all_from (λ l. ¬ (P l)) xs (λ i x there holds.
-      all_at (λ l. ¬ (Q l.reference)) xs i x others there (to x (among x (Contains-append_left xs (l ∷ ys) x (contains_at xs i x there))) holds)) in (
-        xs,
-        ys,
-        l,
-        split,
-        absent,
-        ⊎_elim (λ holds. holds) (λ (y, there, holds). absurd (All-contains (λ l. ¬ (P l)) xs y absent there holds)) (from xs ys l split (subst Q (sym here) this)),
-        here,
-      )
-
-  pub first_reference : (xs ys : List Listed) (l : Listed) → records ≡ xs ++ l ∷ ys → All (λ l. ¬ (P l)) xs → P l
-      → (references records ≡ references xs ++ l.reference ∷ references ys) × All (λ other. ¬ (Q other)) (references xs) × Q l.reference
-  first_reference xs ys l split none this = (
-    ap references split ∙ map-append (λ (l : Listed). l.reference) xs (l ∷ ys),
-    All-map (λ other. ¬ (Q other)) (λ (l : Listed). l.reference) xs (all_from (λ l. ¬ (Q l.reference)) xs absent),
-    to l (subst (λ (records : List Listed). Contains records l) (sym split) (Contains-append_right xs (l ∷ ys) l (0, omega arith, refl))) this,
-  )
-    where
-      absent : (i : ℕ) (x : Listed) → get_elem? xs i ≡ some x → Q x.reference → ⊥
-      absent i x there holds =
-          let (f, b, is, others) = split_at xs i x there in
-          ⊎_elim
-          (λ told. all_at (λ l. ¬ (P l)) xs i x none there told)
-          (λ (y, before, told). All-contains (λ l. ¬ (P l)) xs y none (subst (λ (list : List Listed). Contains list y) (sym is) (Contains-append_left f (x ∷ b) y before)) told)
-          (from f (b ++ l ∷ ys) x (split ∙ (ap (λ (list : List Listed). list ++ l ∷ ys) is ∙ append_assoc f (x ∷ b) (l ∷ ys))) holds)
+-- and that of a value is a sample of it
+pub first_valued : (records : List Listed) (of : ℕ) (value : ℤ) (l : Listed) (at : ℕ) → IsFirstThat (IsValued of value) records l → l.reference ≡ at
+    → IsFirstOf records of value at
+first_valued records of value l at first here =
+    subst (IsFirstThat (IsValued of value) records) (λ i. record { reference = here i; made = first.4 i }) first
 
 -- ---- a kept state
 
@@ -106,19 +73,11 @@ module _ (shape : Dimensions) (opened : Anatomy) (state : State) (kept : Invaria
 
   -- the first record of a name stands as one of that name
   pub record_of_first : (name : List ℕ) (spec : Spec) (at : ℕ) → IsFirst kept.anatomy.records name spec at → (r : Record) × Named name spec at r
-  record_of_first name spec at (xs, ys, split, none) =
-      let l : Listed = record { reference = at; made = Some (made.Histogram name spec) } in
-      let (r, has, named, specified) =
-      standing_of l (subst (λ (records : List Listed). Contains records l) (sym split) (Contains-append_right xs (l ∷ ys) l (0, omega arith, refl))) in
-      (r, (has, named, specified))
+  record_of_first name spec at first = let (r, has, named, specified) = standing_of _ (split_among first.0 first.1 first.2) in (r, (has, named, specified))
 
   -- and that of a value as a sample of it
   pub sample_of_first : (of : ℕ) (value : ℤ) (at : ℕ) → IsFirstOf kept.anatomy.records of value at → (s : Sample) × Valued of value at s
-  sample_of_first of value at (xs, ys, split, none) =
-      let l : Listed = record { reference = at; made = Some (made.Sample of value) } in
-      let (s, has, of_it, valued) =
-      standing_of l (subst (λ (records : List Listed). Contains records l) (sym split) (Contains-append_right xs (l ∷ ys) l (0, omega arith, refl))) in
-      (s, (has, of_it, valued))
+  sample_of_first of value at first = let (s, has, of_it, valued) = standing_of _ (split_among first.0 first.1 first.2) in (s, (has, of_it, valued))
 
   -- the words say what was given
   pub name_given : (l : Listed) (name : List ℕ) → Contains kept.anatomy.records l → IsNamed name l → consistent.HasName state.words name l.reference
@@ -140,7 +99,7 @@ module _ (shape : Dimensions) (opened : Anatomy) (state : State) (kept : Invaria
       ⊎ ((r : Record) × (l.made ≡ None) × (r.name ≡ name) × PassedOver shape opened state kept front l.reference r)
   given_name front behind l name split named =
       by_made l.made refl (standing_of shape opened state kept l
-      (subst (λ (records : List Listed). Contains records l) (sym split) (Contains-append_right front (l ∷ behind) l (0, omega arith, refl))))
+      (split_among front behind split))
     where
       by_made : (m : std.Option Made) → l.made ≡ m → StandsAs kept.anatomy.pieces l m
           → ((spec : Spec) × (r : Record) × (l.made ≡ Some (made.Histogram name spec)) × Named shape opened state kept name spec l.reference r)
@@ -166,13 +125,7 @@ module _ (shape : Dimensions) (opened : Anatomy) (state : State) (kept : Invaria
   name_or_before name front behind l split named = elim (given_name front behind l name split named) [
     | inl (spec, r, given, has) ↦ inl (spec, given)
     | inr (r, nothing, same, over) ↦
-        let (kind, first, (xs, ys, is, absent)) = over.0.named in
-        let y : Listed = record { reference = first; made = Some (made.Histogram r.name kind) } in
-        inr (
-          y,
-          subst (λ (list : List Listed). Contains list y) (sym is) (Contains-append_right xs (y ∷ ys) y (0, omega arith, refl)),
-          (kind, ap (λ (name : List ℕ). Some (made.Histogram name kind)) same),
-        )
+        let (kind, at, first) = over.0.named in inr (_, split_among first.0 first.1 first.2, (kind, ap (λ (name : List ℕ). Some (made.Histogram name kind)) same))
   ]
 
   -- and of a sample of a value
@@ -212,7 +165,7 @@ module _ (shape : Dimensions) (opened : Anatomy) (state : State) (kept : Invaria
   record_on_list at there one =
       let (front, behind, l, split, place) = listed_at at there in
       let name : List ℕ = name_of state.words l.reference in
-      let among = subst (λ (records : List Listed). Contains records l) (sym split) (Contains-append_right front (l ∷ behind) l (0, omega arith, refl)) in
+      let among = split_among front behind split in
       elim (given_name front behind l name split (subst (λ (at : ℕ). field_at state.words at 2 ≡ 1) (sym place) one, refl)) [
         | inl (spec, r, made, has) ↦ inl (l, name, spec, r, among, place, made, subst (λ (at : ℕ). Named shape opened state kept name spec at r) place has)
         | inr (r, nothing, same, over) ↦
@@ -234,26 +187,21 @@ module _ (shape : Dimensions) (opened : Anatomy) (state : State) (kept : Invaria
   pub first_of_name : (name : List ℕ) (at : ℕ) → IsHistogram state.words (order_of kept.anatomy) name at
       → (spec : Spec) × (r : Record) × IsFirst kept.anatomy.records name spec at × Named shape opened state kept name spec at r
   first_of_name name at is =
-      let (xs, ys, l, split, none, this, here) = first_listed kept.anatomy.records (IsNamed name) (consistent.HasName state.words name)
-      (λ l there. name_given shape opened state kept l name there) (name_or_before name)
-      is.front is.behind at is.stands is.first is.named in
-      let (spec, made) = this in
-      let first : IsFirst kept.anatomy.records name spec at = (xs, ys, split ∙ (λ i. xs ++ record { reference = here i; made = made i } ∷ ys), none) in
-      let (r, has) = record_of_first shape opened state kept name spec at first in
-      (spec, r, first, has)
+      let (l, first, here) = first_from (λ (l : Listed). l.reference) kept.anatomy.records (IsNamed name) (consistent.HasName state.words name) (name_or_before name)
+      (λ other. ¬ (consistent.HasName state.words name other)) (λ l there named absent. absent (name_given shape opened state kept l name there named)) at is in
+      let (spec, its) = first_named kept.anatomy.records name l at first here in
+      let (r, has) = record_of_first shape opened state kept name spec at its in
+      (spec, r, its, has)
 
   pub name_of_first : (name : List ℕ) (spec : Spec) (at : ℕ) → IsFirst kept.anatomy.records name spec at → IsHistogram state.words (order_of kept.anatomy) name at
-  name_of_first name spec at (xs, ys, split, none) =
-      let l : Listed = record { reference = at; made = Some (made.Histogram name spec) } in
-      let is = first_reference kept.anatomy.records (IsNamed name) (consistent.HasName state.words name)
-      (λ l there. name_given shape opened state kept l name there) (name_or_before name)
-      xs ys l split none (spec, refl) in
-      record { front = map (λ (l : Listed). l.reference) xs; behind = map (λ (l : Listed). l.reference) ys; stands = is.0; first = is.1; named = is.2 }
+  name_of_first name spec at first =
+      first_image (λ (l : Listed). l.reference) kept.anatomy.records (IsNamed name) (consistent.HasName state.words name) (name_or_before name) _ first
+      (name_given shape opened state kept _ name (split_among first.0 first.1 first.2) (spec, refl))
 
   value_given_at : (of : ℕ) (value : ℤ) (front behind : List Listed) (l : Listed) → kept.anatomy.records ≡ front ++ l ∷ behind → IsSampleOf state.words of value l.reference
-      → OrBefore (λ l. l.made ≡ Some (made.Sample of value)) front l
+      → OrBefore (IsValued of value) front l
   value_given_at of value front behind l split valued =
-      let among = subst (λ (records : List Listed). Contains records l) (sym split) (Contains-append_right front (l ∷ behind) l (0, omega arith, refl)) in
+      let among = split_among front behind split in
       let (s, made, has) = given_value l of value among valued in
       inl made
 
@@ -261,17 +209,13 @@ module _ (shape : Dimensions) (opened : Anatomy) (state : State) (kept : Invaria
   pub first_of_value : (of : ℕ) (value : ℤ) (at : ℕ) → IsSample state.words (order_of kept.anatomy) of value at
       → (s : Sample) × IsFirstOf kept.anatomy.records of value at × Valued shape opened state kept of value at s
   first_of_value of value at is =
-      let (xs, ys, l, split, none, this, here) = first_listed kept.anatomy.records (λ l. l.made ≡ Some (made.Sample of value)) (IsSampleOf state.words of value)
-      (λ l there. value_given shape opened state kept l of value there) (value_given_at of value)
-      is.front is.behind at is.stands is.first is.valued in
-      let among = subst (λ (records : List Listed). Contains records l) (sym split) (Contains-append_right xs (l ∷ ys) l (0, omega arith, refl)) in
-      let (s, made, has) = given_value l of value among (value_given shape opened state kept l of value among this) in
-      (s, (xs, ys, split ∙ (λ i. xs ++ record { reference = here i; made = made i } ∷ ys), none), subst (λ (at : ℕ). Valued shape opened state kept of value at s) here has)
+      let (l, first, here) = first_from (λ (l : Listed). l.reference) kept.anatomy.records (IsValued of value) (IsSampleOf state.words of value) (value_given_at of value)
+      (λ other. ¬ (IsSampleOf state.words of value other)) (λ l there given absent. absent (value_given shape opened state kept l of value there given)) at is in
+      let its = first_valued kept.anatomy.records of value l at first here in
+      let (s, has) = sample_of_first shape opened state kept of value at its in
+      (s, its, has)
 
   pub value_of_first : (of : ℕ) (value : ℤ) (at : ℕ) → IsFirstOf kept.anatomy.records of value at → IsSample state.words (order_of kept.anatomy) of value at
-  value_of_first of value at (xs, ys, split, none) =
-      let l : Listed = record { reference = at; made = Some (made.Sample of value) } in
-      let is = first_reference kept.anatomy.records (λ l. l.made ≡ Some (made.Sample of value)) (IsSampleOf state.words of value)
-      (λ l there. value_given shape opened state kept l of value there) (value_given_at of value)
-      xs ys l split none refl in
-      record { front = map (λ (l : Listed). l.reference) xs; behind = map (λ (l : Listed). l.reference) ys; stands = is.0; first = is.1; valued = is.2 }
+  value_of_first of value at first =
+      first_image (λ (l : Listed). l.reference) kept.anatomy.records (IsValued of value) (IsSampleOf state.words of value) (value_given_at of value) _ first
+      (value_given shape opened state kept _ of value (split_among first.0 first.1 first.2) refl)

@@ -142,7 +142,7 @@ module _ (shape : Dimensions) (version id : ℕ) (state : State) (lawful : IsSha
       let (front, behind, split, others) = split_at kept.anatomy.records among.0 l among.1 in
       let here : kept.anatomy.records ≡ front ++ record { reference = l.reference; made = Some (made.Sample of value) } ∷ behind =
       split ∙ ap (λ (m : Option Made). front ++ record { reference = l.reference; made = m } ∷ behind) is in
-      let (name, (xs, ys, before, none_first), its_name) = kept.records.sampled front behind l.reference of value here in
+      let (name, (xs, ys, before, none_first, given), its_name) = kept.records.sampled front behind l.reference of value here in
       let first : IsFirst kept.anatomy.records s.name spec.Sparse of =
       subst (IsFirst kept.anatomy.records s.name spec.Sparse) mine (sample_first shape (blank version id shape.size) state kept l.reference s has) in
       let histogram_is = name_of_first shape (blank version id shape.size) state kept s.name spec.Sparse of first in

@@ -27,9 +27,9 @@ use Rattle.segment_machine.specs.Made.{SawSample, IsFirstSample}
 use Rattle.segment_machine.specs.State.{State}
 use Rattle.segment_invariant.specs.Body.{Sample, sample, histogram, Listed, Anatomy}
 use Rattle.segment_invariant.specs.Ledger.{units_held}
-use Rattle.segment_invariant.specs.Seen.{HasSample, IsFirst, IsFirstOf}
+use Rattle.segment_invariant.specs.Seen.{HasSample, IsValued, IsFirst, IsFirstOf}
 use Rattle.segment_invariant.specs.Invariant.{Invariant}
-use Rattle.segment_invariant.proofs.Lists.Elements.{first_unique}
+use Rattle.segment_invariant.proofs.Lists.Firsts.{first_unique, split_among}
 use Rattle.segment_invariant.proofs.Consistency.Books.{one_name, sample_first}
 use Rattle.segment_invariant.proofs.Consistency.Firsts.{sample_of_first}
 use Rattle.segment_invariant.proofs.Frames.Answers.{first_one}
@@ -49,10 +49,7 @@ use Rattle.segment_invariant.proofs.Counting.Whole.{whole_sample}
 
 -- a value has one first sample
 pub one_sample : (records : List Listed) (of : ℕ) (value : ℤ) (at place : ℕ) → IsFirstOf records of value at → IsFirstOf records of value place → at ≡ place
-one_sample records of value at place (xs, rest, is, before) (ys, more, also, others) =
-    ap (λ (l : Listed). l.reference)
-    (first_unique (λ (l : Listed). l.made ≡ Some (made.Sample of value)) xs ys (record { reference = at; made = Some (made.Sample of value) })
-    (record { reference = place; made = Some (made.Sample of value) }) rest more (sym is ∙ also) before others refl refl)
+one_sample records of value at place first second = ap (λ (l : Listed). l.reference) (first_unique (IsValued of value) records _ _ first second)
 
 module _ (shape : Dimensions) (opened : Anatomy) (state : State) (kept : Invariant shape opened state) (id : ℕ) (a : Actor)
     (mine : get_elem? state.actors id ≡ some a) (recorder : is_opener a.role ≡ false) (unbound : is_bound a.hand.place ≡ false)
@@ -68,11 +65,10 @@ module _ (shape : Dimensions) (opened : Anatomy) (state : State) (kept : Invaria
   -- it met the sample
   met : Contains a.seen.chain at × SawSample a.seen known.reference entry.entry.key at
   met =
-      let (front, between, behind, is, others, its) = saw in (
+      let (front, rest, is, its) = saw in (
         subst (λ (l : List ℕ). Contains l at) (sym is)
-            (Contains-append_right front (known.reference ∷ (between ++ at ∷ behind)) at
-            (Contains-append_right (known.reference ∷ between) (at ∷ behind) at (0, omega arith, refl))),
-        its,
+            (Contains-append_right front (known.reference ∷ rest) at (Contains-append_right (known.reference ∷ []) rest at (split_among its.0 its.1 its.2))),
+        its.4,
       )
 
   first : IsFirstOf kept.anatomy.records known.reference entry.entry.key at

@@ -111,10 +111,10 @@ module _ (shape : Dimensions) (opened : Anatomy) (state : State) (kept : Invaria
 
   -- the first sample of a value that it saw behind the record of its histogram is the first on the list
   pub first_met : (of : ℕ) (value : ℤ) (at : ℕ) → IsFirstSample a.seen of value at → IsFirstOf records of value at
-  first_met of value at (front, between, behind, is, others, saw) =
+  first_met of value at (front, tail, chain_is, (between, behind, tail_is, others, saw)) =
       let (rest, walked) = (kept.each id a mine lives).sees.walked in
       let whole : order ≡ (front ++ of ∷ between) ++ at ∷ (behind ++ rest) =
-      walked ∙ (ap (λ (l : List ℕ). l ++ rest) is
+      walked ∙ (ap (λ (l : List ℕ). l ++ rest) (chain_is ∙ ap (λ (l : List ℕ). front ++ of ∷ l) tail_is)
       ∙ (append_assoc front (of ∷ (between ++ at ∷ behind)) rest
       ∙ (ap (λ (l : List ℕ). front ++ of ∷ l) (append_assoc between (at ∷ behind) rest)
       ∙ sym (append_assoc front (of ∷ between) (at ∷ (behind ++ rest)))))) in
@@ -131,7 +131,7 @@ module _ (shape : Dimensions) (opened : Anatomy) (state : State) (kept : Invaria
             let long : records ≡ f ++ record { reference = x.reference; made = Some (made.Sample of value) } ∷ (b ++ l ∷ ys) =
             split ∙ (ap (λ (list : List Listed). list ++ l ∷ ys) parts
             ∙ (append_assoc f (x ∷ b) (l ∷ ys) ∙ (λ i. f ++ record { reference = x.reference; made = made_so i } ∷ (b ++ l ∷ ys)))) in
-            let (name, (fs, gs, has_first, none_before), named) = kept.records.sampled f (b ++ l ∷ ys) x.reference of value long in
+            let (name, (fs, gs, has_first, none_before, its_kind), named) = kept.records.sampled f (b ++ l ∷ ys) x.reference of value long in
             let fronts : references f ≡ references fs ++ of ∷ references gs =
             ap references has_first ∙ map-append (λ (l : Listed). l.reference) fs (record { reference = of; made = Some (made.Histogram name spec.Sparse) } ∷ gs) in
             let all : references fs ++ of ∷ (references gs ++ x.reference ∷ references b) ≡ front ++ of ∷ between =
@@ -146,6 +146,7 @@ module _ (shape : Dimensions) (opened : Anatomy) (state : State) (kept : Invaria
             (Contains-append_right (references gs) (x.reference ∷ references b) x.reference (0, omega arith, refl)) in
             made_other x of value (subst (λ (list : List Listed). Contains list x) (sym split) (Contains-append_left xs (l ∷ ys) x has))
             (All-contains (SawOther a.seen of value) between x.reference others met) made_so),
+        refl,
       )
 
   -- a later one counts nothing

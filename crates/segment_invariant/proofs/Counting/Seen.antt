@@ -21,6 +21,7 @@ use Rattle.segment_invariant.specs.Body.{Record, Counts, Body, histogram, counts
 use Rattle.segment_invariant.specs.Ledger.{form_at}
 use Rattle.segment_invariant.specs.Seen.{Stands, HasRecord, HasCounts, WasCounter, WasSingle, Knows}
 use Rattle.segment_invariant.specs.Invariant.{StandsAs, Invariant}
+use Rattle.segment_invariant.proofs.Lists.Firsts.{split_among}
 use Rattle.segment_invariant.proofs.Blocks.Places.{counter_within}
 use Rattle.segment_invariant.proofs.Blocks.Pieces.{one_index}
 use Rattle.segment_invariant.proofs.Consistency.Keys.{same_boundaries, same_buckets}
@@ -55,10 +56,8 @@ module _ (shape : Dimensions) (opened : Anatomy) (state : State) (kept : Invaria
       × (buckets_of r.spec ≡ buckets_of known.spec)
   known_stands known has =
       let knows = All-contains (Knows kept.anatomy) a.answers.names known (kept.each id a mine lives).names has in
-      let (front, behind, is, others) = knows.first in
-      let l : Listed = record { reference = known.reference; made = Some (made.Histogram known.name knows.first_spec) } in
-      let (r, stands, named, same) = All-contains (λ l. StandsAs kept.anatomy.pieces l l.made) kept.anatomy.records l kept.list.standing
-      (subst (λ (records : List Listed). Contains records l) (sym is) (Contains-append_right front (l ∷ behind) l (0, omega arith, refl))) in (
+      let (r, stands, named, same) =
+      All-contains (λ l. StandsAs kept.anatomy.pieces l l.made) kept.anatomy.records _ kept.list.standing (split_among knows.first.0 knows.first.1 knows.first.2) in (
         r,
         stands,
         named,

@@ -7,13 +7,7 @@ use Rattle.segment_invariant.specs.Consistent.{IsHistogram}
 
 -- the histogram of its name is that record
 pub the_one : (words name : List ℕ) → field_at words 16 2 ≡ 1 → name_of words 16 ≡ name → IsHistogram words (16 ∷ []) name 16
-the_one words name tag named = record {
-  front = [];
-  behind = [];
-  stands = refl;
-  first = λ k d below. absurd (omega (arith, below));
-  named = (tag, named);
-}
+the_one words name tag named = ([], [], refl, λ k d below. absurd (omega (arith, below)), (tag, named))
 
 -- where it stands
 places : (front behind : List ℕ) (at : ℕ) → 16 ∷ [] ≡ front ++ at ∷ behind → 16 ≡ at
@@ -26,7 +20,7 @@ places (x ∷ front) behind at e =
 -- what holds of it, under its name, holds of each histogram of the chain
 pub of_the_one : (words name : List ℕ) (holds : List ℕ → ℕ → Type 0) → name_of words 16 ≡ name → holds name 16
     → (other : List ℕ) (at : ℕ) → IsHistogram words (16 ∷ []) other at → holds other at
-of_the_one words name holds named it other at is =
-    let e = places is.front is.behind at is.stands in
-    let here = subst (λ (k : ℕ). name_of words k ≡ other) (sym e) is.named.1 in
+of_the_one words name holds named it other at (front, behind, stands, first, its) =
+    let e = places front behind at stands in
+    let here = subst (λ (k : ℕ). name_of words k ≡ other) (sym e) its.1 in
     subst (λ (k : ℕ). holds other k) e (subst (λ (list : List ℕ). holds list 16) (sym named ∙ here) it)

@@ -23,7 +23,8 @@ use Rattle.segment_machine.specs.Publishing.{owed_for, published_as}
 use Rattle.segment_invariant.specs.Body.{Listed}
 use Rattle.segment_invariant.specs.Seen.{IsNamed, IsFirst}
 use Rattle.segment_invariant.specs.Invariant.{IsAnswered, AreAnswered, HasPublished, OwesPublished}
-use Rattle.segment_invariant.proofs.Lists.Elements.{rows, row_in, row_from, contains_filter, first_unique}
+use Rattle.segment_invariant.proofs.Lists.Elements.{rows, row_in, row_from, contains_filter}
+use Rattle.segment_invariant.proofs.Lists.Firsts.{first_unique}
 
 -- ---- lists
 
@@ -36,10 +37,7 @@ row_left {A} {B} f l i x y b there has =
 -- a name has one first record
 pub first_one : (records : List Listed) (name : List ℕ) (kind other : Spec) (at place : ℕ) → IsFirst records name kind at → IsFirst records name other place
     → at ≡ place
-first_one records name kind other at place (xs, rest, is, before) (ys, more, also, others) =
-    ap (λ (l : Listed). l.reference)
-    (first_unique (IsNamed name) xs ys (record { reference = at; made = Some (Histogram name kind) }) (record { reference = place; made = Some (Histogram name other) })
-    rest more (sym is ∙ also) before others (kind, refl) (other, refl))
+first_one records name kind other at place first second = ap (λ (l : Listed). l.reference) (first_unique (IsNamed name) records _ _ first second)
 
 -- ---- what its maker owes
 

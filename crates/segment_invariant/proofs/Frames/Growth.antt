@@ -19,8 +19,9 @@ use Rattle.segment_machine.specs.declared.actor.Made.TheVariants as made
 use Rattle.segment_machine.specs.declared.actor.Own.{Own}
 use Rattle.segment_invariant.specs.Body.{Record, Counts, Sample, Body, queue, plain, held, histogram, counts, sample, other, words_of, is_claimed, Piece, Listed, Anatomy, order_of, free_of}
 use Rattle.segment_invariant.specs.Ledger.{all_held, all_amounts}
-use Rattle.segment_invariant.specs.Seen.{Stands, HasPlain, HasRecord, HasCounts, HasSample, IsNamed, IsFirst, IsFirstOf, IsReachedAt, IsNoLater, AreNoLater, Knows, Sees}
+use Rattle.segment_invariant.specs.Seen.{Stands, HasPlain, HasRecord, HasCounts, HasSample, IsNamed, IsValued, IsFirst, IsFirstOf, IsReachedAt, IsNoLater, AreNoLater, Knows, Sees}
 use Rattle.segment_invariant.specs.Invariant.{StandsAs}
+use Rattle.segment_invariant.proofs.Lists.Firsts.{first_longer}
 use Rattle.segment_invariant.proofs.Frames.Standing.{Grounds}
 use Rattle.segment_invariant.proofs.Frames.Onward.{GoesAs, goes_itself, Onward, stands_as_on, sees_on}
 
@@ -131,15 +132,6 @@ no_later_longer chain more seen present (i, j, le, within, is, then) =
     let long = longer_by chain more in
     (i, j, le, omega (arith, within, long), stop_at chain more i (omega (arith, le, within)) ∙ is, stop_at chain more j within ∙ then)
 
--- the first record of a name, and of a value, stays the first
-pub first_longer : (records more : List Listed) (name : List ℕ) (spec : Spec) (at : ℕ) → IsFirst records name spec at → IsFirst (records ++ more) name spec at
-first_longer records more name spec at (front, behind, is, none_before) =
-    (front, behind ++ more, ap (λ (l : List Listed). l ++ more) is ∙ append_assoc front _ more, none_before)
-
-pub first_of_longer : (records more : List Listed) (of at : ℕ) (value : ℤ) → IsFirstOf records of value at → IsFirstOf (records ++ more) of value at
-first_of_longer records more of at value (front, behind, is, none_before) =
-    (front, behind ++ more, ap (λ (l : List Listed). l ++ more) is ∙ append_assoc front _ more, none_before)
-
 -- ---- how a segment grows
 
 -- the anatomy with other blocks, other flags and another tail, and the same records
@@ -177,7 +169,7 @@ pub record Grows (old new : Anatomy) (added : ℕ → Body → Type 0) : Type 0 
       → IsFirst old.records name spec at ⊎ ((r : Record) × added at (histogram r) × All (λ l. ¬ (IsNamed name l)) old.records)
   pub first_of_came : (of at : ℕ) (value : ℤ) → IsFirstOf new.records of value at
       → IsFirstOf old.records of value at
-      ⊎ ((s : Sample) × added at (sample s) × All (λ (l : Listed). l.made ≢ Some (made.Sample of value)) old.records)
+      ⊎ ((s : Sample) × added at (sample s) × All (λ l. ¬ (IsValued of value l)) old.records)
 
 -- where what was published stays, and the list too
 pub grows_not : (anatomy : Anatomy) (pieces : List Piece) (spare : ℕ) (corrupt full : Bool) (tail : ℕ) → Stays anatomy.pieces pieces
@@ -243,7 +235,7 @@ module _ (old new : Anatomy) (added : ℕ → Body → Type 0) (grows : Grows ol
 
   pub first_grows : (name : List ℕ) (spec : Spec) (at : ℕ) → IsFirst old.records name spec at → IsFirst new.records name spec at
   first_grows name spec at first =
-      subst (λ (records : List Listed). IsFirst records name spec at) (sym grows.records) (first_longer old.records _ name spec at first)
+      subst (λ (records : List Listed). IsFirst records name spec at) (sym grows.records) (first_longer (IsNamed name) old.records _ _ first)
 
   -- records, counts and samples stay, and come from old ones
   pub record_stays : (at : ℕ) (r : Record) → HasRecord old.pieces at r → (n : ℕ) × HasRecord new.pieces at (record r { next = n })

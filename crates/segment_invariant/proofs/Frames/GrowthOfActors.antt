@@ -22,11 +22,12 @@ use Rattle.segment_machine.specs.Note.{SawBucket}
 use Rattle.segment_machine.specs.Actor.{accepted_by}
 use Rattle.segment_invariant.specs.Body.{Record, Body, histogram, sample, words_of, Listed, Anatomy, order_of}
 use Rattle.segment_invariant.specs.Ledger.{form_at}
-use Rattle.segment_invariant.specs.Seen.{HasRecord, IsNamed, IsFirstOf, WasCounter, Sees, WasSingle, HasCounts}
+use Rattle.segment_invariant.specs.Seen.{HasRecord, IsNamed, IsValued, IsFirstOf, WasCounter, Sees, WasSingle, HasCounts}
 use Rattle.segment_invariant.specs.Invariant.{HoldsOwn, CallsRight, HasKey, IsSettled, LooksBack, OwesPublished, Fits, IsAhead}
+use Rattle.segment_invariant.proofs.Lists.Firsts.{first_longer, split_among}
 use Rattle.segment_invariant.proofs.Blocks.Places.{counter_within}
 use Rattle.segment_invariant.proofs.Frames.OneActor.{Doing, doing, doing_of}
-use Rattle.segment_invariant.proofs.Frames.Growth.{Grows, names_grow, first_of_longer, record_stays, record_came, counts_came}
+use Rattle.segment_invariant.proofs.Frames.Growth.{Grows, names_grow, record_stays, record_came, counts_came}
 use Rattle.segment_machine.specs.Form.{Leads}
 use Rattle.segment_invariant.proofs.Frames.Anew.{calls_anew}
 
@@ -59,11 +60,8 @@ module _ (shape : Dimensions) (old new : Anatomy) (added : ℕ → Body → Type
   no_record at body r long new_one stands = grows.apart at at 0 0 body (histogram r) new_one stands long (omega arith) refl
 
   no_name : (entry : Entry) → HasKey old.records entry.name entry.key → All (λ l. ¬ (IsNamed entry.name l)) old.records → ⊥
-  no_name entry (kind, at, (front, behind, is, others), key) absent =
-      let l : Listed = record { reference = at; made = Some (made.Histogram entry.name kind) } in
-      All-contains (λ l. ¬ (IsNamed entry.name l)) old.records l absent
-      (subst (λ (records : List Listed). Contains records l) (sym is) (Contains-append_right front (l ∷ behind) l (0, omega arith, refl)))
-      (kind, refl)
+  no_name entry (kind, at, first, key) absent =
+      All-contains (λ l. ¬ (IsNamed entry.name l)) old.records _ absent (split_among first.0 first.1 first.2) (kind, refl)
 
   calls_grow : CallsRight old x → CallsRight new (doing x c)
   calls_grow calls = calls_anew old new x (doing x c).seen calls
@@ -71,7 +69,7 @@ module _ (shape : Dimensions) (old new : Anatomy) (added : ℕ → Body → Type
       (λ before.
       let (at, sampled, met, (tag, histogram_is, value, small)) = calls.met entry of counted some_units before in (
         at,
-        subst (λ (records : List Listed). IsFirstOf records of entry.key at) (sym grows.records) (first_of_longer old.records grows.more of at entry.key sampled),
+        subst (λ (records : List Listed). IsFirstOf records of entry.key at) (sym grows.records) (first_longer (IsValued of entry.key) old.records grows.more _ sampled),
         more.chain at met,
         (more.words (at + 2) 3 tag, more.words (at + 4) of histogram_is, more.words (at + 5) _ value, small),
       ))

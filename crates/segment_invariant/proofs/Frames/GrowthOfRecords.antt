@@ -13,9 +13,10 @@ use Rattle.segment_machine.specs.declared.place.Place.TheVariants.{SumLoaded}
 use Rattle.segment_machine.specs.Form.{units_in}
 use Rattle.segment_invariant.specs.Body.{Record, Counts, Sample, Body, histogram, sample, Listed, Anatomy}
 use Rattle.segment_invariant.specs.Ledger.{form_at}
-use Rattle.segment_invariant.specs.Seen.{Stands, HasRecord, HasCounts, HasSample, IsNamed, IsFirst, IsFirstOf}
+use Rattle.segment_invariant.specs.Seen.{Stands, HasRecord, HasCounts, HasSample, IsNamed, IsValued, IsFirst, IsFirstOf}
 use Rattle.segment_invariant.specs.Invariant.{StandsAs, IsListed, IsLawfulRecord, IsCountsOf, IsLawfulSample, CountsNothing, RecordsAreKept, HasKey, SumsAreNear, IsSumOf, summed_costs}
-use Rattle.segment_invariant.proofs.Frames.Growth.{Grows, first_grows, first_of_longer, record_stays, record_came, counts_stay, counts_came, sample_came}
+use Rattle.segment_invariant.proofs.Lists.Firsts.{first_longer}
+use Rattle.segment_invariant.proofs.Frames.Growth.{Grows, first_grows, record_stays, record_came, counts_stay, counts_came, sample_came}
 
 -- ---- what was added
 
@@ -139,7 +140,7 @@ module _ (old new : Anatomy) (added : ℕ → Body → Type 0) (grows : Grows ol
     kind,
     at,
     first_grows old new added grows name kind at first,
-    inr (sparse, who, subst (λ (records : List Listed). IsFirstOf records at key who) (sym grows.records) (first_of_longer old.records grows.more at who key sampled)),
+    inr (sparse, who, subst (λ (records : List Listed). IsFirstOf records at key who) (sym grows.records) (first_longer (IsValued at key) old.records grows.more _ sampled)),
   )
 
   module _ (actors : List Actor)

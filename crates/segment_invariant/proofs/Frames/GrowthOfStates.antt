@@ -22,6 +22,7 @@ use Rattle.segment_invariant.specs.Body.{Record, Body, Listed, Anatomy, order_of
 use Rattle.segment_invariant.specs.Seen.{HasRecord, Knows, Sees}
 use Rattle.segment_machine.specs.State.{State}
 use Rattle.segment_invariant.specs.Invariant.{StandsAs, HasKey, StandsRight, HoldsOwn, Fits, Invariant, OwesPublished, IsAhead}
+use Rattle.segment_invariant.proofs.Lists.Firsts.{split_among}
 use Rattle.segment_invariant.proofs.Lists.Elements.{row_in}
 use Rattle.segment_invariant.proofs.Frames.OneActor.{Doing, doing, lives_on}
 use Rattle.segment_invariant.proofs.Frames.Growth.{Grows}
@@ -82,10 +83,8 @@ module _ (shape : Dimensions) (opened : Anatomy) (state : State) (kept : Invaria
       → (known : Known) → Contains x.answers.names known → (r : Record) × HasRecord kept.anatomy.pieces known.reference r
   known_record id x there lives known has =
       let knows = All-contains (Knows kept.anatomy) x.answers.names known (kept.each id x there lives).names has in
-      let (front, behind, is, others) = knows.first in
-      let l : Listed = record { reference = known.reference; made = Some (made.Histogram known.name knows.first_spec) } in
-      let (r, stands, named, same) = All-contains (λ l. StandsAs kept.anatomy.pieces l l.made) kept.anatomy.records l kept.list.standing
-      (subst (λ (records : List Listed). Contains records l) (sym is) (Contains-append_right front (l ∷ behind) l (0, omega arith, refl))) in
+      let (r, stands, named, same) =
+      All-contains (λ l. StandsAs kept.anatomy.pieces l l.made) kept.anatomy.records _ kept.list.standing (split_among knows.first.0 knows.first.1 knows.first.2) in
       (r, stands)
 
   pub loaded_record : (id : ℕ) (x : Actor) (reference : ℕ) (sum : ℤ) → get_elem? state.actors id ≡ some x → x.hand.place ≡ SumLoaded reference sum

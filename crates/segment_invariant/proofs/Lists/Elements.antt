@@ -205,17 +205,3 @@ any_there (x ∷ xs) zero b e = ap (λ c. fold ◌||◌ (b || c) xs) (some-injec
     or_true true xs = any_true xs
     or_true false xs = any_true xs
 any_there (x ∷ xs) (suc i) b e = any_there xs i (b || x) e
-
--- ---- the first of some
-
--- the first element of which something is told is one
-pub first_unique : {X : Type 0} (P : X → Type 0) (xs ys : List X) (x y : X) (rest more : List X) → xs ++ x ∷ rest ≡ ys ++ y ∷ more
-    → All (λ z. ¬ (P z)) xs → All (λ z. ¬ (P z)) ys → P x → P y → x ≡ y
-first_unique P [] [] x y rest more e none_before others here there = cc e
-first_unique P [] (z ∷ ys) x y rest more e none_before others here there =
-    let same : x ≡ z = cc e in absurd (All-head (λ z. ¬ (P z)) z ys others (subst P same here))
-first_unique P (z ∷ xs) [] x y rest more e none_before others here there =
-    let same : z ≡ y = cc e in absurd (All-head (λ z. ¬ (P z)) z xs none_before (subst P (sym same) there))
-first_unique P (z ∷ xs) (w ∷ ys) x y rest more e none_before others here there =
-    let behind : xs ++ x ∷ rest ≡ ys ++ y ∷ more = cc e in
-    first_unique P xs ys x y rest more behind (All-tail (λ z. ¬ (P z)) z xs none_before) (All-tail (λ z. ¬ (P z)) w ys others) here there

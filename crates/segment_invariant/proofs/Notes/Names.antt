@@ -18,6 +18,7 @@ use Rattle.bucket_ranges.specs.declared.spec.Spec.{Spec}
 use Rattle.bucket_ranges.specs.declared.spec.Spec.TheVariants.{Linear, Boolean, Custom, Sparse}
 use Rattle.std.specs.Str.{bytes_eq}
 use Rattle.std.specs.List.{filter}
+use Rattle.segment_invariant.proofs.Lists.Firsts.{split_among}
 use Rattle.segment_invariant.proofs.Frames.Answers.{answered_declines}
 use Rattle.segment_invariant.proofs.Notes.Begins.{takes_nothing}
 use Rattle.segment_invariant.proofs.Notes.Actors.{noting_fits, finals_on, calls_by}
@@ -214,7 +215,7 @@ module _ (shape : Dimensions) (opened : Anatomy) (state : State) (kept : Invaria
           let name_is = name_seen name at r has saw in
           let listed : l ≡ record { reference = at; made = Some (made.Histogram name kind) } =
           (λ i. record { reference = place i; made = (given_is ∙ ap (λ (n : List ℕ). Some (made.Histogram n kind)) (sym named ∙ name_is)) i }) in
-          (kind, r, has, name_is, same, (before, after, records_are ∙ ap (λ (l : Listed). before ++ l ∷ after) listed, absent))
+          (kind, r, has, name_is, same, (before, after, records_are ∙ ap (λ (l : Listed). before ++ l ∷ after) listed, absent, (kind, refl)))
       by_given name at before l after (Some (made.Sample of value)) given_is (s, is, of_is, value_is) place saw records_are absent =
           let three : 3 ≡ 1 = sighted shape opened state kept id a mine lives l.reference 2 1 (sample s) is (omega arith)
           (subst (λ at. word_seen a.seen.words (at + 2) ≡ Some 1) (sym place) saw.0) in
@@ -229,10 +230,10 @@ module _ (shape : Dimensions) (opened : Anatomy) (state : State) (kept : Invaria
                 let (size, tag, next, payload, is, holds) = over.stands in
                 let named : r.name ≡ name =
                 name_as kept.anatomy.version name l.reference r (other size tag next payload, is, holds) over.lawful (subst (SawName a.seen name) (sym place) saw) in
-                let (kind, first, (xs, ys, split, none_before)) = over.named in
+                let (kind, first, its) = over.named in
                 let y : Listed = record { reference = first; made = Some (made.Histogram r.name kind) } in
                 absurd (All-contains (λ x. ¬ (IsNamed name x)) before y absent
-                (subst (λ (list : List Listed). Contains list y) (sym split) (Contains-append_right xs (y ∷ ys) y (0, omega arith, refl)))
+                (split_among its.0 its.1 its.2)
                 (kind, ap (λ (name : List ℕ). Some (made.Histogram name kind)) named))
           ]
 

@@ -37,7 +37,7 @@ use Rattle.segment_machine.specs.State.{State}
 use Rattle.segment_machine.specs.Calls.{without}
 use Rattle.segment_machine.specs.Publishing.{own_at, published_as, owed_for}
 use Rattle.segment_invariant.specs.Body.{Record, Counts, Sample, Body, queue, plain, held, histogram, counts, sample, other, words_of, is_claimed, Piece, extent_of, Listed, listed, Anatomy, layout_of, order_of, free_of, claims_of}
-use Rattle.segment_invariant.specs.Seen.{Stands, Sees, IsNamed, IsNoLater}
+use Rattle.segment_invariant.specs.Seen.{Stands, Sees, IsNamed, IsValued, IsNoLater}
 use Rattle.segment_invariant.specs.Invariant.{StandsAs, IsListed, ListIsKept, StandsRight, HoldsOwn, Fits, CursorsAreKept, IsSetBy, ClaimedRight, Invariant, AreAnswered, IsAhead, is_beaten}
 use Rattle.segment_invariant.proofs.Lists.Elements.{rows, rows_more, column, at_from, below_length, index_at, all_at, row_in}
 use Rattle.segment_invariant.proofs.Blocks.Pieces.{piece_word, first_piece, some_first, one_index, one_piece, with_piece, piece_stored, free_with, queue_piece, queue_stored, claims_same}
@@ -304,9 +304,9 @@ module _ (shape : Dimensions) (opened : Anatomy) (state : State) (kept : Invaria
           some-ne-none id (ap (λ (p : Piece). p.owner) (some-injective _ _ (sym stood.1 ∙ (ap (get_elem? anatomy.pieces) index ∙ stands.1))));
       bare = adds.bare;
       first_came = λ name spec at first.
-          let (front, behind, is, others) = first in
+          let (front, behind, is, others, its) = first in
           ⊎_elim
-          (λ t. inl (front, t.0, t.1, others))
+          (λ t. inl (front, t.0, t.1, others, its))
           (λ t.
           let asked_for : given ≡ made.Histogram name spec = cc (ap (λ (z : Listed). z.made) t.0) in
           let (r, new_one) = adds.new_record name spec asked_for in
@@ -317,16 +317,16 @@ module _ (shape : Dimensions) (opened : Anatomy) (state : State) (kept : Invaria
           ))
           (snoc_split anatomy.records front behind l (record { reference = at; made = Some (made.Histogram name spec) }) is);
       first_of_came = λ of at value first.
-          let (front, behind, is, others) = first in
+          let (front, behind, is, others, its) = first in
           ⊎_elim
-          (λ t. inl (front, t.0, t.1, others))
+          (λ t. inl (front, t.0, t.1, others, its))
           (λ t.
           let asked_for : given ≡ made.Sample of value = cc (ap (λ (z : Listed). z.made) t.0) in
           let (s, new_one) = adds.new_sample of value asked_for in
           inr (
             s,
             subst (λ (n : ℕ). added n (sample s)) (ap (λ (z : Listed). z.reference) t.0) new_one,
-            subst (λ (rs : List Listed). All (λ (l : Listed). l.made ≢ Some (made.Sample of value)) rs) (sym t.1) others,
+            subst (λ (rs : List Listed). All (λ l. ¬ (IsValued of value l)) rs) (sym t.1) others,
           ))
           (snoc_split anatomy.records front behind l (record { reference = at; made = Some (made.Sample of value) }) is);
     }
@@ -379,9 +379,9 @@ module _ (shape : Dimensions) (opened : Anatomy) (state : State) (kept : Invaria
 
     -- the record is the first of its name and its maker owes the answer, or the first one stays
     answered_now : AreAnswered new.records actors'
-    answered_now name kind at (front, behind, is, others) = ⊎_elim
+    answered_now name kind at (front, behind, is, others, its) = ⊎_elim
         (λ t. answered_more anatomy.records state.actors id a (doing a d) mine refl
-        (λ known has. Contains-append_left a.answers.owed (owed_for (own_at a.hand.own own.at) own.at) known has) kept.answered name kind at (front, t.0, t.1, others))
+        (λ known has. Contains-append_left a.answers.owed (owed_for (own_at a.hand.own own.at) own.at) known has) kept.answered name kind at (front, t.0, t.1, others, its))
         (λ t.
         let asked_for : given ≡ made.Histogram name kind = cc (ap (λ (z : Listed). z.made) t.0) in
         let owes = owed_is (own_at a.hand.own own.at) own name kind own.at (own_found a.hand.own i own mine_fits.apart there) (asked ∙ ap (λ (g : Made). Some g) asked_for) in

@@ -97,14 +97,10 @@ cut_before (x ∷ rest) at = or_else
     (then (same x at) (λ e. Some ([], rest, ap (λ n. n ∷ rest) e)))
     (then (cut_before rest at) (λ t. Some (x ∷ t.0, t.1, ap (λ list. x ∷ list) t.2)))
 
-pub cut_twice : (chain front behind between rest : List ℕ) (histogram at : ℕ) → chain ≡ front ++ histogram ∷ behind → behind ≡ between ++ at ∷ rest
-    → chain ≡ front ++ histogram ∷ (between ++ at ∷ rest)
-cut_twice chain front behind between rest histogram at is then_is = is ∙ ap (λ (list : List ℕ). front ++ histogram ∷ list) then_is
-
 abbrev is_first_sample : (seen : Seen) (histogram : ℕ) (value : ℤ) (at : ℕ) → Option (IsFirstSample seen histogram value at)
 is_first_sample seen histogram value at =
     then (cut_before seen.chain histogram) (λ t. then (cut_before t.1 at) (λ u. then (all_of (SawOther seen histogram value) (saw_other seen histogram value) u.0) (λ others.
-    then (saw_sample seen histogram value at) (λ saw. Some (t.0, u.0, u.1, cut_twice seen.chain t.0 t.1 u.0 u.1 histogram at t.2 u.2, others, saw)))))
+    then (saw_sample seen histogram value at) (λ saw. Some (t.0, t.1, t.2, (u.0, u.1, u.2, others, saw))))))
 
 abbrev may_count_bucket : (a : Actor) (at units : ℕ) → Option (counting.MayCount a at units)
 may_count_bucket a at units =

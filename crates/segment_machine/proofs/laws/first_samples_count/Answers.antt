@@ -45,10 +45,11 @@ no_other histogram value saw other = ⊎_elim
     other
 
 later : (histogram at : ℕ) (value : ℤ) → at ≡ 64 → IsFirstSample met_twice.seen histogram value at → ⊥
-later histogram at value is (front, between, behind, chain, others, saw) =
+later histogram at value is (front, rest, chain, (between, behind, within, others, saw)) =
     let here : SawSample met_twice.seen histogram value 64 = subst (λ (n : ℕ). SawSample met_twice.seen histogram value n) is saw in
     no_other histogram value here
-    (All-contains (SawOther met_twice.seen histogram value) between 56 others (between_them front between behind histogram at (sym (seen here.1)) is chain))
+    (All-contains (SawOther met_twice.seen histogram value) between 56 others (between_them front between behind histogram at (sym (seen here.1)) is
+    (chain ∙ ap (λ (list : List ℕ). front ++ histogram ∷ list) within)))
 
 pub returns : goal.returns
 returns c = (
@@ -58,7 +59,7 @@ returns c = (
     (([], refl), refl),
     refl,
     refl,
-    inr (56, refl, ((1, omega arith, refl), refl, refl), (16 ∷ [], [], 64 ∷ [], refl, All-nil _, (refl, refl, refl, refl)), refl),
+    inr (56, refl, ((1, omega arith, refl), refl, refl), (16 ∷ [], 56 ∷ 64 ∷ [], refl, ([], 64 ∷ [], refl, All-nil _, (refl, refl, refl, refl))), refl),
   ),
   λ t. ⊎_elim
       (λ off. cc off.2.0)

@@ -50,7 +50,7 @@ saw_all = record {
       (λ count. (sample : ℕ) × IsFirstSample done.seen 40 count.0 sample × SawCount done (sample + 6) count.1)
       (negsuc 4, 1)
       []
-      (56, (16 ∷ [], [], [], refl, All-nil _, (refl, refl, refl, refl)), (0, omega arith, refl))
+      (56, (16 ∷ [], 56 ∷ [], refl, ([], [], refl, All-nil _, (refl, refl, refl, refl))), (0, omega arith, refl))
       (All-nil _);
   once = λ sparse i j x y here there same. once (negsuc 4, 1) x y i j here there;
   values = λ sparse value sample met saw. the_value value sample met saw;
@@ -76,5 +76,5 @@ returns c = (
       let all = t.3.samples (sparse t.0 t.1 t.2) in
       let wrong = All-contains (λ count. (sample : ℕ) × IsFirstSample done.seen t.0.reference count.0 sample × SawCount done (sample + 6) count.1)
       ((negsuc 4, 1) ∷ (pos 18446744073709551611, 1) ∷ []) (pos 18446744073709551611, 1) all (1, omega arith, refl) in
-      true≢false (sym wrong.1.5.3),
+      true≢false (sym wrong.1.3.4.3),
 )

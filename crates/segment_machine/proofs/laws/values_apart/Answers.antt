@@ -26,12 +26,12 @@ returns c = (
     (([], refl), refl),
     refl,
     refl,
-    inr (56, refl, ((1, omega arith, refl), refl, refl), (16 ∷ [], [], [], refl, All-nil _, (refl, refl, refl, refl)), refl),
+    inr (56, refl, ((1, omega arith, refl), refl, refl), (16 ∷ [], 56 ∷ [], refl, ([], [], refl, All-nil _, (refl, refl, refl, refl))), refl),
   ),
   λ (counted, known, first, named, units, either). ⊎_elim
       (λ t. cc t.2.0)
       (λ t.
       let same : too_large ≡ counted = cc first.0.1 in
-      true≢false (sym t.3.5.3 ∙ ap (λ (x : Counting). is_i32 x.entry.key) (sym same)))
+      true≢false (sym t.3.3.4.3 ∙ ap (λ (x : Counting). is_i32 x.entry.key) (sym same)))
       either,
 )

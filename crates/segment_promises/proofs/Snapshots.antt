@@ -27,6 +27,7 @@ use Rattle.segment_machine.specs.State.{State}
 use Rattle.segment_invariant.specs.Body.{Listed, Anatomy}
 use Rattle.segment_invariant.specs.Seen.{IsFirstOf}
 use Rattle.segment_invariant.specs.Invariant.{Invariant}
+use Rattle.segment_invariant.proofs.Counting.AddSample.{one_sample}
 use Rattle.segment_invariant.proofs.Lists.Elements.{at_from, there_below, sum_at_least}
 use Rattle.segment_invariant.proofs.Lists.Maps.{contains_mapped, one_at}
 use Rattle.segment_invariant.proofs.Counting.Samples.{first_met}

@@ -84,32 +84,31 @@ module _ (words : List ℕ) (head : SegmentHead) (references : List ℕ)
   pub read_from : (at : ℕ) → Contains (read_records words head references) at → IsHistogram words references (name_of words at) at
   read_from at there =
       let (front, behind, is, none_before, one) = first_from (same_name words) (is_of_type words 1) references at
-      (subst (λ (l : List ℕ). Contains l at) reads there) in
-      record {
-        front = front;
-        behind = behind;
-        stands = is;
-        first = All-weaker (λ x. is_of_type words 1 x ≡ true → same_name words x at ≡ false) (λ x. ¬ (HasName words (name_of words at) x))
+      (subst (λ (l : List ℕ). Contains l at) reads there) in (
+        front,
+        behind,
+        is,
+        All-weaker (λ x. is_of_type words 1 x ≡ true → same_name words x at ≡ false) (λ x. ¬ (HasName words (name_of words at) x))
             (λ x apart (type, named).
             let differs = apart (eq-eqb (field_at words x 2) 1 type) in
             let equal = (bytes_eq-Decides (name_of words at) (name_of words x)).1 (sym named) in
-            cc (differs, equal)) front none_before;
-        named = (eqb-true (field_at words at 2) 1 one, refl);
-      }
+            cc (differs, equal)) front none_before,
+        (eqb-true (field_at words at 2) 1 one, refl),
+      )
 
   -- and the first of a name is read
   pub read_to : (name : List ℕ) (at : ℕ) → IsHistogram words references name at → Contains (read_records words head references) at
-  read_to name at is =
+  read_to name at (front, behind, stands, first, its) =
       subst (λ (l : List ℕ). Contains l at) (sym reads)
-      (subst (λ (l : List ℕ). Contains (first_of_each (same_name words) (filter (is_of_type words 1) l)) at) (sym is.stands)
-      (first_to (same_name words) (is_of_type words 1) is.front is.behind at
+      (subst (λ (l : List ℕ). Contains (first_of_each (same_name words) (filter (is_of_type words 1) l)) at) (sym stands)
+      (first_to (same_name words) (is_of_type words 1) front behind at
       (All-weaker (λ x. ¬ (HasName words name x)) (λ x. is_of_type words 1 x ≡ true → same_name words x at ≡ false)
-      (λ x other type. apart x other type (same_name words x at) refl) is.front is.first)
-      (eq-eqb (field_at words at 2) 1 is.named.0)))
+      (λ x other type. apart x other type (same_name words x at) refl) front first)
+      (eq-eqb (field_at words at 2) 1 its.0)))
     where
       apart : (x : ℕ) → ¬ (HasName words name x) → is_of_type words 1 x ≡ true → (b : Bool) → same_name words x at ≡ b → same_name words x at ≡ false
       apart x other type true same =
-          absurd (other (eqb-true (field_at words x 2) 1 type, sym ((bytes_eq-Decides (name_of words at) (name_of words x)).0 same) ∙ is.named.1))
+          absurd (other (eqb-true (field_at words x 2) 1 type, sym ((bytes_eq-Decides (name_of words at) (name_of words x)).0 same) ∙ its.1))
       apart x other type false differs = differs
 
   -- each name once

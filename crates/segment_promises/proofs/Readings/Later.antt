@@ -5,7 +5,6 @@ use Rattle.std.specs.Prelude.{◌==◌}
 use Rattle.std.specs.Str.{bytes_eq}
 use Rattle.std.specs.List.{All, Contains}
 use Rattle.std.proofs.lemmas.Bool.{eqb-true, eqb-false}
-use Rattle.std.proofs.lemmas.List.Elements.{All-nil, All-cons}
 use Rattle.std.proofs.lemmas.Slice.Eq.{bytes_eq-Decides}
 use mathlib.Core.Option.{some, none, some-injective, some-ne-none}
 use lib.ListN.{get_elem?}
@@ -23,30 +22,14 @@ use Rattle.segment_machine.specs.State.{State}
 use Rattle.segment_invariant.specs.Body.{Record, histogram, Listed, Anatomy}
 use Rattle.segment_invariant.specs.Seen.{HasRecord, IsNamed, IsFirst}
 use Rattle.segment_invariant.specs.Invariant.{CountsNothing, Invariant}
-use Rattle.segment_invariant.proofs.Lists.Elements.{at_from}
+use Rattle.segment_invariant.proofs.Lists.Firsts as lists
 use Rattle.segment_invariant.proofs.Blocks.Pieces.{one_stands}
 use Rattle.segment_invariant.proofs.Consistency.Records.{record_word}
 use Rattle.segment_invariant.proofs.Consistency.Specs.{form_is}
-use Rattle.segment_invariant.proofs.Consistency.Firsts.{record_of_first}
+use Rattle.segment_invariant.proofs.Consistency.Firsts.{first_named, record_of_first}
 use Rattle.segment_promises.proofs.Readings.Bounds.{AreBounded, first_bounded}
 
 -- ---- there is a first one
-
--- of those of which something is told one is the first in a list
-abbrev pub HasFirst : {X : Type 0} → (X → Type 0) → List X → Type 0
-HasFirst {X} P l = (front behind : List X) × (y : X) × (l ≡ front ++ y ∷ behind) × All (λ z. ¬ (P z)) front × P y
-
-pub first_of_those : {X : Type 0} (P : X → Type 0) → ((x : X) → P x ⊎ (¬ (P x))) → (l : List X) (k : ℕ) (x : X) → get_elem? l k ≡ some x → P x
-    → HasFirst P l
-first_of_those P either [] k x there this = absurd (some-ne-none x (sym there))
-first_of_those {X} P either (z ∷ zs) k x there this = by_head k there (either z) (λ k there. first_of_those P either zs k x there this)
-  where
-    by_head : (k : ℕ) → get_elem? (z ∷ zs) k ≡ some x → P z ⊎ (¬ (P z)) → ((k : ℕ) → get_elem? zs k ≡ some x → HasFirst P zs) → HasFirst P (z ∷ zs)
-    by_head k there (inl here) rest = ([], zs, z, refl, All-nil _, here)
-    by_head zero there (inr absent) rest = absurd (absent (subst P (sym (some-injective z x there)) this))
-    by_head (suc k) there (inr absent) rest =
-        let (front, behind, y, is, none_before, first) = rest k there in
-        (z ∷ front, behind, y, ap (λ (l : List X). z ∷ l) is, All-cons (λ z. ¬ (P z)) z front absent none_before, first)
 
 -- a record is of a name or not
 pub named_or_not : (name : List ℕ) (l : Listed) → IsNamed name l ⊎ (¬ (IsNamed name l))
@@ -67,9 +50,9 @@ named_or_not name l = by_made l.made refl
 pub first_there : (records : List Listed) (name : List ℕ) (l : Listed) → Contains records l → IsNamed name l
     → (kind : Spec) × (place : ℕ) × IsFirst records name kind place
 first_there records name l there named =
-    let (k, at) = at_from records l there in
-    let (front, behind, first, is, none_before, (kind, its)) = first_of_those (IsNamed name) (named_or_not name) records k l at named in
-    (kind, first.reference, (front, behind, is ∙ ap (λ (m : Option Made). front ++ record { reference = first.reference; made = m } ∷ behind) its, none_before))
+    let (first, its) = lists.first_there (IsNamed name) (named_or_not name) records l there named in
+    let (kind, is) = first_named records name first first.reference its refl in
+    (kind, first.reference, is)
 
 -- ---- a kept state
 

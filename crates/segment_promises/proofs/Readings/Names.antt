@@ -64,7 +64,7 @@ module _ (shape : Dimensions) (opened : Anatomy) (state : State) (kept : Invaria
       read = λ name kind at first.
           let is_first = name_of_first shape opened state kept name kind at first in
           let among = contains_map histogram reads at (read_to state.words (head_of state.words) (order_of kept.anatomy) no_listed_fault name at is_first) in
-          (histogram at, subst (λ (l : List Histogram). Contains l (histogram at)) (sym hists_are) among, is_first.named.1);
+          (histogram at, subst (λ (l : List Histogram). Contains l (histogram at)) (sym hists_are) among, is_first.4.1);
       once = λ i j g h here there same.
           let (x, at, from) = from_map histogram reads i g (ap (λ (l : List Histogram). get_elem? l i) (sym hists_are) ∙ here) in
           let (y, place, other) = from_map histogram reads j h (ap (λ (l : List Histogram). get_elem? l j) (sym hists_are) ∙ there) in

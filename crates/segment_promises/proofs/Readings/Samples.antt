@@ -26,7 +26,7 @@ use Rattle.segment_invariant.specs.Consistent.{IsHistogram}
 use Rattle.segment_invariant.specs.Consistent as consistent
 use Rattle.segment_invariant.specs.Body.{Sample, sample, Listed, Anatomy, order_of}
 use Rattle.segment_invariant.specs.Ledger.{units_held, all_held}
-use Rattle.segment_invariant.specs.Seen.{HasSample, IsNamed, IsFirst, IsFirstOf}
+use Rattle.segment_invariant.specs.Seen.{HasSample, IsNamed, IsValued, IsFirst, IsFirstOf}
 use Rattle.segment_invariant.specs.Invariant.{Invariant}
 use Rattle.segment_invariant.proofs.Lists.Elements.{at_from, contains_at, from_map}
 use Rattle.segment_invariant.proofs.Lists.Maps.{contains_take}
@@ -34,9 +34,9 @@ use Rattle.segment_invariant.proofs.Lists.Pairs.{element_at}
 use Rattle.segment_invariant.proofs.Blocks.Pieces.{piece_word}
 use Rattle.segment_invariant.proofs.Counting.Bounds.{counted_fits}
 use Rattle.segment_invariant.proofs.Consistency.Books.{range_at, sample_first, units_book, value_held}
-use Rattle.segment_invariant.proofs.Consistency.Firsts.{Valued, is_sample_of, record_of_first, name_given, name_or_before, given_value, first_reference}
+use Rattle.segment_invariant.proofs.Consistency.Firsts.{Valued, is_sample_of, record_of_first, name_given, name_or_before, given_value, first_valued}
+use Rattle.segment_invariant.proofs.Lists.Firsts.{first_image, first_longer, first_there, split_among}
 use Rattle.segment_invariant.proofs.Consistency.Totals.{kind_word}
-use Rattle.segment_promises.proofs.Readings.Later.{first_of_those}
 use Rattle.segment_promises.proofs.Readings.Firsts.{read_to}
 use Rattle.segment_promises.proofs.Readings.Names.{no_listed_fault}
 
@@ -125,9 +125,8 @@ module _ (shape : Dimensions) (opened : Anatomy) (state : State) (kept : Invaria
   pub first_sample : (l : Listed) (of : ℕ) (value : ℤ) → Contains kept.anatomy.records l → l.made ≡ Some (made.Sample of value)
       → (place : ℕ) × IsFirstOf kept.anatomy.records of value place
   first_sample l of value there is =
-      let (k, at) = at_from kept.anatomy.records l there in
-      let (front, behind, first, split, none_before, its) = first_of_those (λ (l : Listed). l.made ≡ Some (made.Sample of value)) (value_or_not of value) kept.anatomy.records k l at is in
-      (first.reference, (front, behind, split ∙ ap (λ (m : Option Made). front ++ record { reference = first.reference; made = m } ∷ behind) its, none_before))
+      let (first, its) = first_there (IsValued of value) (value_or_not of value) kept.anatomy.records l there is in
+      (first.reference, first_valued kept.anatomy.records of value first first.reference its refl)
 
   -- what the first sample of a value holds
   pub first_held : (at : ℕ) (s : Sample) → HasSample kept.anatomy.pieces at s → IsFirstOf kept.anatomy.records s.of s.value at
@@ -181,27 +180,19 @@ module _ (shape : Dimensions) (opened : Anatomy) (state : State) (kept : Invaria
   histogram_read i at of value there =
       let before : List Listed = take i kept.anatomy.records in
       let (name, first, its_name) = kept.records.sampled before (drop (suc i) kept.anatomy.records) at of value (split_there kept.anatomy.records i _ there) in
-      let (xs, ys, split, none_before) = first in
-      let among = λ (l : Listed) (there : Contains before l). contains_take i kept.anatomy.records l there in
-      let by_words = first_reference before (IsNamed name) (consistent.HasName state.words name)
-      (λ l there. name_given shape opened state kept l name (among l there))
+      let histogram_is : IsHistogram state.words (map (λ (l : Listed). l.reference) before) name of =
+      first_image (λ (l : Listed). l.reference) before (IsNamed name) (consistent.HasName state.words name)
       (λ f b l here named. name_or_before shape opened state kept name f (b ++ drop i kept.anatomy.records) l
       (sym (take-append-drop i kept.anatomy.records) ∙ (ap (λ (list : List Listed). list ++ drop i kept.anatomy.records) here ∙ append_assoc f (l ∷ b) (drop i kept.anatomy.records)))
       named)
-      xs ys _ split none_before (spec.Sparse, refl) in
-      let histogram_is : IsHistogram state.words (map (λ (l : Listed). l.reference) before) name of =
-      record { front = map (λ (l : Listed). l.reference) xs; behind = map (λ (l : Listed). l.reference) ys; stands = by_words.0; first = by_words.1; named = by_words.2 } in
+      _ first (name_given shape opened state kept _ name (contains_take i kept.anatomy.records _ (split_among first.0 first.1 first.2)) (spec.Sparse, refl)) in
       let earlier : List ℕ = take i (order_of kept.anatomy) in
       let here = subst (λ (list : List ℕ). IsHistogram state.words list name of) (sym (take-map (λ (l : Listed). l.reference) i kept.anatomy.records)) histogram_is in
       let read = read_to state.words (head_of state.words) earlier
       (λ at there. no_listed_fault shape opened state kept at (contains_take i (order_of kept.anatomy) at there)) name of here in
-      let whole : IsFirst kept.anatomy.records name spec.Sparse of = (
-        xs,
-        ys ++ drop i kept.anatomy.records,
-        sym (take-append-drop i kept.anatomy.records)
-            ∙ (ap (λ (front : List Listed). front ++ drop i kept.anatomy.records) split ∙ append_assoc xs _ (drop i kept.anatomy.records)),
-        none_before,
-      ) in
+      let whole : IsFirst kept.anatomy.records name spec.Sparse of =
+      subst (λ (records : List Listed). IsFirst records name spec.Sparse of) (take-append-drop i kept.anatomy.records)
+      (first_longer (IsNamed name) before (drop i kept.anatomy.records) _ first) in
       let (r, (has, named, specified)) = record_of_first shape opened state kept name spec.Sparse of whole in
       let sparse : is_sparse state.words of ≡ true =
       kind_word shape opened state kept of r has ∙ ap (λ (kind : Spec). slice_index (spec_fields kind) 0 == 4) specified in

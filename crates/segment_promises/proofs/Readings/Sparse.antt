@@ -88,21 +88,21 @@ module _ (words : List ℕ) where
   -- the sample of a value is the one that is found
   pub found_sample : (chain : List ℕ) (of : ℕ) (value : ℤ) (at : ℕ) → find (is_sample_of of value) chain ≡ Some at → IsSample words chain of value at
   found_sample chain of value at is =
-      let (front, behind, split, none_before, passes) = find_from (is_sample_of of value) chain at is in record {
-        front = front;
-        behind = behind;
-        stands = split;
-        first = All-weaker (λ other. is_sample_of of value other ≡ false) (λ other. ¬ (IsSampleOf words of value other))
-            (λ other fails its. cc (fails, sample_passes of value other its)) front none_before;
-        valued = passes_sample of value at passes;
-      }
+      let (front, behind, split, none_before, passes) = find_from (is_sample_of of value) chain at is in (
+        front,
+        behind,
+        split,
+        All-weaker (λ other. is_sample_of of value other ≡ false) (λ other. ¬ (IsSampleOf words of value other))
+            (λ other fails its. cc (fails, sample_passes of value other its)) front none_before,
+        passes_sample of value at passes,
+      )
 
   pub sample_found : (chain : List ℕ) (of : ℕ) (value : ℤ) (at : ℕ) → IsSample words chain of value at → find (is_sample_of of value) chain ≡ Some at
-  sample_found chain of value at is =
-      ap (find (is_sample_of of value)) is.stands
-      ∙ find_there (is_sample_of of value) is.front is.behind at
-      (All-weaker (λ other. ¬ (IsSampleOf words of value other)) (λ other. is_sample_of of value other ≡ false) (fails_sample of value) is.front is.first)
-      (sample_passes of value at is.valued)
+  sample_found chain of value at (front, behind, stands, first, its) =
+      ap (find (is_sample_of of value)) stands
+      ∙ find_there (is_sample_of of value) front behind at
+      (All-weaker (λ other. ¬ (IsSampleOf words of value other)) (λ other. is_sample_of of value other ≡ false) (fails_sample of value) front first)
+      (sample_passes of value at its)
 
 -- ---- a kept state
 

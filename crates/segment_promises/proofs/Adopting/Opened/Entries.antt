@@ -18,6 +18,7 @@ use Rattle.segment_machine.specs.Made.{SawSample}
 use Rattle.segment_invariant.specs.Body.{Anatomy}
 use Rattle.segment_invariant.specs.Seen.{IsFirst, IsFirstOf}
 use Rattle.segment_invariant.specs.Invariant.{HasKey, Fits}
+use Rattle.segment_invariant.proofs.Lists.Firsts.{split_among}
 use Rattle.segment_invariant.proofs.Lists.Elements.{none_in, one_in, contains_at, at_from}
 use Rattle.segment_invariant.proofs.Lists.Maps.{contains_mapped}
 use Rattle.list_core.specs.Laws.{IsStop}
@@ -103,15 +104,14 @@ module _ (words references : List ℕ) (reading : Reading) (narrow : All (λ wor
       (λ (is_sparse, at, first_of).
       let here : IsFirstOf its.records of entry.key at = subst (λ (of : ℕ). IsFirstOf its.records of entry.key at) same first_of in
       let sampled = value_first words references reading narrow listed reads adoptable of entry.key at here in
-      let listed_there : Contains references at =
-      subst (λ (l : List ℕ). Contains l at) (sym sampled.stands) (Contains-append_right sampled.front (at ∷ sampled.behind) at (0, omega arith, refl)) in
+      let listed_there : Contains references at = split_among sampled.0 sampled.1 sampled.2 in
       let (k, spot) = at_from references at listed_there in
-      let saw = saw_sample words references reading narrow listed reads adoptable k at spot sampled.valued.0 cursors in (
+      let saw = saw_sample words references reading narrow listed reads adoptable k at spot sampled.4.0 cursors in (
         at,
         here,
         listed_there,
-        subst (λ (of : ℕ). SawSample (opener words references reading cursors).seen of entry.key at) sampled.valued.1
-            (subst (λ (value : ℤ). SawSample (opener words references reading cursors).seen (field_at words at 4) value at) sampled.valued.2 saw),
+        subst (λ (of : ℕ). SawSample (opener words references reading cursors).seen of entry.key at) sampled.4.1
+            (subst (λ (value : ℤ). SawSample (opener words references reading cursors).seen (field_at words at 4) value at) sampled.4.2 saw),
       ))
       keyed
 

@@ -16,6 +16,7 @@ use Rattle.segment_invariant.specs.Body.{Record, Counts, Sample, Body, histogram
 use Rattle.segment_invariant.specs.Consistent.{IsSample, IsSampleOf}
 use Rattle.segment_invariant.specs.Ledger.{at_bucket, keyed, form_at, all_held}
 use Rattle.segment_invariant.specs.Seen.{Stands, HasRecord, HasSample}
+use Rattle.segment_invariant.proofs.Lists.Firsts.{split_among}
 use Rattle.segment_invariant.proofs.Blocks.Pieces.{one_piece}
 use Rattle.segment_invariant.proofs.Consistency.Books.{IsBook, nothing_held}
 use Rattle.segment_invariant.proofs.Consistency.Keys.{no_packed}
@@ -172,9 +173,9 @@ module _ (words references : List ℕ) (reading : Reading) (narrow : All (λ wor
 
         pub value_held : (x : ℕ) → IsSample words references at key x → all_held holds its.pieces ≡ valued (sample_at words x)
         value_held x is =
-            let among : Contains references x = subst (λ (l : List ℕ). Contains l x) (sym is.stands) (Contains-append_right is.front (x ∷ is.behind) x (0, omega arith, refl)) in
+            let among : Contains references x = split_among is.0 is.1 is.2 in
             let stands : HasSample its.pieces x (sample_at words x) =
-            subst (Stands its.pieces x none) (sample_listed words references reading narrow listed reads adoptable x is.valued.0)
+            subst (Stands its.pieces x none) (sample_listed words references reading narrow listed reads adoptable x is.4.0)
             (listed_body words references reading narrow listed reads adoptable x among) in
             sum_one (λ (p : Piece). holds p.body) its.pieces stands.0 _ stands.1 (λ j p here apart.
             quiet j p here (no_record p.at) (no_counts p.at) (λ s.
@@ -184,8 +185,8 @@ module _ (words references : List ℕ) (reading : Reading) (narrow : All (λ wor
             (subst (λ (v : ℕ × ℤ). IsSample words references v.0 v.1 x) (λ i. (sym mine.1 i, sym mine.2 i)) is)
             (λ e. apart (one_index j stands.0 p _ here stands.1 (sym e))))))
             ∙ (book.of_sample (sample_at words x)
-            ∙ (of_mine (name_of words (field_at words x 4)) name _ (ap (name_of words) is.valued.1 ∙ named)
-            ∙ ap (λ (b : Bool). if b then valued (sample_at words x) else 0) ((Decides-int_eq (sample_value words x) key).1 is.valued.2)))
+            ∙ (of_mine (name_of words (field_at words x 4)) name _ (ap (name_of words) is.4.1 ∙ named)
+            ∙ ap (λ (b : Bool). if b then valued (sample_at words x) else 0) ((Decides-int_eq (sample_value words x) key).1 is.4.2)))
 
         pub no_value_held : ((x : ℕ) → Contains references x → ¬ (IsSampleOf words at key x)) → all_held holds its.pieces ≡ 0
         no_value_held absent =

@@ -16,6 +16,8 @@ use Rattle.segment_machine.specs.declared.entry.Entry.{Entry}
 use Rattle.segment_machine.specs.declared.actor.Portion.{Portion}
 use Rattle.segment_machine.specs.Entry.{tally_units, tally_sum}
 use Rattle.segment_machine.specs.Actor.{taken_units, taken_sum, cost_of}
+use Rattle.segment_machine.specs.Firsts.{IsFirstThat}
+use Rattle.segment_invariant.proofs.Lists.Firsts.{first_or_none, split_among}
 use Rattle.segment_invariant.specs.Body.{Record, histogram, Anatomy, Piece}
 use Rattle.segment_invariant.specs.Ledger.{units_held, marks_held, sum_held, sum_mark_held, noted_held, all_held, all_amounts, IsBalanced}
 use Rattle.segment_invariant.specs.Seen.{HasRecord}
@@ -26,7 +28,6 @@ use Rattle.segment_invariant.proofs.Lists.FewTerms.{sum_none, sum_one, amounts_n
 use Rattle.segment_promises.specs.Adoption.{IsAdoptable, first_entries, first_portion}
 use Rattle.segment_promises.specs.Reads.{units_read, mark_read}
 use Rattle.segment_promises.proofs.Readings.Firsts.{read_once}
-use Rattle.segment_promises.proofs.Readings.Later.{HasFirst}
 use Rattle.segment_promises.proofs.Adopting.FirstEntries.{of_name, first_units, first_sum, portions_units, portions_sum, costs_are, of_its_name, of_no_name}
 use Rattle.segment_promises.proofs.Adopting.Bodies.{record_at}
 use Rattle.segment_promises.proofs.Adopting.Images.{no_record_fault}
@@ -37,7 +38,6 @@ use Rattle.segment_promises.proofs.Adopting.Opened.Held.{as_body, one_index, non
 use Rattle.segment_promises.proofs.Adopting.Opened.KeptRecords.{has_record}
 use Rattle.segment_promises.proofs.Adopting.Opened.Listings.{units_are, marks_are, marks_below}
 use Rattle.segment_promises.proofs.Adopting.Opened.Names.{read, read_as, read_listed, one_read, hists_are, hist_read, read_hist}
-use Rattle.segment_promises.proofs.Adopting.Opened.PassedOver.{first_or_none}
 use Rattle.segment_promises.proofs.Adopting.Opened.Pieces.{is_record}
 
 -- amounts of histograms, by a name
@@ -73,11 +73,10 @@ module _ (words references : List ℕ) (reading : Reading) (narrow : All (λ wor
           by_test true decides = inl (decides.0 refl)
           by_test false decides = inr (λ same. cc (decides.1 same))
 
-      by_first : HasFirst (λ at. name_of words at ≡ name) (read words references reading narrow listed reads adoptable)
+      by_first : ((at : ℕ) × IsFirstThat (λ at. name_of words at ≡ name) (read words references reading narrow listed reads adoptable) at)
           ⊎ All (λ at. name_of words at ≢ name) (read words references reading narrow listed reads adoptable)
           → ((at : ℕ) × IsRead at × (name_of words at ≡ name)) ⊎ ((at : ℕ) → IsRead at → name_of words at ≢ name)
-      by_first (inl (front, behind, at, split, before, named)) =
-          inl (at, subst (λ (l : List ℕ). Contains l at) (sym split) (Contains-append_right front (at ∷ behind) at (0, omega arith, refl)), named)
+      by_first (inl (at, first)) = inl (at, split_among first.0 first.1 first.2, first.4)
       by_first (inr nobody) = inr (λ at there. All-contains (λ at. name_of words at ≢ name) (read words references reading narrow listed reads adoptable) at nobody there)
 
   -- each name is that of one histogram of the reading

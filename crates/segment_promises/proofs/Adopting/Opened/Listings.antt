@@ -18,6 +18,7 @@ use Rattle.segment_machine.specs.Form.{units_in}
 use Rattle.segment_invariant.specs.Body.{Record, Counts, Sample, Body, Anatomy}
 use Rattle.segment_invariant.specs.Consistent.{IsSample, IsSampleOf}
 use Rattle.segment_invariant.specs.Ledger.{key_of_bucket, at_bucket, keyed, all_held, units_held, marks_held}
+use Rattle.segment_invariant.proofs.Lists.Firsts.{first_or_none, split_among}
 use Rattle.segment_invariant.proofs.Consistency.Books.{IsBook, units_book, marks_book, keyed_one, range_at, range_there}
 use Rattle.segment_invariant.proofs.Consistency.Keys.{one_key, packed_within, packed_units, packed_mark}
 use Rattle.segment_invariant.proofs.Consistency.Marks.{packed_is}
@@ -34,7 +35,6 @@ use Rattle.segment_promises.proofs.Adopting.Opened.Values.{lawful_sample}
 use Rattle.segment_promises.proofs.Adopting.Opened.Lawful.{marks_small}
 use Rattle.segment_invariant.proofs.Lists.Elements.{at_from}
 use Rattle.segment_promises.proofs.Readings.Keys.{IsUnder, IsListing, int_test}
-use Rattle.segment_promises.proofs.Readings.Later.{HasFirst}
 use Rattle.segment_promises.proofs.Readings.Sparse.{one_of_value}
 use Rattle.segment_promises.proofs.Adopting.Bodies.{record_at, counts_at}
 use Rattle.segment_promises.proofs.Adopting.Opened.Anatomy.{opened}
@@ -42,7 +42,6 @@ use Rattle.segment_promises.proofs.Adopting.Opened.Held.{bucket_held, value_held
 use Rattle.segment_promises.proofs.Adopting.Opened.Keys.{samples, ascending, listed_first, first_listed}
 use Rattle.segment_promises.proofs.Adopting.Opened.Lawful.{specified, is_lawful, are_counts, unit_word, mark_word, long_units, long_marks}
 use Rattle.segment_promises.proofs.Adopting.Opened.Names.{read, read_listed}
-use Rattle.segment_promises.proofs.Adopting.Opened.PassedOver.{first_or_none}
 use Rattle.segment_promises.proofs.Adopting.Opened.Values.{sparse_named}
 
 -- a packed number stands for no key that no bucket has
@@ -228,11 +227,8 @@ module _ (words references : List ℕ) (reading : Reading) (narrow : All (λ wor
     no_sample : (k : ℤ) → ¬ (IsUnder (sample_value words) its_samples k) → (x : ℕ) → Contains references x → ¬ (IsSampleOf words at k x)
     no_sample k absent x among sampled = by_first (first_or_none (IsSampleOf words at k) (sample_or_not words at k) references)
       where
-        by_first : HasFirst (IsSampleOf words at k) references ⊎ All (λ x. ¬ (IsSampleOf words at k x)) references → ⊥
-        by_first (inl (front, behind, y, split, before, its)) =
-            let (i, here) = first_listed words references reading narrow listed reads adoptable at k y
-            (record { front = front; behind = behind; stands = split; first = before; valued = its }) in
-            absent (i, y, here, its.2)
+        by_first : ((y : ℕ) × IsSample words references at k y) ⊎ All (λ x. ¬ (IsSampleOf words at k x)) references → ⊥
+        by_first (inl (y, its)) = let (i, here) = first_listed words references reading narrow listed reads adoptable at k y its in absent (i, y, here, its.4.2)
         by_first (inr nobody) = All-contains (λ x. ¬ (IsSampleOf words at k x)) references x nobody among sampled
 
     value_listing : (number : ℕ → ℕ) (held : ℤ → ℕ) → ((x : ℕ) → IsSample words references at (sample_value words x) x → number x ≡ held (sample_value words x))
@@ -289,10 +285,9 @@ module _ (words references : List ℕ) (reading : Reading) (narrow : All (λ wor
       by_kind true is = ⊎_elim
           (λ (i, x, here, same).
           let its_first = listed_first words references reading narrow listed reads adoptable at i x here in
-          let among : Contains references x =
-          subst (λ (l : List ℕ). Contains l x) (sym its_first.stands) (Contains-append_right its_first.front (x ∷ its_first.behind) x (0, omega arith, refl)) in
+          let among : Contains references x = split_among its_first.0 its_first.1 its_first.2 in
           let (k, spot) = at_from references x among in
-          let small = (lawful_sample words references reading narrow listed reads adoptable k x spot its_first.valued.0).taken in
+          let small = (lawful_sample words references reading narrow listed reads adoptable k x spot its_first.4.0).taken in
           let units = (counts_listed is).holds i x here ∙ ap units_of_key same in
           let mark = (sample_marks_listed is).holds i x here ∙ ap marks_of_key same in
           omega (arith, small, units, mark))

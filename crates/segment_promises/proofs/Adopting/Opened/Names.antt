@@ -12,6 +12,8 @@ use Rattle.bucket_ranges.specs.declared.spec.Spec.{Spec}
 use Rattle.bucket_ranges.specs.Reading.{is_of_type, name_of, spec_of, read_records, record_fault, lawful_samples, Histogram, histogram_of, IsListed, Reading, reading_along}
 use Rattle.segment_machine.specs.declared.actor.Known.{Known}
 use Rattle.segment_machine.specs.declared.actor.Made.TheVariants as made
+use Rattle.segment_machine.specs.Firsts.{IsFirstThat}
+use Rattle.segment_invariant.proofs.Lists.Firsts.{first_image, split_among}
 use Rattle.segment_invariant.specs.Body.{Body, histogram, sample, Listed, Anatomy}
 use Rattle.segment_invariant.specs.Consistent.{HasName, IsHistogram}
 use Rattle.segment_invariant.specs.Seen.{IsNamed, IsFirst, Knows}
@@ -56,7 +58,7 @@ module _ (words references : List ℕ) (reading : Reading) (narrow : All (λ wor
   pub read_listed : (at : ℕ) → Contains read at → Contains references at × (field_at words at 2 ≡ 1)
   read_listed at there =
       let is = read_from words (head_of words) references lawful at there in
-      (subst (λ (l : List ℕ). Contains l at) (sym is.stands) (Contains-append_right is.front (at ∷ is.behind) at (0, omega arith, refl)), is.named.0)
+      (split_among is.0 is.1 is.2, is.4.0)
 
   pub read_body : (at : ℕ) → field_at words at 2 ≡ 1 → is_read words references at ≡ true → record_body words references at ≡ histogram (record_at words at)
   read_body at one is = (λ i. by_tests (first i) (is i))
@@ -80,33 +82,23 @@ module _ (words references : List ℕ) (reading : Reading) (narrow : All (λ wor
   -- the first record of a name is read
   pub first_read : (name : List ℕ) (kind : Spec) (at : ℕ) → IsFirst its.records name kind at
       → Contains references at × Contains read at × (name_of words at ≡ name) × (spec_of words at ≡ kind)
-  first_read name kind at (front, behind, split, none_before) =
-      let (xs, ys, place, is, before, here) = split_map (listed_at words references) references front behind _ split in
+  first_read name kind at first =
+      let (xs, ys, place, is, before, here) = split_map (listed_at words references) references first.0 first.1 _ first.2 in
       let same : place ≡ at = ap (λ (l : Listed). l.reference) here in
       let given = subst (λ (at : ℕ). made_by (record_body words references at) ≡ Some (made.Histogram name kind)) same (ap (λ (l : Listed). l.made) here) in
       let (one, first, named, specified) = listed_given at name kind given in
-      let among = subst (λ (l : List ℕ). Contains l at) (sym is) (subst (λ (z : ℕ). Contains (xs ++ place ∷ ys) z) same (Contains-append_right xs (place ∷ ys) place (0, omega arith, refl))) in
-      (among, there_by_test read at first, named, specified)
+      (subst (Contains references) same (split_among xs ys is), there_by_test read at first, named, specified)
 
   -- and what is read is the first of its name, also among those that stand before a place
   pub first_among : (front : List ℕ) (at : ℕ) (name : List ℕ) → IsHistogram words front name at → Contains read at
       → IsFirst (map (listed_at words references) front) name (spec_of words at) at
   first_among front at name is there =
       let (among, one) = read_listed at there in
-      let body = read_body at one (test_there read at there) in
-      let made_is : listed_at words references at ≡ record { reference = at; made = Some (made.Histogram name (spec_of words at)) } =
-      (λ i. record { reference = at; made = (ap made_by body ∙ ap (λ (name : List ℕ). Some (made.Histogram name (spec_of words at))) is.named.1) i }) in (
-        map (listed_at words references) is.front,
-        map (listed_at words references) is.behind,
-        ap (map (listed_at words references)) is.stands
-            ∙ (map-append (listed_at words references) is.front (at ∷ is.behind)
-            ∙ ap (λ (l : Listed). map (listed_at words references) is.front ++ l ∷ map (listed_at words references) is.behind) made_is),
-        all_of (λ (l : Listed). ¬ (IsNamed name l)) (map (listed_at words references) is.front)
-            (λ l here (kind, named).
-            let (place, before, same) = contains_mapped (listed_at words references) is.front l here in
-            let (tag, first, its_name, specified) = listed_given place name kind (ap (λ (l : Listed). l.made) same ∙ named) in
-            All-contains (λ other. ¬ (HasName words name other)) is.front place is.first before (tag, its_name)),
-      )
+      let made_is : (listed_at words references at).made ≡ Some (made.Histogram name (spec_of words at)) =
+      ap made_by (read_body at one (test_there read at there)) ∙ ap (λ (name : List ℕ). Some (made.Histogram name (spec_of words at))) is.4.1 in
+      subst (IsFirstThat (IsNamed name) (map (listed_at words references) front)) (λ i. record { reference = at; made = made_is i })
+      (first_image (listed_at words references) front (HasName words name) (IsNamed name)
+      (λ xs ys x split (kind, given). let (tag, first, named, specified) = listed_given x name kind given in inl (tag, named)) at is (spec_of words at, made_is))
 
   pub read_first : (at : ℕ) → Contains read at → IsFirst its.records (name_of words at) (spec_of words at) at
   read_first at there = first_among references at (name_of words at) (read_from words (head_of words) references lawful at there) there

@@ -13,14 +13,14 @@ use Rattle.bucket_ranges.specs.Spec.{buckets_of}
 use Rattle.bucket_ranges.specs.Reading.{name_of, spec_of, is_of_type, IsListed, Reading, reading_along}
 use Rattle.segment_machine.specs.declared.actor.Made.{Made}
 use Rattle.segment_invariant.specs.Body.{Body, Record, Counts, counts, other, words_of, Listed, Anatomy}
-use Rattle.segment_invariant.specs.Consistent.{HasName}
+use Rattle.segment_invariant.specs.Consistent.{HasName, IsHistogram}
 use Rattle.segment_invariant.specs.Seen.{Stands, HoldsAs, IsFirst}
 use Rattle.segment_invariant.specs.Invariant.{IsCountsOf, IsPassedOver, IsOfOtherType, HasPassedOver, ArePassedOver, total_in, mark_in}
 use Rattle.segment_invariant.proofs.Lists.Elements.{split_map, contains_at}
+use Rattle.segment_invariant.proofs.Lists.Firsts.{first_longer, first_or_none}
 use Rattle.segment_invariant.proofs.Lists.Maps.{contains_mapped}
 use Rattle.segment_promises.specs.Adoption.{IsAdoptable}
 use Rattle.segment_promises.proofs.Readings.Firsts.{read_to}
-use Rattle.segment_promises.proofs.Readings.Later.{HasFirst}
 use Rattle.segment_promises.proofs.Adopting.Bodies.{record_at, counts_at, other_at, size_at}
 use Rattle.segment_promises.proofs.Adopting.Images.{no_record_fault, block_page, listed_block}
 use Rattle.segment_promises.proofs.Adopting.Opened.Anatomy.{made_by, listed_at, opened, placed}
@@ -30,18 +30,6 @@ use Rattle.segment_promises.proofs.Adopting.Opened.Lawful.{is_lawful, packed_sma
 use Rattle.segment_promises.proofs.Adopting.Opened.Names.{read, first_among}
 use Rattle.segment_promises.proofs.Adopting.Opened.Once.{one_owner, owned_unlisted}
 use Rattle.segment_promises.proofs.Adopting.Opened.Pieces.{record_cases, stood_block, listed_body, owned_body}
-
--- ---- the first of some, or none
-
-pub first_or_none : {X : Type 0} (P : X → Type 0) → ((x : X) → P x ⊎ (¬ (P x))) → (l : List X) → HasFirst P l ⊎ All (λ x. ¬ (P x)) l
-first_or_none P either [] = inr (All-nil _)
-first_or_none {X} P either (x ∷ rest) = by_head (either x) (first_or_none P either rest)
-  where
-    by_head : P x ⊎ (¬ (P x)) → HasFirst P rest ⊎ All (λ x. ¬ (P x)) rest → HasFirst P (x ∷ rest) ⊎ All (λ x. ¬ (P x)) (x ∷ rest)
-    by_head (inl here) others = inl ([], rest, x, refl, All-nil _, here)
-    by_head (inr absent) (inl (front, behind, y, is, before, first)) =
-        inl (x ∷ front, behind, y, ap (λ (l : List X). x ∷ l) is, All-cons (λ x. ¬ (P x)) x front absent before, first)
-    by_head (inr absent) (inr nobody) = inr (All-cons (λ x. ¬ (P x)) x rest absent nobody)
 
 -- a record has a name or not
 has_name_or_not : (words name : List ℕ) (at : ℕ) → HasName words name at ⊎ (¬ (HasName words name at))
@@ -72,25 +60,15 @@ module _ (words references : List ℕ) (reading : Reading) (narrow : All (λ wor
     named_before : (kind : Spec) × (first : ℕ) × IsFirst (map (listed_at words references) xs) (name_of words at) kind first
     named_before = by_first (first_or_none (HasName words (name_of words at)) (has_name_or_not words (name_of words at)) xs)
       where
-        by_first : HasFirst (HasName words (name_of words at)) xs ⊎ All (λ x. ¬ (HasName words (name_of words at) x)) xs
+        by_first : ((first : ℕ) × IsHistogram words xs (name_of words at) first) ⊎ All (λ x. ¬ (HasName words (name_of words at) x)) xs
             → (kind : Spec) × (first : ℕ) × IsFirst (map (listed_at words references) xs) (name_of words at) kind first
-        by_first (inl (front, behind, first, is, before, named)) =
+        by_first (inl (first, its)) =
+            let longer = first_longer (HasName words (name_of words at)) xs (at ∷ ys) first its in
             let among = read_to words (head_of words) references (no_record_fault words references reading listed reads adoptable) (name_of words at) first
-            (record {
-              front = front;
-              behind = behind ++ at ∷ ys;
-              stands = split ∙ (ap (λ (l : List ℕ). l ++ at ∷ ys) is ∙ append_assoc front (first ∷ behind) (at ∷ ys));
-              first = before;
-              named = named;
-            }) in (
-              spec_of words first,
-              first,
-              first_among words references reading narrow listed reads adoptable xs first (name_of words at)
-                  (record { front = front; behind = behind; stands = is; first = before; named = named }) among,
-            )
+            (subst (λ (chain : List ℕ). IsHistogram words chain (name_of words at) first) (sym split) longer) in
+            (spec_of words first, first, first_among words references reading narrow listed reads adoptable xs first (name_of words at) its among)
         by_first (inr nobody) =
-            let among = read_to words (head_of words) references (no_record_fault words references reading listed reads adoptable) (name_of words at) at
-            (record { front = xs; behind = ys; stands = split; first = nobody; named = (one, refl) }) in
+            let among = read_to words (head_of words) references (no_record_fault words references reading listed reads adoptable) (name_of words at) at (xs, ys, split, nobody, (one, refl)) in
             absurd (both_ways (is_read words references at) over (test_there (read words references reading narrow listed reads adoptable) at among))
 
     other_stands : Stands its.pieces at none (other_at words at)

@@ -14,9 +14,11 @@ use Rattle.bucket_ranges.specs.declared.spec.Spec.TheVariants as spec
 use Rattle.bucket_ranges.specs.Reading.{name_of, spec_of, is_sparse, read_records, record_fault, sample_value, is_i32, is_sparse_read, IsListed, Reading, reading_along}
 use Rattle.segment_machine.specs.declared.actor.Made.TheVariants as made
 use Rattle.segment_invariant.specs.Body.{Body, histogram, sample, Listed, Anatomy}
-use Rattle.segment_invariant.specs.Consistent.{IsHistogram, IsSample, IsSampleOf}
-use Rattle.segment_invariant.specs.Seen.{IsFirst, IsFirstOf}
+use Rattle.segment_invariant.specs.Consistent.{HasName, IsHistogram, IsSample, IsSampleOf}
+use Rattle.segment_invariant.specs.Seen.{IsValued, IsFirst, IsFirstOf}
 use Rattle.segment_invariant.specs.Invariant.{IsLawfulSample}
+use Rattle.segment_invariant.proofs.Consistency.Firsts.{first_valued}
+use Rattle.segment_invariant.proofs.Lists.Firsts.{first_from, first_image, first_longer}
 use Rattle.segment_invariant.proofs.Lists.Elements.{all_of, split_map, contains_at}
 use Rattle.segment_invariant.proofs.Lists.Maps.{contains_map, contains_mapped, contains_take}
 use Rattle.segment_promises.specs.Adoption.{IsAdoptable}
@@ -67,39 +69,23 @@ module _ (words references : List ℕ) (reading : Reading) (narrow : All (λ wor
     | inr (inr (inr (un, third, is))) ↦ absurd (third three)
   ]
 
+  given_sample_at : (at of : ℕ) (value : ℤ) → IsSampleOf words of value at → IsValued of value (listed_at words references at)
+  given_sample_at at of value is = ap made_by (sample_listed at is.0) ∙ (λ i. Some (made.Sample (is.1 i) (is.2 i)))
+
   -- the first of a value in the anatomy is the first of its words
   pub value_first : (of : ℕ) (value : ℤ) (at : ℕ) → IsFirstOf its.records of value at → IsSample words references of value at
-  value_first of value at (front, behind, split, none_before) =
-      let (xs, ys, place, is, before, here) = split_map (listed_at words references) references front behind _ split in
-      let same : place ≡ at = ap (λ (l : Listed). l.reference) here in
-      record {
-        front = xs;
-        behind = ys;
-        stands = is ∙ ap (λ (at : ℕ). xs ++ at ∷ ys) same;
-        first = all_of (λ other. ¬ (IsSampleOf words of value other)) xs (λ other there sampled.
-            let body = sample_listed other sampled.0 in
-            All-contains (λ (l : Listed). l.made ≢ Some (made.Sample of value)) front (listed_at words references other) none_before
-            (subst (λ (l : List Listed). Contains l (listed_at words references other)) before (contains_map (listed_at words references) xs other there))
-            (ap made_by body ∙ (λ i. Some (made.Sample (sampled.1 i) (sampled.2 i)))));
-        valued = subst (IsSampleOf words of value) same (listed_sample place of value (ap (λ (l : Listed). l.made) here));
-      }
+  value_first of value at first =
+      let (x, its, same) = first_from (listed_at words references) references (IsSampleOf words of value) (IsValued of value)
+      (λ front behind x split given. inl (listed_sample x of value given)) (λ l. ¬ (IsValued of value l))
+      (λ x there sampled absent. absent (given_sample_at x of value sampled)) _ first in
+      subst (IsSample words references of value) (ap (λ (l : Listed). l.reference) same) its
 
   pub first_value : (of : ℕ) (value : ℤ) (at : ℕ) → IsSample words references of value at → IsFirstOf its.records of value at
   first_value of value at is =
-      let body = sample_listed at is.valued.0 in
-      let made_is : listed_at words references at ≡ record { reference = at; made = Some (made.Sample of value) } =
-      (λ i. record { reference = at; made = (ap made_by body ∙ (λ j. Some (made.Sample (is.valued.1 j) (is.valued.2 j)))) i }) in (
-        map (listed_at words references) is.front,
-        map (listed_at words references) is.behind,
-        ap (map (listed_at words references)) is.stands
-            ∙ (map-append (listed_at words references) is.front (at ∷ is.behind)
-            ∙ ap (λ (l : Listed). map (listed_at words references) is.front ++ l ∷ map (listed_at words references) is.behind) made_is),
-        all_of (λ (l : Listed). l.made ≢ Some (made.Sample of value)) (map (listed_at words references) is.front)
-            (λ l here given.
-            let (place, before, same) = contains_mapped (listed_at words references) is.front l here in
-            All-contains (λ other. ¬ (IsSampleOf words of value other)) is.front place is.first before
-            (listed_sample place of value (ap (λ (l : Listed). l.made) same ∙ given))),
-      )
+      let given = given_sample_at at of value is.4 in
+      first_valued its.records of value (listed_at words references at) at
+      (first_image (listed_at words references) references (IsSampleOf words of value) (IsValued of value)
+      (λ front behind x split given. inl (listed_sample x of value given)) at is given) refl
 
   -- ---- a sample without a fault
 
@@ -144,15 +130,9 @@ module _ (words references : List ℕ) (reading : Reading) (narrow : All (λ wor
 
     pub its_read : Contains (read words references reading narrow listed reads adoptable) of
     its_read =
-        let before = earlier.0 in
         read_to words (head_of words) references (no_record_fault words references reading listed reads adoptable) (name_of words of) of
-        (record {
-          front = before.front;
-          behind = before.behind ++ drop k references;
-          stands = sym (take-append-drop k references) ∙ (ap (λ (l : List ℕ). l ++ drop k references) before.stands ∙ append_assoc before.front (of ∷ before.behind) (drop k references));
-          first = before.first;
-          named = before.named;
-        })
+        (subst (λ (chain : List ℕ). IsHistogram words chain (name_of words of) of) (take-append-drop k references)
+        (first_longer (HasName words (name_of words of)) (take k references) (drop k references) of earlier.0))
 
     pub its_sparse : spec_of words of ≡ spec.Sparse
     its_sparse = sparse_named words of earlier.1

@@ -1,7 +1,7 @@
 -- What an actor has seen, and that it lies behind the present. All that is said here stays true whatever others do, since a
 -- segment only grows: blocks keep their places, words that are fixed stay, counters rise, single words lead on, the list becomes
 -- longer at its end.
-use Rattle.std.specs.Prelude.{◌≡◌, ◌≢◌, ◌⊎◌, true, ℕ, ◌+◌, ◌<◌, ◌≤◌, ℤ, List, ◌∷◌, ◌++◌, length, slice_index, Some, None}
+use Rattle.std.specs.Prelude.{◌≡◌, ◌≢◌, ◌⊎◌, true, ℕ, ◌+◌, ◌<◌, ◌≤◌, ℤ, List, length, slice_index, Some, None}
 use Rattle.std.specs.List.{All, Contains}
 use mathlib.Core.Option.{Option, some, none}
 use lib.ListN.{get_elem?}

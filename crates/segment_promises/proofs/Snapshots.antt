@@ -17,14 +17,13 @@ use Rattle.segment_machine.specs.declared.place.Place.TheVariants.{Spent}
 use Rattle.segment_machine.specs.declared.actor.Actor.{Actor}
 use Rattle.segment_machine.specs.declared.actor.Answered.{Answered}
 use Rattle.segment_machine.specs.declared.actor.Known.{Known}
-use Rattle.segment_machine.specs.declared.actor.Made.TheVariants as made
 use Rattle.segment_machine.specs.declared.seen.Sighting.{Sighting}
 use Rattle.segment_machine.specs.Entry.{tally_noted}
 use Rattle.segment_machine.specs.Actor.{has_buckets, accepted_since, bucket_key, units_listed, SawCount, is_opener}
 use Rattle.segment_machine.specs.Made.{IsFirstSample}
 use Rattle.segment_machine.specs.Note.{SawAll}
 use Rattle.segment_machine.specs.State.{State}
-use Rattle.segment_invariant.specs.Body.{Listed, Anatomy}
+use Rattle.segment_invariant.specs.Body.{Anatomy}
 use Rattle.segment_invariant.specs.Seen.{IsFirstOf}
 use Rattle.segment_invariant.specs.Invariant.{Invariant}
 use Rattle.segment_invariant.proofs.Counting.AddSample.{one_sample}

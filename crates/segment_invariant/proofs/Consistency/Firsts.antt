@@ -1,11 +1,9 @@
 -- The first record of a name, and of a value, on the list of a kept segment: by the words as by what each record was given.
-use Rattle.std.proofs.Common.{◌≡◌, ℕ, ◌<◌, ℤ, List, ◌∷◌, ◌++◌, map, refl, sym, ap, subst, ◌∙◌, arith, Some, None, ◌⊎◌, inl, inr, ⊎_elim, append_assoc, ◌≢◌}
+use Rattle.std.proofs.Common.{◌≡◌, ℕ, ◌<◌, ℤ, List, ◌∷◌, ◌++◌, refl, sym, ap, subst, ◌∙◌, arith, Some, None, ◌⊎◌, inl, inr, ◌≢◌}
 use Rattle.std.specs.Prelude as std
 use Rattle.std.specs.Int.{w64, cast_signed}
 use Rattle.std.specs.List.{All, Contains}
-use Rattle.std.proofs.lemmas.List.{map-append}
-use Rattle.std.proofs.lemmas.List.Elements.{All-map, All-contains, Contains-append_left, Contains-append_right}
-use Rattle.atomic_table.proofs.Lists.{at_map}
+use Rattle.std.proofs.lemmas.List.Elements.{All-contains}
 use Rattle.segment_image.specs.Shape.{Dimensions}
 use Rattle.segment_image.specs.Blocks.{field_at}
 use Rattle.bucket_ranges.specs.declared.spec.Spec.{Spec}
@@ -24,8 +22,6 @@ use Rattle.segment_invariant.proofs.Lists.Elements.{split_at, at_from, from_map}
 use Rattle.segment_invariant.proofs.Lists.Firsts.{OrBefore, split_among, first_image, first_from}
 use Rattle.segment_invariant.proofs.Blocks.Pieces.{piece_word}
 use Rattle.segment_invariant.proofs.Consistency.Records.{record_word, sample_type, record_name}
-use mathlib.Core.Option.{some}
-use lib.ListN.{get_elem?}
 use Rattle.segment_invariant.proofs.Frames.PassedOver.{none_given, all_given, PassedOver}
 use Rattle.segment_invariant.proofs.Consistency.PassedOver.{passed_named}
 

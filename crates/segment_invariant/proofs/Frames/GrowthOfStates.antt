@@ -13,12 +13,11 @@ use Rattle.segment_machine.specs.declared.entry.Entry.{Entry}
 use Rattle.segment_machine.specs.declared.entry.Counting.{Counting}
 use Rattle.segment_machine.specs.declared.actor.Actor.{Actor}
 use Rattle.segment_machine.specs.declared.actor.Known.{Known}
-use Rattle.segment_machine.specs.declared.actor.Made.TheVariants as made
 use Rattle.segment_machine.specs.declared.actor.Own.{Own}
 use Rattle.segment_machine.specs.declared.place.Place.TheVariants.{Spent, SumLoaded}
 use Rattle.segment_machine.specs.Entry.{is_counted, has_ended, counted_among}
 use Rattle.segment_machine.specs.Actor.{log_of, counted_of, all_counted}
-use Rattle.segment_invariant.specs.Body.{Record, Body, Listed, Anatomy, order_of}
+use Rattle.segment_invariant.specs.Body.{Record, Body, Anatomy, order_of}
 use Rattle.segment_invariant.specs.Seen.{HasRecord, Knows, Sees}
 use Rattle.segment_machine.specs.State.{State}
 use Rattle.segment_invariant.specs.Invariant.{StandsAs, HasKey, StandsRight, HoldsOwn, Fits, Invariant, OwesPublished, IsAhead}

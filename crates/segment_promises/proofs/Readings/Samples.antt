@@ -28,7 +28,7 @@ use Rattle.segment_invariant.specs.Body.{Sample, sample, Listed, Anatomy, order_
 use Rattle.segment_invariant.specs.Ledger.{units_held, all_held}
 use Rattle.segment_invariant.specs.Seen.{HasSample, IsNamed, IsValued, IsFirst, IsFirstOf}
 use Rattle.segment_invariant.specs.Invariant.{Invariant}
-use Rattle.segment_invariant.proofs.Lists.Elements.{at_from, contains_at, from_map}
+use Rattle.segment_invariant.proofs.Lists.Elements.{contains_at, from_map}
 use Rattle.segment_invariant.proofs.Lists.Maps.{contains_take}
 use Rattle.segment_invariant.proofs.Lists.Pairs.{element_at}
 use Rattle.segment_invariant.proofs.Blocks.Pieces.{piece_word}

@@ -4,7 +4,7 @@ use Rattle.std.specs.Prelude.{not, ◌==◌, if◌then◌else◌}
 use Rattle.std.specs.Ordering.{int_eq}
 use Rattle.std.specs.List.{zip}
 use Rattle.std.proofs.lemmas.List.{append-nil}
-use Rattle.std.proofs.lemmas.List.Elements.{Contains-append_cases, Contains-append_right}
+use Rattle.std.proofs.lemmas.List.Elements.{Contains-append_cases}
 use Rattle.segment_image.specs.Blocks.{field_at}
 use Rattle.segment_image.specs.Head.{head_of}
 use Rattle.bucket_ranges.specs.declared.spec.Spec.TheVariants as spec

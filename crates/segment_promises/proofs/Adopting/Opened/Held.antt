@@ -1,9 +1,8 @@
 -- What the blocks of an image hold of a name and a key: what its record and the counts of that have, or of a sparse value its first sample.
-use Rattle.std.proofs.Common.{◌≡◌, ◌≢◌, inr, Bool, true, false, ℕ, ◌+◌, ◌^◌, ◌<◌, ℤ, List, ◌∷◌, All, Contains, refl, sym, ap, ◌∙◌, subst, arith, Option}
+use Rattle.std.proofs.Common.{◌≡◌, ◌≢◌, inr, Bool, true, false, ℕ, ◌+◌, ◌^◌, ◌<◌, ℤ, List, All, Contains, refl, sym, ap, ◌∙◌, subst, arith, Option}
 use Rattle.std.specs.Prelude.{◌==◌, if◌then◌else◌}
 use Rattle.std.proofs.lemmas.Bool.{eqb-true, eqb-false}
 use Rattle.std.proofs.lemmas.Bool.Decides.{Decides-int_eq}
-use Rattle.std.proofs.lemmas.List.Elements.{Contains-append_right}
 use mathlib.Core.Option.{some, none, some-injective}
 use lib.ListN.{get_elem?}
 use Rattle.segment_image.specs.Blocks.{field_at}

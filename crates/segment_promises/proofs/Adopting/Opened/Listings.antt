@@ -5,7 +5,7 @@ use Rattle.std.specs.Ordering.{int_eq}
 use Rattle.std.specs.List.{range_with_len}
 use Rattle.std.proofs.lemmas.Bool.{eqb-true, eqb-false, eq-eqb}
 use Rattle.std.proofs.lemmas.Bool.Decides.{Decides-int_eq}
-use Rattle.std.proofs.lemmas.List.Elements.{All-contains, Contains-append_right}
+use Rattle.std.proofs.lemmas.List.Elements.{All-contains}
 use Rattle.segment_image.specs.Blocks.{field_at}
 use Rattle.segment_image.specs.Head.{head_of}
 use Rattle.bucket_ranges.specs.declared.spec.Spec.{Spec}
@@ -28,7 +28,7 @@ use Rattle.segment_promises.specs.Reads.{units_read, mark_read}
 use Rattle.std.specs.List.{zip}
 use Rattle.segment_machine.specs.Actor.{units_listed}
 use Rattle.bucket_ranges.specs.Reading.{sample_counts, sample_marks, bucket_counts, bucket_marks}
-use Rattle.std.proofs.Common.{◌≤◌, ◌∷◌, map, ⊎_elim, subst}
+use Rattle.std.proofs.Common.{◌≤◌, map, ⊎_elim}
 use Rattle.segment_promises.proofs.Readings.Keys.{under_or_not, units_are_held, marks_are_held}
 use Rattle.segment_promises.proofs.Adopting.Opened.Names.{read_as}
 use Rattle.segment_promises.proofs.Adopting.Opened.Values.{lawful_sample}

@@ -1,10 +1,9 @@
 -- The samples of an image: each names a sparse histogram that is read before it, and in its anatomy the first of a value is the first of its words.
-use Rattle.std.proofs.Common.{◌≡◌, ◌≢◌, inl, inr, true, false, ℕ, ◌+◌, ◌-◌, ◌^◌, ◌<◌, ◌≤◌, ℤ, List, ◌∷◌, ◌++◌, map, take, drop, All, Contains, refl, sym, ap, ◌∙◌, subst, arith, Some, None, append_assoc}
+use Rattle.std.proofs.Common.{◌≡◌, ◌≢◌, inl, inr, true, false, ℕ, ◌+◌, ◌-◌, ◌^◌, ◌<◌, ◌≤◌, ℤ, List, map, take, drop, All, Contains, refl, sym, ap, ◌∙◌, subst, arith, Some, None}
 use Rattle.std.specs.Prelude.{not, ◌==◌, ◌&&◌, nat_lt}
 use Rattle.std.proofs.lemmas.Bool.{cond-true, and_parts, or_parts, not-false, eqb-true, ltb-false}
-use Rattle.std.proofs.lemmas.List.{take-append-drop, map-append}
+use Rattle.std.proofs.lemmas.List.{take-append-drop}
 use Rattle.std.proofs.lemmas.List.Folds.{Any-from_list_any}
-use Rattle.std.proofs.lemmas.List.Elements.{All-contains}
 use mathlib.Core.Option.{some}
 use lib.ListN.{get_elem?}
 use Rattle.segment_image.specs.Blocks.{field_at}
@@ -19,8 +18,8 @@ use Rattle.segment_invariant.specs.Seen.{IsValued, IsFirst, IsFirstOf}
 use Rattle.segment_invariant.specs.Invariant.{IsLawfulSample}
 use Rattle.segment_invariant.proofs.Consistency.Firsts.{first_valued}
 use Rattle.segment_invariant.proofs.Lists.Firsts.{first_from, first_image, first_longer}
-use Rattle.segment_invariant.proofs.Lists.Elements.{all_of, split_map, contains_at}
-use Rattle.segment_invariant.proofs.Lists.Maps.{contains_map, contains_mapped, contains_take}
+use Rattle.segment_invariant.proofs.Lists.Elements.{contains_at}
+use Rattle.segment_invariant.proofs.Lists.Maps.{contains_take}
 use Rattle.segment_promises.specs.Adoption.{IsAdoptable}
 use Rattle.segment_promises.proofs.Readings.Firsts.{read_from, read_to}
 use Rattle.segment_promises.proofs.Adopting.Slices.{run_long}

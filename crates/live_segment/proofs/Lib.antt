@@ -9,3 +9,4 @@ mod Ranks
 mod Proceeding
 mod Beginning
 mod Listed
+mod Answered

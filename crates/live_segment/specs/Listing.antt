@@ -14,7 +14,7 @@ use Rattle.segment_machine.specs.Publishing.{link, own_at}
 use Rattle.segment_machine.specs.Walking.{load_published}
 use Rattle.hist_core.specs.Goes.{AreApart}
 use Rattle.live_segment.specs.declared.rule.Announcement.{Announcement}
-use Rattle.live_segment.specs.declared.rule.Announcement.TheVariants.{Histogram, Sample, Units}
+use Rattle.live_segment.specs.declared.rule.Announcement.TheVariants.{Answer, Histogram, Sample, Units}
 use Rattle.live_segment.specs.Steps.{Does, Pass, Sat}
 use Rattle.live_segment.specs.Telling.{TellsOf, MayDoOf, NotedOf}
 
@@ -39,6 +39,7 @@ abbrev pub asked_for : Announcement → Option Made
 asked_for (Histogram known) = Some (made.Histogram known.name.items known.spec)
 asked_for (Sample histogram value) = Some (made.Sample histogram value)
 asked_for (Units units) = None
+asked_for (Answer histogram snapshot) = None
 
 -- a block is asked to hold something once
 abbrev pub asking_notes : Option Own → ℕ → Made → List Note

@@ -1,13 +1,20 @@
 -- What the steps of deltas and snapshots tell whoever makes them: that a call begins at its first load, and that a delta ends at its last event.
-use Rattle.std.specs.Prelude.{◌≡◌, ℕ, ◌+◌, [], ◌∷◌}
+use Rattle.std.specs.Prelude.{◌≡◌, false, ℕ, ◌+◌, [], ◌∷◌}
+use mathlib.Core.Option.{some}
 use Rattle.std.specs.Int.{cast_signed, w64}
 use Rattle.segment_image.specs.declared.layout.TheConstants.{HISTOGRAM_SUM_MARK}
 use Rattle.segment_machine.specs.declared.actor.Actor.{Actor}
+use Rattle.atomic_table.specs.Table.{Step}
+use Rattle.hist_core.specs.declared.answer.Snapshot.{Snapshot}
+use Rattle.segment_machine.specs.declared.actor.Answered.{Answered}
 use Rattle.segment_machine.specs.declared.actor.Known.{Known}
+use Rattle.segment_machine.specs.Actor.{is_opener}
 use Rattle.segment_machine.specs.Event.{Event, taking_event}
 use Rattle.segment_machine.specs.Taking.{swap_sum_mark}
-use Rattle.segment_machine.specs.Note.{takes, has_taken, looks}
-use Rattle.live_segment.specs.Steps.{Pass, Sat}
+use Rattle.segment_machine.specs.Note.{takes, has_taken, looks, answers, noted, moment_of, MayNote}
+use Rattle.live_segment.specs.declared.rule.Announcement.{Announcement}
+use Rattle.live_segment.specs.declared.rule.Announcement.TheVariants.{Answer}
+use Rattle.live_segment.specs.Steps.{IsSame, Pass, Sat}
 use Rattle.live_segment.specs.Telling.{KnowsAlone, TellsOf, MayDoOf, NotedOf}
 
 -- ---- a delta begins
@@ -43,3 +50,31 @@ abbrev pub EndsDelta : ℕ → ℕ → Sat → ℕ → Sat → Type 0
 EndsDelta word number me =
     TellsOf ℕ (λ histogram. word ≡ histogram + HISTOGRAM_SUM_MARK + 1) (λ histogram. [])
     (λ histogram. taking_event (swap_sum_mark histogram (cast_signed w64 number))) (has_taken ∷ []) me
+
+-- ---- a snapshot ends
+
+-- what a snapshot of a histogram saw, as its recorder keeps it
+abbrev pub answered_as : Actor → Known → Snapshot → Answered
+answered_as a known snapshot =
+    record { name = known.name; counts = snapshot.counts.items; sum = snapshot.sum; redundant = snapshot.redundant; moment = moment_of a }
+
+-- it is said to be the answer
+abbrev pub Answers : Step Announcement → Sat → ℕ → Sat → Type 0
+Answers st me found me' =
+    (known : Known) (snapshot : Snapshot) → st.said ≡ some (Answer known.reference snapshot) → KnowsAlone me.0 known
+    → (me'.0 ≡ noted me.0 (answers (answered_as me.0 known snapshot))) × (me'.1 ≡ me.1)
+
+-- a recorder's seat may say that
+pub record MayAnswer (seat : Pass) (said : Announcement) : Type 0 where
+  pub recorder : is_opener seat.me.0.role ≡ false
+  pub known : Known
+  pub snapshot : Snapshot
+  pub says : said ≡ Answer known.reference snapshot
+  pub alone : KnowsAlone seat.me.0 known
+  pub may : MayNote seat.me.0 (answers (answered_as seat.me.0 known snapshot))
+
+-- and has said it
+abbrev pub HasAnswered : Pass → Announcement → Pass → Type 0
+HasAnswered seat said after =
+    (known : Known) (snapshot : Snapshot) → said ≡ Answer known.reference snapshot → KnowsAlone seat.me.0 known
+    → IsSame seat after × (after.me.0 ≡ noted seat.me.0 (answers (answered_as seat.me.0 known snapshot)))

@@ -2,6 +2,7 @@
 
 use crate::recorder::KnownHistogram;
 use atomic_table::{Seat, TableRule};
+use hist_core::Snapshot;
 use segment_image::Shape;
 use segment_machine::Actor;
 
@@ -23,6 +24,8 @@ pub(crate) enum Announcement {
     Histogram(KnownHistogram),
     /// The sample of a sparse histogram that a record is to hold.
     Sample { histogram: u64, value: i32 },
+    /// What a snapshot of the histogram whose record has this reference is answered.
+    Answer { histogram: u64, snapshot: Snapshot },
 }
 
 /// What holds between any two steps.

@@ -1,4 +1,4 @@
-//! The steps that take: how a delta and a snapshot begin, counts and marks, the sum and its mark, and the redundant count.
+//! The steps that take: how a delta and a snapshot begin and end, counts and marks, the sum and its mark, and the redundant count.
 
 ghost use Rattle.std.specs.Prelude.{◌≡◌, ◌+◌, ◌<◌, ◌≤◌};
 ghost use Rattle.segment_image.specs.declared.layout.TheConstants.{BLOCK_NEXT, HISTOGRAM_SINGLE};
@@ -7,7 +7,7 @@ ghost use Rattle.segment_machine.specs.Packing.{load_single};
 ghost use Rattle.segment_machine.specs.Walking.{load_next};
 ghost use Rattle.segment_machine.specs.Taking.{load_count, raise_mark, raise_single_mark, load_sum, swap_sum_mark, load_redundant};
 ghost use Rattle.live_segment.specs.Steps.{DoesAt};
-ghost use Rattle.live_segment.specs.Taking.{BeginsDelta, BeginsSnapshot, EndsDelta};
+ghost use Rattle.live_segment.specs.Taking.{Answers, BeginsDelta, BeginsSnapshot, EndsDelta};
 
 use crate::rule::{Announcement, Pass};
 use crate::segment::Segment;
@@ -79,12 +79,18 @@ impl Play<Announcement, Actor> for LoadRedundant {
     ghost then = { λ st. DoesAt (λ histogram. taking_event (load_redundant histogram)) st.word };
 }
 
+pub(crate) struct Answering;
+
+impl Play<Announcement, Actor> for Answering {
+    ghost then = { Answers };
+}
+
 impl Segment {
     ghost use Rattle.std.specs.Prelude.{[], ◌∷◌};
     ghost use Rattle.segment_machine.specs.Note.{has_taken, looks};
     ghost use Rattle.live_segment.specs.Holders.{MayStep, table_of};
     ghost use Rattle.live_segment.specs.Steps.{Stepped};
-    ghost use Rattle.live_segment.specs.Taking.{MayBeginDelta, HasBegunDelta};
+    ghost use Rattle.live_segment.specs.Taking.{MayAnswer, HasAnswered, MayBeginDelta, HasBegunDelta};
     ghost use Rattle.live_segment.specs.Telling.{MayDo, Noted};
 
     // A delta of a histogram with buckets begins: its single word is loaded.
@@ -201,5 +207,15 @@ impl Segment {
         self.table
             .shared
             .load::<LoadRedundant>(seat, FIRST + histogram as usize + HISTOGRAM_REDUNDANT)
+    }
+    // What a snapshot saw is said to be its answer, and the snapshot ends.
+    pub(crate) fn answer(&self, seat: &mut Pass, said: &Announcement)
+        requires table { seat.old.table_id ≡ table_of self.now }
+        requires may { MayAnswer seat.old said.now }
+        ensures { HasAnswered seat.old said.now seat.new }
+    {
+        self.table
+            .shared
+            .compare_exchange_with::<Answering>(seat, 0, 0, 0, said);
     }
 }

@@ -10,3 +10,4 @@ mod Proceeding
 mod Beginning
 mod Listed
 mod Answered
+mod Totals

@@ -13,3 +13,4 @@ pub mod Working
 pub mod Listing
 pub mod Taking
 pub mod Cursors
+pub mod Looking

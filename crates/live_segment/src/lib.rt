@@ -9,6 +9,7 @@
 mod allocation;
 mod counting;
 mod fault;
+mod looking;
 mod opener;
 mod recorder;
 mod rule;

@@ -1,5 +1,6 @@
 -- An `add`, event by event.
 pub mod Counts
+pub mod Loads
 pub mod Entries
 pub mod Redundants
 pub mod Sums

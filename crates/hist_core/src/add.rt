@@ -5,9 +5,9 @@ ghost use Rattle.std.specs.Prelude.{◌≡◌, length};
 use crate::counting::fetch_add;
 use crate::refusal::Refusal;
 use segment_image::Shape;
-use segment_image::layout::{HISTOGRAM_REDUNDANT, HISTOGRAM_SUM};
+use segment_image::layout::{BLOCK_HEADER, HISTOGRAM_COUNTS, HISTOGRAM_REDUNDANT, HISTOGRAM_SUM};
 
-/// What an `add` does next. The steps of the first four stages are to come.
+/// What an `add` does next. The steps of `LoadingSingle`, `Packing` and `SeekingCounts` are to come.
 #[derive(Debug, Drop)]
 pub(crate) enum Stage {
     /// It loads the single word.
@@ -54,7 +54,7 @@ pub(crate) struct Add {
 }
 
 impl Add {
-    ghost use Rattle.hist_core.specs.declared.add.Stage.TheVariants.{Counting, Summing, Noting};
+    ghost use Rattle.hist_core.specs.declared.add.Stage.TheVariants.{LoadingCounts, Counting, Summing, Noting};
     ghost use Rattle.hist_core.specs.Add.{IsSomeAdd, AddSteps, behind_count};
 
     // Its units are counted: it adds its amount next, where that is not 0.
@@ -66,6 +66,18 @@ impl Add {
         } else {
             Stage::Summing
         };
+    }
+
+    // It loads the counts reference. The counts are in use, so the count lies within the segment, and the sum does not wrap.
+    fn load_counts(&mut self, words: &[u64]) -> AddStep
+        requires loads { self.old.stage ≡ LoadingCounts }
+        requires stands { ∥ IsSomeAdd (length words.now) self.old ∥₁ }
+        ensures { AddSteps self.old words.now self.new words.now result }
+    {
+        let counts = words[self.histogram as usize + HISTOGRAM_COUNTS];
+        let at = counts.wrapping_add((BLOCK_HEADER + self.bucket) as u64);
+        self.stage = Stage::Counting { at };
+        AddStep::More
     }
 
     // It adds its units to a count.

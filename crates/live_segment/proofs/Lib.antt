@@ -2,6 +2,7 @@ mod Allowed
 mod Told
 mod Closing
 mod Copies
+mod CursorSteps
 mod Sharing
 mod Seated
 mod Tries

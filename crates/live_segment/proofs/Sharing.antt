@@ -2,47 +2,28 @@
 -- took or came too late.
 use Rattle.std.proofs.Common.{◌≡◌, ◌≢◌, ℕ, ◌+◌, ◌-◌, ◌*◌, ◌<◌, ◌≤◌, ◌==◌, ◌&&◌, Bool, true, false, true≢false, not, if◌then◌else◌, List, [], ◌∷◌, ◌++◌, length, set, slice_index, inr, refl, sym, ap, subst, ◌∙◌, ⊎_elim, eq-eqb, ne_eqb, arith, All}
 use Rattle.std.specs.List.{Contains}
-use lib.ListN.{get_elem?}
 use Rattle.std.proofs.lemmas.Bool.{or_cases, and_parts, eqb-true, leb-true}
 use Rattle.std.proofs.lemmas.List.{append-nil, append_assoc, set-set, set-get_or, get_or-set_same}
 use Rattle.std.proofs.lemmas.List.Elements.{All-push}
-use Rattle.atomic_table.specs.Table.{Allows}
 use Rattle.segment_image.specs.Shape.{Dimensions}
 use Rattle.alloc_core.specs.Layout.{IsShape}
 use Rattle.list_core.specs.Chain.{is_reference, stops}
 use Rattle.list_core.specs.Walk.{IsPrefix}
 use Rattle.segment_machine.specs.declared.actor.Actor.{Actor}
 use Rattle.segment_machine.specs.declared.place.Place.{Place}
-use Rattle.segment_machine.specs.declared.place.Place.TheVariants.{Spent, Idle, CursorLoaded, BehindCursor}
+use Rattle.segment_machine.specs.declared.place.Place.TheVariants.{Idle, CursorLoaded, BehindCursor}
 use Rattle.segment_machine.specs.declared.seen.Sighting.{Sighting}
 use Rattle.segment_machine.specs.Actor.{is_bound, is_opener}
 use Rattle.segment_machine.specs.Calls.{sight}
 use Rattle.segment_machine.specs.Cursors.{load_cursor, move_cursor, after_cursor}
-use Rattle.segment_machine.specs.Event.{cursor_event, walking_event, change, spot, next, Ready}
+use Rattle.segment_machine.specs.Event.{cursor_event, walking_event, next}
 use Rattle.segment_machine.specs.Walking.{load_next, extended, behind, records_met, IsNextOf}
-use Rattle.live_segment.specs.declared.rule.Setting.{Setting}
 use Rattle.live_segment.specs.declared.segment.Segment.{Segment}
-use Rattle.live_segment.specs.Rule.{Runs, IsOf}
-use Rattle.live_segment.specs.Steps.{Pass, Sat, IsSame, Stepped}
+use Rattle.live_segment.specs.Rule.{IsOf}
+use Rattle.live_segment.specs.Steps.{Pass, IsSame, Stepped}
 use Rattle.live_segment.specs.Holders.{table_of, MayStep}
 use Rattle.live_segment.specs.Onward.{Grows}
-use Rattle.live_segment.specs.Cursors.{LoadsCursor, IsLate, IsGivenNext, IsAtEnd, at_cursor, ended_at}
-use Rattle.live_segment.proofs.Allowed.{does_at}
-
--- ---- its steps
-
-module _ (setting : Setting) (slots id : ℕ) (me : Sat) (word : ℕ) (records : is_opener me.0.role ≡ false) where
-  -- a cursor is loaded by a recorder that counts for each of them how often it came too late
-  pub loads_cursor : (cursor : ℕ) → word ≡ spot setting.shape.size (cursor_event (load_cursor cursor)) + 1
-      → ((y : ℕ) → word ≡ spot me.0.segment.shape.size (cursor_event (load_cursor y)) + 1 → cursor ≡ y)
-      → Ready me.0 (cursor_event (load_cursor cursor))
-      → Allows (Runs setting) slots id me word (change setting.version (cursor_event (load_cursor cursor))) (LoadsCursor word me)
-  loads_cursor cursor is one ready s run wide mine small =
-      let (view, act, valid, holds, told) =
-      does_at setting slots id me word records (λ (x : ℕ). cursor_event (load_cursor x)) cursor is one ready s run wide mine small in
-      let live : me.0.hand.place ≢ Spent = λ e. true≢false (sym (ap is_bound e) ∙ ready.0) in
-      let fits = run.kept.each id me.0 (ap (λ list. get_elem? list id) (sym run.views) ∙ mine) live in
-      (view, act, valid, holds, (told, fits.ahead.many ∙ sym fits.numbered))
+use Rattle.live_segment.specs.Cursors.{IsLate, IsGivenNext, IsAtEnd, StandsBehind, at_cursor, ended_at}
 
 -- ---- numbers
 
@@ -221,8 +202,8 @@ module _ (segment : Segment) (cursor : ℕ) (first old : Pass) (table : first.ta
           moved = move.view ∙ ap (λ (a : Actor). after_cursor (other == at) a cursor found other) view
 
           -- the exchange took
-          pub given : other ≡ at → IsGivenNext cursor first.me.0 found last.me.0
-          given took =
+          pub given : other ≡ at → StandsBehind at found last.me.0 → IsGivenNext cursor first.me.0 found last.me.0
+          given took (chain, neighbours, ordered) =
               let shape : old.me.0.segment.shape ≡ first.me.0.segment.shape = ap (λ (a : Actor). a.segment.shape) late.same in
               let (low, high) = reference_behind first.me.0.segment.shape.size found
               (subst (λ (s : Dimensions). is_reference s.size found ≡ true) shape learned.reference) miss in record {
@@ -233,6 +214,9 @@ module _ (segment : Segment) (cursor : ℕ) (first old : Pass) (table : first.ta
                 behind = low;
                 within = high;
                 view = moved ∙ ap (λ (b : Bool). after_cursor b (followed old.me.0 cursor at found) cursor found other) (eq-eqb other at took);
+                chain = chain;
+                neighbours = neighbours;
+                ordered = ordered;
               }
 
           -- it came too late

@@ -1,15 +1,18 @@
 -- What a call on a shared cursor makes of a recorder: it was given a record, or found the end of the list behind the cursor.
-use Rattle.std.specs.Prelude.{◌≡◌, false, ℕ, ◌+◌, ◌≤◌, List, [], ◌∷◌, ◌++◌, length, Option, Some, None, slice_index, slice_set}
+use Rattle.std.specs.Prelude.{◌≡◌, false, ℕ, ◌+◌, ◌<◌, ◌≤◌, List, [], ◌∷◌, ◌++◌, length, Option, Some, None, slice_index, slice_set}
 use Rattle.std.specs.List.{All, Contains}
 use Rattle.segment_image.specs.declared.layout.TheConstants.{BLOCK_LEAST, HEADER_WORDS, QUEUE}
+use lib.ListN.{get_elem?}
+use mathlib.Core.Option.{some}
+use Rattle.list_core.specs.Laws.{AreNeighbours}
 use Rattle.list_core.specs.Walk.{IsPrefix, stands_behind}
 use Rattle.segment_machine.specs.declared.actor.Actor.{Actor}
 use Rattle.segment_machine.specs.declared.actor.Given.{Given}
-use Rattle.segment_machine.specs.declared.place.Place.TheVariants.{Idle, CursorLoaded}
+use Rattle.segment_machine.specs.declared.place.Place.TheVariants.{Idle, CursorLoaded, BehindCursor}
 use Rattle.segment_machine.specs.declared.seen.Sighting.{Sighting}
 use Rattle.segment_machine.specs.Actor.{is_bound}
 use Rattle.segment_machine.specs.Calls.{sight}
-use Rattle.segment_machine.specs.Cursors.{load_cursor}
+use Rattle.segment_machine.specs.Cursors.{load_cursor, move_cursor}
 use Rattle.segment_machine.specs.Event.{cursor_event}
 use Rattle.segment_machine.specs.Walking.{extended, records_met, IsNextOf}
 use Rattle.live_segment.specs.Onward.{Grows}
@@ -21,6 +24,23 @@ use Rattle.live_segment.specs.Steps.{DoesAt, Sat}
 abbrev pub LoadsCursor : ℕ → Sat → ℕ → Sat → Type 0
 LoadsCursor word me found me' =
     DoesAt (λ cursor. cursor_event (load_cursor cursor)) word me found me' × (length me.0.done.lost ≡ me.0.segment.cursors)
+
+-- What shared cursors gave a recorder, in the order in which it was given it: what one cursor gave stands in that order on a chain, which has
+-- all that the recorder has seen of the list, and each record that it met.
+pub record GaveInOrder (chain : List ℕ) (a : Actor) : Type 0 where
+  pub seen : IsPrefix a.seen.chain chain
+  pub met : All (Contains chain) (records_met a)
+  pub rises : (i j k l : ℕ) (x y : Given) → i < j → get_elem? a.done.given i ≡ some x → get_elem? a.done.given j ≡ some y → x.cursor ≡ y.cursor
+      → get_elem? chain k ≡ some x.reference → get_elem? chain l ≡ some y.reference → k < l
+
+-- A shared cursor is moved on, or comes too late: the record that it was to be moved to is the next one on the list.
+abbrev pub StandsBehind : ℕ → ℕ → Actor → Type 0
+StandsBehind old new a = (chain : List ℕ) × AreNeighbours chain old new × GaveInOrder chain a
+
+abbrev pub MovesCursor : ℕ → ℕ → ℕ → Sat → ℕ → Sat → Type 0
+MovesCursor word old new me found me' =
+    DoesAt (λ cursor. cursor_event (move_cursor cursor old new)) word me found me'
+    × ((cursor : ℕ) → me.0.hand.place ≡ BehindCursor cursor old new → StandsBehind old new me'.0)
 
 -- ---- what came before
 
@@ -64,7 +84,8 @@ given_behind a cursor at reference = record a {
 abbrev pub ended_at : Actor → ℕ → ℕ → Actor
 ended_at a cursor at = record a { hand = record a.hand { place = Idle }; seen = record a.seen { cursors = a.seen.cursors ++ sight cursor at } }
 
--- The cursor gave the record that is next behind where it stood when the exchange took. It is a record within the segment.
+-- The cursor gave the record that is next on the list behind where it stood when the exchange took. It is a record within the segment.
+-- All that cursors gave the recorder stands on that list, in order.
 pub record IsGivenNext (cursor : ℕ) (old : Actor) (reference : ℕ) (new : Actor) : Type 0 where
   pub late : Actor
   pub before : IsLate cursor old late
@@ -73,6 +94,9 @@ pub record IsGivenNext (cursor : ℕ) (old : Actor) (reference : ℕ) (new : Act
   pub behind : HEADER_WORDS ≤ reference
   pub within : reference + BLOCK_LEAST ≤ old.segment.shape.size
   pub view : new ≡ given_behind late cursor at reference
+  pub chain : List ℕ
+  pub neighbours : AreNeighbours chain at reference
+  pub ordered : GaveInOrder chain new
 
 -- The list ended where the cursor stood. A chain ends there that has all that the recorder has seen of the list, and each record that it
 -- made, was given, or saw as the tail or where a shared cursor stands.

@@ -3,8 +3,7 @@
 ghost use Rattle.std.specs.Prelude.{◌≡◌, ◌<◌, length};
 ghost use Rattle.segment_machine.specs.Event.{cursor_event};
 ghost use Rattle.segment_machine.specs.Cursors.{load_cursor, move_cursor};
-ghost use Rattle.live_segment.specs.Steps.{DoesAt};
-ghost use Rattle.live_segment.specs.Cursors.{LoadsCursor};
+ghost use Rattle.live_segment.specs.Cursors.{LoadsCursor, MovesCursor};
 
 use crate::rule::{Announcement, Pass};
 use crate::segment::Segment;
@@ -21,12 +20,13 @@ impl Play<Announcement, Actor> for LoadCursor {
 pub(crate) struct MoveCursor;
 
 impl Play<Announcement, Actor> for MoveCursor {
-    ghost then = { λ st. DoesAt (λ cursor. cursor_event (move_cursor cursor st.first st.second)) st.word };
+    ghost then = { λ st. MovesCursor st.word st.first st.second };
 }
 
 impl Segment {
     ghost use Rattle.live_segment.specs.Holders.{MayStep};
     ghost use Rattle.live_segment.specs.Steps.{Stepped};
+    ghost use Rattle.live_segment.specs.Cursors.{StandsBehind};
 
     pub(crate) fn load_cursor(&self, seat: &mut Pass, cursor: usize) -> u64
         requires may { MayStep self.now seat.old (cursor_event (load_cursor cursor)) }
@@ -45,7 +45,8 @@ impl Segment {
         requires may { MayStep self.now seat.old (cursor_event (move_cursor cursor old new)) }
         requires shape { seat.old.me.0.segment.shape ≡ self.now.setting.shape }
         requires room { cursor < self.now.setting.cursors }
-        ensures { Stepped seat.old (cursor_event (move_cursor cursor old new)) result seat.new }
+        ensures step { Stepped seat.old (cursor_event (move_cursor cursor old new)) result seat.new }
+        ensures order { StandsBehind old new seat.new.me.0 }
     {
         let size = self.setting.shape.size() as usize;
         self.table

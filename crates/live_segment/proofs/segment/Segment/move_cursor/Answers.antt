@@ -1,23 +1,26 @@
-use Rattle.std.proofs.Common.{rules, ℕ, ap, arith}
+use Rattle.std.proofs.Common.{rules, ap, arith}
 use Rattle.segment_image.specs.Shape.{Dimensions}
-use Rattle.segment_machine.specs.Event.{cursor_event}
-use Rattle.segment_machine.specs.Cursors.{move_cursor}
 use Rattle.live_segment.specs.declared.rule.Setting.{Setting}
-use Rattle.live_segment.proofs.Allowed.{does_at}
+use Rattle.live_segment.proofs.CursorSteps.{moves_cursor}
 use Rattle.live_segment.proofs.segment.Segment.move_cursor.Goals as goal
 
 pub compare_exchange-requires : goal.compare_exchange-requires
 compare_exchange-requires c = (
   search rules,
   search rules,
-  does_at c.args.self.now.table.shared.key _ _ _ _ c.requires.may.recorder (λ (x : ℕ). cursor_event (move_cursor x c.args.old c.args.new)) c.args.cursor
+  moves_cursor c.args.self.now.table.shared.key _ _ _ _ c.requires.may.recorder c.args.old c.args.new c.args.cursor
       (let e = ap (λ (k : Setting). k.shape.size) c.args.self.now.keyed in omega (arith, c.size-size.ensures.value))
       (λ y same. let e = ap (λ (s : Dimensions). s.size) c.requires.shape in omega (arith, c.size-size.ensures.value)) c.requires.may.ready,
 )
 
 pub returns : goal.returns
-returns c = let told = c.compare_exchange.ensures.2 c.args.cursor (let e = ap (λ (s : Dimensions). s.size) c.requires.shape in omega (arith, c.size-size.ensures.value)) in record {
-  same = (c.compare_exchange.ensures.0, c.compare_exchange.ensures.1, told.1);
-  view = told.0;
-  learned = told.2;
-}
+returns c =
+    let (step, order) = c.compare_exchange.ensures.2 in
+    let told = step c.args.cursor (let e = ap (λ (s : Dimensions). s.size) c.requires.shape in omega (arith, c.size-size.ensures.value)) in record {
+      step = record {
+        same = (c.compare_exchange.ensures.0, c.compare_exchange.ensures.1, told.1);
+        view = told.0;
+        learned = told.2;
+      };
+      order = order c.args.cursor c.requires.may.ready;
+    }

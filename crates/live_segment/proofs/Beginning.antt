@@ -42,7 +42,7 @@ known_there (x ∷ rest) reference known is = by_test (x.reference == reference)
 
 -- ---- while it looks
 
-sees_single : (a : Seen) (more : List Sighting) → SeesOn a (record a { singles = a.singles ++ more })
+pub sees_single : (a : Seen) (more : List Sighting) → SeesOn a (record a { singles = a.singles ++ more })
 sees_single a more = record {
   free = omega arith;
   chain = grows_not a.chain;

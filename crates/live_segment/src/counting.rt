@@ -3,6 +3,9 @@
 ghost use Rattle.std.specs.Prelude.{◌≡◌, ◌⊎◌, ◌+◌, ◌*◌, ◌%◌, ◌^◌, ◌<◌, ◌≤◌, MatchOption};
 ghost use Rattle.segment_machine.specs.Form.{IsPacking, off_word};
 
+use crate::recorder::KnownHistogram;
+use crate::rule::Pass;
+use crate::segment::Segment;
 use bucket_ranges::limits::MAX_PACKED;
 use segment_image::layout::VERSION_FROZEN;
 
@@ -56,5 +59,44 @@ fn off_word(version: u64, word: u64) -> u64
         DISABLED_BIT + NO_BUCKET
     } else {
         DISABLED_BIT + word / UNITS
+    }
+}
+
+impl Segment {
+    ghost use Rattle.std.specs.Prelude.{◌≡◌, ◌+◌, ◌<◌, ◌≤◌, Some, None};
+    ghost use Rattle.bucket_ranges.specs.Spec.{buckets_of};
+    ghost use Rattle.live_segment.specs.Known.{known_view};
+    ghost use Rattle.live_segment.specs.Holders.{table_of};
+    ghost use Rattle.live_segment.specs.Rule.{IsOf};
+    ghost use Rattle.live_segment.specs.Steps.{IsSame};
+    ghost use Rattle.live_segment.specs.Working.{MayCount, Tries};
+
+    // Packs units of a bucket of a histogram, where its single word can take them.
+    fn pack_units(
+        &self,
+        seat: &mut Pass,
+        histogram: &KnownHistogram,
+        bucket: usize,
+        units: u32,
+    ) -> Packing
+        requires seat { (seat.old.table_id ≡ table_of self.now) × IsOf self.now.setting seat.old.me.0 }
+        requires room { histogram.now.reference + 15 ≤ self.now.setting.shape.size }
+        requires bucket { (bucket < buckets_of histogram.now.spec) × (bucket ≤ 65535) }
+        requires may { MayCount seat.old.me.0 (known_view histogram.now) bucket units }
+        ensures same { IsSame seat.old seat.new }
+        ensures outcome { Tries (known_view histogram.now) bucket units seat.old.me.0 result seat.new.me.0 }
+    {
+        loop {
+            let word = self.load_single(seat, histogram.reference);
+            if word >= DISABLED_BIT {
+                return Packing::Off;
+            }
+            let Some(packed) = packed_with(word, bucket, units) else {
+                return Packing::Passed;
+            };
+            if self.pack(seat, histogram.reference, word, packed) == word {
+                return Packing::Packed;
+            }
+        }
     }
 }

@@ -13,3 +13,4 @@ mod Attempts
 mod Listed
 mod Answered
 mod Totals
+mod Walked

@@ -36,7 +36,7 @@ reference_within shape at shaped is =
     (λ record_is. leb-true (at + 5) shape.size (and_parts _ _ record_is).1) (or_cases _ _ is)
 
 -- one that is no queue block is behind the header
-reference_behind : (size at : ℕ) → is_reference size at ≡ true → at ≢ 12 → (16 ≤ at) × (at + 5 ≤ size)
+pub reference_behind : (size at : ℕ) → is_reference size at ≡ true → at ≢ 12 → (16 ≤ at) × (at + 5 ≤ size)
 reference_behind size at is miss =
     ⊎_elim (λ queue. absurd (miss (eqb-true at 12 queue)))
     (λ record_is. let (low, high) = and_parts _ _ record_is in (leb-true 16 at low, leb-true (at + 5) size high)) (or_cases _ _ is)
@@ -60,18 +60,18 @@ same_test : (n : ℕ) → (n == n) ≡ true
 same_test n = eq-eqb n n refl
 
 -- the chain that it has seen only grows
-extended_grows : (chain : List ℕ) (at found : ℕ) → Grows chain (extended chain at found)
+pub extended_grows : (chain : List ℕ) (at found : ℕ) → Grows chain (extended chain at found)
 extended_grows chain at found = by ((slice_index (stops chain) (length chain) == at) && not (found == 12))
   where
     by : (b : Bool) → Grows chain (if b then chain ++ found ∷ [] else chain)
     by true = (found ∷ [], refl)
     by false = ([], sym (append-nil chain))
 
-grows_on : {X : Type 0} (a b c : List X) → Grows a b → Grows b c → Grows a c
+pub grows_on : {X : Type 0} (a b c : List X) → Grows a b → Grows b c → Grows a c
 grows_on a b c (xs, first) (ys, second) = (xs ++ ys, second ∙ (ap (λ l. l ++ ys) first ∙ append_assoc a xs ys))
 
 -- at the end of the list nothing is added to the chain
-extended_end : (chain : List ℕ) (at found : ℕ) → found ≡ 12 → extended chain at found ≡ chain
+pub extended_end : (chain : List ℕ) (at found : ℕ) → found ≡ 12 → extended chain at found ≡ chain
 extended_end chain at found end = by (slice_index (stops chain) (length chain) == at) (found == 12) (eq-eqb found 12 end)
   where
     by : (b e : Bool) → e ≡ true → (if b && not e then chain ++ found ∷ [] else chain) ≡ chain

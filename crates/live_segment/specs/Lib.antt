@@ -14,3 +14,4 @@ pub mod Listing
 pub mod Taking
 pub mod Cursors
 pub mod Looking
+pub mod Records

@@ -12,6 +12,7 @@ mod fault;
 mod looking;
 mod opener;
 mod recorder;
+mod records;
 mod rule;
 mod seats;
 mod segment;

@@ -11,7 +11,8 @@ ghost use Rattle.std.proofs.Props.{props};
 use crate::rule::Pass;
 use crate::segment::Segment;
 use bucket_ranges::{Ranges, Spec};
-use segment_image::layout::FLAG_CORRUPT;
+use hist_core::Refusal;
+use segment_image::layout::{BLOCK_LEAST, FLAG_CORRUPT, HEADER_WORDS};
 use std::alloc::Global;
 
 /// A histogram that a recorder knows: its place in the list of those.
@@ -32,6 +33,8 @@ pub(crate) struct KnownHistogram {
 /// Records for one thread. It may move to another.
 #[derive(Drop)]
 pub struct Recorder<'a> {
+    // For its lists.
+    alloc: Global,
     segment: &'a Segment,
     seat: Pass,
     units: u32,
@@ -46,10 +49,12 @@ pub struct Recorder<'a> {
 }
 
 impl<'a> Recorder<'a> {
-    ghost use Rattle.std.specs.Prelude.{◌↔◌, IsTrue, ◌<◌, ◌++◌, length};
+    ghost use Rattle.std.specs.Prelude.{◌↔◌, IsTrue, ◌<◌, ◌++◌, length, MatchResult};
     ghost use Rattle.live_segment.specs.Allocation.{spoiled};
     ghost use Rattle.live_segment.specs.Cursors.{AnswersNext, gift};
     ghost use Rattle.live_segment.specs.Holders.{view_of_recorder, IsSameRecorder, Knows};
+    ghost use Rattle.live_segment.specs.Records.{HasWalked};
+    ghost use Rattle.hist_core.specs.declared.refusal.Refusal.TheVariants.{NoMemory};
 
     // A recorder that has done nothing.
     pub(crate) fn new(alloc: Global, segment: &'a Segment, seat: Pass, units: u32) -> Recorder<'a>
@@ -59,6 +64,7 @@ impl<'a> Recorder<'a> {
         ensures { (result.segment ≡ segment.entry) × (result.seat ≡ seat) }
     {
         Recorder {
+            alloc,
             segment,
             seat,
             units,
@@ -72,6 +78,7 @@ impl<'a> Recorder<'a> {
         ensures rests { IsAtRest result.1.me.0 × (result.2 ≡ result.1.me.0.units.share) × (result.1.me.1 ≡ []) × (result.1.table_id ≡ result.0.now.table.shared.table_id) }
     {
         let Recorder {
+            alloc: _,
             segment,
             seat,
             units,
@@ -101,6 +108,21 @@ impl<'a> Recorder<'a> {
     {
         self.segment.set_flag(&mut self.seat, FLAG_CORRUPT);
     }
+
+    /// The references of all records of the list in its order, each once: those that it had seen there come first, and each
+    /// record that it made, was given, or saw as the tail or where a shared cursor stood is among them.
+    ///
+    /// `NoMemory` where there is none for so many as fit in a segment; then nothing has changed.
+    pub fn records(&mut self) -> Result<Vec<u64>, Refusal>
+        ensures same { IsSameRecorder self.old self.new }
+        ensures walked { MatchResult result (λ records. HasWalked (view_of_recorder self.old) records.items (view_of_recorder self.new)) (λ why. (why ≡ NoMemory) × (self.new ≡ self.old)) }
+    {
+        let size = self.segment.setting.shape.size() as usize;
+        let mut records = Vec::with_capacity(self.alloc, (size - HEADER_WORDS) / BLOCK_LEAST)?;
+        self.segment.walk(&mut self.seat, &mut records);
+        Ok(records)
+    }
+
     /// The next record of a cursor that all recorders share, and the cursor stands there then: each record goes to one
     /// recorder alone. None where the list ends behind the cursor; a later call may answer again.
     ///

@@ -3,8 +3,8 @@
 ghost use Rattle.std.specs.Prelude.{◌+◌, ◌<◌, ◌≤◌};
 ghost use Rattle.segment_machine.specs.Event.{walking_event};
 ghost use Rattle.segment_machine.specs.Walking.{load_next, load_published};
-ghost use Rattle.live_segment.specs.Steps.{DoesAt};
 ghost use Rattle.live_segment.specs.Listing.{LoadsPublished};
+ghost use Rattle.live_segment.specs.Records.{LoadsNext};
 
 use crate::rule::{Announcement, Pass};
 use crate::segment::Segment;
@@ -16,7 +16,7 @@ use segment_machine::Actor;
 pub(crate) struct LoadNext;
 
 impl Play<Announcement, Actor> for LoadNext {
-    ghost then = { λ st. DoesAt (λ at. walking_event (load_next at)) st.word };
+    ghost then = { λ st. LoadsNext st.word };
 }
 
 pub(crate) struct LoadPublished;
@@ -27,12 +27,14 @@ impl Play<Announcement, Actor> for LoadPublished {
 
 impl Segment {
     ghost use Rattle.live_segment.specs.Holders.{MayStep};
+    ghost use Rattle.live_segment.specs.Records.{StandOnce};
     ghost use Rattle.live_segment.specs.Steps.{Stepped};
 
     pub(crate) fn load_next(&self, seat: &mut Pass, at: u64) -> u64
         requires may { MayStep self.now seat.old (walking_event (load_next at)) }
         requires room { at + 5 ≤ self.now.setting.shape.size }
-        ensures { Stepped seat.old (walking_event (load_next at)) result seat.new }
+        ensures step { Stepped seat.old (walking_event (load_next at)) result seat.new }
+        ensures once { StandOnce seat.old.me.0.seen.chain }
     {
         self.table
             .shared

@@ -23,40 +23,40 @@ load_next-next-requires-clause-room c =
 
 pub returns-then-next-eq-QUEUE-clause-same : goal.returns-then-next-eq-QUEUE-clause-same
 returns-then-next-eq-QUEUE-clause-same c =
-    same_still c.args.self.now c.args.cursor c.args.seat.now _ c.requires.seat.0 c.requires.seat.1 c.requires.seat.2 c.requires.cursor c.loop-cursor.invariant.same c.loop-cursor.invariant.late _ _ c.load_cursor-at.ensures.step _ _ c.load_next-next.ensures
+    same_still c.args.self.now c.args.cursor c.args.seat.now _ c.requires.seat.0 c.requires.seat.1 c.requires.seat.2 c.requires.cursor c.loop-cursor.invariant.same c.loop-cursor.invariant.late _ _ c.load_cursor-at.ensures.step _ _ c.load_next-next.ensures.step
 
 pub returns-then-next-eq-QUEUE-clause-answer : goal.returns-then-next-eq-QUEUE-clause-answer
 returns-then-next-eq-QUEUE-clause-answer c =
-    ended c.args.self.now c.args.cursor c.args.seat.now _ c.requires.seat.0 c.requires.seat.1 c.requires.seat.2 c.requires.cursor c.loop-cursor.invariant.same c.loop-cursor.invariant.late _ _ c.load_cursor-at.ensures.step _ _ c.load_next-next.ensures c.if-next-eq-QUEUE.true
+    ended c.args.self.now c.args.cursor c.args.seat.now _ c.requires.seat.0 c.requires.seat.1 c.requires.seat.2 c.requires.cursor c.loop-cursor.invariant.same c.loop-cursor.invariant.late _ _ c.load_cursor-at.ensures.step _ _ c.load_next-next.ensures.step c.if-next-eq-QUEUE.true
 
 pub returns-then-next-eq-QUEUE-clause-given : goal.returns-then-next-eq-QUEUE-clause-given
 returns-then-next-eq-QUEUE-clause-given c =
-    gives_none _ _ _ (ended c.args.self.now c.args.cursor c.args.seat.now _ c.requires.seat.0 c.requires.seat.1 c.requires.seat.2 c.requires.cursor c.loop-cursor.invariant.same c.loop-cursor.invariant.late _ _ c.load_cursor-at.ensures.step _ _ c.load_next-next.ensures c.if-next-eq-QUEUE.true)
+    gives_none _ _ _ (ended c.args.self.now c.args.cursor c.args.seat.now _ c.requires.seat.0 c.requires.seat.1 c.requires.seat.2 c.requires.cursor c.loop-cursor.invariant.same c.loop-cursor.invariant.late _ _ c.load_cursor-at.ensures.step _ _ c.load_next-next.ensures.step c.if-next-eq-QUEUE.true)
 
 pub move_cursor-requires-clause-may : goal.move_cursor-requires-clause-may
 move_cursor-requires-clause-may c =
-    may_move c.args.self.now c.args.cursor c.args.seat.now _ c.requires.seat.0 c.requires.seat.1 c.requires.seat.2 c.requires.cursor c.loop-cursor.invariant.same c.loop-cursor.invariant.late _ _ c.load_cursor-at.ensures.step _ _ c.load_next-next.ensures c.if-next-eq-QUEUE.false
+    may_move c.args.self.now c.args.cursor c.args.seat.now _ c.requires.seat.0 c.requires.seat.1 c.requires.seat.2 c.requires.cursor c.loop-cursor.invariant.same c.loop-cursor.invariant.late _ _ c.load_cursor-at.ensures.step _ _ c.load_next-next.ensures.step c.if-next-eq-QUEUE.false
 
 pub move_cursor-requires-clause-shape : goal.move_cursor-requires-clause-shape
 move_cursor-requires-clause-shape c =
-    new_shape c.args.self.now c.args.cursor c.args.seat.now _ c.requires.seat.0 c.requires.seat.1 c.requires.seat.2 c.requires.cursor c.loop-cursor.invariant.same c.loop-cursor.invariant.late _ _ c.load_cursor-at.ensures.step _ _ c.load_next-next.ensures
+    new_shape c.args.self.now c.args.cursor c.args.seat.now _ c.requires.seat.0 c.requires.seat.1 c.requires.seat.2 c.requires.cursor c.loop-cursor.invariant.same c.loop-cursor.invariant.late _ _ c.load_cursor-at.ensures.step _ _ c.load_next-next.ensures.step
 
 pub returns-then-move_cursor-at-clause-same : goal.returns-then-move_cursor-at-clause-same
 returns-then-move_cursor-at-clause-same c =
-    same_last c.args.self.now c.args.cursor c.args.seat.now _ c.requires.seat.0 c.requires.seat.1 c.requires.seat.2 c.requires.cursor c.loop-cursor.invariant.same c.loop-cursor.invariant.late _ _ c.load_cursor-at.ensures.step _ _ c.load_next-next.ensures c.if-next-eq-QUEUE.false _ _ c.move_cursor.ensures.step
+    same_last c.args.self.now c.args.cursor c.args.seat.now _ c.requires.seat.0 c.requires.seat.1 c.requires.seat.2 c.requires.cursor c.loop-cursor.invariant.same c.loop-cursor.invariant.late _ _ c.load_cursor-at.ensures.step _ _ c.load_next-next.ensures.step c.if-next-eq-QUEUE.false _ _ c.move_cursor.ensures.step
 
 pub returns-then-move_cursor-at-clause-answer : goal.returns-then-move_cursor-at-clause-answer
 returns-then-move_cursor-at-clause-answer c =
-    given c.args.self.now c.args.cursor c.args.seat.now _ c.requires.seat.0 c.requires.seat.1 c.requires.seat.2 c.requires.cursor c.loop-cursor.invariant.same c.loop-cursor.invariant.late _ _ c.load_cursor-at.ensures.step _ _ c.load_next-next.ensures c.if-next-eq-QUEUE.false _ _ c.move_cursor.ensures.step c.if-move_cursor-at.true c.move_cursor.ensures.order
+    given c.args.self.now c.args.cursor c.args.seat.now _ c.requires.seat.0 c.requires.seat.1 c.requires.seat.2 c.requires.cursor c.loop-cursor.invariant.same c.loop-cursor.invariant.late _ _ c.load_cursor-at.ensures.step _ _ c.load_next-next.ensures.step c.if-next-eq-QUEUE.false _ _ c.move_cursor.ensures.step c.if-move_cursor-at.true c.move_cursor.ensures.order
 
 pub returns-then-move_cursor-at-clause-given : goal.returns-then-move_cursor-at-clause-given
 returns-then-move_cursor-at-clause-given c =
-    gives_one _ _ _ _ (given c.args.self.now c.args.cursor c.args.seat.now _ c.requires.seat.0 c.requires.seat.1 c.requires.seat.2 c.requires.cursor c.loop-cursor.invariant.same c.loop-cursor.invariant.late _ _ c.load_cursor-at.ensures.step _ _ c.load_next-next.ensures c.if-next-eq-QUEUE.false _ _ c.move_cursor.ensures.step c.if-move_cursor-at.true c.move_cursor.ensures.order)
+    gives_one _ _ _ _ (given c.args.self.now c.args.cursor c.args.seat.now _ c.requires.seat.0 c.requires.seat.1 c.requires.seat.2 c.requires.cursor c.loop-cursor.invariant.same c.loop-cursor.invariant.late _ _ c.load_cursor-at.ensures.step _ _ c.load_next-next.ensures.step c.if-next-eq-QUEUE.false _ _ c.move_cursor.ensures.step c.if-move_cursor-at.true c.move_cursor.ensures.order)
 
 pub loop-cursor-smaller : goal.loop-cursor-smaller
 loop-cursor-smaller c =
-    falls c.args.self.now c.args.cursor c.args.seat.now _ c.requires.seat.0 c.requires.seat.1 c.requires.seat.2 c.requires.cursor c.loop-cursor.invariant.same c.loop-cursor.invariant.late _ _ c.load_cursor-at.ensures.step _ _ c.load_next-next.ensures c.if-next-eq-QUEUE.false _ _ c.move_cursor.ensures.step c.if-move_cursor-at.false c.load_cursor-at.ensures.counts
+    falls c.args.self.now c.args.cursor c.args.seat.now _ c.requires.seat.0 c.requires.seat.1 c.requires.seat.2 c.requires.cursor c.loop-cursor.invariant.same c.loop-cursor.invariant.late _ _ c.load_cursor-at.ensures.step _ _ c.load_next-next.ensures.step c.if-next-eq-QUEUE.false _ _ c.move_cursor.ensures.step c.if-move_cursor-at.false c.load_cursor-at.ensures.counts
 
 pub loop-cursor-preserved : goal.loop-cursor-preserved
 loop-cursor-preserved c =
-    record { same = same_last c.args.self.now c.args.cursor c.args.seat.now _ c.requires.seat.0 c.requires.seat.1 c.requires.seat.2 c.requires.cursor c.loop-cursor.invariant.same c.loop-cursor.invariant.late _ _ c.load_cursor-at.ensures.step _ _ c.load_next-next.ensures c.if-next-eq-QUEUE.false _ _ c.move_cursor.ensures.step; late = later c.args.self.now c.args.cursor c.args.seat.now _ c.requires.seat.0 c.requires.seat.1 c.requires.seat.2 c.requires.cursor c.loop-cursor.invariant.same c.loop-cursor.invariant.late _ _ c.load_cursor-at.ensures.step _ _ c.load_next-next.ensures c.if-next-eq-QUEUE.false _ _ c.move_cursor.ensures.step c.if-move_cursor-at.false c.load_cursor-at.ensures.counts }
+    record { same = same_last c.args.self.now c.args.cursor c.args.seat.now _ c.requires.seat.0 c.requires.seat.1 c.requires.seat.2 c.requires.cursor c.loop-cursor.invariant.same c.loop-cursor.invariant.late _ _ c.load_cursor-at.ensures.step _ _ c.load_next-next.ensures.step c.if-next-eq-QUEUE.false _ _ c.move_cursor.ensures.step; late = later c.args.self.now c.args.cursor c.args.seat.now _ c.requires.seat.0 c.requires.seat.1 c.requires.seat.2 c.requires.cursor c.loop-cursor.invariant.same c.loop-cursor.invariant.late _ _ c.load_cursor-at.ensures.step _ _ c.load_next-next.ensures.step c.if-next-eq-QUEUE.false _ _ c.move_cursor.ensures.step c.if-move_cursor-at.false c.load_cursor-at.ensures.counts }

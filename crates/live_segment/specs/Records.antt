@@ -1,0 +1,29 @@
+-- What a walk along the list makes of a recorder: it has seen all of the list, and has its records in their order.
+use Rattle.std.specs.Prelude.{◌≡◌, ◌≢◌, false, ℕ, ◌+◌, ◌<◌, ◌≤◌, List, length, slice_index}
+use Rattle.std.specs.List.{All, Contains}
+use Rattle.segment_image.specs.declared.layout.TheConstants.{BLOCK_LEAST, HEADER_WORDS}
+use Rattle.list_core.specs.Chain.{stops}
+use Rattle.segment_machine.specs.declared.actor.Actor.{Actor}
+use Rattle.segment_machine.specs.Actor.{is_bound}
+use Rattle.segment_machine.specs.Event.{walking_event}
+use Rattle.segment_machine.specs.Walking.{load_next, records_met}
+use Rattle.live_segment.specs.Onward.{Grows}
+use Rattle.live_segment.specs.Steps.{DoesAt, Sat}
+
+-- along these nexts no block stands twice, and none is the queue block
+abbrev pub StandOnce : List ℕ → Type 0
+StandOnce chain = (i j : ℕ) → i < j → j ≤ length chain → slice_index (stops chain) i ≢ slice_index (stops chain) j
+
+-- a next is loaded, by a recorder that has met no block twice
+abbrev pub LoadsNext : ℕ → Sat → ℕ → Sat → Type 0
+LoadsNext word me found me' = DoesAt (λ at. walking_event (load_next at)) word me found me' × StandOnce me.0.seen.chain
+
+-- The records of the list are these, in its order, each once and within the segment: first those that the recorder had seen there, and
+-- among them all that it had met elsewhere. It has seen them now, a cursor that it had loaded may be let go, and all else is as it was.
+pub record HasWalked (old : Actor) (given : List ℕ) (new : Actor) : Type 0 where
+  pub view : new ≡ record old { hand = record old.hand { place = new.hand.place }; seen = record old.seen { chain = given } }
+  pub free : is_bound new.hand.place ≡ false
+  pub chain : Grows old.seen.chain given
+  pub once : StandOnce given
+  pub within : All (λ at. (HEADER_WORDS ≤ at) × (at + BLOCK_LEAST ≤ old.segment.shape.size)) given
+  pub met : All (Contains given) (records_met old)

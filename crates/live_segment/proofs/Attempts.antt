@@ -1,8 +1,8 @@
 -- An attempt to pack units of a bucket: the single word is loaded, and exchanged where it can take them. An exchange that comes too late
 -- finds it further on.
-use Rattle.std.proofs.Common.{◌≡◌, ◌≢◌, ◌⊎◌, ℕ, ◌+◌, ◌-◌, ◌%◌, ◌^◌, ◌<◌, ◌≤◌, ◌==◌, ◌||◌, nat_le, Bool, true, false, List, [], ◌∷◌, ◌++◌, length, drop, Option, Some, None, inl, inr, refl, sym, ap, ◌∙◌, subst, arith}
+use Rattle.std.proofs.Common.{◌≡◌, ◌≢◌, ◌⊎◌, ℕ, ◌+◌, ◌-◌, ◌%◌, ◌^◌, ◌<◌, ◌≤◌, ◌||◌, nat_le, Bool, true, false, List, [], ◌∷◌, ◌++◌, length, drop, Some, None, inl, inr, refl, sym, ap, ◌∙◌, subst, arith}
 use Rattle.std.specs.List.{Contains}
-use Rattle.std.proofs.lemmas.Bool.{eqb-true, eq-eqb, ne_eqb, le-leb, leb-true}
+use Rattle.std.proofs.lemmas.Bool.{eq-eqb, ne_eqb, le-leb, leb-true}
 use Rattle.std.proofs.lemmas.List.{append_assoc}
 use Rattle.std.proofs.lemmas.List.Elements.{Contains-append_right}
 use Rattle.std.proofs.Math.Seq.{drop-append_seam}
@@ -10,10 +10,8 @@ use Rattle.bucket_ranges.specs.Single.{single_of}
 use Rattle.bucket_ranges.specs.Spec.{buckets_of}
 use Rattle.segment_machine.specs.declared.actor.Actor.{Actor}
 use Rattle.segment_machine.specs.declared.actor.Known.{Known}
-use Rattle.segment_machine.specs.declared.actor.Hand.{Hand}
 use Rattle.segment_machine.specs.declared.place.Look.{Look}
 use Rattle.segment_machine.specs.declared.place.Place.TheVariants.{Looking, Idle}
-use Rattle.segment_machine.specs.declared.seen.Seen.{Seen}
 use Rattle.segment_machine.specs.declared.seen.Sighting.{Sighting}
 use Rattle.segment_machine.specs.Actor.{Buckets, is_bound}
 use Rattle.segment_machine.specs.Calls.{look_of, sight}
@@ -28,8 +26,8 @@ use Rattle.live_segment.specs.Holders.{table_of, MayStep}
 use Rattle.live_segment.specs.Rule.{IsOf}
 use Rattle.live_segment.specs.Steps.{Pass, IsSame, Stepped}
 use Rattle.live_segment.specs.Onward.{SeesOn}
-use Rattle.live_segment.specs.Telling.{InWord, MayPack, HasPacked, Noted, bucket_entry, bucket_notes}
-use Rattle.live_segment.specs.Working.{LooksOn, LooksFor, MayCount, HasCounted, Tries, counted_next}
+use Rattle.live_segment.specs.Telling.{MayPack, HasPacked, Noted, bucket_entry, bucket_notes}
+use Rattle.live_segment.specs.Working.{LooksOn, LooksFor, MayCount, Tries}
 use Rattle.live_segment.proofs.Proceeding.{looks_there, does_not, sees_not}
 use Rattle.live_segment.proofs.Beginning.{singled, sees_single, may_tell, is_next, only_begun, knows, looks_for, may_still, looks_for_on, late, counted, counted_behind}
 use Rattle.live_segment.proofs.Ranks.{rank, on_units, leads_higher, last_rank, last_most, last_is, last_leads}

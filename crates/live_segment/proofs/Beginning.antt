@@ -17,14 +17,14 @@ use Rattle.segment_machine.specs.declared.seen.Sighting.{Sighting}
 use Rattle.segment_machine.specs.Actor.{is_bound, is_opener, known_at, Buckets}
 use Rattle.segment_machine.specs.Calls.{IsNext}
 use Rattle.segment_machine.specs.Entry.{AreWithin, fresh, has_ended}
-use Rattle.segment_machine.specs.Note.{Note, MayNote, begins, goes_on, noted}
+use Rattle.segment_machine.specs.Note.{Note, begins, goes_on}
 use Rattle.segment_promises.specs.Follows.{MayTell, noted_by}
 use Rattle.segment_invariant.proofs.Lists.Elements.{all_from, each_of_one}
 use Rattle.segment_invariant.proofs.Lists.Maps.{contains_map}
-use Rattle.live_segment.specs.Onward.{DoesOn, SeesOn}
+use Rattle.live_segment.specs.Onward.{SeesOn}
 use Rattle.live_segment.specs.Telling.{bucket_entry, bucket_notes, opening_notes}
-use Rattle.live_segment.specs.Working.{Proceeds, LooksOn, MayCount, HasNotBegun, Waits, HasBegun, LooksFor, HasCounted, counted_next}
-use Rattle.live_segment.proofs.Proceeding.{does_not, sees_not, grows_by, grows_not, proceeds_on}
+use Rattle.live_segment.specs.Working.{LooksOn, MayCount, HasNotBegun, Waits, HasBegun, LooksFor, HasCounted, counted_next}
+use Rattle.live_segment.proofs.Proceeding.{does_not, grows_by, grows_not, proceeds_on}
 
 -- ---- what is known
 

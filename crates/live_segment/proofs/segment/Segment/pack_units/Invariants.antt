@@ -1,4 +1,4 @@
-use Rattle.std.proofs.Common.{◌≡◌, ◌-◌, ◌+◌, ℕ}
+use Rattle.std.proofs.Common.{◌≡◌, ◌-◌, ◌+◌}
 use Rattle.bucket_ranges.specs.Spec.{buckets_of}
 use Rattle.live_segment.specs.Known.{known_view}
 use Rattle.live_segment.specs.Steps.{IsSame}

@@ -10,7 +10,7 @@ use Rattle.segment_machine.specs.declared.place.Look.{Look}
 use Rattle.segment_machine.specs.declared.place.Place.{Place}
 use Rattle.segment_machine.specs.declared.seen.Sighting.{Sighting}
 use Rattle.segment_machine.specs.Actor.{SawCount, is_opener}
-use Rattle.segment_machine.specs.Calls.{sight}
+use Rattle.segment_machine.specs.Calls.{sight, IsUnits}
 use Rattle.segment_machine.specs.Event.{Event, next, taking_event}
 use Rattle.segment_machine.specs.Taking.{load_count, at_count}
 use Rattle.live_segment.specs.declared.segment.Segment.{Segment}
@@ -79,6 +79,11 @@ module _ (segment : Segment) (counts buckets : ℕ) (first seat : Pass) (may : M
             (λ (is, same). subst (λ (p : ℕ × ℕ). SawCount then_is (counts + 4 + p.0) p.1) (λ i. (sym is i, (same i).1)) (saw_found seat.me.0 at found since_on))
             (λ (other, there_is). saw_still seat.me.0 at found since_on (counts + 4 + bucket) total.1 (has.saw bucket total (omega (arith, lt, other)) there_is))
             (at_set totals passed bucket (key, found) total there);
+        few = λ bucket total lt there.
+            ⊎_elim
+            (λ (is, same). subst (λ (t : ℤ × ℕ). IsUnits t.1) same step.learned.0)
+            (λ (other, there_is). has.few bucket total (omega (arith, lt, other)) there_is)
+            (at_set totals passed bucket (key, found) total there);
         stands = λ look known stands. stands_on seat.me.0 look known at found (has.stands look known stands);
         more = (has.more.0 ++ sight at found, ap (λ (l : List Sighting). l ++ sight at found) has.more.1 ∙ append_assoc first.me.0.seen.counts has.more.0 (sight at found));
         view = ap (λ (a : Actor). next a event found) has.view;
@@ -88,6 +93,7 @@ module _ (segment : Segment) (counts buckets : ℕ) (first seat : Pass) (may : M
 pub looks_first : (counts : ℕ) (a : Actor) (totals : List (ℤ × ℕ)) → HasLookedAt counts a 0 totals a
 looks_first counts a totals = record {
   saw = λ bucket total lt there. absurd (omega (arith, lt));
+  few = λ bucket total lt there. absurd (omega (arith, lt));
   stands = λ look known stands. stands;
   more = ([], sym (append-nil a.seen.counts));
   view = refl;

@@ -9,7 +9,7 @@ use Rattle.segment_machine.specs.declared.actor.Known.{Known}
 use Rattle.segment_machine.specs.declared.place.Look.{Look}
 use Rattle.segment_machine.specs.declared.place.Place.TheVariants.{CountLoaded}
 use Rattle.segment_machine.specs.Actor.{Buckets, SawCount, is_opener}
-use Rattle.segment_machine.specs.Calls.{LooksOff}
+use Rattle.segment_machine.specs.Calls.{IsUnits, LooksOff}
 use Rattle.live_segment.specs.declared.segment.Segment.{Segment}
 use Rattle.live_segment.specs.Holders.{table_of}
 use Rattle.live_segment.specs.Onward.{Grows}
@@ -31,10 +31,11 @@ pub record MayLookAt (segment : Segment) (seat : Pass) (counts buckets : ℕ) : 
   pub all : buckets ≡ buckets_of known.spec
   pub since : seat.me.0.since.counts ≤ length seat.me.0.seen.counts
 
--- It has seen the counts of the first buckets since it began to look, each beside its key, and stands at the same counts. It has come to
--- more counts, and otherwise is as it was.
+-- It has seen the counts of the first buckets since it began to look, each beside its key, and stands at the same counts. None is more
+-- than all units of a segment. It has come to more counts, and otherwise is as it was.
 pub record HasLookedAt (counts : ℕ) (old : Actor) (passed : ℕ) (totals : List (ℤ × ℕ)) (new : Actor) : Type 0 where
   pub saw : (bucket : ℕ) (total : ℤ × ℕ) → bucket < passed → get_elem? totals bucket ≡ some total → SawCount new (counts + BLOCK_HEADER + bucket) total.1
+  pub few : (bucket : ℕ) (total : ℤ × ℕ) → bucket < passed → get_elem? totals bucket ≡ some total → IsUnits total.1
   pub stands : (look : Look) (known : Known) → StandsAt old look known → StandsAt new look known
   pub more : Grows old.seen.counts new.seen.counts
   pub view : new ≡ record old { hand = record old.hand { place = new.hand.place }; seen = record old.seen { counts = new.seen.counts } }

@@ -10,6 +10,7 @@ mod counting;
 mod entry;
 mod fault;
 mod hist;
+pub mod packing;
 mod refusal;
 mod runner;
 #[cfg(test)]

@@ -1,22 +1,9 @@
 //! How a recorder counts units of a bucket: it packs them into the single word, or makes room and adds them to a count.
 
-ghost use Rattle.std.specs.Prelude.{◌≡◌, ◌⊎◌, ◌+◌, ◌*◌, ◌%◌, ◌^◌, ◌<◌, ◌≤◌, MatchOption};
-ghost use Rattle.segment_machine.specs.Form.{IsPacking, off_word};
-
 use crate::recorder::KnownHistogram;
 use crate::rule::Pass;
 use crate::segment::Segment;
-use bucket_ranges::limits::MAX_PACKED;
-use segment_image::layout::VERSION_FROZEN;
-
-// From this word on the counts are in use.
-const DISABLED_BIT: u64 = 1 << 63;
-
-// What a disabled word of version 1 has in place of a bucket where none was packed.
-const NO_BUCKET: u64 = 65_535;
-
-// The units of a packed word stand below this, and the bucket above.
-const UNITS: u64 = 1 << 32;
+use hist_core::packing::{DISABLED_BIT, packed_with};
 
 // How an attempt to pack units ended.
 pub(crate) enum Packing {
@@ -26,40 +13,6 @@ pub(crate) enum Packing {
     Off,
     // The single word cannot take them.
     Passed,
-}
-
-// The single word with units of a bucket more, where it can take them.
-fn packed_with(word: u64, bucket: usize, units: u32) -> Option<u64>
-    requires few { bucket ≤ 65535 }
-    requires some { 1 ≤ units }
-    requires formed { (word ≡ 0) ⊎ (1 ≤ word % 2 ^ 32) }
-    ensures { MatchOption result ((packed : _) → IsPacking bucket units word packed → ⊥) (λ packed. IsPacking bucket units word packed) }
-{
-    let units = u64::from(units);
-    if word % UNITS + units > MAX_PACKED {
-        return None;
-    }
-    if word == 0 {
-        return Some(bucket as u64 * UNITS + units);
-    }
-    if word / UNITS != bucket as u64 {
-        return None;
-    }
-    Some(word + units)
-}
-
-// The word with which a single word is disabled, or frozen.
-fn off_word(version: u64, word: u64) -> u64
-    requires on { word < 2 ^ 63 }
-    ensures { result ≡ off_word version word }
-{
-    if version == VERSION_FROZEN {
-        DISABLED_BIT + word
-    } else if word == 0 {
-        DISABLED_BIT + NO_BUCKET
-    } else {
-        DISABLED_BIT + word / UNITS
-    }
 }
 
 impl Segment {

@@ -1,0 +1,51 @@
+//! What packing and disabling make of a single word.
+
+ghost use Rattle.std.specs.Prelude.{◌≡◌, ◌⊎◌, ◌%◌, ◌^◌, ◌<◌, ◌≤◌, MatchOption};
+ghost use Rattle.segment_machine.specs.Form.{IsPacking, off_word};
+
+use bucket_ranges::limits::MAX_PACKED;
+use segment_image::layout::VERSION_FROZEN;
+
+/// From this word on the counts are in use.
+pub const DISABLED_BIT: u64 = 1 << 63;
+
+// What a disabled word of version 1 has in place of a bucket where none was packed.
+const NO_BUCKET: u64 = 65_535;
+
+// The units of a packed word stand below this, and the bucket above.
+const UNITS: u64 = 1 << 32;
+
+/// The single word with units of a bucket more, or `None` where it cannot take them: it has units of another bucket, or
+/// would have more than a single word holds.
+pub fn packed_with(word: u64, bucket: usize, units: u32) -> Option<u64>
+    requires few { bucket ≤ 65535 }
+    requires some { 1 ≤ units }
+    requires formed { (word ≡ 0) ⊎ (1 ≤ word % 2 ^ 32) }
+    ensures { MatchOption result ((packed : _) → IsPacking bucket units word packed → ⊥) (λ packed. IsPacking bucket units word packed) }
+{
+    let units = u64::from(units);
+    if word % UNITS + units > MAX_PACKED {
+        return None;
+    }
+    if word == 0 {
+        return Some(bucket as u64 * UNITS + units);
+    }
+    if word / UNITS != bucket as u64 {
+        return None;
+    }
+    Some(word + units)
+}
+
+/// The word with which a single word is disabled in version 1, or frozen in version 2.
+pub fn off_word(version: u64, word: u64) -> u64
+    requires on { word < 2 ^ 63 }
+    ensures { result ≡ off_word version word }
+{
+    if version == VERSION_FROZEN {
+        DISABLED_BIT + word
+    } else if word == 0 {
+        DISABLED_BIT + NO_BUCKET
+    } else {
+        DISABLED_BIT + word / UNITS
+    }
+}

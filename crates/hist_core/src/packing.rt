@@ -42,10 +42,10 @@ pub fn off_word(version: u64, word: u64) -> u64
     ensures { result ≡ off_word version word }
 {
     if version == VERSION_FROZEN {
-        DISABLED_BIT + word
-    } else if word == 0 {
-        DISABLED_BIT + NO_BUCKET
-    } else {
-        DISABLED_BIT + word / UNITS
+        return DISABLED_BIT + word;
     }
+    if word == 0 {
+        return DISABLED_BIT + NO_BUCKET;
+    }
+    DISABLED_BIT + word / UNITS
 }

@@ -16,12 +16,10 @@ const NO_BUCKET: u64 = 65_535;
 const UNITS: u64 = 1 << 32;
 
 /// The single word with units of a bucket more, or `None` where it cannot take them: it has units of another bucket, or
-/// would have more than a single word holds.
+/// would have more than a single word holds. The word is 0 or has units.
 pub fn packed_with(word: u64, bucket: usize, units: u32) -> Option<u64>
     requires few { bucket ≤ 65535 }
-    requires some { 1 ≤ units }
-    requires formed { (word ≡ 0) ⊎ (1 ≤ word % 2 ^ 32) }
-    ensures { MatchOption result ((packed : _) → IsPacking bucket units word packed → ⊥) (λ packed. IsPacking bucket units word packed) }
+    ensures { MatchOption result ((packed : _) → IsPacking bucket units word packed → ⊥) (λ packed. (word ≡ 0) ⊎ (1 ≤ word % 2 ^ 32) → IsPacking bucket units word packed) }
 {
     let units = u64::from(units);
     if word % UNITS + units > MAX_PACKED {

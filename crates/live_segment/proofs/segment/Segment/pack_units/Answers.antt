@@ -17,12 +17,6 @@ returns-then-word-ge-DISABLED_BIT-clause-outcome c =
     tries_off c.args.self.now (known_view c.args.histogram.now) c.args.bucket c.args.units c.args.seat.now c.loop-bucket.seat c.requires.seat.0 c.requires.seat.1 c.requires.may was.same was.looks was.done was.counts
     _ c.load_single-word.new.seat c.load_single-word.ensures (let off = c.if-word-ge-DISABLED_BIT.true in omega (arith, off))
 
-pub packed_with-requires-clause-formed : goal.packed_with-requires-clause-formed
-packed_with-requires-clause-formed c =
-    let was = c.loop-bucket.invariant in
-    formed c.args.self.now (known_view c.args.histogram.now) c.args.bucket c.args.units c.args.seat.now c.loop-bucket.seat c.requires.seat.0 c.requires.seat.1 c.requires.may was.same was.looks was.done was.counts
-    _ c.load_single-word.new.seat c.load_single-word.ensures (let on = c.if-word-ge-DISABLED_BIT.false in omega (arith, on))
-
 pub returns-in_default-clause-outcome : goal.returns-in_default-clause-outcome
 returns-in_default-clause-outcome c =
     let was = c.loop-bucket.invariant in
@@ -32,38 +26,47 @@ returns-in_default-clause-outcome c =
 pub pack-requires-clause-may : goal.pack-requires-clause-may
 pack-requires-clause-may c =
     let was = c.loop-bucket.invariant in
+    let on = c.if-word-ge-DISABLED_BIT.false in
+    let packs = c.in-Some.ensures (formed c.args.self.now (known_view c.args.histogram.now) c.args.bucket c.args.units c.args.seat.now c.loop-bucket.seat c.requires.seat.0 c.requires.seat.1 c.requires.may was.same was.looks was.done was.counts _ c.load_single-word.new.seat c.load_single-word.ensures (omega (arith, on))) in
     may_pack c.args.self.now (known_view c.args.histogram.now) c.args.bucket c.args.units c.args.seat.now c.loop-bucket.seat c.requires.seat.0 c.requires.seat.1 c.requires.may was.same was.looks was.done was.counts
-    _ c.load_single-word.new.seat c.load_single-word.ensures (let on = c.if-word-ge-DISABLED_BIT.false in omega (arith, on)) c.in-Some.packed c.in-Some.ensures c.requires.bucket.0
+    _ c.load_single-word.new.seat c.load_single-word.ensures (omega (arith, on)) c.in-Some.packed packs c.requires.bucket.0
 
 pub returns-then-pack-word-clause-same : goal.returns-then-pack-word-clause-same
 returns-then-pack-word-clause-same c =
     let was = c.loop-bucket.invariant in
+    let on = c.if-word-ge-DISABLED_BIT.false in
+    let packs = c.in-Some.ensures (formed c.args.self.now (known_view c.args.histogram.now) c.args.bucket c.args.units c.args.seat.now c.loop-bucket.seat c.requires.seat.0 c.requires.seat.1 c.requires.may was.same was.looks was.done was.counts _ c.load_single-word.new.seat c.load_single-word.ensures (omega (arith, on))) in
     same_after c.args.self.now (known_view c.args.histogram.now) c.args.bucket c.args.units c.args.seat.now c.loop-bucket.seat c.requires.seat.0 c.requires.seat.1 c.requires.may was.same was.looks was.done was.counts
-    _ c.load_single-word.new.seat c.load_single-word.ensures (let on = c.if-word-ge-DISABLED_BIT.false in omega (arith, on)) c.in-Some.packed c.in-Some.ensures _ c.pack.new.seat c.pack.ensures
+    _ c.load_single-word.new.seat c.load_single-word.ensures (omega (arith, on)) c.in-Some.packed packs _ c.pack.new.seat c.pack.ensures
 
 pub returns-then-pack-word-clause-outcome : goal.returns-then-pack-word-clause-outcome
 returns-then-pack-word-clause-outcome c =
     let was = c.loop-bucket.invariant in
+    let on = c.if-word-ge-DISABLED_BIT.false in
+    let packs = c.in-Some.ensures (formed c.args.self.now (known_view c.args.histogram.now) c.args.bucket c.args.units c.args.seat.now c.loop-bucket.seat c.requires.seat.0 c.requires.seat.1 c.requires.may was.same was.looks was.done was.counts _ c.load_single-word.new.seat c.load_single-word.ensures (omega (arith, on))) in
     tries_packed c.args.self.now (known_view c.args.histogram.now) c.args.bucket c.args.units c.args.seat.now c.loop-bucket.seat c.requires.seat.0 c.requires.seat.1 c.requires.may was.same was.looks was.done was.counts
-    _ c.load_single-word.new.seat c.load_single-word.ensures (let on = c.if-word-ge-DISABLED_BIT.false in omega (arith, on)) c.in-Some.packed c.in-Some.ensures _ c.pack.new.seat c.pack.ensures c.if-pack-word.true
+    _ c.load_single-word.new.seat c.load_single-word.ensures (omega (arith, on)) c.in-Some.packed packs _ c.pack.new.seat c.pack.ensures c.if-pack-word.true
 
 pub loop-bucket-smaller : goal.loop-bucket-smaller
 loop-bucket-smaller c =
     let was = c.loop-bucket.invariant in
+    let on = c.if-word-ge-DISABLED_BIT.false in
+    let packs = c.in-Some.ensures (formed c.args.self.now (known_view c.args.histogram.now) c.args.bucket c.args.units c.args.seat.now c.loop-bucket.seat c.requires.seat.0 c.requires.seat.1 c.requires.may was.same was.looks was.done was.counts _ c.load_single-word.new.seat c.load_single-word.ensures (omega (arith, on))) in
     falls c.args.self.now (known_view c.args.histogram.now) c.args.bucket c.args.units c.args.seat.now c.loop-bucket.seat c.requires.seat.0 c.requires.seat.1 c.requires.may was.same was.looks was.done was.counts
-    _ c.load_single-word.new.seat c.load_single-word.ensures (let on = c.if-word-ge-DISABLED_BIT.false in omega (arith, on)) c.in-Some.packed c.in-Some.ensures _ c.pack.new.seat c.pack.ensures c.if-pack-word.false
+    _ c.load_single-word.new.seat c.load_single-word.ensures (omega (arith, on)) c.in-Some.packed packs _ c.pack.new.seat c.pack.ensures c.if-pack-word.false
 
 pub loop-bucket-preserved : goal.loop-bucket-preserved
 loop-bucket-preserved c =
     let was = c.loop-bucket.invariant in
     let on = c.if-word-ge-DISABLED_BIT.false in
+    let packs = c.in-Some.ensures (formed c.args.self.now (known_view c.args.histogram.now) c.args.bucket c.args.units c.args.seat.now c.loop-bucket.seat c.requires.seat.0 c.requires.seat.1 c.requires.may was.same was.looks was.done was.counts _ c.load_single-word.new.seat c.load_single-word.ensures (omega (arith, on))) in
     let k = known_view c.args.histogram.now in record {
       same = same_after c.args.self.now k c.args.bucket c.args.units c.args.seat.now c.loop-bucket.seat c.requires.seat.0 c.requires.seat.1 c.requires.may was.same was.looks was.done was.counts
-          _ c.load_single-word.new.seat c.load_single-word.ensures (omega (arith, on)) c.in-Some.packed c.in-Some.ensures _ c.pack.new.seat c.pack.ensures;
+          _ c.load_single-word.new.seat c.load_single-word.ensures (omega (arith, on)) c.in-Some.packed packs _ c.pack.new.seat c.pack.ensures;
       looks = looks_after c.args.self.now k c.args.bucket c.args.units c.args.seat.now c.loop-bucket.seat c.requires.seat.0 c.requires.seat.1 c.requires.may was.same was.looks was.done was.counts
-          _ c.load_single-word.new.seat c.load_single-word.ensures (omega (arith, on)) c.in-Some.packed c.in-Some.ensures _ c.pack.new.seat c.pack.ensures c.if-pack-word.false;
+          _ c.load_single-word.new.seat c.load_single-word.ensures (omega (arith, on)) c.in-Some.packed packs _ c.pack.new.seat c.pack.ensures c.if-pack-word.false;
       done = done_after c.args.self.now k c.args.bucket c.args.units c.args.seat.now c.loop-bucket.seat c.requires.seat.0 c.requires.seat.1 c.requires.may was.same was.looks was.done was.counts
-          _ c.load_single-word.new.seat c.load_single-word.ensures (omega (arith, on)) c.in-Some.packed c.in-Some.ensures _ c.pack.new.seat c.pack.ensures c.if-pack-word.false;
+          _ c.load_single-word.new.seat c.load_single-word.ensures (omega (arith, on)) c.in-Some.packed packs _ c.pack.new.seat c.pack.ensures c.if-pack-word.false;
       counts = counts_after c.args.self.now k c.args.bucket c.args.units c.args.seat.now c.loop-bucket.seat c.requires.seat.0 c.requires.seat.1 c.requires.may was.same was.looks was.done was.counts
-          _ c.load_single-word.new.seat c.load_single-word.ensures (omega (arith, on)) c.in-Some.packed c.in-Some.ensures _ c.pack.new.seat c.pack.ensures c.if-pack-word.false;
+          _ c.load_single-word.new.seat c.load_single-word.ensures (omega (arith, on)) c.in-Some.packed packs _ c.pack.new.seat c.pack.ensures c.if-pack-word.false;
     }

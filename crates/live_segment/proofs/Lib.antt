@@ -13,4 +13,5 @@ mod Attempts
 mod Listed
 mod Answered
 mod Totals
+mod Refusing
 mod Walked

@@ -8,6 +8,7 @@ use Rattle.segment_machine.specs.declared.actor.Actor.{Actor}
 use Rattle.segment_machine.specs.declared.place.Place.{Place}
 use Rattle.segment_machine.specs.declared.place.Place.TheVariants.{Idle}
 use Rattle.segment_machine.specs.Allocating.{new_own}
+use Rattle.live_segment.specs.Refusing.{given_up}
 
 -- it has seen a free pointer, and otherwise is as it was
 abbrev pub saw_free : Actor → Place → ℕ → Actor
@@ -37,12 +38,13 @@ pub record IsLost (a : Actor) (free : ℕ) (b : Actor) : Type 0 where
   pub within : found ≤ a.segment.shape.size
 
 -- A block of so many words or up to four more is its own, of a type, behind all that it had seen claimed. Or there is none: `Full` where
--- the words pass the end of the segment from a free pointer that it loaded, `Corrupt` where it loaded the corrupt flag.
+-- the words pass the end of the segment from a free pointer that it loaded, `Corrupt` where it loaded the corrupt flag; a call that counts
+-- ends with that.
 abbrev pub Allocates : ℕ → ℕ → Actor → Result ℕ Refusal → Actor → Type 0
 Allocates size tag a (Ok at) b =
     (next : ℕ) × (b ≡ claimed a at next tag) × (a.seen.free ≤ at) × (at + size ≤ next) × (next < at + size + BLOCK_LEAST)
     × IsPlace a.segment.shape at (next - at)
 Allocates size tag a (Err Full) b =
-    (free : ℕ) × (b ≡ filled (saw_free a Idle free)) × (a.seen.free ≤ free) × (a.segment.shape.size < free + size)
-Allocates size tag a (Err Corrupt) b = (free : ℕ) × (b ≡ saw_free a Idle free) × (a.seen.free ≤ free)
+    (free : ℕ) × (b ≡ given_up (filled (saw_free a Idle free))) × (a.seen.free ≤ free) × (a.segment.shape.size < free + size)
+Allocates size tag a (Err Corrupt) b = (free : ℕ) × (b ≡ given_up (saw_free a Idle free)) × (a.seen.free ≤ free)
 Allocates size tag a (Err _) b = ⊥

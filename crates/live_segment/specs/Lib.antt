@@ -15,3 +15,4 @@ pub mod Taking
 pub mod Cursors
 pub mod Looking
 pub mod Records
+pub mod Refusing

@@ -1,6 +1,6 @@
 //! How a recorder claims a block.
 
-ghost use Rattle.std.specs.Prelude.{◌≡◌, ◌+◌, ◌-◌, ◌≤◌, true, false};
+ghost use Rattle.std.specs.Prelude.{◌≡◌, ◌+◌, ◌-◌, ◌≤◌, true, false, IfOk};
 ghost use Rattle.segment_image.specs.declared.layout.TheConstants.{BLOCK_HEADER};
 ghost use Rattle.segment_machine.specs.Event.{allocating_event};
 ghost use Rattle.segment_machine.specs.Actor.{is_bound, is_opener};
@@ -12,21 +12,25 @@ use crate::rule::Pass;
 use crate::segment::Segment;
 use alloc_core::{Planned, plan};
 use hist_core::Refusal;
-use segment_image::layout::{CLAIMED_COOKIE, FLAG_CORRUPT, FLAG_FULL, WASTED_COOKIE};
+use segment_image::layout::{CLAIMED_COOKIE, FLAG_CORRUPT, WASTED_COOKIE};
 
 impl Segment {
     ghost use Rattle.live_segment.specs.Holders.{MayStep, table_of};
     ghost use Rattle.live_segment.specs.Steps.{IsSame};
+    ghost use Rattle.live_segment.specs.Refusing.{MayGiveUp};
 
     /// Claims a block of a type with so many words, its header among them, or up to four more.
     ///
-    /// `Corrupt` where the corrupt flag was loaded, `Full` where the words pass the end of the segment.
+    /// `Corrupt` where the corrupt flag was loaded, `Full` where the words pass the end of the segment: a call that counts ends
+    /// with that.
     pub(crate) fn allocate(&self, seat: &mut Pass, size: u64, tag: u64) -> Result<u64, Refusal>
         requires seat { (seat.old.table_id ≡ table_of self.now) × (is_opener seat.old.me.0.role ≡ false) × IsOf self.now.setting seat.old.me.0 }
         requires free { is_bound seat.old.me.0.hand.place ≡ false }
         requires size { (5 ≤ size) × (size ≤ self.now.setting.shape.page) }
         requires tag { (1 ≤ tag) × (tag ≤ 3) }
+        requires closes { MayGiveUp seat.old.me.0 }
         ensures same { IsSame seat.old seat.new }
+        ensures unspoiled { IfOk result (λ at. seat.old.me.0.done.spoiled ≡ false) }
         ensures outcome { Allocates size tag seat.old.me.0 result seat.new.me.0 }
     {
         loop {
@@ -42,7 +46,7 @@ impl Segment {
                 }
                 Planned::Waste { room } => self.waste(seat, free, free + room),
                 Planned::Full => {
-                    self.set_flag(seat, FLAG_FULL);
+                    self.set_full(seat);
                     return Err(Refusal::Full);
                 }
             }

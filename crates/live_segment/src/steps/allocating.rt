@@ -4,18 +4,21 @@ ghost use Rattle.std.specs.Prelude.{◌+◌, ◌≤◌};
 ghost use Rattle.segment_machine.specs.Event.{allocating_event};
 ghost use Rattle.segment_machine.specs.Allocating.{load_flags, load_free, exchange_free, store_size, store_cookie, store_type, set_flag};
 ghost use Rattle.live_segment.specs.Steps.{Does, DoesAt};
+ghost use Rattle.live_segment.specs.Refusing.{LoadsFlags, SetsFull};
 
 use crate::rule::{Announcement, Pass};
 use crate::segment::Segment;
 use crate::steps::FIRST;
 use atomic_table::Play;
-use segment_image::layout::{BLOCK_COOKIE, BLOCK_SIZE, BLOCK_TYPE, FLAGS_WORD, FREE_WORD};
+use segment_image::layout::{
+    BLOCK_COOKIE, BLOCK_SIZE, BLOCK_TYPE, FLAG_FULL, FLAGS_WORD, FREE_WORD,
+};
 use segment_machine::Actor;
 
 pub(crate) struct LoadFlags;
 
 impl Play<Announcement, Actor> for LoadFlags {
-    ghost then = { λ st. Does (allocating_event load_flags) };
+    ghost then = { λ st. LoadsFlags };
 }
 
 pub(crate) struct LoadFree;
@@ -54,13 +57,24 @@ impl Play<Announcement, Actor> for SetFlag {
     ghost then = { λ st. Does (allocating_event (set_flag st.first)) };
 }
 
+pub(crate) struct SetFull;
+
+impl Play<Announcement, Actor> for SetFull {
+    ghost then = { λ st. SetsFull };
+}
+
 impl Segment {
     ghost use Rattle.live_segment.specs.Holders.{MayStep};
+    ghost use Rattle.std.specs.Prelude.{[]};
     ghost use Rattle.live_segment.specs.Steps.{Stepped};
+    ghost use Rattle.live_segment.specs.Refusing.{MayGiveUp, flags_notes, refusing_notes};
+    ghost use Rattle.live_segment.specs.Telling.{Noted};
 
+    // A call that counts is refused where the corrupt flag is among them.
     pub(crate) fn load_flags(&self, seat: &mut Pass) -> u64
-        requires { MayStep self.now seat.old (allocating_event load_flags) }
-        ensures { Stepped seat.old (allocating_event load_flags) result seat.new }
+        requires may { MayStep self.now seat.old (allocating_event load_flags) }
+        requires closes { MayGiveUp seat.old.me.0 }
+        ensures { Noted seat.old [] (allocating_event load_flags) (flags_notes seat.old.me.0.entries.running result) result seat.new }
     {
         self.table
             .shared
@@ -120,5 +134,16 @@ impl Segment {
         self.table
             .shared
             .fetch_or::<SetFlag>(seat, FIRST + FLAGS_WORD, flag)
+    }
+
+    // The full flag is set, and a call that counts is refused.
+    pub(crate) fn set_full(&self, seat: &mut Pass) -> u64
+        requires may { MayStep self.now seat.old (allocating_event (set_flag FLAG_FULL)) }
+        requires closes { MayGiveUp seat.old.me.0 }
+        ensures { Noted seat.old [] (allocating_event (set_flag FLAG_FULL)) (refusing_notes seat.old.me.0.entries.running) result seat.new }
+    {
+        self.table
+            .shared
+            .fetch_or::<SetFull>(seat, FIRST + FLAGS_WORD, FLAG_FULL)
     }
 }

@@ -1,0 +1,17 @@
+use Rattle.std.proofs.Common.{rules, refl}
+use Rattle.live_segment.proofs.Refusing.{sets_full}
+use Rattle.live_segment.proofs.segment.Segment.set_full.Goals as goal
+
+pub fetch_or-requires : goal.fetch_or-requires
+fetch_or-requires c = (
+  search rules,
+  search rules,
+  sets_full c.args.self.now.table.shared.key _ _ _ _ c.requires.may.recorder c.requires.closes refl c.requires.may.ready,
+)
+
+pub returns : goal.returns
+returns c = let told = c.fetch_or.ensures.2 in record {
+  same = (c.fetch_or.ensures.0, c.fetch_or.ensures.1, told.1);
+  view = told.0;
+  learned = told.2;
+}

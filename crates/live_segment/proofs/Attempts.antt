@@ -33,7 +33,7 @@ use Rattle.live_segment.proofs.Beginning.{singled, sees_single, may_tell, is_nex
 use Rattle.live_segment.proofs.Ranks.{rank, on_units, leads_higher, last_rank, last_most, last_is, last_leads}
 
 -- whether a word is off
-is_on : (word : ℕ) → word < 2 ^ 63 → is_off word ≡ false
+pub is_on : (word : ℕ) → word < 2 ^ 63 → is_off word ≡ false
 is_on word below = by_test (nat_le (2 ^ 63) word) refl
   where
     by_test : (b : Bool) → nat_le (2 ^ 63) word ≡ b → b ≡ false

@@ -14,4 +14,7 @@ mod Listed
 mod Answered
 mod Totals
 mod Refusing
+mod Packed
+mod Sightings
+mod BucketsSeen
 mod Walked

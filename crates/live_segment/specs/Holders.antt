@@ -1,7 +1,10 @@
 -- Who holds a segment, an opener or a recorder: what it has done and seen, and which segment that is.
 use Rattle.std.specs.Prelude.{◌≡◌, false, ◌<◌, length}
+use mathlib.Core.Option.{some}
+use lib.ListN.{get_elem?}
 use Rattle.atomic_table.specs.Seated.{TableId}
 use Rattle.segment_machine.specs.declared.actor.Actor.{Actor}
+use Rattle.segment_machine.specs.declared.actor.Known.{Known}
 use Rattle.live_segment.specs.declared.rule.Setting.{Setting}
 use Rattle.live_segment.specs.declared.segment.Segment.{Segment}
 use Rattle.live_segment.specs.declared.opener.Opener.{Opener}
@@ -57,3 +60,7 @@ pub record IsSameRecorder (old new : Recorder) : Type 0 where
 -- a histogram is one that a recorder knows
 abbrev pub Knows : Recorder → Hist → Type 0
 Knows recorder histogram = histogram.index < length (view_of_recorder recorder).answers.names
+
+-- a histogram that a recorder knows is this one
+abbrev pub Means : Recorder → Hist → Known → Type 0
+Means recorder histogram known = get_elem? (view_of_recorder recorder).answers.names histogram.index ≡ some known

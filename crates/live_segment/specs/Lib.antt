@@ -16,3 +16,4 @@ pub mod Cursors
 pub mod Looking
 pub mod Records
 pub mod Refusing
+pub mod Snapshots

@@ -17,6 +17,7 @@ mod rule;
 mod seats;
 mod segment;
 mod shared_cursors;
+mod snapshots;
 mod steps;
 #[cfg(test)]
 mod tests;

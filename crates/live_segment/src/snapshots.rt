@@ -1,0 +1,74 @@
+//! How a recorder answers a snapshot: it looks at all that is counted of a histogram, and notes what it saw.
+
+ghost use Rattle.std.specs.Prelude.{◌≡◌, ◌≤◌, length, IfOk};
+ghost use Rattle.std.specs.List.{All};
+ghost use Rattle.segment_machine.specs.Calls.{IsUnits};
+ghost use Rattle.live_segment.specs.Snapshots.{blank_totals, HavePacked};
+
+use crate::recorder::KnownHistogram;
+use crate::rule::{Announcement, Pass};
+use crate::segment::Segment;
+use bucket_ranges::{Ranges, SingleWord};
+use hist_core::Snapshot;
+use hist_core::packing::DISABLED_BIT;
+use std::alloc::{AllocError, Global};
+
+// The keys of all buckets in order, each with no units yet.
+pub(crate) fn blank_totals(alloc: Global, ranges: &Ranges) -> Result<Vec<(i32, u64)>, AllocError>
+    ensures { IfOk result (λ totals. totals.items ≡ blank_totals ranges.now) }
+{
+    let mut totals = Vec::with_capacity(alloc, ranges.len())?;
+    for bucket in 0..ranges.len() {
+        totals.push_reserved((ranges.low(bucket), 0));
+    }
+    Ok(totals)
+}
+
+// The units that a single word holds are added to those of their bucket.
+fn add_packed(version: u64, word: u64, totals: &mut [(i32, u64)])
+    requires buckets { length totals.old ≤ 65535 }
+    requires few { All (λ total. IsUnits total.1) totals.old }
+    ensures { HavePacked version word totals.old totals.new }
+{
+    match SingleWord::of(version, word, totals.len()) {
+        Some(SingleWord::Packed { bucket, units }) => totals[bucket].1 += units,
+        Some(SingleWord::Frozen { bucket, units }) => totals[bucket].1 += units,
+        _ => {}
+    }
+}
+
+impl Segment {
+    ghost use Rattle.std.specs.Prelude.{map, true};
+    ghost use Rattle.bucket_ranges.specs.Spec.{buckets_of};
+    ghost use Rattle.segment_machine.specs.Actor.{has_buckets};
+    ghost use Rattle.live_segment.specs.Holders.{table_of};
+    ghost use Rattle.live_segment.specs.Known.{known_view, KnowsRight};
+    ghost use Rattle.live_segment.specs.Rule.{IsOf};
+    ghost use Rattle.live_segment.specs.Steps.{IsAtRest, IsSame};
+    ghost use Rattle.live_segment.specs.Snapshots.{HasSeenBuckets};
+
+    // The units of all buckets of a histogram stand beside their keys.
+    fn look_at_buckets(
+        &self,
+        seat: &mut Pass,
+        histogram: &KnownHistogram,
+        totals: &mut [(i32, u64)],
+    )
+        requires seat { (seat.old.table_id ≡ table_of self.now) × IsOf self.now.setting seat.old.me.0 }
+        requires rests { IsAtRest seat.old.me.0 }
+        requires right { KnowsRight self.now.setting seat.old.me.0 histogram.now }
+        requires bucketed { has_buckets histogram.now.spec ≡ true }
+        requires buckets { (length totals.old ≡ buckets_of histogram.now.spec) × (length totals.old ≤ 65535) }
+        requires blank { All (λ total. total.1 ≡ 0) totals.old }
+        ensures same { IsSame seat.old seat.new }
+        ensures keys { map (λ total. total.0) totals.new ≡ map (λ total. total.0) totals.old }
+        ensures saw { HasSeenBuckets (known_view histogram.now) seat.old.me.0 totals.new seat.new.me.0 }
+    {
+        let word = self.look_single(seat, histogram.reference);
+        if word >= DISABLED_BIT {
+            let counts = self.load_counts(seat, histogram.reference);
+            self.look_at_counts(seat, counts, totals);
+        }
+        add_packed(self.setting.version, word, totals);
+    }
+}

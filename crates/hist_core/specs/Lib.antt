@@ -1,6 +1,7 @@
 pub mod Refusal
 pub mod WorldFault
 pub mod Goes
+pub mod Asked
 pub mod Runner
 pub mod Add
 pub mod Board

@@ -4,6 +4,7 @@
 
 mod add;
 mod answer;
+mod asked;
 mod board;
 mod call;
 mod counting;
@@ -18,6 +19,7 @@ mod tests;
 mod world;
 
 pub use answer::{Delta, Snapshot};
+pub use asked::Asked;
 pub use call::{Answer, Begun, Call, Move, Stepped};
 pub use entry::{Entry, Taken};
 pub use fault::WorldFault;

@@ -4,7 +4,8 @@ use Rattle.std.proofs.lemmas.List.{append-nil, drop_all}
 use Rattle.csv.specs.Records.{field_at}
 use Rattle.persist_report_core.specs.Number.{unsigned_number}
 use Rattle.bucket_ranges.specs.declared.spec.Spec.{Spec}
-use Rattle.persist_report_core.specs.Request.{Hist, from_two, numbers_in, spec_in, hist_in}
+use Rattle.bucket_ranges.specs.declared.spec.Spec.TheVariants.{Custom}
+use Rattle.persist_report_core.specs.Request.{Hist, alone, custom_in, from_two, numbers_in, spec_in, hist_in}
 
 -- a field that is there, and those behind it
 pub drop-field_at : (fields : List (List ℕ)) (i : ℕ) (field : List ℕ) → field_at fields i ≡ Some field
@@ -98,3 +99,18 @@ pub hist_in-fields : (fields : List (List ℕ)) (name kind : List ℕ) (spec : O
 hist_in-fields fields name kind spec first second is =
     ap hist_in (drop-field_at fields 1 name first ∙ ap (λ rest. name ∷ rest) (drop-field_at fields 2 kind second))
     ∙ ap (option_map (Hist name)) (sym is)
+
+-- ---- what stands behind a kind
+
+-- one field more, behind a kind that has none
+pub alone-more : (spec : Spec) (fields : List (List ℕ)) (start : ℕ) → start < length fields → alone spec (drop start fields) ≡ None
+alone-more spec [] start within = absurd (omega arith)
+alone-more spec (first ∷ rest) zero within = refl
+alone-more spec (first ∷ rest) (suc start) within = alone-more spec rest start (omega arith)
+
+-- one value or more, behind the kind that has values
+pub custom_in-more : (fields : List (List ℕ)) (start : ℕ) → start < length fields
+    → custom_in (drop start fields) ≡ option_map Custom (numbers_in (drop start fields))
+custom_in-more [] start within = absurd (omega arith)
+custom_in-more (first ∷ rest) zero within = refl
+custom_in-more (first ∷ rest) (suc start) within = custom_in-more rest start (omega arith)

@@ -6,6 +6,6 @@ pub mod Numbers
 pub mod FieldLemmas
 pub mod DraftLemmas
 pub mod Requests
-pub mod Rows
+pub mod ScriptRows
 pub mod Records
 pub mod ReadScripts

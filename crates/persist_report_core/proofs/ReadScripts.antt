@@ -9,7 +9,7 @@ use Rattle.persist_report_core.specs.Request.{Request, request_in}
 use Rattle.persist_report_core.proofs.Requests.{script_along-one}
 use Rattle.persist_report_core.specs.Script.{IsScriptFault, faults_of, hist_view, later_fault, opening_fault, script_along, script_from, script_of, script_view}
 use Rattle.persist_report_core.specs.Draft.{IsDraft, IsExtended, IsOpened, Tells, extended}
-use Rattle.persist_report_core.proofs.Rows.{fault_of-later, faultless-more, length-hists, script_along-more, script_from-fault, script_from-lawful}
+use Rattle.persist_report_core.proofs.ScriptRows.{fault_of-later, faultless-more, length-hists, script_along-more, script_from-fault, script_from-lawful}
 
 -- a draft has these records, none of which has a fault
 pub record IsRead (pool : ℕ) (rows : List (List (List ℕ))) (draft : Draft) (number : ℕ) : Type 0 where

@@ -1,9 +1,9 @@
 -- The records of a text, read one after the other.
-use Rattle.std.proofs.Common.{◌≡◌, ◌∙◌, ℕ, suc, ◌+◌, ◌-◌, ◌<◌, ◌≤◌, ◌==◌, ◌&&◌, Bool, true, false, List, [], ◌∷◌, ◌++◌, length, Option, Some, None, if◌then◌else◌, zero-add, ap, refl, arith}
+use Rattle.std.proofs.Common.{◌≡◌, ◌∙◌, ℕ, suc, ◌+◌, ◌-◌, ◌<◌, ◌≤◌, ◌==◌, ◌&&◌, Bool, true, false, List, [], ◌∷◌, ◌++◌, length, Option, Some, None, if◌then◌else◌, zero-add, ap, refl, subst, sym, arith}
 use Rattle.std.specs.Borrow.{Bor}
 use Rattle.std.proofs.lemmas.List.{append-nil, length-append}
 use Rattle.csv.specs.Machine.{Read, after_end, ends_at_end, ends_with, is_byte, field_after, fields_after, in_field, is_end, next_record, start_field, start_record, step}
-use Rattle.csv.specs.Reading.{NextIs, Reached, ReadRecord, default_config, is_bom, pending_of, reader_state, records, records_from, strip_bom}
+use Rattle.csv.specs.Reading.{NextIs, Reached, ReadRecord, default_config, is_bom, pending_of, reader_config, reader_state, reader_trim, records, records_from, strip_bom}
 use Rattle.csv.specs.declared.parser.Action.{Action}
 use Rattle.csv.specs.declared.parser.Action.TheVariants as act
 use Rattle.csv.specs.declared.parser.Config.{Config}
@@ -12,6 +12,7 @@ use Rattle.csv.specs.declared.parser.State.TheVariants as st
 use Rattle.csv.specs.declared.parser.Terminator.{Terminator}
 use Rattle.csv.specs.declared.parser.Terminator.TheVariants as term
 use Rattle.csv.specs.declared.reader.Reader.{Reader}
+use Rattle.csv.specs.declared.reader.Trim.TheVariants as trim
 use Rattle.csv.proofs.ReadFacts.{rows-end, rows-more}
 use Rattle.persist_report_core.specs.Rows.{IsBehind, IsNext, left_of}
 
@@ -195,3 +196,24 @@ length-strip_bom (a ∷ b ∷ c ∷ rest) = by (is_bom a b c)
     by : (marked : Bool) → length (if marked then rest else a ∷ b ∷ c ∷ rest) ≤ length (a ∷ b ∷ c ∷ rest)
     by true = omega arith
     by false = omega arith
+
+-- ---- reading them
+
+-- a reader at the start of a text
+pub starts : (bytes : List ℕ) (reader : Reader (Bor (List ℕ))) → reader_trim reader ≡ trim.None → reader_config reader ≡ default_config
+    → reader_state reader ≡ st.StartRecord → left_of reader ≡ Some (strip_bom bytes) → IsBehind (strip_bom bytes) [] reader
+unfolding Reached
+starts bytes reader plain config start source = record {
+  plain = plain;
+  config = config;
+  between = rw start refl;
+  rest = strip_bom bytes;
+  source = source;
+  reached = (sym start, refl);
+  room = omega arith;
+}
+
+-- what a read found, where it is known whether it found a record
+pub found_is : (text : List ℕ) (rows : List (List (List ℕ))) (old new : Reader (Bor (List ℕ))) (found known : Bool) (fields : List (List ℕ)) → found ≡ known
+    → IsNext text rows old new found fields → IsNext text rows old new known fields
+found_is text rows old new found known fields same next = subst (λ f. IsNext text rows old new f fields) same next

@@ -1,5 +1,5 @@
 -- Numbers in scripts.
-use Rattle.std.specs.Prelude.{Bool, not, ◌&&◌, ◌==◌, nat_le, if◌then◌else◌, ℕ, ℤ, pos, neg_ℤ, List, length, drop, Option, Some, None, option_map}
+use Rattle.std.specs.Prelude.{Bool, not, ◌-◌, ◌&&◌, ◌==◌, nat_le, if◌then◌else◌, ℕ, ℤ, pos, neg_ℤ, List, length, drop, Option, Some, None, option_map}
 use Rattle.std.specs.Char.{is_ascii_digit}
 use Rattle.std.specs.List.{list_all}
 use Rattle.std.specs.Str.Parse.{digits_value, starts_with_minus}
@@ -21,8 +21,16 @@ unsigned_number field = whole_number 4294967295 field
 abbrev pub long_number : List ℕ → Option ℕ
 long_number field = whole_number 18446744073709551615 field
 
--- a number of 32 bits with a sign: one below 0, or 0 itself, behind a `-`
+-- a number with a sign, not below minus a size and less than the size: one below 0, or 0 itself, behind a `-`
+abbrev pub signed_within : ℕ → List ℕ → Option ℤ
+signed_within size field =
+    if starts_with_minus field then option_map (λ below. neg_ℤ (pos below)) (whole_number size (drop 1 field))
+    else option_map pos (whole_number (size - 1) field)
+
+-- a number of 32 bits with a sign
 abbrev pub signed_number : List ℕ → Option ℤ
-signed_number field =
-    if starts_with_minus field then option_map (λ size. neg_ℤ (pos size)) (whole_number 2147483648 (drop 1 field))
-    else option_map pos (whole_number 2147483647 field)
+signed_number field = signed_within 2147483648 field
+
+-- a number of 64 bits with a sign
+abbrev pub signed_long_number : List ℕ → Option ℤ
+signed_long_number field = signed_within 9223372036854775808 field

@@ -8,15 +8,21 @@
 #![tactic(auto)]
 
 mod fault;
+mod fields;
 mod lines;
+mod number;
 mod order;
 mod reporting;
+mod rows;
 mod script;
 mod text;
 mod words;
 
 pub use fault::CliFault;
+pub use fields::{read_spec, three_from};
+pub use number::{long_number, signed_long_number, signed_number, unsigned_number};
 pub use reporting::report;
+pub use rows::read_rows;
 pub use script::{CallKind, Script, ScriptCall, ScriptFault, ScriptHist, read_script};
 pub use text::text_of;
 

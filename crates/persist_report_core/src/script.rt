@@ -3,7 +3,6 @@
 mod draft;
 mod fault;
 mod names;
-mod number;
 mod reading;
 mod request;
 

@@ -2,42 +2,21 @@
 
 ghost use Rattle.std.specs.Prelude.{◌≡◌, ◌≢◌, ◌↔◌, ◌≤◌, ℕ, List, true, false, length, Ok, IfOk, IfErr, IfSome, OnOk, IsErrOf, MatchResult};
 ghost use Rattle.std.specs.Io.KnownBytes.{IsAtEnd};
-ghost use Rattle.csv.specs.Reading.{Ready, is_flexible};
-ghost use Rattle.csv.specs.Records.{fields_of};
 ghost use Rattle.segment_image.specs.Transfer.{TakesAtMost};
 ghost use Rattle.segment_image.specs.Watched.{has_failed, watched_inner};
-ghost use Rattle.persist_report_core.specs.Rows.{IsBehind, IsNext};
 ghost use Rattle.persist_report_core.specs.Script.{IsScriptFault, script_of, script_view};
 
+use crate::rows::next_fields;
 use crate::script::draft::open_draft;
 use crate::script::request::read_request;
 use crate::script::{Script, ScriptFault};
-use csv::{ByteRecord, ErrorKind, Reader, ReaderBuilder};
+use csv::{ByteRecord, ReaderBuilder};
 use segment_image::{ReadFault, Watched, read_bytes};
 use std::alloc::Global;
 use std::io::Read;
 
 // A script has at most so many bytes.
 const MAX_BYTES: usize = 16_777_216;
-
-// The fields of the next record, and whether there is one. Bytes in memory never fail, which no contract of the kit
-// says; else a read fails for want of memory alone.
-fn next_fields(reader: &mut Reader<&[u8]>, fields: &mut ByteRecord) -> Result<bool, ScriptFault>
-    requires flexible { is_flexible reader.old ≡ true }
-    requires ready { Ready reader.old }
-    ensures next { IfOk result (λ found. (text : List ℕ) → (rows : List (List (List ℕ))) → IsBehind text rows reader.old → IsNext text rows reader.old reader.new found (fields_of fields.new)) }
-    ensures memory { IfErr result (λ fault. fault ≡ ScriptFault.NoMemory) }
-    ensures flexible { OnOk result (is_flexible reader.new ≡ true) }
-    ensures ready { IfOk result (λ found. found ≡ true → Ready reader.new) }
-{
-    match reader.read_byte_record(fields) {
-        Ok(found) => Ok(found),
-        Err(error) => match error.kind() {
-            ErrorKind::Io(_) | ErrorKind::OutOfMemory => Err(ScriptFault::NoMemory),
-            _ => unreachable!(),
-        },
-    }
-}
 
 // The script that the bytes are.
 fn script_in(alloc: Global, bytes: &[u8], pool: u64) -> Result<Script, ScriptFault>

@@ -1,11 +1,12 @@
 //! What a record of a script asks for, by its fields alone.
 
-ghost use Rattle.std.specs.Prelude.{◌≡◌, ◌≢◌, ◌≤◌, [], ◌∷◌, IfOk, IfSome, IfNone, option_map, drop, length};
+ghost use Rattle.std.specs.Prelude.{◌≡◌, IfOk, option_map, drop};
 ghost use Rattle.csv.specs.Records.{fields_of};
-ghost use Rattle.persist_report_core.specs.Request.{segment_in, add_in, delta_in, hist_in, spec_in, linear_in, custom_in, numbers_in, alone as alone_in, request_behind, request_in, request_view};
+ghost use Rattle.persist_report_core.specs.Request.{segment_in, add_in, delta_in, hist_in, request_behind, request_in, request_view};
 
-use crate::script::number::{long_number, signed_number, unsigned_number};
-use bucket_ranges::{CustomValues, Spec};
+use crate::fields::{read_spec, three_from};
+use crate::number::{long_number, signed_number, unsigned_number};
+use bucket_ranges::Spec;
 use csv::ByteRecord;
 use std::alloc::{AllocError, Global};
 
@@ -33,21 +34,6 @@ pub(crate) enum Request<'a> {
     Delta {
         name: &'a [u8],
     },
-}
-
-// The fields from one on, where there are three.
-fn three_from(fields: &ByteRecord, start: usize) -> Option<(&[u8], &[u8], &[u8])>
-    requires { start ≤ 3 }
-    ensures some { IfSome result (λ three. drop start (fields_of fields.now) ≡ three.0.now ∷ three.1.now ∷ three.2.now ∷ []) }
-    ensures none { IfNone result (length (drop start (fields_of fields.now)) ≢ 3) }
-{
-    if fields.len() != start + 3 {
-        return None;
-    }
-    let first = fields.get(start)?;
-    let second = fields.get(start + 1)?;
-    let third = fields.get(start + 2)?;
-    Some((first, second, third))
 }
 
 // The fields behind the word `segment`.
@@ -82,73 +68,6 @@ fn read_delta(fields: &ByteRecord) -> Option<Request<'_>>
     Some(Request::Delta { name })
 }
 
-// A linear spec of the fields behind its kind.
-fn read_linear(fields: &ByteRecord) -> Option<Spec>
-    ensures { result ≡ linear_in (drop 3 (fields_of fields.now)) }
-{
-    let (min, max, buckets) = three_from(fields, 3)?;
-    let min = unsigned_number(min)?;
-    let max = unsigned_number(max)?;
-    let n = unsigned_number(buckets)?;
-    Some(Spec::Linear { min, max, n })
-}
-
-// The numbers in the fields from the fourth on.
-fn read_numbers(alloc: Global, fields: &ByteRecord) -> Result<Option<Vec<u32>>, AllocError>
-    ensures { IfOk result (λ numbers. option_map (λ values. values.items) numbers ≡ numbers_in (drop 3 (fields_of fields.now))) }
-{
-    let mut values = Vec::new(alloc);
-    for i in 3..fields.len() {
-        let Some(field) = fields.get(i) else {
-            return Ok(None);
-        };
-        let Some(value) = unsigned_number(field) else {
-            return Ok(None);
-        };
-        values.push(value)?;
-    }
-    Ok(Some(values))
-}
-
-// A custom spec of the fields behind its kind.
-fn read_custom(alloc: Global, fields: &ByteRecord) -> Result<Option<Spec>, AllocError>
-    ensures { IfOk result (λ spec. spec ≡ custom_in (drop 3 (fields_of fields.now))) }
-{
-    if fields.len() < 4 {
-        return Ok(None);
-    }
-    match read_numbers(alloc, fields)? {
-        Some(values) => Ok(Some(Spec::Custom(CustomValues::from(values)))),
-        None => Ok(None),
-    }
-}
-
-// A spec whose kind has no fields behind it.
-fn alone(fields: &ByteRecord, spec: Spec) -> Option<Spec>
-    requires { 3 ≤ length (fields_of fields.now) }
-    ensures { result ≡ alone_in spec (drop 3 (fields_of fields.now)) }
-{
-    if fields.len() == 3 { Some(spec) } else { None }
-}
-
-// The spec of a kind and the fields behind it.
-fn read_spec(alloc: Global, kind: &[u8], fields: &ByteRecord) -> Result<Option<Spec>, AllocError>
-    requires { 3 ≤ length (fields_of fields.now) }
-    ensures { IfOk result (λ spec. spec ≡ spec_in kind.now (drop 3 (fields_of fields.now))) }
-{
-    if kind == b"linear".as_slice() {
-        Ok(read_linear(fields))
-    } else if kind == b"boolean".as_slice() {
-        Ok(alone(fields, Spec::Boolean))
-    } else if kind == b"custom".as_slice() {
-        read_custom(alloc, fields)
-    } else if kind == b"sparse".as_slice() {
-        Ok(alone(fields, Spec::Sparse))
-    } else {
-        Ok(None)
-    }
-}
-
 // The fields behind the word `hist`.
 fn read_hist(alloc: Global, fields: &ByteRecord) -> Result<Option<Request<'_>>, AllocError>
     ensures { IfOk result (λ request. option_map request_view request ≡ hist_in (drop 1 (fields_of fields.now))) }
@@ -159,7 +78,7 @@ fn read_hist(alloc: Global, fields: &ByteRecord) -> Result<Option<Request<'_>>, 
     let Some(kind) = fields.get(2) else {
         return Ok(None);
     };
-    match read_spec(alloc, kind, fields)? {
+    match read_spec(alloc, kind, fields, 3)? {
         Some(spec) => Ok(Some(Request::Hist { name, spec })),
         None => Ok(None),
     }

@@ -1,39 +1,16 @@
-use Rattle.std.proofs.Common.{◌≡◌, ◌+◌, ◌++◌, ◌∷◌, [], ℕ, List, Bool, true, false, Some, option_map, Result, Ok, Err, IsErrAnd, MatchResult, Bor, refl, rules, sym, subst, arith}
-use Rattle.csv.specs.Reading.{Reached, default_config, reader_config, reader_state, reader_trim, strip_bom}
+use Rattle.std.proofs.Common.{◌≡◌, ◌+◌, ◌++◌, ◌∷◌, [], true, false, option_map, Result, Ok, Err, IsErrAnd, MatchResult, rules, sym, subst, arith}
+use Rattle.csv.specs.Reading.{strip_bom}
 use Rattle.csv.specs.Records.{fields_of}
-use Rattle.csv.specs.declared.parser.State.TheVariants as state
-use Rattle.csv.specs.declared.reader.Reader.{Reader}
-use Rattle.csv.specs.declared.reader.Trim.TheVariants as trim
 use Rattle.persist_report_core.specs.Request.{request_view}
-use Rattle.persist_report_core.specs.Rows.{IsBehind, IsNext, left_of}
 use Rattle.persist_report_core.specs.Script.{IsScriptFault, later_fault, opening_fault, script_view}
-use Rattle.persist_report_core.proofs.Records.{length-strip_bom, records-behind}
+use Rattle.persist_report_core.proofs.Records.{found_is, length-strip_bom, records-behind, starts}
 use Rattle.persist_report_core.proofs.ReadScripts.{few_hists, fault_told, read-first, read-more, script_of-empty, script_of-first, script_of-later, script_of-read}
 use Rattle.persist_report_core.proofs.script.reading.script_in.Goals as goal
-
--- a reader at the start of a text
-starts : (bytes : List ℕ) (reader : Reader (Bor (List ℕ))) → reader_trim reader ≡ trim.None → reader_config reader ≡ default_config
-    → reader_state reader ≡ state.StartRecord → left_of reader ≡ Some (strip_bom bytes) → IsBehind (strip_bom bytes) [] reader
-unfolding Reached
-starts bytes reader plain config start source = record {
-  plain = plain;
-  config = config;
-  between = rw start refl;
-  rest = strip_bom bytes;
-  source = source;
-  reached = (sym start, refl);
-  room = omega arith;
-}
 
 -- a fault that is passed on
 passed_on : {T E : Type 0} (result : Result T E) (P : T → Type 0) (Q : E → Type 0) (fault : E) → IsErrAnd result (λ passed. passed ≡ fault) → Q fault → MatchResult result P Q
 passed_on (Ok value) P Q fault same holds = absurd same
 passed_on (Err passed) P Q fault same holds = subst Q (sym same) holds
-
--- what a read found, where it is known whether it found a record
-found_is : (text : List ℕ) (rows : List (List (List ℕ))) (old new : Reader (Bor (List ℕ))) (found known : Bool) (fields : List (List ℕ)) → found ≡ known
-    → IsNext text rows old new found fields → IsNext text rows old new known fields
-found_is text rows old new found known fields same next = subst (λ f. IsNext text rows old new f fields) same next
 
 pub returns-then-not-branch-clause-answer : goal.returns-then-not-branch-clause-answer
 returns-then-not-branch-clause-answer c =

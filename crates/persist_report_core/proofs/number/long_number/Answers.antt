@@ -6,7 +6,7 @@ use Rattle.std.specs.Char.{IsAsciiDigit, is_ascii_digit}
 use Rattle.std.specs.List.{list_all}
 use Rattle.std.proofs.lemmas.Int.Digits.{digits_value_more}
 use Rattle.persist_report_core.proofs.Numbers.{digit-le, digit_value-is, long_number-is, more_digits, whole_number-above}
-use Rattle.persist_report_core.proofs.script.number.long_number.Goals as goal
+use Rattle.persist_report_core.proofs.number.long_number.Goals as goal
 
 pub returns-in_err-checked_mul : goal.returns-in_err-checked_mul
 returns-in_err-checked_mul c =

@@ -1,6 +1,6 @@
 use Rattle.csv.specs.Records.{fields_of}
 use Rattle.persist_report_core.proofs.Records.{next_read}
-use Rattle.persist_report_core.proofs.script.reading.next_fields.Goals as goal
+use Rattle.persist_report_core.proofs.rows.next_fields.Goals as goal
 
 pub returns-in-Ok-clause-next : goal.returns-in-Ok-clause-next
 returns-in-Ok-clause-next c text rows behind =

@@ -1,7 +1,7 @@
 use Rattle.std.proofs.Common.{sym, arith}
 use Rattle.csv.specs.Records.{fields_of}
 use Rattle.persist_report_core.proofs.FieldLemmas.{field_at-missing, three_fields}
-use Rattle.persist_report_core.proofs.script.request.three_from.Goals as goal
+use Rattle.persist_report_core.proofs.fields.three_from.Goals as goal
 
 pub returns-in_err-first-clause-none : goal.returns-in_err-first-clause-none
 returns-in_err-first-clause-none c =

@@ -2,7 +2,7 @@ use Rattle.std.proofs.Common.{◌∙◌, ◌+◌, ◌++◌, ap, drop, option_map
 use Rattle.csv.specs.Records.{fields_of}
 use Rattle.persist_report_core.specs.Request.{numbers_in}
 use Rattle.persist_report_core.proofs.FieldLemmas.{field_at-missing, numbers_in-none, numbers_in-more}
-use Rattle.persist_report_core.proofs.script.request.read_numbers.Goals as goal
+use Rattle.persist_report_core.proofs.fields.read_numbers.Goals as goal
 
 pub returns-in_default : goal.returns-in_default
 returns-in_default c = field_at-missing (fields_of c.args.fields.now) c.loop-i.i (omega arith) (sym c.in_default.ensures.value)

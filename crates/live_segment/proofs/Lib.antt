@@ -18,3 +18,5 @@ mod Packed
 mod Sightings
 mod BucketsSeen
 mod Walked
+mod Seeing
+mod OneBucket

@@ -49,7 +49,7 @@ does_on a b c first second = record {
   spoiled = λ e. second.spoiled (ap (λ (d : Done). d.spoiled) first.same ∙ e) ∙ first.spoiled e;
 }
 
-sees_on : (a b c : Seen) → SeesOn a b → SeesOn b c → SeesOn a c
+pub sees_on : (a b c : Seen) → SeesOn a b → SeesOn b c → SeesOn a c
 sees_on a b c first second = record {
   free = let x = first.free in let y = second.free in omega (arith, x, y);
   chain = grows_on a.chain b.chain c.chain first.chain second.chain;

@@ -17,3 +17,4 @@ pub mod Looking
 pub mod Records
 pub mod Refusing
 pub mod Snapshots
+pub mod Deltas

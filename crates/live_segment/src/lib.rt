@@ -8,6 +8,7 @@
 
 mod allocation;
 mod counting;
+mod deltas;
 mod fault;
 mod looking;
 mod opener;

@@ -1,5 +1,5 @@
 -- A delta takes what is counted in one bucket: the count is loaded, and the bucket's mark is raised to its total.
-use Rattle.std.proofs.Common.{◌≡◌, ◌≢◌, ◌⊎◌, ℕ, ◌+◌, ◌-◌, ◌*◌, ◌<◌, ◌≤◌, ℤ, max, nat_lt, if◌then◌else◌, Bool, true, false, true≢false, ◌==◌, List, [], ◌∷◌, ◌++◌, drop, length, Option, Some, None, inl, inr, ⊎_elim, refl, sym, ap, subst, ◌∙◌, arith}
+use Rattle.std.proofs.Common.{◌≡◌, ◌≢◌, ℕ, ◌+◌, ◌-◌, ◌*◌, ◌<◌, ◌≤◌, ℤ, max, nat_lt, if◌then◌else◌, Bool, true, false, true≢false, List, [], ◌∷◌, ◌++◌, drop, length, Option, Some, None, inl, inr, ⊎_elim, refl, sym, ap, subst, ◌∙◌, arith}
 use Rattle.std.specs.Prelude.{nat_eq, unwrap_or}
 use Rattle.std.specs.List.{Contains}
 use Rattle.std.specs.Option.{option_eq}
@@ -20,10 +20,10 @@ use Rattle.segment_machine.specs.declared.place.Place.{Place}
 use Rattle.segment_machine.specs.declared.place.Place.TheVariants.{CountLoaded, Looking}
 use Rattle.segment_machine.specs.declared.seen.Seen.{Seen}
 use Rattle.segment_machine.specs.declared.seen.Sighting.{Sighting}
-use Rattle.segment_machine.specs.Actor.{Buckets, SawCount, bucket_key, is_opener, known_at, known_buckets, word_seen}
+use Rattle.segment_machine.specs.Actor.{Buckets, SawCount, bucket_key, is_opener, known_at, known_buckets}
 use Rattle.segment_machine.specs.Calls.{back, change_last, form_seen, sight}
-use Rattle.segment_machine.specs.Event.{Event, next, taking_event}
-use Rattle.segment_machine.specs.Form.{is_off, units_in}
+use Rattle.segment_machine.specs.Event.{taking_event}
+use Rattle.segment_machine.specs.Form.{units_in}
 use Rattle.segment_machine.specs.Note.{IsMarkOf, SawBucket, TookBucket}
 use Rattle.segment_machine.specs.Taking.{Takes, load_count, raise_mark, raise_single_mark, take_units, taken_key, single_key, at_count}
 use Rattle.segment_invariant.proofs.Consistency.Marks.{packed_all}
@@ -34,10 +34,9 @@ use Rattle.live_segment.specs.Deltas.{TakesAt, TakesOn, units_of_key, with_units
 use Rattle.live_segment.specs.Holders.{MayStep}
 use Rattle.live_segment.specs.Looking.{StandsAt}
 use Rattle.live_segment.specs.Onward.{SeesOn}
-use Rattle.live_segment.specs.Rule.{IsOf}
 use Rattle.live_segment.specs.Steps.{IsSame, Pass, Stepped}
-use Rattle.live_segment.proofs.Proceeding.{grows_by, grows_not, grows_on, sees_not, sees_on}
-use Rattle.live_segment.proofs.Seeing.{saw_bucket, saw_count, saw_single, saw_word}
+use Rattle.live_segment.proofs.Proceeding.{grows_by, grows_not, sees_on}
+use Rattle.live_segment.proofs.Seeing.{saw_bucket, saw_single, saw_word}
 
 -- ---- units that are taken one after the other
 
@@ -236,7 +235,7 @@ module _ (segment : Segment) (known : Known) (mounted : Mounted) (old : Pass) (t
                 stays_loaded.there,
                 subst (λ (a : Actor). SawCount a at count) (sym load.view) (saw_here old.me.0 at count low),
                 ap (λ (v : ℕ). count + units_packed (single_of v (buckets_of known.spec) takes.word) bucket)
-                (sym (ap (λ (a : Actor). a.segment.version) load.view)),
+                    (sym (ap (λ (a : Actor). a.segment.version) load.view)),
               ),
             ),
           )

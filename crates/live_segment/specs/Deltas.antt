@@ -6,7 +6,6 @@ use Rattle.bucket_ranges.specs.Spec.{buckets_of}
 use Rattle.segment_machine.specs.declared.actor.Actor.{Actor}
 use Rattle.segment_machine.specs.declared.actor.Known.{Known}
 use Rattle.segment_machine.specs.declared.actor.Taken.{Taken}
-use Rattle.segment_machine.specs.declared.place.Look.{Look}
 use Rattle.segment_machine.specs.Actor.{SawSingle, is_opener, word_seen}
 use Rattle.segment_machine.specs.Calls.{change_last}
 use Rattle.segment_machine.specs.Form.{is_off, units_in}

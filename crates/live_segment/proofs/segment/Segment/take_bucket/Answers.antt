@@ -2,7 +2,7 @@ use Rattle.std.proofs.Common.{ℕ, Some, subst, sym, ◌∙◌, arith}
 use Rattle.segment_machine.specs.Actor.{bucket_key}
 use Rattle.live_segment.specs.Deltas.{TakesOn, units_of_key}
 use Rattle.live_segment.specs.Known.{known_view}
-use Rattle.live_segment.proofs.OneBucket.{may_load, room, stays_loaded, loads_on, packed_nothing, may_raise_single, key_packed, took_packed, nothing_there, may_raise, key_other, took_other, stays_raised, raises_on, same_raised, is_packed, is_other}
+use Rattle.live_segment.proofs.OneBucket.{stays_loaded, loads_on, packed_nothing, may_raise_single, key_packed, took_packed, nothing_there, may_raise, key_other, took_other, stays_raised, raises_on, is_packed, is_other}
 use Rattle.live_segment.proofs.segment.Segment.take_bucket.Goals as goal
 
 pub returns-then-total-eq0-clause-stands : goal.returns-then-total-eq0-clause-stands
@@ -52,7 +52,7 @@ returns-else-total-eq0-clause-on c =
 
 pub returns-else-count-eq0-clause-stands : goal.returns-else-count-eq0-clause-stands
 returns-else-count-eq0-clause-stands c =
-    stays_raised c.args.self.now (known_view c.args.histogram.now) c.args.mounted.now c.args.seat.now c.requires.takes c.args.bucket c.requires.bucket c.load_count-count.result c.load_count-count.new.seat c.load_count-count.ensures c.raise_mark.new.seat _ (bucket_key (Some (known_view c.args.histogram.now)) c.args.bucket) _ c.raise_mark.result _ c.raise_mark.ensures.same (key_other c.args.self.now (known_view c.args.histogram.now) c.args.mounted.now c.args.seat.now c.requires.takes c.args.bucket c.requires.bucket c.load_count-count.result c.load_count-count.new.seat c.load_count-count.ensures (is_other c.args.mounted.now.packed c.args.bucket (sym c.eq.ensures ∙ c.if-eq.false)) ) c.raise_mark.ensures.view
+    stays_raised c.args.self.now (known_view c.args.histogram.now) c.args.mounted.now c.args.seat.now c.requires.takes c.args.bucket c.requires.bucket c.load_count-count.result c.load_count-count.new.seat c.load_count-count.ensures c.raise_mark.new.seat _ (bucket_key (Some (known_view c.args.histogram.now)) c.args.bucket) _ c.raise_mark.result _ c.raise_mark.ensures.same (key_other c.args.self.now (known_view c.args.histogram.now) c.args.mounted.now c.args.seat.now c.requires.takes c.args.bucket c.requires.bucket c.load_count-count.result c.load_count-count.new.seat c.load_count-count.ensures (is_other c.args.mounted.now.packed c.args.bucket (sym c.eq.ensures ∙ c.if-eq.false))) c.raise_mark.ensures.view
 
 pub returns-else-count-eq0-clause-took : goal.returns-else-count-eq0-clause-took
 returns-else-count-eq0-clause-took c =
@@ -61,5 +61,4 @@ returns-else-count-eq0-clause-took c =
 pub returns-else-count-eq0-clause-on : goal.returns-else-count-eq0-clause-on
 returns-else-count-eq0-clause-on c =
     subst (λ (n : ℕ). TakesOn (units_of_key (bucket_key (Some (known_view c.args.histogram.now)) c.args.bucket) n) c.args.seat.now.me.0 c.raise_mark.new.seat.me.0) (sym c.saturating_sub-else-eq.ensures)
-    (raises_on c.args.self.now (known_view c.args.histogram.now) c.args.mounted.now c.args.seat.now c.requires.takes c.args.bucket c.requires.bucket c.load_count-count.result c.load_count-count.new.seat c.load_count-count.ensures c.raise_mark.new.seat _ (bucket_key (Some (known_view c.args.histogram.now)) c.args.bucket) _ c.raise_mark.result _ c.raise_mark.ensures.same (key_other c.args.self.now (known_view c.args.histogram.now) c.args.mounted.now c.args.seat.now c.requires.takes c.args.bucket c.requires.bucket c.load_count-count.result c.load_count-count.new.seat c.load_count-count.ensures (is_other c.args.mounted.now.packed c.args.bucket (sym c.eq.ensures ∙ c.if-eq.false)) ) c.raise_mark.ensures.view)
-
+    (raises_on c.args.self.now (known_view c.args.histogram.now) c.args.mounted.now c.args.seat.now c.requires.takes c.args.bucket c.requires.bucket c.load_count-count.result c.load_count-count.new.seat c.load_count-count.ensures c.raise_mark.new.seat _ (bucket_key (Some (known_view c.args.histogram.now)) c.args.bucket) _ c.raise_mark.result _ c.raise_mark.ensures.same (key_other c.args.self.now (known_view c.args.histogram.now) c.args.mounted.now c.args.seat.now c.requires.takes c.args.bucket c.requires.bucket c.load_count-count.result c.load_count-count.new.seat c.load_count-count.ensures (is_other c.args.mounted.now.packed c.args.bucket (sym c.eq.ensures ∙ c.if-eq.false))) c.raise_mark.ensures.view)

@@ -17,6 +17,7 @@ mod Refusing
 mod Packed
 mod Sightings
 mod BucketsSeen
+mod Mounted
 mod Walked
 mod Seeing
 mod OneBucket

@@ -30,6 +30,18 @@ may_at_rest a none = subst MayEnd (sym none) (record { ended = All-nil _; unsumm
 pub at_rest : (a : Actor) → a.entries.running ≡ [] → given_up a ≡ a
 at_rest a none = ap (λ (r : List Counting). noted_by a (refusing_notes r)) none
 
+-- ---- what it leaves as it was
+
+pub only_given_up : (a : Actor)
+    → given_up a ≡ (let b = given_up a in record a { units = b.units; entries = b.entries; since = b.since })
+only_given_up a = by a.entries.running
+  where
+    by : (running : List Counting)
+        → noted_by a (refusing_notes running)
+        ≡ (let b = noted_by a (refusing_notes running) in record a { units = b.units; entries = b.entries; since = b.since })
+    by [] = refl
+    by (c ∷ rest) = refl
+
 -- ---- that it may note so
 
 pub may_end : (a : Actor) (running : List Counting) → MayEnd running → a.entries.running ≡ running → is_bound a.hand.place ≡ false

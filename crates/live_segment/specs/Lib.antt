@@ -18,3 +18,4 @@ pub mod Records
 pub mod Refusing
 pub mod Snapshots
 pub mod Deltas
+pub mod Mounting

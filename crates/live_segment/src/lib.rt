@@ -11,6 +11,7 @@ mod counting;
 mod deltas;
 mod fault;
 mod looking;
+mod mounting;
 mod opener;
 mod recorder;
 mod records;

@@ -4,6 +4,7 @@ ghost use Rattle.std.specs.Prelude.{◌+◌, ◌<◌, ◌≤◌};
 ghost use Rattle.segment_machine.specs.Event.{counting_event};
 ghost use Rattle.segment_machine.specs.Counting.{load_counts, add_redundant};
 ghost use Rattle.live_segment.specs.Steps.{DoesAt};
+ghost use Rattle.live_segment.specs.Mounting.{LoadsCounts, SawNoNone};
 ghost use Rattle.live_segment.specs.Telling.{AddsToCount, AddsToSample, AddsAmount, AddsSum, AddsLast};
 
 use crate::rule::{Announcement, Pass};
@@ -16,7 +17,7 @@ use segment_machine::Actor;
 pub(crate) struct LoadCounts;
 
 impl Play<Announcement, Actor> for LoadCounts {
-    ghost then = { λ st. DoesAt (λ histogram. counting_event (load_counts histogram)) st.word };
+    ghost then = { λ st. LoadsCounts st.word };
 }
 
 pub(crate) struct AddToCount;
@@ -65,7 +66,8 @@ impl Segment {
     pub(crate) fn load_counts(&self, seat: &mut Pass, histogram: u64) -> u64
         requires may { MayStep self.now seat.old (counting_event (load_counts histogram)) }
         requires room { histogram + 15 ≤ self.now.setting.shape.size }
-        ensures { Stepped seat.old (counting_event (load_counts histogram)) result seat.new }
+        ensures step { Stepped seat.old (counting_event (load_counts histogram)) result seat.new }
+        ensures seen { SawNoNone seat.old.me.0.seen histogram }
     {
         self.table
             .shared

@@ -1,20 +1,20 @@
-use Rattle.std.proofs.Common.{rules, ℕ, arith}
-use Rattle.segment_machine.specs.Event.{counting_event}
-use Rattle.segment_machine.specs.Counting.{load_counts}
-use Rattle.live_segment.proofs.Allowed.{does_at}
+use Rattle.std.proofs.Common.{rules, arith}
+use Rattle.live_segment.proofs.Mounted.{loads_counts}
 use Rattle.live_segment.proofs.segment.Segment.load_counts.Goals as goal
 
 pub load-requires : goal.load-requires
 load-requires c = (
   search rules,
   search rules,
-  does_at c.args.self.now.table.shared.key _ _ _ _ c.requires.may.recorder (λ (x : ℕ). counting_event (load_counts x)) c.args.histogram
-      (omega arith) (λ y e. omega arith) c.requires.may.ready,
+  loads_counts c.args.self.now.table.shared.key _ _ _ _ c.requires.may.recorder c.args.histogram (omega arith) c.requires.may.ready,
 )
 
-pub returns : goal.returns
-returns c = let told = c.load.ensures.2 c.args.histogram (omega arith) in record {
+pub returns-clause-step : goal.returns-clause-step
+returns-clause-step c = let told = (c.load.ensures.2 c.args.histogram (omega arith)).0 in record {
   same = (c.load.ensures.0, c.load.ensures.1, told.1);
   view = told.0;
   learned = told.2;
 }
+
+pub returns-clause-seen : goal.returns-clause-seen
+returns-clause-seen c = (c.load.ensures.2 c.args.histogram (omega arith)).1

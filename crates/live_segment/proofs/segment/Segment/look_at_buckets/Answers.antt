@@ -20,12 +20,12 @@ load_counts-counts-requires-clause-may c =
 pub look_at_counts-requires-clause-may : goal.look_at_counts-requires-clause-may
 look_at_counts-requires-clause-may c =
     may_look_at c.args.self.now (known_view c.args.histogram.now) c.args.seat.now c.requires.seat.0 c.requires.seat.1 c.requires.rests c.requires.right.alone c.requires.bucketed
-    _ _ c.look_single-word.ensures (let off = c.if-word-ge-DISABLED_BIT.true in omega (arith, off)) _ _ c.load_counts-counts.ensures _ c.requires.buckets.0
+    _ _ c.look_single-word.ensures (let off = c.if-word-ge-DISABLED_BIT.true in omega (arith, off)) _ _ c.load_counts-counts.ensures.step _ c.requires.buckets.0
 
 pub look_at_counts-requires-clause-room : goal.look_at_counts-requires-clause-room
 look_at_counts-requires-clause-room c =
     let all = within c.args.self.now (known_view c.args.histogram.now) c.args.seat.now c.requires.seat.0 c.requires.seat.1 c.requires.rests c.requires.right.alone c.requires.bucketed
-    _ _ c.look_single-word.ensures (let off = c.if-word-ge-DISABLED_BIT.true in omega (arith, off)) _ _ c.load_counts-counts.ensures in
+    _ _ c.look_single-word.ensures (let off = c.if-word-ge-DISABLED_BIT.true in omega (arith, off)) _ _ c.load_counts-counts.ensures.step in
     let long = c.requires.buckets.0 in omega (arith, all, long)
 
 pub add_packed-requires-clause-few : goal.add_packed-requires-clause-few
@@ -45,7 +45,7 @@ returns-clause-saw c =
     elim c.if-word-ge-DISABLED_BIT.branch [
       | then-word-ge-DISABLED_BIT w ↦ subst Seen (sym w.seat-is)
           (saw_off segment known c.args.seat.now c.requires.seat.0 c.requires.seat.1 c.requires.rests c.requires.right.alone c.requires.bucketed
-          _ _ c.look_single-word.ensures (let off = w.if-word-ge-DISABLED_BIT.true in omega (arith, off)) _ _ w.load_counts-counts.ensures
+          _ _ c.look_single-word.ensures (let off = w.if-word-ge-DISABLED_BIT.true in omega (arith, off)) _ _ w.load_counts-counts.ensures.step
           w.look_at_counts.new.totals c.add_packed.new.totals w.look_at_counts.new.seat
           (sym (ap (λ (l : List (ℤ × ℕ)). length l) w.totals-is) ∙ (c.if-word-ge-DISABLED_BIT.auto.totals ∙ c.requires.buckets.0))
           w.look_at_counts.ensures.counts (subst Packed w.totals-is c.add_packed.ensures))

@@ -336,9 +336,10 @@ module _ (segment : Segment) (known : Known) (old : Pass) (table : old.table_id 
       refused_block Full size new words (free, view, later, passes) =
           let last = filled (saw_free seat.me.0 Idle free) in
           let only = view ∙ only_given_up last in
-          turned last free true refl later (λ e. refl) Full new.me.0 view
-          (ap (λ (b : Actor). b.done.filled) only,
-          subst (λ (b : Actor). b.segment.shape.size < b.seen.free + block_words known) (sym only) (subst (λ (n : ℕ). seat.me.0.segment.shape.size < free + n) words passes))
+          turned last free true refl later (λ e. refl) Full new.me.0 view (
+            ap (λ (b : Actor). b.done.filled) only,
+            subst (λ (b : Actor). b.segment.shape.size < b.seen.free + block_words known) (sym only) (subst (λ (n : ℕ). seat.me.0.segment.shape.size < free + n) words passes),
+          )
       refused_block Corrupt size new words (free, view, later) =
           turned (saw_free seat.me.0 Idle free) free seat.me.0.done.filled refl later (λ e. e) Corrupt new.me.0 view tt
       refused_block _ size new words none_there = absurd none_there

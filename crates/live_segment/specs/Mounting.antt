@@ -1,7 +1,7 @@
 -- How a recorder brings the counts of a histogram in use: they are there or are mounted, and the single word is disabled.
-use Rattle.std.specs.Prelude.{◌≡◌, ◌≢◌, true, false, ℕ, ◌+◌, ◌*◌, ◌≤◌, [], ◌∷◌, Option, Some, None}
+use Rattle.std.specs.Prelude.{◌≡◌, ◌≢◌, true, false, ℕ, ◌+◌, Option, Some, None}
 use Rattle.std.specs.List.{Contains}
-use Rattle.segment_image.specs.declared.layout.TheConstants.{BLOCK_HEADER, HISTOGRAM_COUNTS}
+use Rattle.segment_image.specs.declared.layout.TheConstants.{HISTOGRAM_COUNTS}
 use Rattle.hist_core.specs.declared.refusal.Refusal.{Refusal}
 use Rattle.bucket_ranges.specs.Spec.{buckets_of}
 use Rattle.segment_machine.specs.declared.actor.Actor.{Actor}
@@ -14,7 +14,7 @@ use Rattle.segment_machine.specs.Event.{counting_event}
 use Rattle.segment_machine.specs.Form.{is_off}
 use Rattle.segment_machine.specs.Packing.{CountsIn, IsBlankCounts}
 use Rattle.live_segment.specs.Adding.{HasNoRoom, block_words}
-use Rattle.live_segment.specs.Refusing.{MayGiveUp, given_up}
+use Rattle.live_segment.specs.Refusing.{given_up}
 use Rattle.live_segment.specs.Steps.{Does, Sat}
 use Rattle.live_segment.specs.Working.{CountsWithin, LooksAt, LooksOn}
 

@@ -21,3 +21,4 @@ mod Mounted
 mod Walked
 mod Seeing
 mod OneBucket
+mod Finished

@@ -19,3 +19,4 @@ pub mod Refusing
 pub mod Snapshots
 pub mod Deltas
 pub mod Mounting
+pub mod Finishing

@@ -10,6 +10,7 @@ mod allocation;
 mod counting;
 mod deltas;
 mod fault;
+mod finishing;
 mod looking;
 mod mounting;
 mod opener;

@@ -11,6 +11,8 @@ mod Proceeding
 mod Beginning
 mod Attempts
 mod Listed
+mod Owned
+mod Published
 mod Answered
 mod Totals
 mod Refusing

@@ -28,7 +28,7 @@ use Rattle.live_segment.specs.Cursors.{IsLate, IsGivenNext, IsAtEnd, StandsBehin
 -- ---- numbers
 
 -- a reference lies within a segment of a lawful shape
-reference_within : (shape : Dimensions) (at : ℕ) → IsShape shape → is_reference shape.size at ≡ true → at + 5 ≤ shape.size
+pub reference_within : (shape : Dimensions) (at : ℕ) → IsShape shape → is_reference shape.size at ≡ true → at + 5 ≤ shape.size
 reference_within shape at shaped is =
     let from = shaped.wide in
     let to = shaped.one in
@@ -105,7 +105,7 @@ gives_none cursor old new is =
 -- ---- a try
 
 -- it is the same seat still
-same_on : (a b c : Pass) → IsSame a b → IsSame b c → IsSame a c
+pub same_on : (a b c : Pass) → IsSame a b → IsSame b c → IsSame a c
 same_on a b c one two = (two.0 ∙ one.0, two.1 ∙ one.1, two.2 ∙ one.2)
 
 -- what it is once it has loaded a cursor and the next behind that

@@ -11,6 +11,7 @@ pub mod Batching
 pub mod Telling
 pub mod Working
 pub mod Listing
+pub mod Publishing
 pub mod Taking
 pub mod Cursors
 pub mod Looking

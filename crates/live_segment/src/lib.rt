@@ -14,6 +14,7 @@ mod finishing;
 mod looking;
 mod mounting;
 mod opener;
+mod publishing;
 mod recorder;
 mod records;
 mod rule;

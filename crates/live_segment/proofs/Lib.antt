@@ -20,6 +20,7 @@ mod Packed
 mod Sightings
 mod BucketsSeen
 mod Mounted
+mod Answering
 mod Walked
 mod Seeing
 mod OneBucket

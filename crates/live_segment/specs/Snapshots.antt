@@ -3,11 +3,14 @@ use Rattle.std.specs.Prelude.{◌≡◌, false, ℕ, ◌+◌, ◌-◌, ℤ, pos,
 use Rattle.std.specs.List.{range_with_len}
 use mathlib.Core.Option.{some}
 use lib.ListN.{get_elem?}
+use Rattle.segment_image.specs.declared.layout.TheConstants.{HISTOGRAM_REDUNDANT}
 use Rattle.bucket_ranges.specs.Single.{single_of, units_packed}
 use Rattle.hist_core.specs.declared.answer.Snapshot.{Snapshot}
 use Rattle.segment_machine.specs.declared.actor.Actor.{Actor}
 use Rattle.segment_machine.specs.declared.actor.Known.{Known}
+use Rattle.segment_machine.specs.declared.place.Place.TheVariants.{SumLoaded}
 use Rattle.segment_machine.specs.Actor.{is_bound, looking}
+use Rattle.segment_machine.specs.Calls.{sight}
 use Rattle.segment_machine.specs.Note.{SawAll, SawBucket}
 use Rattle.live_segment.specs.Onward.{SeesOn}
 use Rattle.live_segment.specs.Taking.{answered_as}
@@ -36,6 +39,13 @@ pub record HasLooked (old new : Actor) : Type 0 where
 pub record HasSeenBuckets (known : Known) (old : Actor) (totals : List (ℤ × ℕ)) (new : Actor) : Type 0 where
   pub looked : HasLooked old new
   pub saw : (bucket : ℕ) (total : ℤ × ℕ) → get_elem? totals bucket ≡ some total → SawBucket new known bucket total.1
+
+-- it has loaded the sum of a histogram, and then the redundant count
+abbrev pub saw_sum : Actor → ℕ → ℤ → ℕ → Actor
+saw_sum a histogram sum redundant = record a {
+  hand = record a.hand { place = SumLoaded histogram sum };
+  seen = record a.seen { counts = a.seen.counts ++ sight (histogram + HISTOGRAM_REDUNDANT) redundant };
+}
 
 -- ---- what is answered
 

@@ -1,6 +1,8 @@
 //! How a recorder answers a snapshot: it looks at all that is counted of a histogram, and notes what it saw.
 
-ghost use Rattle.std.specs.Prelude.{◌≡◌, ◌≤◌, length, IfOk};
+ghost use Rattle.std.specs.Prelude.{◌≡◌, ◌≤◌, ℕ, length, IfOk};
+ghost use Rattle.hist_core.specs.declared.answer.Snapshot.{Snapshot};
+ghost use Rattle.live_segment.specs.declared.rule.Announcement.TheVariants.{Answer};
 ghost use Rattle.std.specs.List.{All};
 ghost use Rattle.segment_machine.specs.Calls.{IsUnits};
 ghost use Rattle.live_segment.specs.Snapshots.{blank_totals, HavePacked};
@@ -37,15 +39,34 @@ fn add_packed(version: u64, word: u64, totals: &mut [(i32, u64)])
     }
 }
 
+// The snapshot that was said to be an answer.
+fn snapshot_said(said: Announcement) -> Snapshot
+    requires { (histogram : ℕ) × (snapshot : Snapshot) × (said ≡ Answer histogram snapshot) }
+    ensures { (histogram : ℕ) (snapshot : Snapshot) → said ≡ Answer histogram snapshot → result ≡ snapshot }
+{
+    match said {
+        Announcement::Answer {
+            histogram: _,
+            snapshot,
+        } => snapshot,
+        _ => unreachable!(),
+    }
+}
+
 impl Segment {
-    ghost use Rattle.std.specs.Prelude.{map, true};
+    ghost use Rattle.std.specs.Prelude.{◌+◌, map, true, false};
     ghost use Rattle.bucket_ranges.specs.Spec.{buckets_of};
-    ghost use Rattle.segment_machine.specs.Actor.{has_buckets};
-    ghost use Rattle.live_segment.specs.Holders.{table_of};
+    ghost use Rattle.segment_machine.specs.Actor.{has_buckets, is_opener};
+    ghost use Rattle.segment_machine.specs.Event.{taking_event};
+    ghost use Rattle.segment_machine.specs.Note.{answers, MayNote, noted};
+    ghost use Rattle.segment_machine.specs.Taking.{load_sum};
+    ghost use Rattle.live_segment.specs.Holders.{MayStep, table_of};
     ghost use Rattle.live_segment.specs.Known.{known_view, KnowsRight};
     ghost use Rattle.live_segment.specs.Rule.{IsOf};
     ghost use Rattle.live_segment.specs.Steps.{IsAtRest, IsSame};
-    ghost use Rattle.live_segment.specs.Snapshots.{HasSeenBuckets};
+    ghost use Rattle.live_segment.specs.Snapshots.{HasSeenBuckets, HasSnapshot, saw_sum};
+    ghost use Rattle.live_segment.specs.Taking.{answered_as};
+    ghost use Rattle.live_segment.specs.Telling.{KnowsAlone};
 
     // The units of all buckets of a histogram stand beside their keys.
     fn look_at_buckets(
@@ -70,5 +91,64 @@ impl Segment {
             self.look_at_counts(seat, counts, totals);
         }
         add_packed(self.setting.version, word, totals);
+    }
+
+    // The sum of a histogram, and its redundant count, which is loaded last.
+    fn look_at_sum(&self, seat: &mut Pass, histogram: u64) -> (i64, u64)
+        requires may { MayStep self.now seat.old (taking_event (load_sum histogram)) }
+        requires room { histogram + 15 ≤ self.now.setting.shape.size }
+        ensures same { IsSame seat.old seat.new }
+        ensures view { seat.new.me.0 ≡ saw_sum seat.old.me.0 histogram result.0 result.1 }
+    {
+        let sum = self.load_sum(seat, histogram).cast_signed();
+        let redundant = self.load_redundant(seat, histogram);
+        (sum, redundant)
+    }
+
+    // What a snapshot of a histogram saw is its answer.
+    fn answer_with(
+        &self,
+        seat: &mut Pass,
+        histogram: &KnownHistogram,
+        snapshot: Snapshot,
+    ) -> Snapshot
+        requires seat { (seat.old.table_id ≡ table_of self.now) × (is_opener seat.old.me.0.role ≡ false) }
+        requires alone { KnowsAlone seat.old.me.0 (known_view histogram.now) }
+        requires may { MayNote seat.old.me.0 (answers (answered_as seat.old.me.0 (known_view histogram.now) snapshot)) }
+        ensures same { IsSame seat.old seat.new }
+        ensures answer { result ≡ snapshot }
+        ensures view { seat.new.me.0 ≡ noted seat.old.me.0 (answers (answered_as seat.old.me.0 (known_view histogram.now) snapshot)) }
+    {
+        let said = Announcement::Answer {
+            histogram: histogram.reference,
+            snapshot,
+        };
+        self.answer(seat, &said);
+        snapshot_said(said)
+    }
+
+    /// What a histogram with buckets has: the totals are its buckets in order, with no units yet.
+    pub(crate) fn snapshot_of_buckets(
+        &self,
+        seat: &mut Pass,
+        histogram: &KnownHistogram,
+        mut totals: Vec<(i32, u64)>,
+    ) -> Snapshot
+        requires seat { (seat.old.table_id ≡ table_of self.now) × IsOf self.now.setting seat.old.me.0 }
+        requires rests { IsAtRest seat.old.me.0 }
+        requires right { KnowsRight self.now.setting seat.old.me.0 histogram.now }
+        requires bucketed { has_buckets histogram.now.spec ≡ true }
+        requires blank { totals.items ≡ blank_totals histogram.now.ranges }
+        ensures same { IsSame seat.old seat.new }
+        ensures answer { HasSnapshot (known_view histogram.now) seat.old.me.0 result seat.new.me.0 }
+    {
+        self.look_at_buckets(seat, histogram, totals.as_mut_slice());
+        let (sum, redundant) = self.look_at_sum(seat, histogram.reference);
+        let snapshot = Snapshot {
+            counts: totals,
+            sum,
+            redundant,
+        };
+        self.answer_with(seat, histogram, snapshot)
     }
 }

@@ -25,3 +25,4 @@ mod Walked
 mod Seeing
 mod OneBucket
 mod Finished
+mod AllBuckets

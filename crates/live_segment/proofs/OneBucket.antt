@@ -35,7 +35,7 @@ use Rattle.live_segment.specs.Holders.{MayStep}
 use Rattle.live_segment.specs.Looking.{StandsAt}
 use Rattle.live_segment.specs.Onward.{SeesOn}
 use Rattle.live_segment.specs.Steps.{IsSame, Pass, Stepped}
-use Rattle.live_segment.proofs.Proceeding.{grows_by, grows_not, sees_on}
+use Rattle.live_segment.proofs.Proceeding.{grows_by, grows_not, sees_on, sees_not}
 use Rattle.live_segment.proofs.Seeing.{saw_bucket, saw_single, saw_word}
 
 -- ---- units that are taken one after the other
@@ -62,6 +62,10 @@ taking_on a place more seen = record a {
 
 pub takes_by : (a b : Actor) (place : Place) (more : List (ℤ × ℕ)) (seen : Seen) → b ≡ taking_on a place more seen → SeesOn a.seen seen → TakesOn more a b
 takes_by a b place more seen is sees = subst (TakesOn more a) (sym is) (record { view = refl; seen = sees })
+
+-- nothing happens
+pub takes_not : (a : Actor) → TakesOn [] a a
+takes_not a = takes_by a a a.hand.place [] a.seen (ap (λ (l : List Taken). record a { deltas = record a.deltas { taken = l } }) (sym (nothing_more a.deltas.taken))) (sees_not a.seen)
 
 pub takes_then : (a b c : Actor) (more rest : List (ℤ × ℕ)) → TakesOn more a b → TakesOn rest b c → TakesOn (more ++ rest) a c
 takes_then a b c more rest first second = record {

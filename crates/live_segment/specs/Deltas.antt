@@ -1,5 +1,8 @@
 -- What a delta makes of its recorder: what it takes on its way, and what it has taken when it ends.
-use Rattle.std.specs.Prelude.{◌≡◌, true, false, ℕ, ◌+◌, ◌≤◌, ℤ, List, [], ◌∷◌, ◌++◌, length, nat_lt, if◌then◌else◌, Some}
+use Rattle.std.specs.Prelude.{◌≡◌, true, false, ℕ, ◌+◌, ◌≤◌, ℤ, List, [], ◌∷◌, ◌++◌, length, map, nat_lt, if◌then◌else◌, Some}
+use Rattle.std.specs.List.{All}
+use Rattle.std.specs.List.Sorted.{IsStrictlySortedBy}
+use Rattle.std.specs.Ordering.{int_cmp}
 use Rattle.segment_image.specs.declared.layout.TheConstants.{HISTOGRAM_COUNTS, HISTOGRAM_SINGLE}
 use Rattle.bucket_ranges.specs.Single.{packed_bucket, single_of}
 use Rattle.bucket_ranges.specs.Spec.{buckets_of}
@@ -59,3 +62,10 @@ pub record TakesAt (segment : Segment) (known : Known) (mounted : Mounted) (seat
   pub within : CountsWithin seat.me.0 known mounted.counts
   pub singles : seat.me.0.since.singles ≤ length seat.me.0.seen.singles
   pub counts : seat.me.0.since.counts ≤ length seat.me.0.seen.counts
+
+-- ---- what is answered
+
+-- keys with units, ascending, each once
+pub record AreUnits (counts : List (ℤ × ℕ)) : Type 0 where
+  pub ascending : IsStrictlySortedBy int_cmp (map (λ count. count.0) counts)
+  pub some : All (λ count. 1 ≤ count.1) counts

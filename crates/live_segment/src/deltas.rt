@@ -1,11 +1,11 @@
 //! How a recorder takes a delta of a histogram: of each bucket the units that no delta has taken yet, and of the sum what is new.
 
-ghost use Rattle.std.specs.Prelude.{◌≡◌, ◌<◌, ◌+◌, ◌≤◌, Some, length};
+ghost use Rattle.std.specs.Prelude.{◌≡◌, ◌<◌, ◌+◌, ◌≤◌, true, ℕ, [], Some, length, vec_capacity};
 ghost use Rattle.bucket_ranges.specs.Spec.{buckets_of};
-ghost use Rattle.segment_machine.specs.Actor.{bucket_key};
+ghost use Rattle.segment_machine.specs.Actor.{bucket_key, has_buckets};
 ghost use Rattle.segment_machine.specs.Note.{TookBucket};
-ghost use Rattle.live_segment.specs.Deltas.{TakesAt, TakesOn, units_of_key};
-ghost use Rattle.live_segment.specs.Known.{known_view};
+ghost use Rattle.live_segment.specs.Deltas.{AreUnits, TakesAt, TakesOn, units_of_key};
+ghost use Rattle.live_segment.specs.Known.{known_view, KnowsRight};
 
 use crate::recorder::KnownHistogram;
 use crate::rule::Pass;
@@ -56,6 +56,31 @@ impl Segment {
             }
             let mark = at + histogram.ranges.len() as u64;
             count.saturating_sub(self.raise_mark(seat, mark, count))
+        }
+    }
+    // The delta takes what is counted in all buckets, and lists it in their order. There is room for all of them.
+    fn take_buckets(
+        &self,
+        seat: &mut Pass,
+        histogram: &KnownHistogram,
+        mounted: &Mounted,
+        taken: &mut Vec<(i32, u64)>,
+    )
+        requires right { KnowsRight self.now.setting seat.old.me.0 histogram.now }
+        requires bucketed { has_buckets histogram.now.spec ≡ true }
+        requires takes { TakesAt self.now (known_view histogram.now) mounted.now seat.old }
+        requires room { (taken.old.items ≡ []) × (buckets_of histogram.now.spec ≤ vec_capacity taken.old) }
+        ensures same { IsSame seat.old seat.new }
+        ensures stands { TakesAt self.now (known_view histogram.now) mounted.now seat.new }
+        ensures took { (bucket : ℕ) → bucket < buckets_of histogram.now.spec → TookBucket seat.new.me.0 (known_view histogram.now) bucket }
+        ensures on { TakesOn taken.new.items seat.old.me.0 seat.new.me.0 }
+        ensures units { AreUnits taken.new.items }
+    {
+        for bucket in 0..histogram.ranges.len() {
+            let units = self.take_bucket(seat, histogram, mounted, bucket);
+            if units > 0 {
+                taken.push_reserved((histogram.ranges.low(bucket), units));
+            }
         }
     }
 }

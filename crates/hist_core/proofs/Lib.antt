@@ -1,6 +1,7 @@
 mod Adds
 mod Boards
 mod Letters
+mod Looks
 mod NewBoards
 mod Parts
 mod Payloads

@@ -1,31 +1,38 @@
 -- An `add` that is going on.
-use Rattle.std.specs.Prelude.{◌≡◌, Bool, true, false, ◌⊎◌, ◌||◌, ◌==◌, if◌then◌else◌, ℕ, ◌+◌, ◌*◌, ◌<◌, ◌≤◌, ℤ, pos, List, [], ◌∷◌, ◌++◌, length, Some}
+use Rattle.std.specs.Prelude.{◌≡◌, ◌≢◌, Bool, true, false, ◌⊎◌, ◌||◌, ◌==◌, if◌then◌else◌, ℕ, ◌+◌, ◌*◌, ◌%◌, ◌^◌, ◌<◌, ◌≤◌, ℤ, pos, List, [], ◌∷◌, ◌++◌, length, Option, Some, None, is_some, ⊤}
 use Rattle.std.specs.List.{Contains}
 use Rattle.std.specs.Ordering.{int_eq}
 use Rattle.bucket_ranges.specs.Ranges.{boundaries_of}
-use Rattle.bucket_ranges.specs.Spec.{buckets_of}
+use Rattle.bucket_ranges.specs.Single.{single_of}
+use Rattle.bucket_ranges.specs.Spec.{buckets_of, spec_fault}
 use Rattle.bucket_ranges.specs.Tally.{amount_of}
-use Rattle.segment_image.specs.declared.layout.TheConstants.{BLOCK_HEADER, HISTOGRAM_NAME, HISTOGRAM_SINGLE, SAMPLE_COUNT}
+use Rattle.segment_image.specs.declared.layout.TheConstants.{BLOCK_HEADER, BLOCK_LEAST, HEADER_WORDS, HISTOGRAM_NAME, HISTOGRAM_SINGLE, SAMPLE_COUNT, TYPE_COUNTS}
 use Rattle.segment_image.specs.Shape.{Dimensions}
 use Rattle.alloc_core.specs.Layout.{IsShape}
+use Rattle.alloc_core.specs.Alloc as alloc
 use Rattle.list_core.specs.Walk.{IsPrefix}
 use Rattle.segment_machine.specs.declared.actor.Actor.{Actor}
 use Rattle.segment_machine.specs.declared.actor.Known.{Known}
 use Rattle.segment_machine.specs.declared.entry.Counting.{Counting as MachineCounting}
 use Rattle.segment_machine.specs.declared.entry.Entry.{Entry}
 use Rattle.segment_machine.specs.declared.place.Look.{Look}
-use Rattle.segment_machine.specs.declared.place.Place.TheVariants.{Looking}
+use Rattle.segment_machine.specs.declared.actor.Own.{Own}
+use Rattle.segment_machine.specs.declared.place.Place.TheVariants.{Looking, Losing, Moving as PlaceMoving}
 use Rattle.segment_machine.specs.declared.seen.Sighting.{Sighting}
 use Rattle.segment_machine.specs.Actor.{cost_of, has_buckets, known_at, Sparse}
 use Rattle.segment_machine.specs.Calls.{IsKeyOfBucket, LooksOff, MayTurn}
 use Rattle.segment_machine.specs.Entry.{has_ended, key_of, sample_entry}
 use Rattle.segment_machine.specs.Form.{is_off, IsPacking}
 use Rattle.segment_machine.specs.Made.{IsFirstSample}
+use Rattle.segment_machine.specs.Packing.{IsBlankCounts}
+use Rattle.segment_machine.specs.Stages.{Allocates}
 use Rattle.hist_core.specs.declared.add.Add.{Add}
 use Rattle.hist_core.specs.declared.add.AddStep.{AddStep}
 use Rattle.hist_core.specs.declared.add.AddStep.TheVariants.{More, Done, Refused}
 use Rattle.hist_core.specs.declared.add.Stage.{Stage}
-use Rattle.hist_core.specs.declared.add.Stage.TheVariants.{LoadingSingle, Packing, LoadingCounts, SeekingCounts, Counting, Summing, Noting}
+use Rattle.hist_core.specs.declared.add.Stage.TheVariants.{LoadingSingle, Packing, LoadingCounts, SeekingCounts, Allocating, Mounting, Purging, LoadingAgain, Disabling, Moving, Counting, Summing, Noting}
+use Rattle.hist_core.specs.declared.refusal.Refusal.{Refusal}
+use Rattle.hist_core.specs.declared.refusal.Refusal.TheVariants as why
 use Rattle.hist_core.specs.Goes.{Goes}
 
 -- ---- what it counts
@@ -34,15 +41,15 @@ use Rattle.hist_core.specs.Goes.{Goes}
 abbrev pub counted_entry : Known → Add → Entry
 counted_entry known add = sample_entry known.name (boundaries_of known.spec) (add.value, add.units)
 
--- It counts some units of a value in a known histogram, whose record lies in the segment, and whose counts fit in a page. The bucket is
--- that of the value.
+-- It counts some units of a value in a known histogram of a lawful spec, whose record lies in the segment, and whose counts fit in a
+-- page. The bucket is that of the value.
 pub record IsCounting (shape : Dimensions) (known : Known) (add : Add) : Type 0 where
   pub shaped : add.shape ≡ shape
   pub versions : (add.version ≡ 1) ⊎ (add.version ≡ 2)
   pub reference : known.reference ≡ add.histogram
   pub within : add.histogram + HISTOGRAM_NAME ≤ shape.size
   pub some : (add.units == 0) ≡ false
-  pub few : add.units ≤ 4294967295
+  pub lawful : spec_fault known.spec ≡ None
   pub amount : add.amount ≡ amount_of (boundaries_of known.spec) (add.value, add.units)
   pub buckets : add.buckets ≡ buckets_of known.spec
   pub fits : BLOCK_HEADER + 2 * add.buckets ≤ shape.page
@@ -69,20 +76,48 @@ IsCountOf known add a at =
     ⊎ ((sample : ℕ) × MayTurn a × Sparse a known.reference known × IsFirstSample a.seen known.reference add.value sample
     × (at ≡ sample + SAMPLE_COUNT))
 
+-- the counts block of the histogram stands there, within the segment
+abbrev pub AreCounts : Dimensions → Add → ℕ → Type 0
+AreCounts shape add counts = (counts ≢ 0) × (counts + (BLOCK_HEADER + 2 * add.buckets) ≤ shape.size)
+
+-- its actor has a block of its own there, within the segment, which may become the counts block
+abbrev pub HasBlock : Dimensions → Add → Actor → ℕ → Type 0
+HasBlock shape add a at =
+    ((own : Own) × Contains a.hand.own own × (own.at ≡ at) × IsBlankCounts own add.buckets)
+    × (HEADER_WORDS ≤ at) × (at + (BLOCK_HEADER + 2 * add.buckets) ≤ shape.size)
+
+-- Where its actor stands, whose units are not counted yet.
+abbrev pub StandsBefore : Dimensions → Known → Add → Actor → Stage → Type 0
+StandsBefore shape known add a LoadingSingle = MayTurn a
+StandsBefore shape known add a (Packing old new) =
+    ((counts : ℕ) × Looks known a old counts) × (is_off old ≡ false) × IsPacking add.bucket add.units old new
+StandsBefore shape known add a LoadingCounts = (word counts : ℕ) × Looks known a word counts × HasSeenSingle known a word × (is_off word ≡ true)
+StandsBefore shape known add a SeekingCounts = MayTurn a
+StandsBefore shape known add a (Allocating allocation) =
+    Allocates a allocation × (is_some (alloc.next_event allocation) ≡ true) × (allocation.tag ≡ TYPE_COUNTS)
+    × (BLOCK_HEADER + 2 * add.buckets ≤ allocation.size)
+StandsBefore shape known add a (Mounting at) = MayTurn a × HasBlock shape add a at
+StandsBefore shape known add a (Purging at counts) =
+    AreCounts shape add counts × (a.hand.place ≡ Losing (record { histogram = known.reference; single = None; counts = counts }) at)
+    × (at + BLOCK_LEAST ≤ shape.size)
+StandsBefore shape known add a (LoadingAgain counts) =
+    AreCounts shape add counts × ((single : Option ℕ) × (a.hand.place ≡ Looking (record { histogram = known.reference; single = single; counts = counts })))
+StandsBefore shape known add a (Disabling counts old) =
+    AreCounts shape add counts × Looks known a old counts × (is_off old ≡ false) × (single_of add.version add.buckets old ≢ None)
+StandsBefore shape known add a (Moving counts bucket units) =
+    AreCounts shape add counts × (bucket < add.buckets)
+    × ((word : ℕ) × (is_off word ≡ true)
+    × (a.hand.place ≡ PlaceMoving (record { histogram = known.reference; single = Some word; counts = counts }) bucket units))
+StandsBefore shape known add a _ = ⊥
+
 -- Where its actor stands, and what has happened of its entry.
 abbrev pub StandsAtStage : Dimensions → Known → Add → Actor → Stage → Type 0
-StandsAtStage shape known add a LoadingSingle = MayTurn a × (has_buckets known.spec ≡ true) × HasEntry known add a false false
-StandsAtStage shape known add a (Packing old new) =
-    (has_buckets known.spec ≡ true) × HasEntry known add a false false × ((counts : ℕ) × Looks known a old counts) × (is_off old ≡ false)
-    × IsPacking add.bucket add.units old new
-StandsAtStage shape known add a LoadingCounts =
-    (has_buckets known.spec ≡ true) × HasEntry known add a false false
-    × ((word counts : ℕ) × Looks known a word counts × HasSeenSingle known a word × (is_off word ≡ true))
-StandsAtStage shape known add a SeekingCounts = MayTurn a × (has_buckets known.spec ≡ true) × HasEntry known add a false false
 StandsAtStage shape known add a (Counting at) = HasEntry known add a false false × IsCountOf known add a at × (at < shape.size)
 StandsAtStage shape known add a Summing = MayTurn a × HasEntry known add a true false × (int_eq add.amount (pos 0) ≡ false)
 StandsAtStage shape known add a Noting =
     MayTurn a × ((summed : Bool) × HasEntry known add a true summed × ((summed || int_eq add.amount (pos 0)) ≡ true))
+StandsAtStage shape known add a stage =
+    (has_buckets known.spec ≡ true) × HasEntry known add a false false × StandsBefore shape known add a stage
 
 -- Its actor knows the histogram, which alone has its reference there, takes nothing, and holds the units.
 pub record IsAdd (shape : Dimensions) (known : Known) (add : Add) (a : Actor) : Type 0 where
@@ -120,6 +155,12 @@ pub record IsAccepted (entry : Entry) (a b : Actor) : Type 0 where
   pub entries : b.entries ≡ record a.entries { log = a.entries.log ++ last ∷ []; running = [] }
   pub units : b.units ≡ record a.units { costs = a.units.costs ++ a.units.held; held = [] }
 
+-- what its actor has done that is refused: an allocation has set the full flag, or found the segment corrupt
+abbrev pub IsCause : Refusal → Actor → Type 0
+IsCause why.Full b = b.done.filled ≡ true
+IsCause why.Corrupt b = ⊤
+IsCause cause b = ⊥
+
 -- refused: no entry is left of it, what was held has come back, and nothing is spent
 pub record IsTakenBack (units : ℕ) (a b : Actor) : Type 0 where
   pub entries : b.entries ≡ record a.entries { running = [] }
@@ -131,7 +172,7 @@ pub record IsTakenBack (units : ℕ) (a b : Actor) : Type 0 where
 abbrev pub AddGives : Dimensions → Known → Add → AddStep → Actor → Actor → Type 0
 AddGives shape known new More a b = Aside a b × StaysOpen a b × IsAdd shape known new b
 AddGives shape known new Done a b = Aside a b × MayTurn b × IsAccepted (counted_entry known new) a b
-AddGives shape known new (Refused why) a b = Aside a b × MayTurn b × IsTakenBack new.units a b
+AddGives shape known new (Refused cause) a b = Aside a b × MayTurn b × IsCause cause b × IsTakenBack new.units a b
 
 -- what a step makes of the words, and of whatever actor stands so
 abbrev pub AddSteps : Add → List ℕ → Add → List ℕ → AddStep → Type 0
@@ -145,3 +186,13 @@ IsSomeAdd n add = (shape : Dimensions) × (known : Known) × (a : Actor) × (n �
 -- what it does behind the event that counts its units: it adds its amount, where that is not 0
 abbrev pub behind_count : ℤ → Stage
 behind_count amount = if int_eq amount (pos 0) then Noting else Summing
+
+-- ---- what it does next
+
+-- what a single word leads to: the counts, where they are in use; else a word with its units more, or none where no word packs them
+abbrev pub IsBehindSingle : Add → ℕ → Stage → Type 0
+IsBehindSingle add word LoadingCounts = is_off word ≡ true
+IsBehindSingle add word (Packing old new) =
+    (is_off word ≡ false) × (old ≡ word) × ((word ≡ 0) ⊎ (1 ≤ word % 2 ^ 32) → IsPacking add.bucket add.units word new)
+IsBehindSingle add word SeekingCounts = (is_off word ≡ false) × ((packed : ℕ) → IsPacking add.bucket add.units word packed → ⊥)
+IsBehindSingle add word _ = ⊥

@@ -10,7 +10,7 @@ use Rattle.segment_image.specs.Words.{word_at}
 use Rattle.segment_machine.specs.declared.actor.Actor.{Actor}
 use Rattle.segment_machine.specs.declared.actor.Known.{Known}
 use Rattle.segment_machine.specs.declared.entry.Counting.{Counting as MachineCounting}
-use Rattle.segment_machine.specs.Calls.{IsNext, change_next}
+use Rattle.segment_machine.specs.Calls.{IsNext, change_next, MayTurn}
 use Rattle.segment_machine.specs.Counting.{add_count}
 use Rattle.bucket_ranges.specs.Ranges.{boundaries_of}
 use Rattle.bucket_ranges.specs.declared.spec.Spec.{Spec}
@@ -33,12 +33,21 @@ counts_on shape known add stage counting = record {
   reference = counting.reference;
   within = counting.within;
   some = counting.some;
-  few = counting.few;
+  lawful = counting.lawful;
   amount = counting.amount;
   buckets = counting.buckets;
   fits = counting.fits;
   bucket = counting.bucket;
 }
+
+-- once its units are counted, its amount comes next, or its units
+pub behind_stands : (shape : Dimensions) (known : Known) (add : Add) (b : Actor) → MayTurn b → HasEntry known add b true false
+    → StandsAtStage shape known (record add { stage = behind_count add.amount }) b (behind_count add.amount)
+behind_stands shape known add b turns has = by (int_eq add.amount (pos 0)) refl
+  where
+    by : (none : Bool) → int_eq add.amount (pos 0) ≡ none → let stage = if none then Noting else Summing in StandsAtStage shape known (record add { stage = stage }) b stage
+    by true e = (turns, (false, has, e))
+    by false e = (turns, has, e)
 
 module _ (shape : Dimensions) (known : Known) (add : Add) (a : Actor) (is : IsAdd shape known add a) (counted summed : Bool) (has : HasEntry known add a counted summed) where
   -- its entry goes on
@@ -73,10 +82,6 @@ module _ (shape : Dimensions) (known : Known) (add : Add) (a : Actor) (words : L
 
     is_counted_then : HasEntry known add acted true false
     is_counted_then = changed_is shape known add a is false false stands.0 (λ c. record c { counted = true })
-
-    then_stands : (none : Bool) → int_eq add.amount (pos 0) ≡ none → let stage = if none then Noting else Summing in StandsAtStage shape known (record add { stage = stage }) acted stage
-    then_stands true e = (refl, (false, is_counted_then, e))
-    then_stands false e = (refl, is_counted_then, e)
 
     pub counts_so : (new_words : List ℕ) → new_words ≡ slice_set words at ((word_at words at + add.units) % 2 ^ 64)
         → Goes shape.size add.version a words new_words (AddGives shape known (record add { stage = behind_count add.amount }) More a)
@@ -125,7 +130,7 @@ module _ (shape : Dimensions) (known : Known) (add : Add) (a : Actor) (words : L
             alone = is.alone;
             rests = is.rests;
             held = is.held;
-            stands = then_stands (int_eq add.amount (pos 0)) refl;
+            stands = behind_stands shape known add acted refl is_counted_then;
           },
         ),
       );

@@ -1,4 +1,4 @@
-use Rattle.std.proofs.Common.{subst, sym}
+use Rattle.std.proofs.Common.{subst, sym, ◌∙◌, ◌+◌, ◌%◌, ◌^◌, ℕ, ap}
 use Rattle.hist_core.specs.declared.add.Add.{Add}
 use Rattle.hist_core.specs.declared.add.AddStep.TheVariants.{More}
 use Rattle.hist_core.specs.Goes.{Goes}
@@ -7,6 +7,8 @@ use Rattle.std.proofs.Props.{props}
 use Rattle.std.proofs.Math.Logic.{∥∥₁_elim}
 use Rattle.hist_core.proofs.Adds.Counts.{count_inside, counts_so}
 use Rattle.hist_core.proofs.add.Add.count.Goals as goal
+use Rattle.std.specs.Prelude.{slice_set}
+use Rattle.segment_image.specs.Words.{word_at}
 
 pub fetch_add-requires : goal.fetch_add-requires
 fetch_add-requires c =
@@ -16,4 +18,5 @@ fetch_add-requires c =
 pub returns : goal.returns
 returns c = λ shape known a long is.
     subst (λ (n : Add). Goes shape.size c.args.self.now.version a c.args.words.now c.fetch_add.new.words (AddGives shape known n More a)) (sym c.counted.ensures)
-    (counts_so shape known c.args.self.now a c.args.words.now is c.args.at c.requires.counts c.fetch_add.new.words c.fetch_add.ensures)
+    (counts_so shape known c.args.self.now a c.args.words.now is c.args.at c.requires.counts c.fetch_add.new.words
+    (c.fetch_add.ensures ∙ ap (λ (n : ℕ). slice_set c.args.words.now c.args.at ((word_at c.args.words.now c.args.at + n) % 2 ^ 64)) c.from.ensures))

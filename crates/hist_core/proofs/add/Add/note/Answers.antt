@@ -1,7 +1,9 @@
-use Rattle.std.proofs.Common.{arith}
+use Rattle.std.proofs.Common.{arith, ◌∙◌, ◌+◌, ◌%◌, ◌^◌, ℕ, ap}
 use Rattle.hist_core.proofs.Adds.Counts.{some_inside}
 use Rattle.hist_core.proofs.Adds.Redundants.{notes_so}
 use Rattle.hist_core.proofs.add.Add.note.Goals as goal
+use Rattle.std.specs.Prelude.{slice_set}
+use Rattle.segment_image.specs.Words.{word_at}
 
 pub overflow_add-at : goal.overflow_add-at
 overflow_add-at c = let inside = some_inside c.args.self.now c.args.words.now c.requires.stands in omega (arith, inside.0, inside.1)
@@ -11,4 +13,5 @@ fetch_add-requires c = let inside = some_inside c.args.self.now c.args.words.now
 
 pub returns : goal.returns
 returns c = λ shape known a long is.
-    notes_so shape known c.args.self.now a c.args.words.now is c.requires.notes c.fetch_add.new.words c.fetch_add.ensures
+    notes_so shape known c.args.self.now a c.args.words.now is c.requires.notes c.fetch_add.new.words
+    (c.fetch_add.ensures ∙ ap (λ (n : ℕ). slice_set c.args.words.now (c.args.self.now.histogram + 13) ((word_at c.args.words.now (c.args.self.now.histogram + 13) + n) % 2 ^ 64)) c.from.ensures)

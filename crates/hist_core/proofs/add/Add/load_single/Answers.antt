@@ -1,0 +1,23 @@
+use Rattle.std.proofs.Common.{subst, arith}
+use Rattle.hist_core.specs.Add.{StandsAtStage}
+use Rattle.hist_core.proofs.Adds.Counts.{some_inside}
+use Rattle.hist_core.proofs.Adds.Packs.{small_bucket, loads_single_so}
+use Rattle.hist_core.proofs.add.Add.load_single.Goals as goal
+
+pub overflow_add-word : goal.overflow_add-word
+overflow_add-word c = let inside = some_inside c.args.self.now c.args.words.now c.requires.stands in omega (arith, inside.0, inside.1)
+
+pub offset_bounds-words-self : goal.offset_bounds-words-self
+offset_bounds-words-self c = let inside = some_inside c.args.self.now c.args.words.now c.requires.stands in omega (arith, inside.0, inside.1)
+
+pub bounds-words-self : goal.bounds-words-self
+bounds-words-self c = let inside = some_inside c.args.self.now c.args.words.now c.requires.stands in omega (arith, inside.0)
+
+pub behind_single-self-requires : goal.behind_single-self-requires
+behind_single-self-requires c =
+    let small = small_bucket c.args.self.now _ (λ shape known a is. (subst (StandsAtStage shape known c.args.self.now a) c.requires.loads is.stands).0) c.requires.stands in
+    omega (arith, small)
+
+pub returns : goal.returns
+returns c = λ shape known a long is.
+    loads_single_so shape known c.args.self.now a c.args.words.now is c.requires.loads _ c.behind_single-self.ensures

@@ -26,3 +26,5 @@ mod Seeing
 mod OneBucket
 mod Finished
 mod AllBuckets
+mod Showing
+mod Naming

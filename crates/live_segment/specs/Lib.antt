@@ -13,6 +13,7 @@ pub mod Working
 pub mod Listing
 pub mod Publishing
 pub mod Taking
+pub mod Finding
 pub mod Cursors
 pub mod Looking
 pub mod Records

@@ -7,6 +7,8 @@
 #![tactic(auto)]
 
 mod allocation;
+mod asked;
+mod comparing;
 mod counting;
 mod deltas;
 mod fault;

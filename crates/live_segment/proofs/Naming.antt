@@ -162,8 +162,14 @@ module _ (shape : Dimensions) (asked : Asked) (is : IsAsked shape asked) where
         → SawOtherSpec seen asked.spec asked.letters at
     other_field words all (i, word, below, saw, other) =
         let few : i < 3 = let same = ap length all in let most = length-take 3 (spec_fields asked.spec) in omega (arith, below, same, most) in
-        inl (i, word, omega (arith, few), saw, λ same. other (ap (λ (n : ℕ). bytes_of_words (n ∷ []))
-        (same ∙ sym (ap (λ (l : List ℕ). slice_index l i) all ∙ get_or-take 3 (spec_fields asked.spec) i 0 few))))
+        inl (
+          i,
+          word,
+          omega (arith, few),
+          saw,
+          λ same. other (ap (λ (n : ℕ). bytes_of_words (n ∷ []))
+              (same ∙ sym (ap (λ (l : List ℕ). slice_index l i) all ∙ get_or-take 3 (spec_fields asked.spec) i 0 few))),
+        )
 
     -- so does the fourth
     pub other_buckets : (word : ℕ) → word_seen seen.words (at + 7) ≡ Some word → word ≢ slice_index (spec_fields asked.spec) 3
@@ -196,8 +202,13 @@ module _ (shape : Dimensions) (asked : Asked) (is : IsAsked shape asked) where
     shown_ranges false words ranges all fields buckets are (i, word, below, saw, other) =
         let here : at + 15 + asked.letters + i ≡ at + (15 + asked.letters) + i = omega arith in
         let same = ap length are in
-        inr (i, word, omega (arith, below, same), ap (word_seen seen.words) here ∙ saw,
-        λ equal. other (ap (λ (n : ℕ). bytes_of_words (n ∷ [])) (equal ∙ sym (ap (λ (l : List ℕ). slice_index l i) are))))
+        inr (
+          i,
+          word,
+          omega (arith, below, same),
+          ap (word_seen seen.words) here ∙ saw,
+          λ equal. other (ap (λ (n : ℕ). bytes_of_words (n ∷ [])) (equal ∙ sym (ap (λ (l : List ℕ). slice_index l i) are))),
+        )
 
 -- ---- the name is as it is to be, and the first fields
 

@@ -16,6 +16,7 @@ use segment_image::layout::{
 
 // Where these stand in the payload of a histogram's record.
 const NAME: usize = HISTOGRAM_NAME - BLOCK_HEADER;
+
 const BUCKETS: usize = HISTOGRAM_BUCKETS - BLOCK_HEADER;
 
 impl Segment {

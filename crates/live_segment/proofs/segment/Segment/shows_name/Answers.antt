@@ -1,7 +1,6 @@
-use Rattle.std.proofs.Common.{◌≡◌, ℕ, ◌+◌, ◌≤◌, ap, sym, subst, ◌∙◌, inl, inr, refl, arith, length}
+use Rattle.std.proofs.Common.{ap, sym, ◌∙◌, inl, inr, refl}
 use Rattle.std.specs.Prelude.{Some}
-use Rattle.segment_machine.specs.declared.actor.Actor.{Actor}
-use Rattle.live_segment.proofs.Showing.{still, same_on, sees_on, sees_not, sees_one, seen_one, may_load_fixed}
+use Rattle.live_segment.proofs.Showing.{sees_one, seen_one, may_load_fixed}
 use Rattle.live_segment.proofs.Naming.{letters_are, name_fixed, words_room, shown_name}
 use Rattle.live_segment.proofs.segment.Segment.shows_name.Goals as goal
 
@@ -18,8 +17,11 @@ load_published-requires-2-clause-may c =
 
 pub returns-then-load_published-len-clause-shown : goal.returns-then-load_published-len-clause-shown
 returns-then-load_published-len-clause-shown c =
-    inr (inl (c.load_published-2.result, seen_one _ _ c.args.at 14 c.load_published-2.result c.load_published-2.ensures,
-    λ same. c.if-load_published-len.true (same ∙ sym (c.len.ensures ∙ c.args.asked.now.name.ok.0))))
+    inr (inl (
+      c.load_published-2.result,
+      seen_one _ _ c.args.at 14 c.load_published-2.result c.load_published-2.ensures,
+      λ same. c.if-load_published-len.true (same ∙ sym (c.len.ensures ∙ c.args.asked.now.name.ok.0)),
+    ))
 
 pub shows-requires-clause-fixed : goal.shows-requires-clause-fixed
 shows-requires-clause-fixed c =

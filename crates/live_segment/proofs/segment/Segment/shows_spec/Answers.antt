@@ -1,4 +1,4 @@
-use Rattle.std.proofs.Common.{◌≡◌, Bool, true, false, take, sym, subst, ap, ◌∙◌, refl, arith}
+use Rattle.std.proofs.Common.{Bool, take, sym, subst, ◌∙◌}
 use Rattle.live_segment.specs.Finding.{ShowsWords}
 use Rattle.live_segment.proofs.Showing.{sees_on, sees_one, seen_one, may_load_fixed}
 use Rattle.live_segment.proofs.Naming.{fields_are, other_field, other_buckets, buckets_are, ranges_are, buckets_fixed, ranges_fixed, ranges_room, shown_spec}

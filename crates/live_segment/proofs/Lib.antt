@@ -26,5 +26,7 @@ mod Seeing
 mod OneBucket
 mod Finished
 mod AllBuckets
+mod OwnNames
+mod Searching
 mod Showing
 mod Naming

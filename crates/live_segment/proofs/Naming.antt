@@ -18,7 +18,7 @@ use Rattle.segment_machine.specs.Made.{SawOtherSpec}
 use Rattle.segment_image.specs.Words.{bytes_of_words}
 use Rattle.segment_machine.specs.Walking.{IsFixed}
 use Rattle.segment_invariant.proofs.Walking.Words.{letters_long}
-use Rattle.live_segment.specs.declared.asked.Asked.{Asked}
+use Rattle.hist_core.specs.declared.asked.Asked.{Asked}
 use Rattle.segment_machine.specs.Event.{walking_event}
 use Rattle.segment_machine.specs.Walking.{load_published}
 use Rattle.live_segment.specs.declared.segment.Segment.{Segment}
@@ -37,40 +37,40 @@ behind_fields (Custom values) n rest = refl
 behind_fields Sparse n rest = refl
 
 module _ (shape : Dimensions) (asked : Asked) (is : IsAsked shape asked) where
-  letters_and_ranges : drop 11 asked.payload.items ≡ is.letters ++ spec_ranges asked.spec
-  letters_and_ranges = ap (drop 11) is.payload ∙ behind_fields asked.spec (length asked.name.items) (is.letters ++ spec_ranges asked.spec)
+  letters_and_ranges : drop 11 asked.payload.items ≡ is.payload.letters ++ spec_ranges asked.spec
+  letters_and_ranges = ap (drop 11) is.payload.words ∙ behind_fields asked.spec (length asked.name.items) (is.payload.letters ++ spec_ranges asked.spec)
 
   -- the words of the name
-  pub letters_are : (words : List ℕ) → words ≡ asked.payload.items → take (11 + asked.letters - 11) (drop 11 words) ≡ is.letters
+  pub letters_are : (words : List ℕ) → words ≡ asked.payload.items → take (11 + asked.letters - 11) (drop 11 words) ≡ is.payload.letters
   letters_are words all =
-      let many : 11 + asked.letters - 11 ≡ length is.letters = let count = is.count in omega (arith, count) in
+      let many : 11 + asked.letters - 11 ≡ length is.payload.letters = let count = is.payload.count_is in omega (arith, count) in
       ap (λ (l : List ℕ). take (11 + asked.letters - 11) (drop 11 l)) all
       ∙ (ap (take (11 + asked.letters - 11)) letters_and_ranges
-      ∙ (ap (λ (n : ℕ). take n (is.letters ++ spec_ranges asked.spec)) many ∙ take-append_seam is.letters (spec_ranges asked.spec)))
+      ∙ (ap (λ (n : ℕ). take n (is.payload.letters ++ spec_ranges asked.spec)) many ∙ take-append_seam is.payload.letters (spec_ranges asked.spec)))
 
   -- ---- a name
 
   module _ (a : Actor) (at : ℕ) (tag : word_seen a.seen.words (at + 2) ≡ Some 1)
       (len : word_seen a.seen.words (at + 14) ≡ Some (length asked.name.items)) where
-    long : name_words (length asked.name.items) ≡ length is.letters
-    long = letters_long asked.name.items is.letters is.spells
+    long : name_words (length asked.name.items) ≡ length is.payload.letters
+    long = letters_long asked.name.items is.payload.letters is.payload.spells
 
     -- its words never change
-    pub letters_fixed : (words : List ℕ) → words ≡ is.letters → (i : ℕ) → i < length words → IsFixed a at (15 + i)
+    pub letters_fixed : (words : List ℕ) → words ≡ is.payload.letters → (i : ℕ) → i < length words → IsFixed a at (15 + i)
     letters_fixed words all i below =
         let same = ap length all in let many = long in
         inr (inl (tag, inr (inr (length asked.name.items, len, omega arith, inl (omega (arith, below, same, many))))))
 
     pub letters_room : (n size : ℕ) → at + 15 + name_words (length asked.name.items) ≤ n → n ≡ size → at + 15 + asked.letters ≤ size
-    letters_room n size within is_size = let many = long in let count = is.count in omega (arith, within, is_size, many, count)
+    letters_room n size within is_size = let many = long in let count = is.payload.count_is in omega (arith, within, is_size, many, count)
 
-    pub named : (b : Bool) (words : List ℕ) → words ≡ is.letters → at + 15 + asked.letters ≤ a.segment.shape.size → ShowsWords at 15 words b a.seen
+    pub named : (b : Bool) (words : List ℕ) → words ≡ is.payload.letters → at + 15 + asked.letters ≤ a.segment.shape.size → ShowsWords at 15 words b a.seen
         → ShowsName asked at b a
     named b words all room shown = by b (subst (λ (l : List ℕ). ShowsWords at 15 l b a.seen) all shown)
       where
-        by : (b : Bool) → ShowsWords at 15 is.letters b a.seen → ShowsName asked at b a
-        by true shown = ((tag, len, is.letters, is.spells, shown), room)
-        by false (i, word, below, seen, other) = inr (inr (is.letters, i, word, is.spells, below, seen, other))
+        by : (b : Bool) → ShowsWords at 15 is.payload.letters b a.seen → ShowsName asked at b a
+        by true shown = ((tag, len, is.payload.letters, is.payload.spells, shown), room)
+        by false (i, word, below, seen, other) = inr (inr (is.payload.letters, i, word, is.payload.spells, below, seen, other))
 
 -- ---- type and length of the name are as they are to be
 
@@ -84,7 +84,7 @@ module _ (segment : Segment) (first mid last : Pass) (asked : Asked) (at tag len
   saw_len : word_seen last.me.0.seen.words (at + 14) ≡ Some (length asked.name.items)
   saw_len = seen_one mid last at 14 len load_len ∙ ap Some counted
 
-  pub name_fixed : (words : List ℕ) → words ≡ is.letters → (i : ℕ) → i < length words → IsFixed last.me.0 at (15 + i)
+  pub name_fixed : (words : List ℕ) → words ≡ is.payload.letters → (i : ℕ) → i < length words → IsFixed last.me.0 at (15 + i)
   name_fixed = letters_fixed segment.setting.shape asked is last.me.0 at saw_tag saw_len
 
   name_room : at + 15 + asked.letters ≤ segment.setting.shape.size
@@ -93,11 +93,11 @@ module _ (segment : Segment) (first mid last : Pass) (asked : Asked) (at tag len
       (subst (λ (n : ℕ). at + 15 + name_words n ≤ mid.me.0.segment.shape.size) counted (load_len.learned.0.2 refl))
       (ap (λ (a : Actor). a.segment.shape.size) load_tag.view ∙ ap (λ (d : Dimensions). d.size) of.shape)
 
-  pub words_room : (words : List ℕ) → words ≡ is.letters → at + 15 + length words ≤ segment.setting.shape.size
-  words_room words all = let room = name_room in let same = ap length all in let count = is.count in omega (arith, room, same, count)
+  pub words_room : (words : List ℕ) → words ≡ is.payload.letters → at + 15 + length words ≤ segment.setting.shape.size
+  words_room words all = let room = name_room in let same = ap length all in let count = is.payload.count_is in omega (arith, room, same, count)
 
   module _ (new : Pass) (sees : SeesWords last.me.0 new.me.0) where
-    pub shown_name : (b : Bool) (words : List ℕ) → words ≡ is.letters → ShowsWords at 15 words b new.me.0.seen → ShowsName asked at b new.me.0
+    pub shown_name : (b : Bool) (words : List ℕ) → words ≡ is.payload.letters → ShowsWords at 15 words b new.me.0.seen → ShowsName asked at b new.me.0
     shown_name b words all shown =
         named segment.setting.shape asked is new.me.0 at
         (still last.me.0.seen.words new.me.0.seen.words sees.words (at + 2) 1 saw_tag)
@@ -138,13 +138,13 @@ ranges_if_custom Sparse = inl refl
 
 module _ (shape : Dimensions) (asked : Asked) (is : IsAsked shape asked) where
   pub fields_are : (words : List ℕ) → words ≡ asked.payload.items → take 3 words ≡ take 3 (spec_fields asked.spec)
-  fields_are words all = ap (take 3) (all ∙ is.payload) ∙ front_fields asked.spec _
+  fields_are words all = ap (take 3) (all ∙ is.payload.words) ∙ front_fields asked.spec _
 
   long_payload : 3 < length asked.payload.items
-  long_payload = let whole = ap length is.payload ∙ length-append (spec_fields asked.spec) _ in omega (arith, whole)
+  long_payload = let whole = ap length is.payload.words ∙ length-append (spec_fields asked.spec) _ in omega (arith, whole)
 
   pub buckets_are : (x : ℕ) → x ≡ get_or asked.payload.items 3 x → x ≡ slice_index (spec_fields asked.spec) 3
-  buckets_are x there = there ∙ (get_or_default asked.payload.items 3 x 0 long_payload ∙ (ap (λ (l : List ℕ). slice_index l 3) is.payload ∙ last_field asked.spec _))
+  buckets_are x there = there ∙ (get_or_default asked.payload.items 3 x 0 long_payload ∙ (ap (λ (l : List ℕ). slice_index l 3) is.payload.words ∙ last_field asked.spec _))
 
   pub ranges_are : (words : List ℕ) → words ≡ asked.payload.items
       → take (length words - (11 + asked.letters)) (drop (11 + asked.letters) words) ≡ spec_ranges asked.spec
@@ -154,7 +154,7 @@ module _ (shape : Dimensions) (asked : Asked) (is : IsAsked shape asked) where
       ∙ ap (drop (11 + asked.letters)) all
       ∙ (sym (drop-drop asked.letters 11 asked.payload.items)
       ∙ (ap (drop asked.letters) (letters_and_ranges shape asked is)
-      ∙ (ap (λ (n : ℕ). drop n (is.letters ++ spec_ranges asked.spec)) is.count ∙ drop-append_seam is.letters (spec_ranges asked.spec))))
+      ∙ (ap (λ (n : ℕ). drop n (is.payload.letters ++ spec_ranges asked.spec)) is.payload.count_is ∙ drop-append_seam is.payload.letters (spec_ranges asked.spec))))
 
   module _ (at : ℕ) (seen : Seen) where
     -- the first three fields tell
@@ -235,7 +235,7 @@ module _ (segment : Segment) (first mid : Pass) (asked : Asked) (at : ℕ) (is :
         ∙ (fields 0 some_there ∙ ap Some (ap (λ (l : List ℕ). slice_index l 0) all ∙ get_or-take 3 (spec_fields asked.spec) 0 0 (omega arith)))
 
     long_name : name_words (length asked.name.items) ≡ asked.letters
-    long_name = letters_long asked.name.items is.letters is.spells ∙ sym is.count
+    long_name = letters_long asked.name.items is.payload.letters is.payload.spells ∙ sym is.payload.count_is
 
     size_is : mid.me.0.segment.shape.size ≡ segment.setting.shape.size
     size_is = ap (λ (a : Actor). a.segment.shape.size) sees.view ∙ ap (λ (d : Dimensions). d.size) of.shape

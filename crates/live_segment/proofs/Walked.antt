@@ -5,6 +5,7 @@ use Rattle.std.specs.List.{All, Contains}
 use Rattle.std.proofs.Math.ListN.{get_or}
 use Rattle.std.proofs.lemmas.List.{append-nil, get_or_append_left, get_or_push, length_push}
 use Rattle.std.proofs.lemmas.List.Elements.{All-push}
+use mathlib.Core.Option.{some}
 use lib.ListN.{get_elem?}
 use Rattle.atomic_table.specs.Table.{Allows}
 use Rattle.segment_image.specs.Shape.{Dimensions}
@@ -22,12 +23,13 @@ use Rattle.segment_machine.specs.Walking.{load_next, extended, records_met}
 use Rattle.segment_machine.proofs.Stages.Walks.{walks_agree}
 use Rattle.live_segment.specs.declared.rule.Setting.{Setting}
 use Rattle.live_segment.specs.declared.segment.Segment.{Segment}
-use Rattle.live_segment.specs.Rule.{Runs, IsOf}
+use Rattle.live_segment.specs.Rule.{Runs, IsOf, opened_of}
 use Rattle.live_segment.specs.Steps.{Pass, Sat, IsSame, Stepped}
 use Rattle.live_segment.specs.Holders.{table_of, MayStep}
 use Rattle.live_segment.specs.Onward.{Grows}
 use Rattle.live_segment.specs.Records.{StandOnce, LoadsNext, HasWalked}
 use Rattle.live_segment.proofs.Allowed.{does_at}
+use Rattle.live_segment.proofs.OwnNames.{knows_own_names}
 use Rattle.live_segment.proofs.Sharing.{extended_end, extended_grows, grows_on, reference_behind}
 
 -- ---- its step
@@ -48,8 +50,18 @@ module _ (setting : Setting) (slots id : ℕ) (me : Sat) (word : ℕ) (records :
       let (view, act, valid, holds, told) =
       does_at setting slots id me word records (λ (x : ℕ). walking_event (load_next x)) at (omega (arith, is)) (λ y e. omega (arith, is, e)) ready s run wide mine small in
       let live : me.0.hand.place ≢ Spent = λ e. true≢false (sym (ap is_bound e) ∙ ready.0) in
-      let fits = run.kept.each id me.0 (ap (λ list. get_elem? list id) (sym run.views) ∙ mine) live in
-      (view, act, valid, holds, (told, once_in run.segment.words me.0.seen.chain _ fits.sees.walked run.kept.list.linked))
+      let there : get_elem? run.segment.actors id ≡ some me.0 = ap (λ list. get_elem? list id) (sym run.views) ∙ mine in
+      let fits = run.kept.each id me.0 there live in (
+        view,
+        act,
+        valid,
+        holds,
+        (
+          told,
+          once_in run.segment.words me.0.seen.chain _ fits.sees.walked run.kept.list.linked,
+          knows_own_names setting.shape (opened_of setting) run.segment run.kept id me.0 there live,
+        ),
+      )
 
 -- ---- between two steps
 
@@ -82,7 +94,7 @@ stands_within size [] wide all = omega arith
 stands_within size (x ∷ xs) wide all = (all (length xs) 0 (omega arith)).1
 
 -- a walk that finds the end has given all that was seen
-all_given : (given rest chain : List ℕ) (found : ℕ) → chain ≡ given ++ rest → StandOnce chain
+pub all_given : (given rest chain : List ℕ) (found : ℕ) → chain ≡ given ++ rest → StandOnce chain
     → (length given < length chain → found ≡ slice_index chain (length given)) → found ≡ 12 → given ≡ chain
 all_given given [] chain found is once again end = sym (is ∙ append-nil given)
 all_given given (r ∷ rs) chain found is once again end =

@@ -14,6 +14,7 @@ pub mod Listing
 pub mod Publishing
 pub mod Taking
 pub mod Finding
+pub mod Searching
 pub mod Cursors
 pub mod Looking
 pub mod Records

@@ -3,7 +3,10 @@ use Rattle.std.specs.Prelude.{◌≡◌, ◌≢◌, false, ℕ, ◌+◌, ◌<◌
 use Rattle.std.specs.List.{All, Contains}
 use Rattle.segment_image.specs.declared.layout.TheConstants.{BLOCK_LEAST, HEADER_WORDS}
 use Rattle.list_core.specs.Chain.{stops}
+use Rattle.bucket_ranges.specs.declared.spec.Spec.{Spec}
 use Rattle.segment_machine.specs.declared.actor.Actor.{Actor}
+use Rattle.segment_machine.specs.declared.actor.Made.TheVariants.{Histogram}
+use Rattle.segment_machine.specs.Made.{SawOtherName}
 use Rattle.segment_machine.specs.Actor.{is_bound}
 use Rattle.segment_machine.specs.Event.{walking_event}
 use Rattle.segment_machine.specs.Walking.{load_next, records_met}
@@ -14,9 +17,15 @@ use Rattle.live_segment.specs.Steps.{DoesAt, Sat}
 abbrev pub StandOnce : List ℕ → Type 0
 StandOnce chain = (i j : ℕ) → i < j → j ≤ length chain → slice_index (stops chain) i ≢ slice_index (stops chain) j
 
--- a next is loaded, by a recorder that has met no block twice
+-- no record that it published for a name did it see to have another one
+abbrev pub KnowsOwnNames : Actor → Type 0
+KnowsOwnNames a = (name : List ℕ) (spec : Spec) (at : ℕ) → Contains a.done.published (record { reference = at; made = Histogram name spec })
+    → SawOtherName a.seen name at → ⊥
+
+-- a next is loaded, by a recorder that has met no block twice, and no record of its own under another name
 abbrev pub LoadsNext : ℕ → Sat → ℕ → Sat → Type 0
-LoadsNext word me found me' = DoesAt (λ at. walking_event (load_next at)) word me found me' × StandOnce me.0.seen.chain
+LoadsNext word me found me' =
+    DoesAt (λ at. walking_event (load_next at)) word me found me' × StandOnce me.0.seen.chain × KnowsOwnNames me.0
 
 -- The records of the list are these, in its order, each once and within the segment: first those that the recorder had seen there, and
 -- among them all that it had met elsewhere. It has seen them now, a cursor that it had loaded may be let go, and all else is as it was.

@@ -6,9 +6,9 @@ ghost use Rattle.segment_machine.specs.Walking.{IsFixed};
 ghost use Rattle.live_segment.specs.Rule.{IsOf};
 ghost use Rattle.live_segment.specs.Finding.{IsAsked, Meets, SeesWords, ShowsWords, ShowsName, ShowsSpec};
 
-use crate::asked::Asked;
 use crate::rule::Pass;
 use crate::segment::Segment;
+use hist_core::Asked;
 use segment_image::layout::{
     BLOCK_HEADER, BLOCK_TYPE, HISTOGRAM_BUCKETS, HISTOGRAM_KIND, HISTOGRAM_NAME,
     HISTOGRAM_NAME_LENGTH, TYPE_HISTOGRAM,

@@ -7,12 +7,12 @@
 #![tactic(auto)]
 
 mod allocation;
-mod asked;
 mod comparing;
 mod counting;
 mod deltas;
 mod fault;
 mod finishing;
+mod finding;
 mod looking;
 mod mounting;
 mod opener;

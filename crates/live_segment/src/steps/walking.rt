@@ -27,7 +27,7 @@ impl Play<Announcement, Actor> for LoadPublished {
 
 impl Segment {
     ghost use Rattle.live_segment.specs.Holders.{MayStep};
-    ghost use Rattle.live_segment.specs.Records.{StandOnce};
+    ghost use Rattle.live_segment.specs.Records.{StandOnce, KnowsOwnNames};
     ghost use Rattle.live_segment.specs.Steps.{Stepped};
 
     pub(crate) fn load_next(&self, seat: &mut Pass, at: u64) -> u64
@@ -35,6 +35,7 @@ impl Segment {
         requires room { at + 5 ≤ self.now.setting.shape.size }
         ensures step { Stepped seat.old (walking_event (load_next at)) result seat.new }
         ensures once { StandOnce seat.old.me.0.seen.chain }
+        ensures own { KnowsOwnNames seat.old.me.0 }
     {
         self.table
             .shared

@@ -18,3 +18,6 @@ returns-clause-step c = let told = c.load.ensures.2.0 c.args.at (omega arith) in
 
 pub returns-clause-once : goal.returns-clause-once
 returns-clause-once c = c.load.ensures.2.1
+
+pub returns-clause-own : goal.returns-clause-own
+returns-clause-own c = c.load.ensures.2.2

@@ -1,0 +1,53 @@
+//! How a recorder looks for the first record of a name along the list.
+
+ghost use Rattle.std.specs.Prelude.{◌≡◌, false};
+ghost use Rattle.segment_machine.specs.Actor.{is_opener};
+ghost use Rattle.live_segment.specs.Rule.{IsOf};
+ghost use Rattle.live_segment.specs.Finding.{IsAsked};
+ghost use Rattle.live_segment.specs.Searching.{WalksAt, HasSearched, Searches};
+
+use crate::rule::Pass;
+use crate::segment::Segment;
+use hist_core::Asked;
+use segment_image::layout::QUEUE;
+
+// How a search ended.
+pub(crate) enum Search {
+    // At the first record of the name, which has the spec too.
+    Met(u64),
+    // At the first record of the name, which has another spec.
+    OtherSpec,
+    // At the end of the list, behind this block: no record has the name.
+    End(u64),
+}
+
+impl Segment {
+    ghost use Rattle.live_segment.specs.Holders.{table_of};
+    ghost use Rattle.live_segment.specs.Steps.{IsSame};
+
+    // Walks along the list, on from where a walk stands, up to the first record of the name that is asked for.
+    pub(crate) fn find(&self, seat: &mut Pass, from: u64, asked: &Asked) -> Search
+        requires seat { (seat.old.table_id ≡ table_of self.now) × (is_opener seat.old.me.0.role ≡ false) × IsOf self.now.setting seat.old.me.0 }
+        requires asked { IsAsked self.now.setting.shape asked.now }
+        requires walks { WalksAt asked.now.name.items from seat.old.me.0 }
+        ensures same { IsSame seat.old seat.new }
+        ensures view { HasSearched seat.old.me.0 seat.new.me.0 }
+        ensures outcome { Searches asked.now result seat.new.me.0 }
+    {
+        let mut at = from;
+        loop {
+            let next = self.load_next(seat, at);
+            if next == QUEUE {
+                return Search::End(at);
+            }
+            if self.shows_name(seat, next, asked) {
+                return if self.shows_spec(seat, next, asked) {
+                    Search::Met(next)
+                } else {
+                    Search::OtherSpec
+                };
+            }
+            at = next;
+        }
+    }
+}

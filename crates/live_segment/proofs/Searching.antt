@@ -4,13 +4,12 @@ use Rattle.std.proofs.Common.{◌≡◌, ◌≢◌, ◌⊎◌, ⊎_elim, ℕ, su
 use Rattle.std.specs.Prelude.{if◌then◌else◌, nat_lt}
 use Rattle.std.specs.List.{All, Contains, filter}
 use Rattle.std.proofs.Math.ListN.{get_or}
-use Rattle.std.proofs.lemmas.List.{append-nil, append_assoc, get_or-append-add, get_or_push, get_or_append_left, length_push}
+use Rattle.std.proofs.lemmas.List.{append-nil, append_assoc, get_or_push, get_or_append_left, length_push}
 use Rattle.std.proofs.lemmas.List.Elements.{All-push, All-contains, Contains-append_left, Contains-append_right}
 use Rattle.std.proofs.lemmas.Bool.{lt-ltb, ltb-true, ltb-false}
 use mathlib.Core.Logic.{dite}
 use native.Mathlib.Decide.{ℕ_discrete}
 use Rattle.segment_image.specs.Shape.{Dimensions}
-use Rattle.bucket_ranges.specs.declared.spec.Spec.{Spec}
 use Rattle.list_core.specs.declared.walk.WalkStep.TheVariants.{Record, End, Stray}
 use Rattle.list_core.specs.Chain.{is_reference, stops}
 use Rattle.list_core.specs.Walk.{IsPrefix, given_after, said_of, stands_behind}
@@ -22,9 +21,8 @@ use Rattle.segment_machine.specs.declared.seen.Sighting.{Sighting}
 use Rattle.segment_machine.specs.declared.actor.Made.TheVariants as made
 use Rattle.segment_machine.specs.declared.seen.Seen.{Seen}
 use Rattle.segment_machine.specs.Actor.{is_bound, is_opener}
-use Rattle.segment_machine.specs.Event.{walking_event, next, Ready}
+use Rattle.segment_machine.specs.Event.{walking_event, Ready}
 use Rattle.segment_machine.specs.Made.{IsFirstNamed, SawName, SawOtherName, SawSpec, SawOtherSpec}
-use Rattle.segment_machine.specs.Note.{MayNote, knows}
 use Rattle.segment_machine.specs.Stages.{Walks}
 use Rattle.segment_machine.specs.Walking.{load_next, extended, records_met}
 use Rattle.segment_machine.proofs.Stages.Walks.{walks_agree}
@@ -38,7 +36,7 @@ use Rattle.live_segment.specs.Holders.{table_of, MayStep}
 use Rattle.live_segment.specs.Onward.{Grows}
 use Rattle.live_segment.specs.Records.{StandOnce, KnowsOwnNames}
 use Rattle.live_segment.specs.Finding.{IsAsked, Meets, SeesWords, ShowsName, ShowsSpec}
-use Rattle.live_segment.specs.Searching.{WalksAt, HasSearched, Searches, SawOther, HasMadeNone, asked_at}
+use Rattle.live_segment.specs.Searching.{WalksAt, HasSearched, Searches, HasMadeNone}
 use Rattle.live_segment.proofs.Sharing.{extended_end, extended_grows, reference_behind}
 use Rattle.live_segment.proofs.Proceeding.{grows_on}
 use Rattle.live_segment.proofs.Showing.{still, sees_on}
@@ -246,9 +244,11 @@ module _ (segment : Segment) (old : Pass) (name : List ℕ) (at : ℕ) (table : 
 
       pub meets : Meets found new.me.0
       meets =
-          let (rest, front) = longer.1 in
-          (longer.0, subst (λ (l : List ℕ). Contains l found) (sym front)
-          (Contains-append_left (given ++ found ∷ []) rest found (Contains-append_right given (found ∷ []) found (0, omega arith, refl))))
+          let (rest, front) = longer.1 in (
+            longer.0,
+            subst (λ (l : List ℕ). Contains l found) (sym front)
+                (Contains-append_left (given ++ found ∷ []) rest found (Contains-append_right given (found ∷ []) found (0, omega arith, refl))),
+          )
 
       pub room_found : found + 5 ≤ segment.setting.shape.size
       room_found =

@@ -25,7 +25,7 @@ use Rattle.segment_promises.proofs.Steps.{happens}
 use Rattle.hist_core.specs.declared.runner.Runner.{Runner}
 use Rattle.hist_core.specs.declared.board.Board.{Board}
 use Rattle.hist_core.specs.Goes.{AreApart}
-use Rattle.hist_core.specs.Runner.{IsRun, Advances}
+use Rattle.hist_core.specs.Runner.{IsRun, IsSomeRun, Advances}
 use Rattle.hist_core.specs.Board.{AreRun, IsReachedAs, IsReached, IsConsistentAs, IsReadAs, StepsTo}
 use Rattle.hist_core.specs.World.{of_actor}
 
@@ -179,6 +179,16 @@ pub each_runs : (board : Board) (state : State) → IsReachedAs board state → 
     → (a : Actor) × IsRun board.shape board.version r a
 each_runs board state reach i r at =
     let found = recorder_at board.shape board.version board.runners.items reach.shows.recorders i r reach.shows.runs at in (found.0, found.2)
+
+-- it is an actor of a segment of so many words
+pub some_run : (board : Board) → ∥ IsReached board ∥₁ → (i : ℕ) (r : Runner) → get_elem? board.runners.items i ≡ some r → (n : ℕ) → n ≡ length board.words.items
+    → ∥ IsSomeRun n r ∥₁
+some_run board reached i r at n count = ∥∥₁_elim reached (hlevel props) (λ (state, reach).
+    let found = each_runs board state reach i r at in
+    let kept = states_are_kept board.shape board.version reach.id 0 state reach.reached in
+    let long : n ≡ board.shape.size = count ∙ (sym (ap length reach.shows.words) ∙ length_shown board.shape state.words (layout_of kept.anatomy) kept.shown) in
+    let from = reach.reached.0.wide in let to = reach.reached.0.one in
+    ∣ (board.shape, board.version, found.0, long, omega (arith, from, to, long), found.1) ∣₁)
 
 -- no more entries have begun than there are, and none of them has not begun that has ended
 pub within : (board : Board) → ∥ IsReached board ∥₁ → (i : ℕ) (r : Runner) → get_elem? board.runners.items i ≡ some r

@@ -1,4 +1,5 @@
 mod Adds
+mod Asking
 mod Boards
 mod Letters
 mod Looks

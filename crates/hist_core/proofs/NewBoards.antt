@@ -1,5 +1,6 @@
 -- A new world stands for a state of the machine: an opener that has made a recorder for each actor, one after the other.
-use Rattle.std.proofs.Common.{◌≡◌, ◌⊎◌, ℕ, zero, suc, ◌+◌, ◌<◌, ◌≤◌, List, [], ◌∷◌, ◌++◌, map, take, length, All, inl, inr, refl, sym, ap, ◌∙◌, subst, arith, length-append, zero-le}
+use Rattle.std.proofs.Common.{◌≡◌, ◌⊎◌, ℕ, zero, suc, ◌+◌, ◌<◌, ◌≤◌, List, [], ◌∷◌, ◌++◌, map, take, length, All, inl, inr, refl, sym, ap, ◌∙◌, subst, arith, length-append, zero-le, vec_len}
+use Rattle.std.specs.Prelude.{vec_capacity}
 use Rattle.std.proofs.Math.Numerals.{add-one}
 use Rattle.std.proofs.Math.Seq.{take-nil}
 use mathlib.Core.Option.{some, some-ne-none}
@@ -15,7 +16,7 @@ use Rattle.segment_machine.specs.Reached.{new_state, IsReached, IsState, started
 use Rattle.segment_invariant.proofs.Lists.Elements.{all_at, all_from}
 use Rattle.hist_core.specs.declared.runner.Runner.{Runner}
 use Rattle.hist_core.specs.declared.board.Board.{Board}
-use Rattle.hist_core.specs.Runner.{entry_of, IsFresh, StandsIn, IsRun}
+use Rattle.hist_core.specs.Runner.{entry_of, known_of, IsFresh, IsKnown, HaveOwnNames, StandsIn, HasRoom, IsRun}
 use Rattle.hist_core.specs.Board as board
 use Rattle.hist_core.specs.Board.{AreRun, IsNewBoard}
 
@@ -55,7 +56,11 @@ module _ (shape : Dimensions) (version id : ℕ) where
         ended = nothing runner.ended fresh.ended;
         begun = nothing runner.begun fresh.begun;
         untaken = (fresh.taken, refl);
-        stands = subst (λ running. StandsIn running (newcomer (opener n))) (sym fresh.rests) (refl, refl);
+        names = ap (map known_of) fresh.known;
+        lawful = subst (All (IsKnown shape)) (sym fresh.known) (λ k d inside. absurd (omega (arith, inside)));
+        once = subst HaveOwnNames (sym fresh.known) tt;
+        stands = subst (λ running. StandsIn shape runner.known.items running (newcomer (opener n))) (sym fresh.rests) (refl, refl);
+        room = subst (λ running. HasRoom running (vec_len runner.known) (vec_capacity runner.known)) (sym fresh.rests) tt;
       }
 
   -- so do all of them

@@ -7,4 +7,5 @@ pub mod Comparisons
 pub mod Differences
 pub mod Fills
 pub mod Publishes
+pub mod Sames
 pub mod Walks

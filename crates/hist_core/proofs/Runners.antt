@@ -18,7 +18,7 @@ pub sets_corrupt : (shape : Dimensions) (version : ℕ) (a : Actor) (old : Runne
     → IsRun shape version old a → old.running ≡ Some SetCorrupt → new_words ≡ atomic.after (atomic.set_flag 1) words
     → Advances shape version old words (record old { running = None }) new_words a
 sets_corrupt shape version a old words new_words long run is stored =
-    let stands = subst (λ running. StandsIn running a) is run.stands in
+    let stands = subst (λ running. StandsIn shape old.known.items running a) is run.stands in
     record {
       before = [];
       at = a;
@@ -38,14 +38,14 @@ sets_corrupt shape version a old words new_words long run is stored =
           ended = run.ended;
           begun = run.begun;
           untaken = run.untaken;
+          names = run.names;
+          lawful = run.lawful;
+          once = run.once;
           stands = (refl, stands.1);
+          room = tt;
         },
       );
     }
-
--- there is no other call yet
-pub is_set_corrupt : (running : Running) → running ≡ SetCorrupt
-is_set_corrupt SetCorrupt = refl
 
 -- who rests begins it, which is no event
 pub begins_set_corrupt : (shape : Dimensions) (version : ℕ) (r : Runner) (a : Actor) → r.running ≡ None → IsRun shape version r a
@@ -58,5 +58,9 @@ begins_set_corrupt shape version r a rests run = record {
   ended = run.ended;
   begun = run.begun;
   untaken = run.untaken;
-  stands = subst (λ running. StandsIn running a) rests run.stands;
+  names = run.names;
+  lawful = run.lawful;
+  once = run.once;
+  room = tt;
+  stands = subst (λ running. StandsIn shape r.known.items running a) rests run.stands;
 }

@@ -1,8 +1,10 @@
 -- A `hist` that is going on.
 use Rattle.std.specs.Prelude.{◌≡◌, ◌≢◌, ℕ, ◌+◌, ◌-◌, ◌*◌, ◌<◌, ◌≤◌, ◌==◌, nat_lt, true, List, [], ◌∷◌, ◌++◌, length, replicate, take, slice_index, is_some, ⊤, Some, None, if◌then◌else◌, vec_len}
 use Rattle.std.specs.List.{All}
-use Rattle.bucket_ranges.specs.Spec.{spec_fault, spec_fields, spec_ranges, buckets_of}
+use Rattle.bucket_ranges.specs.Ranges.{boundaries_of}
+use Rattle.bucket_ranges.specs.Spec.{spec_fault, buckets_of}
 use Rattle.bucket_ranges.specs.Reading.{is_name}
+use Rattle.bucket_ranges.specs.declared.spec.Spec.{Spec}
 use Rattle.segment_image.specs.declared.layout.TheConstants.{BLOCK_HEADER, BLOCK_LEAST, BLOCK_TYPE, HEADER_WORDS, HISTOGRAM_NAME, TYPE_HISTOGRAM}
 use Rattle.segment_image.specs.Shape.{Dimensions}
 use Rattle.alloc_core.specs.Layout.{IsShape}
@@ -28,6 +30,8 @@ use Rattle.segment_machine.specs.Made.{AreNameWords, IsFirstNamed, SawOtherName,
 use Rattle.segment_machine.specs.Note.{MayNote, knows}
 use Rattle.segment_machine.specs.Publishing.{own_at}
 use Rattle.segment_machine.specs.Stages.{Allocates, PublishesAt}
+use Rattle.hist_core.specs.Asked.{payload_words, IsAskedFor}
+use Rattle.hist_core.specs.declared.asked.Asked.{Asked}
 use Rattle.hist_core.specs.declared.hist.Hist.{Hist}
 use Rattle.hist_core.specs.declared.hist.Known.{Known}
 use Rattle.hist_core.specs.declared.hist.HistStep.{HistStep}
@@ -46,24 +50,20 @@ asked_of h = record { name = h.asked.name.items; spec = h.asked.spec; reference 
 abbrev pub made_of : Hist → Made
 made_of h = Histogram h.asked.name.items h.asked.spec
 
--- the words of the payload of a histogram's record
-abbrev pub payload_words : Known → List ℕ → List ℕ
-payload_words asked letters =
-    spec_fields asked.spec ++ 0 ∷ 0 ∷ 0 ∷ 0 ∷ 0 ∷ 0 ∷ length asked.name.items ∷ (letters ++ spec_ranges asked.spec)
-
--- Its name and its spec are lawful, its record and its counts fit in a page, and it has the words of its payload, of which the last is
--- not 0.
+-- Its name and its spec are lawful, its record and its counts fit in a page, and it has the ranges of its spec and the words of its
+-- payload, of which the last is not 0.
 pub record IsAsking (shape : Dimensions) (h : Hist) : Type 0 where
   pub shaped : h.shape ≡ shape
   pub name : is_name h.asked.name.items ≡ true
   pub lawful : spec_fault h.asked.spec ≡ None
+  pub ranges : h.asked.ranges ≡ boundaries_of h.asked.spec
   pub fits : BLOCK_HEADER + 2 * buckets_of h.asked.spec ≤ shape.page
   pub one_page : BLOCK_HEADER + length h.payload.items ≤ shape.page
   pub last : slice_index h.payload.items (length h.payload.items - 1) ≢ 0
   pub letters : List ℕ
   pub spells : AreNameWords h.asked.name.items letters
   pub count : h.letters ≡ length letters
-  pub payload : h.payload.items ≡ payload_words h.asked letters
+  pub payload : h.payload.items ≡ payload_words h.asked.name.items h.asked.spec letters
 
 -- ---- what it compares
 
@@ -172,11 +172,12 @@ IsCause shape h why.Full b = b.done.filled ≡ true
 IsCause shape h why.Corrupt b = ⊤
 IsCause shape h cause b = ⊥
 
--- What a step says: it goes on; the record that was compared last is the one that is asked for; or the call is refused, and its actor may
--- turn to another.
+-- What a step says: it goes on; the record that was compared last, which lies in the segment, is the one that is asked for; or the call is
+-- refused, and its actor may turn to another.
 abbrev pub HistGives : Dimensions → Hist → HistStep → Actor → Actor → Type 0
 HistGives shape new More a b = Beside a b × IsHist shape new b
-HistGives shape new Done a b = Beside a b × MayTurn b × MayNote b (knows (asked_of new))
+HistGives shape new Done a b =
+    Beside a b × MayTurn b × MayNote b (knows (asked_of new)) × IsAsking shape new × (new.reference + HISTOGRAM_NAME ≤ shape.size)
 HistGives shape new (Refused cause) a b = Beside a b × MayTurn b × IsCause shape new cause b
 
 -- what a step makes of the words, and of whatever actor stands so
@@ -222,3 +223,9 @@ IsPublished old put.Stray new result = (new ≡ old) × (result ≡ More)
 abbrev pub IsFilled : Hist → ℕ → ℕ → Hist → Type 0
 IsFilled old at from new = (next : ℕ) × IsNextFilled old.payload.items from next
     × (new ≡ record old { stage = if nat_lt next (length old.payload.items) then Filling at next else Publishing (publish.started at) })
+
+-- It begins: it walks from the start of the list for a record of what is asked, where an actor may turn to it.
+pub record IsBegun (shape : Dimensions) (asked : Asked) (new : Hist) : Type 0 where
+  pub named : new.asked.name ≡ asked.name
+  pub specified : new.asked.spec ≡ asked.spec
+  pub stands : (name : List ℕ) (spec : Spec) (a : Actor) → IsAskedFor shape name spec asked → IsShape shape → a.segment.shape ≡ shape → MayTurn a → IsHist shape new a

@@ -2,8 +2,8 @@ pub mod Refusal
 pub mod WorldFault
 pub mod Goes
 pub mod Asked
+pub mod Hist
 pub mod Runner
 pub mod Add
 pub mod Board
 pub mod World
-pub mod Hist

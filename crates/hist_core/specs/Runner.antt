@@ -1,18 +1,30 @@
 -- An actor of a world at run time, and the actor of the machine that it stands for.
-use Rattle.std.specs.Prelude.{◌≡◌, ◌≤◌, ℕ, false, List, [], ◌++◌, map, take, length, Option, Some, None, bit_or, ⊤}
+use Rattle.std.specs.Prelude.{◌≡◌, ◌≢◌, ◌≤◌, ◌<◌, ℕ, ◌+◌, ◌*◌, true, false, List, [], ◌∷◌, ◌++◌, map, take, length, Option, Some, None, bit_or, ⊤, vec_len, vec_capacity}
+use Rattle.std.specs.List.{All}
+use mathlib.Core.Option.{some}
+use lib.ListN.{get_elem?}
+use Rattle.bucket_ranges.specs.Ranges.{boundaries_of}
+use Rattle.bucket_ranges.specs.Reading.{is_name}
+use Rattle.bucket_ranges.specs.Spec.{spec_fault, buckets_of}
 use Rattle.segment_image.specs.Words.{word_at}
 use Rattle.segment_image.specs.Shape.{Dimensions}
-use Rattle.segment_image.specs.declared.layout.TheConstants.{FLAG_CORRUPT, FLAGS_WORD}
+use Rattle.segment_image.specs.declared.layout.TheConstants.{BLOCK_HEADER, FLAG_CORRUPT, FLAGS_WORD, HEADER_WORDS, HISTOGRAM_NAME}
 use Rattle.segment_machine.specs.declared.entry.Entry.{Entry as MachineEntry}
 use Rattle.segment_machine.specs.declared.actor.Actor.{Actor}
 use Rattle.segment_machine.specs.Actor.{is_opener, is_bound}
+use Rattle.segment_machine.specs.declared.actor.Known.{Known as MachineKnown}
 use Rattle.hist_core.specs.Goes.{Goes}
+use Rattle.hist_core.specs.Hist.{IsHist}
+use Rattle.hist_core.specs.declared.hist.Hist.{Hist as HistCall}
+use Rattle.hist_core.specs.declared.hist.HistStep.{HistStep}
+use Rattle.hist_core.specs.declared.hist.HistStep.TheVariants as hist
+use Rattle.hist_core.specs.declared.hist.Known.{Known}
 use Rattle.hist_core.specs.declared.entry.Entry.{Entry}
 use Rattle.hist_core.specs.declared.call.Answer.TheVariants as answer
 use Rattle.hist_core.specs.declared.call.Stepped.{Stepped}
 use Rattle.hist_core.specs.declared.call.Stepped.TheVariants.{More, Done}
 use Rattle.hist_core.specs.declared.runner.Running.{Running}
-use Rattle.hist_core.specs.declared.runner.Running.TheVariants.{SetCorrupt}
+use Rattle.hist_core.specs.declared.runner.Running.TheVariants.{SetCorrupt, Hist}
 use Rattle.hist_core.specs.declared.runner.Runner.{Runner}
 
 -- ---- what it shows
@@ -34,17 +46,47 @@ pub record IsFresh (runner : Runner) : Type 0 where
   pub ended : runner.ended ≡ 0
   pub begun : runner.begun ≡ 0
   pub taken : runner.taken.items ≡ []
+  pub known : runner.known.items ≡ []
   pub rests : runner.running ≡ None
+
+-- ---- what it knows
+
+-- a known histogram as the machine has it
+abbrev pub known_of : Known → MachineKnown
+known_of known = record { name = known.name.items; spec = known.spec; reference = known.reference }
+
+-- Its name and its spec are lawful, it has the ranges of the spec, its counts fit in a page, and its record lies in the segment.
+pub record IsKnown (shape : Dimensions) (known : Known) : Type 0 where
+  pub name : is_name known.name.items ≡ true
+  pub lawful : spec_fault known.spec ≡ None
+  pub ranges : known.ranges ≡ boundaries_of known.spec
+  pub fits : BLOCK_HEADER + 2 * buckets_of known.spec ≤ shape.page
+  pub within : known.reference + HISTOGRAM_NAME ≤ shape.size
+
+-- none of them has a name
+abbrev pub NoneHasName : List Known → List ℕ → Type 0
+NoneHasName list name = (i : ℕ) (known : Known) → get_elem? list i ≡ some known → known.name.items ≢ name
+
+-- no two have one name
+abbrev pub HaveOwnNames : List Known → Type 0
+HaveOwnNames [] = ⊤
+HaveOwnNames (known ∷ rest) = NoneHasName rest known.name.items × HaveOwnNames rest
 
 -- ---- what it stands for
 
--- Where the machine's actor stands whose call is this, or that runs none.
-abbrev pub StandsIn : Option Running → Actor → Type 0
-StandsIn None a = (is_bound a.hand.place ≡ false) × (a.entries.running ≡ [])
-StandsIn (Some SetCorrupt) a = (is_bound a.hand.place ≡ false) × (a.entries.running ≡ [])
+-- Where the machine's actor stands whose call is this, or that runs none. A `hist` asks for a histogram that is not known.
+abbrev pub StandsIn : Dimensions → List Known → Option Running → Actor → Type 0
+StandsIn shape known None a = (is_bound a.hand.place ≡ false) × (a.entries.running ≡ [])
+StandsIn shape known (Some SetCorrupt) a = (is_bound a.hand.place ≡ false) × (a.entries.running ≡ [])
+StandsIn shape known (Some (Hist hist)) a = IsHist shape hist a × (a.entries.running ≡ []) × NoneHasName known hist.asked.name.items
+
+-- there is room for the histogram that a `hist` asks for, beside so many that are known
+abbrev pub HasRoom : Option Running → ℕ → ℕ → Type 0
+HasRoom (Some (Hist hist)) known capacity = known < capacity
+HasRoom running known capacity = ⊤
 
 -- An actor of a segment of this shape and version is a recorder, whose log is the entries of ended calls, and which has begun those of
--- the running call that have begun; it stands where the running call does.
+-- the running call that have begun; it knows the same histograms, each of another name, and stands where the running call does.
 pub record IsRun (shape : Dimensions) (version : ℕ) (runner : Runner) (a : Actor) : Type 0 where
   pub records : is_opener a.role ≡ false
   pub segment : a.segment ≡ record { shape = shape; version = version; cursors = 0 }
@@ -53,7 +95,15 @@ pub record IsRun (shape : Dimensions) (version : ℕ) (runner : Runner) (a : Act
   pub ended : map entry_of (ended_by runner) ≡ map (λ c. c.entry) a.entries.log
   pub begun : map entry_of (begun_by runner) ≡ map (λ c. c.entry) (a.entries.log ++ a.entries.running)
   pub untaken : (runner.taken.items ≡ []) × (a.deltas.taken ≡ [])
-  pub stands : StandsIn runner.running a
+  pub names : map known_of runner.known.items ≡ a.answers.names
+  pub lawful : All (IsKnown shape) runner.known.items
+  pub once : HaveOwnNames runner.known.items
+  pub stands : StandsIn shape runner.known.items runner.running a
+  pub room : HasRoom runner.running (vec_len runner.known) (vec_capacity runner.known)
+
+-- an actor that stands for one somewhere, in so many words
+abbrev pub IsSomeRun : ℕ → Runner → Type 0
+IsSomeRun n runner = (shape : Dimensions) × (version : ℕ) × (a : Actor) × (n ≡ shape.size) × (HEADER_WORDS ≤ n) × IsRun shape version runner a
 
 -- ---- how it goes on
 
@@ -61,9 +111,28 @@ pub record IsRun (shape : Dimensions) (version : ℕ) (runner : Runner) (a : Act
 abbrev pub Advances : Dimensions → ℕ → Runner → List ℕ → Runner → List ℕ → Actor → Type 0
 Advances shape version old words new new_words a = Goes shape.size version a words new_words (IsRun shape version new)
 
--- What its call says: the corrupt flag is set.
+-- What its call says, and what it knows then: the corrupt flag is set; a `hist` is answered with the histogram that it asked for, which is
+-- the last that is known; or it is refused.
 abbrev pub Answers : Runner → List ℕ → Runner → List ℕ → Stepped → Type 0
-Answers old words new new_words More = ⊤
+Answers old words new new_words More = new.known.items ≡ old.known.items
 Answers old words new new_words (Done answer.Flagged) =
-    (word_at new_words FLAGS_WORD ≡ bit_or (word_at words FLAGS_WORD) FLAG_CORRUPT) × (new.running ≡ None)
-Answers old words new new_words (Done _) = ⊤
+    (word_at new_words FLAGS_WORD ≡ bit_or (word_at words FLAGS_WORD) FLAG_CORRUPT) × (new.running ≡ None) × (new.known.items ≡ old.known.items)
+Answers old words new new_words (Done (answer.Hist reference)) =
+    (known : Known) × (known.reference ≡ reference) × (new.known.items ≡ old.known.items ++ known ∷ []) × (new.running ≡ None)
+Answers old words new new_words (Done (answer.Refused why)) = (new.running ≡ None) × (new.known.items ≡ old.known.items)
+Answers old words new new_words (Done _) = ⊥
+
+-- it asks for a histogram
+abbrev pub AsksForOne : Option Running → Type 0
+AsksForOne (Some (Hist hist)) = ⊤
+AsksForOne running = ⊥
+
+-- what becomes of it by what a step of its `hist` said: it goes on, or knows the histogram, or is refused
+abbrev pub IsHistSaid : Runner → HistStep → Runner → Stepped → Type 0
+IsHistSaid old hist.More new result = (new ≡ old) × (result ≡ More)
+IsHistSaid old hist.Done new result =
+    (asked : HistCall) × (old.running ≡ Some (Hist asked))
+    × (new ≡ record old { known = new.known; running = None })
+    × (new.known.items ≡ old.known.items ++ (let known = asked.asked in record known { reference = asked.reference }) ∷ [])
+    × (result ≡ Done (answer.Hist asked.reference))
+IsHistSaid old (hist.Refused why) new result = (new ≡ record old { running = None }) × (result ≡ Done (answer.Refused why))

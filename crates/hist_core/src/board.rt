@@ -65,10 +65,9 @@ impl Board {
     ghost use Rattle.std.specs.Prelude.{◌≢◌, ◌≤◌, ◌<◌, ℕ, IsSome, None, length};
     ghost use mathlib.Core.Option.{some};
     ghost use lib.ListN.{get_elem?};
-    ghost use Rattle.segment_image.specs.declared.layout.TheConstants.{HEADER_WORDS};
     ghost use Rattle.segment_machine.specs.State.{State};
     ghost use Rattle.hist_core.specs.declared.runner.Runner.{Runner};
-    ghost use Rattle.hist_core.specs.Board.{IsNewBoard, IsReachedAs, StepsTo, Rests, IsBusy, OthersStay, Says};
+    ghost use Rattle.hist_core.specs.Board.{IsNewBoard, IsReached, IsReachedAs, StepsTo, Rests, IsBusy, OthersStay, Says};
 
     // A new segment with so many actors.
     pub(crate) fn new(
@@ -102,8 +101,7 @@ impl Board {
 
     // An actor goes on with its call by one event.
     pub(crate) fn step(&mut self, actor: usize) -> Stepped
-        requires long { HEADER_WORDS ≤ vec_len self.old.words }
-        requires size { vec_len self.old.words ≡ self.old.shape.size }
+        requires reached { ∥ IsReached self.old ∥₁ }
         requires near { actor < vec_len self.old.runners }
         requires busy { IsBusy self.old actor }
         ensures steps { (state : State) → IsReachedAs self.old state → StepsTo self.old actor state self.new }

@@ -2,6 +2,7 @@
 
 ghost use Rattle.std.specs.Prelude.{◌≡◌, ◌≢◌, ◌≤◌, ◌<◌, ℕ, List, length};
 
+use crate::asked::Asked;
 use crate::refusal::Refusal;
 use alloc_core::event::store;
 use alloc_core::{Alloc, AllocStep};
@@ -63,9 +64,29 @@ pub(crate) struct Hist {
 impl Hist {
     ghost use Rattle.std.specs.Prelude.{◌+◌, ◌-◌, ◌*◌, ◌^◌, vec_len, slice_index};
     ghost use Rattle.segment_machine.specs.declared.actor.Actor.{Actor};
-    ghost use Rattle.hist_core.specs.Hist.{compared_place, compared_index, compared_word, IsSomeHist, HistSteps, BeginsToAllocate, IsAllocated, IsAllocating, IsPublished, IsPublishing, IsNextFilled, IsFilled, IsMatched, IsDifferent};
+    ghost use Rattle.hist_core.specs.Hist.{compared_place, compared_index, compared_word, IsBegun, IsSomeHist, HistSteps, BeginsToAllocate, IsAllocated, IsAllocating, IsPublished, IsPublishing, IsNextFilled, IsFilled, IsMatched, IsDifferent};
     ghost use Rattle.alloc_core.specs.Layout.{IsShape};
     ghost use Rattle.hist_core.specs.declared.hist.Stage.TheVariants.{Walking, Comparing, Filling};
+
+    // It begins at the start of the list.
+    pub(crate) fn start(shape: Shape, asked: Asked) -> Hist
+        ensures { IsBegun shape asked result }
+    {
+        Hist {
+            shape,
+            asked: Known {
+                name: asked.name,
+                spec: asked.spec,
+                ranges: asked.ranges,
+                reference: 0,
+            },
+            payload: asked.payload,
+            letters: asked.letters,
+            walk: Walk::from_start(),
+            reference: 0,
+            stage: Stage::Walking,
+        }
+    }
 
     // The place in the payload of the word that is compared k-th, from 1 on: the length of the name, the name, the spec, and
     // the ranges behind the name.
@@ -140,7 +161,8 @@ impl Hist {
     fn compare(&mut self, words: &[u64], same: usize) -> HistStep
         requires compares { self.old.stage ≡ Comparing same }
         requires stands { ∥ IsSomeHist (length words.now) self.old ∥₁ }
-        ensures { HistSteps self.old words.now self.new words.now result }
+        ensures steps { HistSteps self.old words.now self.new words.now result }
+        ensures asks { self.new.asked ≡ self.old.asked }
     {
         let found = words[self.reference as usize + self.compared_index(same)];
         if found == self.compared_word(same) {
@@ -154,7 +176,8 @@ impl Hist {
     fn walk_on(&mut self, words: &[u64]) -> HistStep
         requires walks { self.old.stage ≡ Walking }
         requires stands { ∥ IsSomeHist (length words.now) self.old ∥₁ }
-        ensures { HistSteps self.old words.now self.new words.now result }
+        ensures steps { HistSteps self.old words.now self.new words.now result }
+        ensures asks { self.new.asked ≡ self.old.asked }
     {
         match self.walk.step(words) {
             WalkStep::Record(reference) => {
@@ -201,7 +224,8 @@ impl Hist {
     fn allocate(&mut self, words: &mut [u64]) -> HistStep
         requires allocates { IsAllocating self.old.stage }
         requires stands { ∥ IsSomeHist (length words.old) self.old ∥₁ }
-        ensures { HistSteps self.old words.old self.new words.new result }
+        ensures steps { HistSteps self.old words.old self.new words.new result }
+        ensures asks { self.new.asked ≡ self.old.asked }
     {
         match &mut self.stage {
             Stage::Allocating { alloc } => {
@@ -226,7 +250,8 @@ impl Hist {
     fn publish(&mut self, words: &mut [u64]) -> HistStep
         requires publishes { IsPublishing self.old.stage }
         requires stands { ∥ IsSomeHist (length words.old) self.old ∥₁ }
-        ensures { HistSteps self.old words.old self.new words.new result }
+        ensures steps { HistSteps self.old words.old self.new words.new result }
+        ensures asks { self.new.asked ≡ self.old.asked }
     {
         match &mut self.stage {
             Stage::Publishing { publish } => {
@@ -268,7 +293,8 @@ impl Hist {
     fn fill(&mut self, words: &mut [u64], at: u64, index: usize) -> HistStep
         requires fills { self.old.stage ≡ Filling at index }
         requires stands { ∥ IsSomeHist (length words.old) self.old ∥₁ }
-        ensures { HistSteps self.old words.old self.new words.new result }
+        ensures steps { HistSteps self.old words.old self.new words.new result }
+        ensures asks { self.new.asked ≡ self.old.asked }
     {
         store(
             words,
@@ -282,7 +308,8 @@ impl Hist {
     // Goes on by one event.
     pub(crate) fn step(&mut self, words: &mut [u64]) -> HistStep
         requires stands { ∥ IsSomeHist (length words.old) self.old ∥₁ }
-        ensures { HistSteps self.old words.old self.new words.new result }
+        ensures steps { HistSteps self.old words.old self.new words.new result }
+        ensures asks { self.new.asked ≡ self.old.asked }
     {
         match self.stage {
             Stage::Walking => self.walk_on(words),

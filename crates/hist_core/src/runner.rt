@@ -2,6 +2,7 @@
 
 use crate::call::{Answer, Stepped};
 use crate::entry::{Entry, Taken};
+use crate::hist::{Hist, HistStep, Known};
 use alloc_core::event::set_bits;
 use segment_image::layout::{FLAG_CORRUPT, FLAGS_WORD};
 use std::alloc::Global;
@@ -11,6 +12,8 @@ use std::alloc::Global;
 pub(crate) enum Running {
     /// It sets the corrupt flag.
     SetCorrupt,
+    /// It asks for a histogram.
+    Hist(Hist),
 }
 
 /// An actor: what it has counted and taken, and the call that it runs.
@@ -23,15 +26,17 @@ pub(crate) struct Runner {
     pub(crate) begun: usize,
     // What its deltas took.
     pub(crate) taken: Vec<Taken>,
+    // The histograms that its `hist` was answered with. Where one is going on, there is room for one more.
+    pub(crate) known: Vec<Known>,
     pub(crate) running: Option<Running>,
 }
 
 impl Runner {
-    ghost use Rattle.std.specs.Prelude.{◌≡◌, ◌≤◌, ℕ, List, length, IsSome};
+    ghost use Rattle.std.specs.Prelude.{◌≡◌, ◌≤◌, ℕ, List, length, IsSome, vec_len, vec_capacity};
     ghost use Rattle.segment_image.specs.Shape.{Dimensions};
-    ghost use Rattle.segment_image.specs.declared.layout.TheConstants.{HEADER_WORDS};
     ghost use Rattle.segment_machine.specs.declared.actor.Actor.{Actor};
-    ghost use Rattle.hist_core.specs.Runner.{IsFresh, IsRun, Advances, Answers};
+    ghost use Rattle.hist_core.specs.declared.hist.HistStep.TheVariants.{Done};
+    ghost use Rattle.hist_core.specs.Runner.{IsFresh, IsRun, IsSomeRun, HasRoom, AsksForOne, IsHistSaid, Advances, Answers};
 
     // An actor that has done nothing.
     pub(crate) fn new(alloc: Global) -> Runner
@@ -42,22 +47,73 @@ impl Runner {
             ended: 0,
             begun: 0,
             taken: Vec::new(alloc),
+            known: Vec::new(alloc),
             running: None,
+        }
+    }
+
+    // The histogram that its `hist` asked for is known, and the call has ended.
+    fn know(&mut self) -> Stepped
+        requires room { HasRoom self.old.running (vec_len self.old.known) (vec_capacity self.old.known) }
+        requires asks { AsksForOne self.old.running }
+        ensures { IsHistSaid self.old Done self.new result }
+    {
+        let Some(Running::Hist(hist)) = self.running.take() else {
+            return Stepped::More;
+        };
+        let Hist {
+            asked: Known {
+                name,
+                spec,
+                ranges,
+                ..
+            },
+            reference,
+            ..
+        } = hist;
+        self.known
+            .push(Known {
+                name,
+                spec,
+                ranges,
+                reference,
+            })
+            .unwrap();
+        Stepped::Done(Answer::Hist(reference))
+    }
+
+    // What becomes of it by what a step of its `hist` said.
+    fn hist_said(&mut self, said: HistStep) -> Stepped
+        requires room { HasRoom self.old.running (vec_len self.old.known) (vec_capacity self.old.known) }
+        requires asks { AsksForOne self.old.running }
+        ensures { IsHistSaid self.old said self.new result }
+    {
+        match said {
+            HistStep::More => Stepped::More,
+            HistStep::Done => self.know(),
+            HistStep::Refused(why) => {
+                self.running = None;
+                Stepped::Done(Answer::Refused(why))
+            }
         }
     }
 
     // Goes on by one event, which is the next of the running call.
     pub(crate) fn advance(&mut self, words: &mut [u64]) -> Stepped
         requires runs { IsSome self.old.running }
-        requires long { HEADER_WORDS ≤ length words.old }
+        requires stands { ∥ IsSomeRun (length words.old) self.old ∥₁ }
         ensures advances { (shape : Dimensions) (version : ℕ) (a : Actor) → shape.size ≡ length words.old → IsRun shape version self.old a → Advances shape version self.old words.old self.new words.new a }
         ensures answers { Answers self.old words.old self.new words.new result }
     {
-        match self.running {
+        match &mut self.running {
             Some(Running::SetCorrupt) => {
                 set_bits(words, FLAGS_WORD, FLAG_CORRUPT);
                 self.running = None;
                 Stepped::Done(Answer::Flagged)
+            }
+            Some(Running::Hist(hist)) => {
+                let said = hist.step(words);
+                self.hist_said(said)
             }
             None => Stepped::More,
         }

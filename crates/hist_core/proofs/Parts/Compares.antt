@@ -26,11 +26,11 @@ use Rattle.hist_core.specs.declared.hist.Stage.TheVariants.{Walking, Comparing}
 use Rattle.hist_core.specs.declared.refusal.Refusal.{Refusal}
 use Rattle.hist_core.specs.declared.refusal.Refusal.TheVariants as why
 use Rattle.hist_core.specs.Goes.{Beside, Goes}
-use Rattle.hist_core.specs.Hist.{IsHist, StandsAtStage, HaveOtherNames, AreSame, Reaches, HistGives, IsMatched, IsDifferent, IsCause, asked_of, compared_place, compared_index, compared_word}
+use Rattle.hist_core.specs.Hist.{IsAsking, IsHist, StandsAtStage, HaveOtherNames, AreSame, Reaches, HistGives, IsMatched, IsDifferent, IsCause, asked_of, compared_place, compared_index, compared_word}
 use Rattle.segment_invariant.proofs.Walking.Words.{letters_long}
 use Rattle.hist_core.proofs.Parts.Comparisons.{Part, part_of, index_of_rest, then_length, letter_word, field_word, range_word, ranges_if_custom, payload_long, compared_all}
 use Rattle.hist_core.proofs.Parts.Differences.{saw_word, saw_spec, first_named, saw_other_name, saw_other_spec}
-use Rattle.hist_core.proofs.Parts.Walks.{still, others_still, asks_on}
+use Rattle.hist_core.proofs.Parts.Walks.{still, others_still, asks_on, some_to_compare_is}
 
 -- a word that is seen now is what was found, since it was so where it was seen before
 pub seen_now : (list : List Sighting) (at found : ℕ) → ((word : ℕ) → word_seen list at ≡ Some word → found ≡ word) → word_seen (list ++ sight at found) at ≡ Some found
@@ -288,7 +288,8 @@ module _ (shape : Dimensions) (h : Hist) (a : Actor) (is : IsHist shape h a) (k 
             one_more acted beside found (saw_found learned) same,
           );
         }
-    matches_so new Done same (all, new_is) = does new Done (λ learned. (beside, stands.0, subst (λ (n : Hist). MayNote acted (knows (asked_of n))) (sym new_is) (known learned)))
+    matches_so new Done same (all, new_is) =
+        does new Done (λ learned. subst (λ (n : Hist). HistGives shape n Done a acted) (sym new_is) (beside, stands.0, known learned, is.asking, there))
       where
         known : Learns → MayNote acted (knows (asked_of h))
         known learned =
@@ -297,6 +298,10 @@ module _ (shape : Dimensions) (h : Hist) (a : Actor) (is : IsHist shape h a) (k 
               first_named shape h is.asking acted.seen (k + 1) then_same front is.given is_given is.front (others_still a acted beside h front stands.1.2) (omega (arith, all, many)),
               (is.asking.letters, is.asking.spells, saw_spec shape h is.asking acted.seen (k + 1) then_same all),
             )
+
+        -- the last comparison is behind that of the type
+        there : h.reference + 15 ≤ shape.size
+        there = let some = some_to_compare_is shape h is.asking in let long = payload_long shape h is.asking in stands.2.fixed (omega (arith, some, all, long))
     matches_so new (Refused why) same matched = absurd matched
 
     -- it was another: the record has another name, or it is the first of the name and has another spec

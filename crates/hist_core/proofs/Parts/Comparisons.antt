@@ -11,7 +11,8 @@ use Rattle.bucket_ranges.specs.declared.spec.Spec.{Spec}
 use Rattle.bucket_ranges.specs.declared.spec.Spec.TheVariants.{Linear, Boolean, Custom, Sparse}
 use Rattle.bucket_ranges.specs.Spec.{spec_fields, spec_ranges}
 use Rattle.hist_core.specs.declared.hist.Hist.{Hist}
-use Rattle.hist_core.specs.Hist.{IsAsking, payload_words, compared_place, compared_index, compared_word, comparisons}
+use Rattle.hist_core.specs.Asked.{payload_words}
+use Rattle.hist_core.specs.Hist.{IsAsking, compared_place, compared_index, compared_word, comparisons}
 
 -- ---- words and their bytes
 
@@ -105,7 +106,7 @@ module _ (shape : Dimensions) (h : Hist) (asking : IsAsking shape h) where
   behind_fields : (i : ℕ) → slice_index kept (4 + i) ≡ slice_index (middle ++ (letters ++ ranges)) i
   behind_fields i =
       ap (λ (l : List ℕ). slice_index l (4 + i)) asking.payload
-      ∙ (ap (λ (n : ℕ). slice_index (payload_words h.asked letters) (n + i)) (sym (fields_long h.asked.spec))
+      ∙ (ap (λ (n : ℕ). slice_index (payload_words h.asked.name.items h.asked.spec letters) (n + i)) (sym (fields_long h.asked.spec))
       ∙ get_or-append-add fields (middle ++ (letters ++ ranges)) i 0)
 
   behind_middle : (i : ℕ) → slice_index kept (11 + i) ≡ slice_index (letters ++ ranges) i

@@ -82,6 +82,7 @@ module _ (shape : Dimensions) (h : Hist) (asking : IsAsking shape h) where
     shaped = asking.shaped;
     name = asking.name;
     lawful = asking.lawful;
+    ranges = asking.ranges;
     fits = asking.fits;
     one_page = asking.one_page;
     last = asking.last;

@@ -4,7 +4,7 @@ use mathlib.Core.Option.{some-injective}
 use Rattle.atomic_table.proofs.Lists.{set_else, set_here}
 use Rattle.hist_core.specs.declared.runner.Runner.{Runner}
 use Rattle.hist_core.specs.Runner.{Advances, Answers}
-use Rattle.hist_core.proofs.Boards.{steps, is_there}
+use Rattle.hist_core.proofs.Boards.{steps, is_there, is_long, some_run}
 use Rattle.hist_core.proofs.board.Board.step.Goals as goal
 
 pub advance-requires-clause-runs : goal.advance-requires-clause-runs
@@ -12,12 +12,18 @@ advance-requires-clause-runs c =
     let runners = c.args.self.now.runners in let r = c.index_mut-runner.result.now in
     c.requires.busy r (is_there runners.items (vec_len runners) c.args.actor r runners.ok.0 c.requires.near c.index_mut-runner.ensures.value)
 
+pub advance-requires-clause-stands : goal.advance-requires-clause-stands
+advance-requires-clause-stands c =
+    let old = c.args.self.now in let r = c.index_mut-runner.result.now in
+    some_run old c.requires.reached c.args.actor r (is_there old.runners.items (vec_len old.runners) c.args.actor r old.runners.ok.0 c.requires.near c.index_mut-runner.ensures.value)
+    _ (ap length c.deref_mut.ensures.value)
+
 pub returns-clause-steps : goal.returns-clause-steps
 returns-clause-steps c = λ state reach.
     let old = c.args.self.now in let r = c.index_mut-runner.result.now in
     let at = is_there old.runners.items (vec_len old.runners) c.args.actor r old.runners.ok.0 c.requires.near c.index_mut-runner.ensures.value in
     let stored = with_items_is old.words c.advance.new.words (c.advance.auto.words ∙ c.deref_mut.ensures.len) in
-    let size = sym old.words.ok.0 ∙ c.requires.size in
+    let size = is_long old c.requires.reached in
     steps old state reach size c.args.actor r c.advance.new.self _ at
     (λ a run. subst (λ (w : List ℕ × List ℕ). Advances old.shape old.version r w.0 c.advance.new.self w.1 a) (λ i. (c.deref_mut.ensures.value i, sym stored i))
     (c.advance.ensures.advances old.shape old.version a (sym (ap length c.deref_mut.ensures.value ∙ size)) run))

@@ -1,6 +1,7 @@
 use Rattle.std.proofs.Props.{props}
 use Rattle.std.proofs.Math.Logic.{∥∥₁_elim}
 use Rattle.hist_core.proofs.Parts.Claims.{allocates_so, asks_long, asks_more}
+use Rattle.hist_core.proofs.Parts.Sames.{allocated_asks}
 use Rattle.hist_core.proofs.hist.Hist.allocate.Goals as goal
 
 pub step-said-requires-clause-long : goal.step-said-requires-clause-long
@@ -11,7 +12,10 @@ pub step-said-requires-clause-running : goal.step-said-requires-clause-running
 step-said-requires-clause-running c =
     ∥∥₁_elim c.requires.stands (hlevel props) (λ (shape, a, long, is). asks_more shape 1 c.args.self.now a c.args.words.now long is c.in-Allocating.alloc c.in-Allocating.is)
 
-pub returns-in-Allocating : goal.returns-in-Allocating
-returns-in-Allocating c = λ shape version a long is.
+pub returns-in-Allocating-clause-steps : goal.returns-in-Allocating-clause-steps
+returns-in-Allocating-clause-steps c = λ shape version a long is.
     allocates_so shape version c.args.self.now a c.args.words.now long is c.in-Allocating.alloc c.in-Allocating.is c.step-said.new.self c.step-said.new.words
     c.step-said.result c.allocated.new.self c.allocated.result c.step-said.ensures.step c.step-said.ensures.more c.allocated.ensures
+
+pub returns-in-Allocating-clause-asks : goal.returns-in-Allocating-clause-asks
+returns-in-Allocating-clause-asks c = allocated_asks _ c.step-said.result c.allocated.new.self c.allocated.result c.allocated.ensures

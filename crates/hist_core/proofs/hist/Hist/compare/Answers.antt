@@ -6,6 +6,7 @@ use Rattle.hist_core.specs.declared.hist.Hist.{Hist}
 use Rattle.hist_core.specs.declared.hist.Stage.TheVariants.{Comparing}
 use Rattle.hist_core.specs.Hist.{IsSomeHist, compared_place, compared_index}
 use Rattle.hist_core.proofs.Parts.Compares.{matches_so, differs_so, compare_bounds}
+use Rattle.hist_core.proofs.Parts.Sames.{matched_asks, differed_asks}
 use Rattle.hist_core.proofs.hist.Hist.compare.Goals as goal
 
 bounds : (h : Hist) (words : List ℕ) (k : ℕ) → h.stage ≡ Comparing k → ∥ IsSomeHist (length words) h ∥₁
@@ -55,14 +56,14 @@ pub differed-requires : goal.differed-requires
 differed-requires c =
     let inside = bounds c.args.self.now c.args.words.now c.args.same c.requires.compares c.requires.stands in omega (arith, inside.4)
 
-pub returns-then-found-compared_word : goal.returns-then-found-compared_word
-returns-then-found-compared_word c = λ shape version a long is.
+pub returns-then-found-compared_word-clause-steps : goal.returns-then-found-compared_word-clause-steps
+returns-then-found-compared_word-clause-steps c = λ shape version a long is.
     let there = ap (λ (n : ℕ). slice_index c.args.words.now (c.args.self.now.reference + n)) (sym c.compared_index.ensures) in
     matches_so shape c.args.self.now a is c.args.same c.requires.compares version c.args.words.now c.matched.new.self c.matched.result
     (there ∙ (c.if-found-compared_word.true ∙ c.compared_word.ensures)) c.matched.ensures
 
-pub returns-else-found-compared_word : goal.returns-else-found-compared_word
-returns-else-found-compared_word c = λ shape version a long is.
+pub returns-else-found-compared_word-clause-steps : goal.returns-else-found-compared_word-clause-steps
+returns-else-found-compared_word-clause-steps c = λ shape version a long is.
     let there = ap (λ (n : ℕ). slice_index c.args.words.now (c.args.self.now.reference + n)) (sym c.compared_index.ensures) in
     let found = c.type_inv.words (c.args.self.now.reference + compared_index c.args.self.now.letters c.args.same) in
     let own = c.compared_word.type_inv in
@@ -70,3 +71,9 @@ returns-else-found-compared_word c = λ shape version a long is.
     differs_so shape c.args.self.now a is c.args.same c.requires.compares version c.args.words.now c.differed.new.self c.differed.result
     (λ same. c.if-found-compared_word.false (sym there ∙ (same ∙ sym c.compared_word.ensures)))
     (omega (arith, found)) (omega (arith, own, word)) c.differed.ensures
+
+pub returns-then-found-compared_word-clause-asks : goal.returns-then-found-compared_word-clause-asks
+returns-then-found-compared_word-clause-asks c = matched_asks c.args.self.now c.args.same c.matched.new.self c.matched.result c.matched.ensures
+
+pub returns-else-found-compared_word-clause-asks : goal.returns-else-found-compared_word-clause-asks
+returns-else-found-compared_word-clause-asks c = differed_asks c.args.self.now c.args.same c.differed.new.self c.differed.result c.differed.ensures

@@ -7,6 +7,7 @@ use Rattle.hist_core.specs.declared.hist.Hist.{Hist}
 use Rattle.hist_core.specs.declared.hist.Stage.TheVariants.{Filling}
 use Rattle.hist_core.specs.Hist.{IsSomeHist}
 use Rattle.hist_core.proofs.Parts.Fills.{fills_so, fill_bounds}
+use Rattle.hist_core.proofs.Parts.Sames.{filled_asks}
 use Rattle.hist_core.proofs.hist.Hist.fill.Goals as goal
 
 bounds : (h : Hist) (words : List ℕ) (at index : ℕ) → h.stage ≡ Filling at index → ∥ IsSomeHist (length words) h ∥₁
@@ -35,9 +36,12 @@ overflow_add-index-2 c = let inside = bounds c.args.self.now c.args.words.now c.
 pub filled-requires : goal.filled-requires
 filled-requires c = let inside = bounds c.args.self.now c.args.words.now c.args.at c.args.index c.requires.fills c.requires.stands in omega (arith, inside.0)
 
-pub returns : goal.returns
-returns c = λ shape version a long is.
+pub returns-clause-steps : goal.returns-clause-steps
+returns-clause-steps c = λ shape version a long is.
     let inside = bounds c.args.self.now c.args.words.now c.args.at c.args.index c.requires.fills c.requires.stands in
     let read = get_or_read_under c.args.self.now.payload.items c.args.index (vec_len c.args.self.now.payload) c.index.result.now 0 c.index.ensures inside.0 c.args.self.now.payload.ok.0 in
     fills_so shape version c.args.self.now a c.args.words.now long is c.args.at c.args.index c.requires.fills c.store.new.words c.filled.new.self
     (c.store.ensures.words ∙ ap (λ (v : ℕ). atomic.after (atomic.store_payload c.args.at c.args.index v) c.args.words.now) read) c.filled.ensures
+
+pub returns-clause-asks : goal.returns-clause-asks
+returns-clause-asks c = filled_asks c.args.self.now c.args.at _ c.filled.new.self c.filled.ensures

@@ -3,6 +3,7 @@ use Rattle.std.proofs.Props.{props}
 use Rattle.std.proofs.Math.Logic.{∥∥₁_elim}
 use Rattle.list_core.specs.Publish.{IsReach}
 use Rattle.hist_core.proofs.Parts.Publishes.{one_way, publishes_so, asks_reach, asks_more}
+use Rattle.hist_core.proofs.Parts.Sames.{published_asks}
 use Rattle.hist_core.proofs.hist.Hist.publish.Goals as goal
 
 pub step-said-requires-clause-reach : goal.step-said-requires-clause-reach
@@ -15,8 +16,11 @@ step-said-requires-clause-running c =
     ∥∥₁_elim c.requires.stands (hlevel props)
     (λ (shape, a, long, is). asks_more shape 1 c.args.self.now a c.args.words.now long is c.in-Publishing.publish c.in-Publishing.is)
 
-pub returns-in-Publishing : goal.returns-in-Publishing
-returns-in-Publishing c = λ shape version a long is.
+pub returns-in-Publishing-clause-steps : goal.returns-in-Publishing-clause-steps
+returns-in-Publishing-clause-steps c = λ shape version a long is.
     publishes_so shape version c.args.self.now a c.args.words.now long is c.in-Publishing.publish c.in-Publishing.is c.step-said.new.self c.step-said.new.words
     c.step-said.result c.published.new.self c.published.result c.step-said.ensures.step c.step-said.ensures.more
     (subst (λ (n : ℕ). IsReach n c.step-said.new.self) (c.step-said.auto.words ∙ long) c.step-said.ensures.reach) c.published.ensures
+
+pub returns-in-Publishing-clause-asks : goal.returns-in-Publishing-clause-asks
+returns-in-Publishing-clause-asks c = published_asks _ c.step-said.result c.published.new.self c.published.result c.published.ensures

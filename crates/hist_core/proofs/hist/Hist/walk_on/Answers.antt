@@ -5,6 +5,7 @@ use Rattle.segment_image.specs.Shape.{Dimensions}
 use Rattle.alloc_core.specs.Layout.{IsShape}
 use Rattle.list_core.specs.Chain.{is_reference}
 use Rattle.hist_core.proofs.Parts.Walks.{meets, strays, ends, is_wide}
+use Rattle.hist_core.proofs.Parts.Sames.{begins_asks}
 use Rattle.hist_core.proofs.hist.Hist.walk_on.Goals as goal
 
 pub step-requires-clause-headed : goal.step-requires-clause-headed
@@ -22,19 +23,22 @@ begin_allocating-requires c = record {
       (subst (λ (d : Dimensions). 4 + length c.args.self.now.payload.items ≤ d.page) (sym is.asking.shaped) is.asking.one_page));
 }
 
-pub returns-in-Record : goal.returns-in-Record
-returns-in-Record c = λ shape version a long is.
+pub returns-in-Record-clause-steps : goal.returns-in-Record-clause-steps
+returns-in-Record-clause-steps c = λ shape version a long is.
     let did = c.in-Record.ensures in
     meets shape version c.args.self.now a c.args.words.now long is c.requires.walks c.in-Record.reference c.step.new.self did.says
     (did.given is.given is.walk) did.reach did.stands
 
-pub returns-in-End : goal.returns-in-End
-returns-in-End c = λ shape version a long is.
+pub returns-in-End-clause-steps : goal.returns-in-End-clause-steps
+returns-in-End-clause-steps c = λ shape version a long is.
     let did = c.in-End.ensures in
     ends shape version c.args.self.now a c.args.words.now long is c.requires.walks c.step.new.self c.begin_allocating.new.self c.begin_allocating.result did.says
     did.stands c.begin_allocating.ensures
 
-pub returns-in-Stray : goal.returns-in-Stray
-returns-in-Stray c = λ shape version a long is.
+pub returns-in-Stray-clause-steps : goal.returns-in-Stray-clause-steps
+returns-in-Stray-clause-steps c = λ shape version a long is.
     let did = c.in-Stray.ensures in
     strays shape version c.args.self.now a c.args.words.now long is c.requires.walks c.step.new.self did.says did.stands
+
+pub returns-in-End-clause-asks : goal.returns-in-End-clause-asks
+returns-in-End-clause-asks c = begins_asks (record c.args.self.now { walk = c.step.new.self }) c.begin_allocating.new.self c.begin_allocating.result c.begin_allocating.ensures

@@ -1,6 +1,6 @@
 use Rattle.std.proofs.Common.{◌∙◌, true, false, refl, ap, vec_len, arith}
 use Rattle.std.specs.Prelude.{not}
-use Rattle.hist_core.proofs.Boards.{is_there, has_header, is_long}
+use Rattle.hist_core.proofs.Boards.{is_there}
 use Rattle.hist_core.proofs.Worlds.{second_fails, none_fails, rests_as, is_busy}
 use Rattle.std.proofs.lemmas.Bool.{lt-leb}
 use Rattle.std.proofs.Props.{props}
@@ -14,12 +14,8 @@ returns-then-is_none-clause-faults c =
     second_fails _ _ _ _ _ _ (lt-leb (vec_len board.runners) c.args.actor (omega (arith, c.if-actor-len.false, c.len.ensures)))
     (rests_as board c.args.actor r at true (c.is_none.ensures ∙ ap not c.if-is_none.true)) refl
 
-pub step-requires-clause-long : goal.step-requires-clause-long
-step-requires-clause-long c =
-    let board = c.args.self.now.board in let long = has_header board c.args.self.now.reached in let ok = board.words.ok.0 in omega (arith, long, ok)
-
-pub step-requires-clause-size : goal.step-requires-clause-size
-step-requires-clause-size c = let board = c.args.self.now.board in board.words.ok.0 ∙ is_long board c.args.self.now.reached
+pub step-requires-clause-reached : goal.step-requires-clause-reached
+step-requires-clause-reached c = c.args.self.now.reached
 
 pub step-requires-clause-busy : goal.step-requires-clause-busy
 step-requires-clause-busy c =

@@ -1,0 +1,159 @@
+-- A `hist` of an actor goes on, and what its actor knows then.
+use Rattle.std.proofs.Common.{◌≡◌, ◌≢◌, ℕ, zero, suc, ◌+◌, ◌<◌, ◌≤◌, List, [], ◌∷◌, ◌++◌, length, map, All, inl, inr, refl, sym, ap, subst, ◌∙◌, vec_len}
+use Rattle.std.specs.Prelude.{Option, Some, None, vec_capacity}
+use Rattle.std.proofs.lemmas.List.{map-append}
+use Rattle.std.proofs.lemmas.List.Elements.{All-push}
+use mathlib.Core.Option.{some, some-ne-none}
+use lib.ListN.{get_elem?}
+use Rattle.atomic_table.proofs.Lists.{at_snoc}
+use Rattle.segment_image.specs.Shape.{Dimensions}
+use Rattle.segment_machine.specs.declared.actor.Actor.{Actor}
+use Rattle.segment_machine.specs.Actor.{is_opener}
+use Rattle.segment_machine.specs.Calls.{MayTurn}
+use Rattle.segment_machine.specs.Note.{Note, Notes, MayNote, noted, knows}
+use Rattle.hist_core.specs.declared.call.Stepped.{Stepped}
+use Rattle.hist_core.specs.declared.hist.Hist.{Hist as HistCall}
+use Rattle.hist_core.specs.declared.hist.HistStep.{HistStep}
+use Rattle.hist_core.specs.declared.hist.HistStep.TheVariants.{More, Done, Refused}
+use Rattle.hist_core.specs.declared.hist.Known.{Known}
+use Rattle.hist_core.specs.declared.runner.Running.{Running}
+use Rattle.hist_core.specs.declared.runner.Running.TheVariants.{Hist}
+use Rattle.hist_core.specs.declared.runner.Runner.{Runner}
+use Rattle.hist_core.specs.Goes.{Beside, Goes}
+use Rattle.hist_core.specs.Hist.{IsHist, IsSomeHist, HistGives, HistSteps, asked_of}
+use Rattle.hist_core.specs.Runner.{known_of, IsKnown, NoneHasName, HaveOwnNames, StandsIn, HasRoom, IsRun, IsSomeRun, IsHistSaid, Advances, Answers}
+use Rattle.hist_core.proofs.Parts.Walks.{goes_with}
+
+-- ---- a note more
+
+notes_more : (a b : Actor) (list : List Note) (note : Note) → Notes a list b → MayNote b note → Notes a (list ++ note ∷ []) (noted b note)
+notes_more a b [] note told may = (subst (λ x. MayNote x note) (sym told) may, ap (λ x. noted x note) told)
+notes_more a b (first ∷ rest) note (may_first, told) may = (may_first, notes_more (noted a first) b rest note told may)
+
+-- an actor that goes on notes one thing more
+pub goes_noting : {size version : ℕ} {a : Actor} {words new_words : List ℕ} {holds then_holds : Actor → Type 0} → Goes size version a words new_words holds
+    → ((b : Actor) → holds b → (note : Note) × MayNote b note × then_holds (noted b note)) → Goes size version a words new_words then_holds
+goes_noting go notes = record {
+  before = go.before;
+  at = go.at;
+  told = go.told;
+  event = go.event;
+  ready = go.ready;
+  words_are = go.words_are;
+  goes = λ learned apart.
+      let did = go.goes learned apart in let more = notes did.1 did.3 in
+      (did.0 ++ more.0 ∷ [], noted did.1 more.0, notes_more _ did.1 did.0 more.0 did.2 more.1, more.2);
+}
+
+-- ---- names
+
+none_more : (list : List Known) (known : Known) (name : List ℕ) → NoneHasName list name → known.name.items ≢ name → NoneHasName (list ++ known ∷ []) name
+none_more list known name none other i x at same =
+    elim (at_snoc list known x i at) [ inl before ↦ none i x before same | inr last ↦ other (ap (λ (k : Known). k.name.items) last ∙ same) ]
+
+pub own_more : (list : List Known) (known : Known) → HaveOwnNames list → NoneHasName list known.name.items → HaveOwnNames (list ++ known ∷ [])
+own_more [] known own none = ((λ i x at. absurd (some-ne-none x (sym at))), tt)
+own_more (first ∷ rest) known own none =
+    (none_more rest known first.name.items own.0 (λ same. none 0 first refl (sym same)), own_more rest known own.1 (λ i x at. none (suc i) x at))
+
+-- ---- an actor
+
+module _ (shape : Dimensions) (version : ℕ) (old : Runner) (a : Actor) (run : IsRun shape version old a) where
+  -- its call is another, or none, and of what it has counted and knows nothing has changed
+  pub runs_on : (b : Actor) (running : Option Running) → Beside a b → StandsIn shape old.known.items running b
+      → HasRoom running (vec_len old.known) (vec_capacity old.known) → IsRun shape version (record old { running = running }) b
+  runs_on b running beside stands room = record {
+    records = ap is_opener beside.role ∙ run.records;
+    segment = beside.segment ∙ run.segment;
+    first = ap (λ e. e.first) beside.entries ∙ run.first;
+    within = run.within;
+    ended = run.ended ∙ ap (λ e. map (λ c. c.entry) e.log) (sym beside.entries);
+    begun = run.begun ∙ ap (λ e. map (λ c. c.entry) (e.log ++ e.running)) (sym beside.entries);
+    untaken = (run.untaken.0, ap (λ d. d.taken) beside.deltas ∙ run.untaken.1);
+    names = run.names ∙ sym beside.names;
+    lawful = run.lawful;
+    once = run.once;
+    stands = stands;
+    room = room;
+  }
+
+  -- it knows one histogram more
+  pub knows_more : (b : Actor) (new : Runner) (known : Known) → Beside a b → MayTurn b → b.entries.running ≡ []
+      → new ≡ record old { known = new.known; running = None } → new.known.items ≡ old.known.items ++ known ∷ [] → IsKnown shape known
+      → NoneHasName old.known.items known.name.items → IsRun shape version new (noted b (knows (known_of known)))
+  knows_more b new known beside may rests new_is items lawful none =
+      subst (λ (r : Runner). IsRun shape version r (noted b (knows (known_of known)))) (sym new_is) (record {
+        records = ap is_opener beside.role ∙ run.records;
+        segment = beside.segment ∙ run.segment;
+        first = ap (λ e. e.first) beside.entries ∙ run.first;
+        within = run.within;
+        ended = run.ended ∙ ap (λ e. map (λ c. c.entry) e.log) (sym beside.entries);
+        begun = run.begun ∙ ap (λ e. map (λ c. c.entry) (e.log ++ e.running)) (sym beside.entries);
+        untaken = (run.untaken.0, ap (λ d. d.taken) beside.deltas ∙ run.untaken.1);
+        names = ap (map known_of) items
+            ∙ (map-append known_of old.known.items (known ∷ []) ∙ ap (λ l. l ++ known_of known ∷ []) (run.names ∙ sym beside.names));
+        lawful = subst (All (IsKnown shape)) (sym items) (All-push (IsKnown shape) old.known.items known run.lawful lawful);
+        once = subst HaveOwnNames (sym items) (own_more old.known.items known run.once none);
+        stands = (may, rests);
+        room = tt;
+      })
+
+-- ---- its `hist`
+
+abbrev asked_by : HistCall → Option Running → HistCall
+asked_by d (Some (Hist h)) = h
+asked_by d running = d
+
+pub some_hist : (n : ℕ) (runner : Runner) (h : HistCall) → runner.running ≡ Some (Hist h) → IsSomeRun n runner → IsSomeHist n h
+some_hist n runner h is (shape, version, a, long, wide, run) =
+    (shape, a, long, (subst (λ running. StandsIn shape runner.known.items running a) is run.stands).0)
+
+pub some_words : (n : ℕ) (runner : Runner) → IsSomeRun n runner → 16 ≤ n
+some_words n runner (shape, version, a, long, wide, run) = wide
+
+pub some_room : (n : ℕ) (runner : Runner) → IsSomeRun n runner → HasRoom runner.running (vec_len runner.known) (vec_capacity runner.known)
+some_room n runner (shape, version, a, long, wide, run) = run.room
+
+module _ (shape : Dimensions) (version : ℕ) (old : Runner) (a : Actor) (run : IsRun shape version old a) (h now : HistCall)
+    (is : old.running ≡ Some (Hist h)) (same : now.asked ≡ h.asked) (words new_words : List ℕ) (long : length words ≡ shape.size) where
+  stands : StandsIn shape old.known.items (Some (Hist h)) a
+  stands = subst (λ running. StandsIn shape old.known.items running a) is run.stands
+
+  room : HasRoom (Some (Hist now)) (vec_len old.known) (vec_capacity old.known)
+  room = subst (λ running. HasRoom running (vec_len old.known) (vec_capacity old.known)) is run.room
+
+  none : NoneHasName old.known.items now.asked.name.items
+  none = subst (λ (k : Known). NoneHasName old.known.items k.name.items) (sym same) stands.2
+
+  still_rests : (b : Actor) → Beside a b → b.entries.running ≡ []
+  still_rests b beside = ap (λ e. e.running) beside.entries ∙ stands.1
+
+  -- what the machine's actor does, and what becomes of that at run time
+  pub hist_goes : (said : HistStep) (new : Runner) (result : Stepped) → HistSteps h words now new_words said
+      → IsHistSaid (record old { running = Some (Hist now) }) said new result → Advances shape version old words new new_words a
+  hist_goes More new result steps (new_is, result_is) = goes_with (steps shape version a long stands.0) (λ b (beside, is_hist).
+      subst (λ (r : Runner). IsRun shape version r b) (sym new_is)
+      (runs_on shape version old a run b (Some (Hist now)) beside (is_hist, still_rests b beside, none) room))
+  hist_goes Done new result steps (asked, is_asked, new_is, items, result_is) =
+      let here : asked ≡ now = sym (ap (asked_by now) is_asked) in
+      let then_items : new.known.items ≡ old.known.items ++ (let k = now.asked in record k { reference = now.reference }) ∷ [] =
+      items ∙ ap (λ (x : HistCall). old.known.items ++ (let k = x.asked in record k { reference = x.reference }) ∷ []) here in
+      goes_noting (steps shape version a long stands.0) (λ b (beside, may, may_note, asking, within). (
+        knows (asked_of now),
+        may_note,
+        knows_more shape version old a run b new (let k = now.asked in record k { reference = now.reference }) beside may (still_rests b beside) new_is then_items
+            (record { name = asking.name; lawful = asking.lawful; ranges = asking.ranges; fits = asking.fits; within = within }) none,
+      ))
+  hist_goes (Refused why) new result steps (new_is, result_is) = goes_with (steps shape version a long stands.0) (λ b (beside, may, cause).
+      subst (λ (r : Runner). IsRun shape version r b) (sym new_is) (runs_on shape version old a run b None beside (may, still_rests b beside) tt))
+
+-- what is answered
+pub hist_answers : (old before : Runner) (words new_words : List ℕ) (said : HistStep) (new : Runner) (result : Stepped) → before.known.items ≡ old.known.items
+    → IsHistSaid before said new result → Answers old words new new_words result
+hist_answers old before words new_words More new result same (new_is, result_is) =
+    subst (Answers old words new new_words) (sym result_is) (ap (λ (r : Runner). r.known.items) new_is ∙ same)
+hist_answers old before words new_words Done new result same (asked, is_asked, new_is, items, result_is) =
+    subst (Answers old words new new_words) (sym result_is)
+    ((let k = asked.asked in record k { reference = asked.reference }), refl, items ∙ ap (λ (l : List Known). l ++ (let k = asked.asked in record k { reference = asked.reference }) ∷ []) same, ap (λ (r : Runner). r.running) new_is)
+hist_answers old before words new_words (Refused why) new result same (new_is, result_is) =
+    subst (Answers old words new new_words) (sym result_is) (ap (λ (r : Runner). r.running) new_is, ap (λ (r : Runner). r.known.items) new_is ∙ same)

@@ -1,10 +1,9 @@
 -- A `hist` of an actor goes on, and what its actor knows then.
-use Rattle.std.proofs.Common.{◌≡◌, ◌≢◌, ℕ, zero, suc, ◌+◌, ◌<◌, ◌≤◌, List, [], ◌∷◌, ◌++◌, length, map, All, inl, inr, refl, sym, ap, subst, ◌∙◌, vec_len}
+use Rattle.std.proofs.Common.{◌≡◌, ◌≢◌, ℕ, suc, ◌≤◌, List, [], ◌∷◌, ◌++◌, length, map, All, inl, inr, refl, sym, ap, subst, ◌∙◌, vec_len}
 use Rattle.std.specs.Prelude.{Option, Some, None, vec_capacity}
 use Rattle.std.proofs.lemmas.List.{map-append}
 use Rattle.std.proofs.lemmas.List.Elements.{All-push}
-use mathlib.Core.Option.{some, some-ne-none}
-use lib.ListN.{get_elem?}
+use mathlib.Core.Option.{some-ne-none}
 use Rattle.atomic_table.proofs.Lists.{at_snoc}
 use Rattle.segment_image.specs.Shape.{Dimensions}
 use Rattle.segment_machine.specs.declared.actor.Actor.{Actor}
@@ -20,7 +19,7 @@ use Rattle.hist_core.specs.declared.runner.Running.{Running}
 use Rattle.hist_core.specs.declared.runner.Running.TheVariants.{Hist}
 use Rattle.hist_core.specs.declared.runner.Runner.{Runner}
 use Rattle.hist_core.specs.Goes.{Beside, Goes}
-use Rattle.hist_core.specs.Hist.{IsHist, IsSomeHist, HistGives, HistSteps, asked_of}
+use Rattle.hist_core.specs.Hist.{IsSomeHist, HistSteps, asked_of}
 use Rattle.hist_core.specs.Runner.{known_of, IsKnown, NoneHasName, HaveOwnNames, StandsIn, HasRoom, IsRun, IsSomeRun, IsHistSaid, Advances, Answers}
 use Rattle.hist_core.proofs.Parts.Walks.{goes_with}
 

@@ -8,7 +8,6 @@ use Rattle.alloc_core.specs.Event as atomic
 use Rattle.segment_machine.specs.declared.actor.Actor.{Actor}
 use Rattle.segment_machine.specs.Event.{allocating_event, next}
 use Rattle.segment_machine.specs.Allocating.{set_flag}
-use Rattle.hist_core.specs.declared.runner.Running.{Running}
 use Rattle.hist_core.specs.declared.runner.Running.TheVariants.{SetCorrupt}
 use Rattle.hist_core.specs.declared.runner.Runner.{Runner}
 use Rattle.hist_core.specs.Runner.{IsRun, StandsIn, Advances}

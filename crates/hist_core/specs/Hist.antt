@@ -33,7 +33,6 @@ use Rattle.segment_machine.specs.Stages.{Allocates, PublishesAt}
 use Rattle.hist_core.specs.Asked.{payload_words, IsAskedFor}
 use Rattle.hist_core.specs.declared.asked.Asked.{Asked}
 use Rattle.hist_core.specs.declared.hist.Hist.{Hist}
-use Rattle.hist_core.specs.declared.hist.Known.{Known}
 use Rattle.hist_core.specs.declared.hist.HistStep.{HistStep}
 use Rattle.hist_core.specs.declared.hist.HistStep.TheVariants.{More, Done, Refused}
 use Rattle.hist_core.specs.Goes.{Beside, Goes}

@@ -7,7 +7,6 @@ use Rattle.list_core.specs.declared.publish.PubStep.TheVariants as put
 use Rattle.hist_core.specs.declared.hist.Hist.{Hist}
 use Rattle.hist_core.specs.declared.hist.HistStep.{HistStep}
 use Rattle.hist_core.specs.declared.hist.HistStep.TheVariants.{More, Done, Refused}
-use Rattle.hist_core.specs.declared.hist.Known.{Known}
 use Rattle.hist_core.specs.Hist.{IsMatched, IsDifferent, BeginsToAllocate, IsAllocated, IsPublished, IsFilled}
 
 asks : (old new : Hist) → new ≡ old → new.asked ≡ old.asked

@@ -1,8 +1,7 @@
-use Rattle.std.proofs.Common.{◌≤◌, ◌<◌, ◌≡◌, ℕ, length, ap, sym, subst, ◌∙◌, refl, arith, rules, vec_len}
+use Rattle.std.proofs.Common.{◌≤◌, ◌<◌, length, ap, sym, subst, ◌∙◌, refl, arith, rules, vec_len}
 use Rattle.std.specs.Prelude.{Some, vec_capacity}
 use Rattle.std.proofs.Props.{props}
 use Rattle.std.proofs.Math.Logic.{∥∥₁_elim}
-use Rattle.hist_core.specs.declared.runner.Running.TheVariants.{Hist}
 use Rattle.hist_core.specs.Runner.{HasRoom}
 use Rattle.hist_core.proofs.Asking.{some_hist, some_words, some_room, hist_goes, hist_answers}
 use Rattle.hist_core.proofs.Runners.{sets_corrupt}

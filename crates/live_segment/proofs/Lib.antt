@@ -21,6 +21,7 @@ mod Sightings
 mod BucketsSeen
 mod Mounted
 mod Answering
+mod Disabled
 mod Walked
 mod Seeing
 mod OneBucket

@@ -22,7 +22,7 @@ use Rattle.segment_machine.specs.declared.place.Look.{Look}
 use Rattle.segment_machine.specs.declared.place.Place.TheVariants.{Idle, Looking, Spent}
 use Rattle.segment_machine.specs.declared.seen.Seen.{Seen}
 use Rattle.segment_machine.specs.declared.seen.Sighting.{Sighting}
-use Rattle.segment_machine.specs.Actor.{has_buckets, is_bound, is_opener, word_seen}
+use Rattle.segment_machine.specs.Actor.{has_buckets, is_bound, is_opener, known_at, word_seen}
 use Rattle.segment_machine.specs.Allocating.{new_own}
 use Rattle.segment_machine.specs.Calls.{look_of, sight, sight_counts}
 use Rattle.segment_machine.specs.Counting.{load_counts}
@@ -76,6 +76,7 @@ mounts_on a b known may looks =
         may.knows.1,
         may.knows.2,
       );
+      alone = ap (λ (x : Actor). known_at x.answers.names known.reference) same ∙ may.alone;
       counts = (
         ap (λ (x : Actor). x.deltas.taking) same ∙ may.counts.0,
         λ c (rest, is). may.counts.1 c (rest, ap (λ (e : Entries). filter (λ (x : Counting). not (has_ended x)) e.running) (sym looks.entries) ∙ is),
@@ -126,8 +127,7 @@ module _ (segment : Segment) (known : Known) (old : Pass) (at : ℕ) (table : ol
         subst (λ (b : Actor). HasMounted known a at b) (sym view) (record {
           looks = with_words a (after_mount true a known.reference at found).hand (sight_counts known.reference at) refl;
           filled = refl;
-          stands = (None, refl);
-          within = within;
+          stands = ((None, refl), within);
         })
 
     module _ (there : found ≢ 0) where
@@ -149,8 +149,7 @@ module _ (segment : Segment) (known : Known) (old : Pass) (at : ℕ) (table : ol
           subst (λ (b : Actor). HasMounted known a found b) (sym all) (record {
             looks = with_words a (next (after_mount false a known.reference at found) (packing_event (purge_block at)) 0).hand (sight_counts known.reference found) refl;
             filled = refl;
-            stands = (None, refl);
-            within = (there, step.learned.0 known may.knows there);
+            stands = ((None, refl), (there, step.learned.0 known may.knows there));
           })
 
 -- ---- how many words they take
@@ -202,10 +201,12 @@ module _ (segment : Segment) (known : Known) (old : Pass) (table : old.table_id 
           looks = with_words first loaded.hand (sight_counts known.reference found) refl;
           filled = refl;
           stands = (
-            look.single,
-            ap (λ (h : ℕ). Looking (record { histogram = h; single = look.single; counts = found })) (looks_there first.hand.place known.reference),
+            (
+              look.single,
+              ap (λ (h : ℕ). Looking (record { histogram = h; single = look.single; counts = found })) (looks_there first.hand.place known.reference),
+            ),
+            (there, step.learned.0 known may.knows there),
           );
-          within = (there, step.learned.0 known may.knows there);
         })
 
     -- there are none, and a block is claimed
@@ -272,7 +273,6 @@ module _ (segment : Segment) (known : Known) (old : Pass) (table : old.table_id 
         looks = looks_on first new.me.0 last.me.0 looks_with_block has.looks;
         filled = has.filled ∙ (ap (λ (b : Actor). b.done.filled) made.1 ∙ ap (λ (b : Actor). b.done.filled) step.view);
         stands = has.stands;
-        within = has.within;
       }
 
     -- there are none, and no block can be claimed

@@ -16,6 +16,7 @@ use Rattle.segment_machine.specs.Packing.{CountsIn, IsBlankCounts}
 use Rattle.live_segment.specs.Adding.{HasNoRoom, block_words}
 use Rattle.live_segment.specs.Refusing.{given_up}
 use Rattle.live_segment.specs.Steps.{Does, Sat}
+use Rattle.live_segment.specs.Telling.{KnowsAlone}
 use Rattle.live_segment.specs.Working.{CountsWithin, LooksAt, LooksOn}
 
 -- ---- the counts reference
@@ -37,18 +38,22 @@ pub record MayMount (a : Actor) (known : Known) : Type 0 where
   pub recorder : is_opener a.role ≡ false
   pub free : is_bound a.hand.place ≡ false
   pub knows : Buckets a known.reference known
+  pub alone : KnowsAlone a known
   pub counts : CountsIn a known
 
 -- it has a blank block for them at a word
 abbrev pub HasBlank : Actor → Known → ℕ → Type 0
 HasBlank a known at = (own : Own) × Contains a.hand.own own × (own.at ≡ at) × IsBlankCounts own (buckets_of known.spec)
 
+-- it looks at counts, which lie within the segment
+abbrev pub LooksAtCounts : Actor → Known → ℕ → Type 0
+LooksAtCounts a known counts = ((single : Option ℕ) × LooksAt a known.reference single counts) × CountsWithin a known counts
+
 -- It has found or mounted counts, and looks at them.
 pub record HasMounted (known : Known) (old : Actor) (counts : ℕ) (new : Actor) : Type 0 where
   pub looks : LooksOn old new
   pub filled : new.done.filled ≡ old.done.filled
-  pub stands : (single : Option ℕ) × LooksAt new known.reference single counts
-  pub within : CountsWithin new known counts
+  pub stands : LooksAtCounts new known counts
 
 -- There were none, and no block could be claimed for them: the call has ended.
 pub record HasNotMounted (why : Refusal) (known : Known) (old new : Actor) : Type 0 where

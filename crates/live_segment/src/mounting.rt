@@ -1,18 +1,31 @@
 //! How a recorder brings the counts of a histogram in use: it mounts them where there are none, and disables the single
 //! word.
 
+ghost use Rattle.std.specs.Prelude.{◌≡◌, ◌==◌, ◌&&◌, nat_lt};
+
 use crate::recorder::KnownHistogram;
 use crate::rule::Pass;
 use crate::segment::Segment;
 use hist_core::Refusal;
-use segment_image::layout::{BLOCK_HEADER, TYPE_COUNTS};
+use hist_core::packing::{DISABLED_BIT, off_word};
+use segment_image::layout::{BLOCK_HEADER, TYPE_COUNTS, VERSION_MOVING};
+
+// The units of a packed word stand below this, and the bucket above.
+const UNITS: u64 = 1 << 32;
+
+// Whether units of a single word are in transit once it is disabled: in version 1 where it has some.
+fn moves_units(version: u64, word: u64) -> bool
+    ensures { result ≡ ((version == 1) && nat_lt 0 word) }
+{
+    version == VERSION_MOVING && word > 0
+}
 
 impl Segment {
     ghost use Rattle.std.specs.Prelude.{◌≡◌, ◌+◌, ◌*◌, ◌≤◌, MatchResult};
     ghost use Rattle.bucket_ranges.specs.Spec.{buckets_of};
     ghost use Rattle.live_segment.specs.Known.{known_view, KnowsRight};
     ghost use Rattle.live_segment.specs.Holders.{table_of};
-    ghost use Rattle.live_segment.specs.Mounting.{MayMount, HasBlank, HasMounted, HasNotMounted};
+    ghost use Rattle.live_segment.specs.Mounting.{MayMount, HasBlank, LooksAtCounts, HasMounted, HasNotMounted, HasDisabled};
     ghost use Rattle.live_segment.specs.Refusing.{MayGiveUp};
     ghost use Rattle.live_segment.specs.Rule.{IsOf};
     ghost use Rattle.live_segment.specs.Steps.{IsSame};
@@ -56,5 +69,30 @@ impl Segment {
         }
         self.purge_block(seat, at);
         found
+    }
+
+    // Disables the single word of a histogram whose counts it looks at, and adds the units that this had to their count.
+    // Where it is off, nothing is left to do.
+    pub(crate) fn disable_single(&self, seat: &mut Pass, histogram: &KnownHistogram, counts: u64)
+        requires seat { (seat.old.table_id ≡ table_of self.now) × IsOf self.now.setting seat.old.me.0 }
+        requires room { histogram.now.reference + 15 ≤ self.now.setting.shape.size }
+        requires may { MayMount seat.old.me.0 (known_view histogram.now) }
+        requires stands { LooksAtCounts seat.old.me.0 (known_view histogram.now) counts }
+        ensures same { IsSame seat.old seat.new }
+        ensures disabled { HasDisabled (known_view histogram.now) counts seat.old.me.0 seat.new.me.0 }
+    {
+        loop {
+            let word = self.load_single(seat, histogram.reference);
+            if word >= DISABLED_BIT {
+                return;
+            }
+            let off = off_word(self.setting.version, word);
+            if self.disable(seat, histogram.reference, word, off) == word {
+                if moves_units(self.setting.version, word) {
+                    self.add_moved(seat, counts, word / UNITS, word % UNITS);
+                }
+                return;
+            }
+        }
     }
 }

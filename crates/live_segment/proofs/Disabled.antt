@@ -1,6 +1,6 @@
 -- A single word is disabled once counts are there: it is loaded, and exchanged where it is not off. An exchange that comes too late finds it
 -- further on. The units that it had are added to the count of their bucket.
-use Rattle.std.proofs.Common.{◌≡◌, ◌≢◌, ◌⊎◌, ℕ, ◌+◌, ◌-◌, ◌*◌, ◌/◌, ◌%◌, ◌^◌, ◌<◌, ◌≤◌, ◌==◌, ◌&&◌, nat_lt, nat_le, if◌then◌else◌, Bool, true, false, List, [], ◌∷◌, ◌++◌, Option, Some, None, inl, inr, refl, sym, ap, ◌∙◌, subst, arith}
+use Rattle.std.proofs.Common.{◌≡◌, ◌≢◌, ◌⊎◌, ℕ, ◌+◌, ◌-◌, ◌*◌, ◌/◌, ◌%◌, ◌^◌, ◌<◌, ◌≤◌, ◌==◌, ◌&&◌, nat_lt, nat_le, if◌then◌else◌, Bool, true, false, [], ◌∷◌, ◌++◌, Option, Some, None, inl, inr, refl, sym, ap, ◌∙◌, subst, arith}
 use Rattle.std.specs.Prelude.{unwrap_or}
 use Rattle.std.specs.List.{Contains}
 use Rattle.std.proofs.lemmas.Bool.{eq-eqb, ne_eqb, le-leb, ltb-true, and_parts}
@@ -15,7 +15,7 @@ use Rattle.segment_machine.specs.declared.place.Look.{Look}
 use Rattle.segment_machine.specs.declared.place.Place.{Place}
 use Rattle.segment_machine.specs.declared.place.Place.TheVariants.{Looking, Moving}
 use Rattle.segment_machine.specs.declared.seen.Sighting.{Sighting}
-use Rattle.segment_machine.specs.Actor.{Buckets, is_opener, known_at, known_buckets}
+use Rattle.segment_machine.specs.Actor.{is_opener, known_buckets}
 use Rattle.segment_machine.specs.Calls.{form_seen, look_of, sight}
 use Rattle.segment_machine.specs.Event.{packing_event, next}
 use Rattle.segment_machine.specs.Form.{is_off, off_word, units_in, Leads}
@@ -23,7 +23,7 @@ use Rattle.segment_machine.specs.Packing.{load_single, disable, add_moved, after
 use Rattle.segment_invariant.proofs.Packing.OffForms.{on_form}
 use Rattle.live_segment.specs.declared.segment.Segment.{Segment}
 use Rattle.live_segment.specs.Holders.{table_of, MayStep}
-use Rattle.live_segment.specs.Mounting.{MayMount, LooksAtCounts, HasDisabled, StandsOff}
+use Rattle.live_segment.specs.Mounting.{MayMount, HasDisabled}
 use Rattle.live_segment.specs.Rule.{IsOf}
 use Rattle.live_segment.specs.Steps.{Pass, IsSame, Stepped}
 use Rattle.live_segment.specs.Working.{CountsWithin, LooksAt, LooksOn}

@@ -66,7 +66,7 @@ module _ (known : Known) (lawful : spec_fault known.spec ≡ None) (bucketed : h
       let next = split.ascending i (omega (arith, lt, under, long)) in
       let up = ascends (boundaries_of known.spec) (i + 1) bucket split.ascending (omega (arith, lt)) (omega (arith, under, long)) in (
         subst (λ (k : ℤ). int_cmp k (bucket_key (Some known) bucket) ≡ Less) (sym is)
-        (pos_less (slice_index (boundaries_of known.spec) i) (slice_index (boundaries_of known.spec) bucket) (omega (arith, next, up))),
+            (pos_less (slice_index (boundaries_of known.spec) i) (slice_index (boundaries_of known.spec) bucket) (omega (arith, next, up))),
         keys_below bucket under counts rest,
       )
 

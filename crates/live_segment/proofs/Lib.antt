@@ -21,6 +21,7 @@ mod Sightings
 mod BucketsSeen
 mod Mounted
 mod Answering
+mod SampleWords
 mod Disabled
 mod Walked
 mod Seeing

@@ -20,6 +20,7 @@ pub mod Looking
 pub mod Records
 pub mod Refusing
 pub mod Snapshots
+pub mod Samples
 pub mod Deltas
 pub mod Mounting
 pub mod Finishing

@@ -20,6 +20,7 @@ mod publishing;
 mod recorder;
 mod records;
 mod rule;
+mod samples;
 mod seats;
 mod segment;
 mod shared_cursors;

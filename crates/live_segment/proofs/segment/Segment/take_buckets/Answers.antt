@@ -52,16 +52,16 @@ loop-bucket-preserved c =
     let test = c.loop-bucket-test.true in
     elim c.if-units-gt0.branch [
       | then-units-gt0 w ↦
-        let fits : FitsSigned w32 w.low.result = search rules in
-        let key = to_z-of_z w32 w.low.result fits ∙ (w.low.ensures.value ∙ ap (λ (l : List ℕ). pos (slice_index l c.loop-bucket.bucket)) c.requires.right.ranges) in record {
-          drawn = subst IsDrawn
-              (sym (ap (λ v. v.items) w.taken-is ∙ (w.push_reserved.ensures.items ∙ ap (λ (k : ℤ). c.loop-bucket.taken.items ++ (k, c.take_bucket-units.result) ∷ []) key)))
-              (draws_some c.args.self.now known c.args.mounted.now c.args.seat.now c.loop-bucket.seat c.loop-bucket.bucket c.loop-bucket.taken.items
-              c.requires.right.lawful c.requires.bucketed was c.take_bucket-units.new.seat c.take_bucket-units.result step.same step.stands step.took step.on
-              (omega (arith, count, long, end, test)) w.if-units-gt0.true);
-          room = let stays = w.push_reserved.ensures.capacity in let same = ap vec_capacity w.taken-is in let enough = c.loop-bucket.invariant.room in
-              omega (arith, stays, same, enough);
-        }
+          let fits : FitsSigned w32 w.low.result = search rules in
+          let key = to_z-of_z w32 w.low.result fits ∙ (w.low.ensures.value ∙ ap (λ (l : List ℕ). pos (slice_index l c.loop-bucket.bucket)) c.requires.right.ranges) in record {
+            drawn = subst IsDrawn
+                (sym (ap (λ v. v.items) w.taken-is ∙ (w.push_reserved.ensures.items ∙ ap (λ (k : ℤ). c.loop-bucket.taken.items ++ (k, c.take_bucket-units.result) ∷ []) key)))
+                (draws_some c.args.self.now known c.args.mounted.now c.args.seat.now c.loop-bucket.seat c.loop-bucket.bucket c.loop-bucket.taken.items
+                c.requires.right.lawful c.requires.bucketed was c.take_bucket-units.new.seat c.take_bucket-units.result step.same step.stands step.took step.on
+                (omega (arith, count, long, end, test)) w.if-units-gt0.true);
+            room = let stays = w.push_reserved.ensures.capacity in let same = ap vec_capacity w.taken-is in let enough = c.loop-bucket.invariant.room in
+                omega (arith, stays, same, enough);
+          }
       | else-units-gt0 w ↦ record {
         drawn = subst IsDrawn (sym (ap (λ v. v.items) w.taken-is))
             (draws_none c.args.self.now known c.args.mounted.now c.args.seat.now c.loop-bucket.seat c.loop-bucket.bucket c.loop-bucket.taken.items

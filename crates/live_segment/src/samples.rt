@@ -1,0 +1,39 @@
+//! How a recorder meets the samples of a sparse histogram along the list.
+
+ghost use Rattle.std.specs.Prelude.{◌≡◌, ◌+◌, ◌≤◌, false};
+ghost use Rattle.segment_machine.specs.Actor.{is_opener};
+ghost use Rattle.live_segment.specs.Finding.{Meets, SeesWords};
+ghost use Rattle.live_segment.specs.Rule.{IsOf};
+ghost use Rattle.live_segment.specs.Samples.{ShowsSample};
+
+use crate::rule::Pass;
+use crate::segment::Segment;
+use segment_image::layout::{BLOCK_TYPE, SAMPLE_HISTOGRAM, SAMPLE_VALUE, TYPE_SAMPLE};
+
+impl Segment {
+    ghost use Rattle.live_segment.specs.Holders.{table_of};
+    ghost use Rattle.live_segment.specs.Steps.{IsSame};
+
+    // The value of a record that was met, where it is a sample of a histogram.
+    pub(crate) fn shows_sample(&self, seat: &mut Pass, at: u64, histogram: u64) -> Option<i32>
+        requires seat { (seat.old.table_id ≡ table_of self.now) × (is_opener seat.old.me.0.role ≡ false) × IsOf self.now.setting seat.old.me.0 }
+        requires met { Meets at seat.old.me.0 }
+        requires room { at + 5 ≤ self.now.setting.shape.size }
+        ensures same { IsSame seat.old seat.new }
+        ensures view { SeesWords seat.old.me.0 seat.new.me.0 }
+        ensures shown { ShowsSample histogram at result seat.new.me.0 }
+    {
+        if self.load_published(seat, at, BLOCK_TYPE) != TYPE_SAMPLE {
+            return None;
+        }
+        let of = self.load_published(seat, at, SAMPLE_HISTOGRAM);
+        let value = self.load_published(seat, at, SAMPLE_VALUE);
+        if of != histogram {
+            return None;
+        }
+        match i32::try_from(value.cast_signed()) {
+            Ok(value) => Some(value),
+            Err(_) => None,
+        }
+    }
+}

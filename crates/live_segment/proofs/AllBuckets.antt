@@ -1,5 +1,5 @@
 -- A delta takes what is counted in all buckets of a histogram, one after the other.
-use Rattle.std.proofs.Common.{◌≡◌, ◌≢◌, ℕ, ◌+◌, ◌<◌, ◌≤◌, ℤ, pos, map, nat_lt, if◌then◌else◌, Bool, true, false, true≢false, List, [], ◌∷◌, ◌++◌, length, slice_index, Some, None, Less, Equal, Greater, inl, inr, refl, sym, ap, subst, ◌∙◌, arith}
+use Rattle.std.proofs.Common.{◌≡◌, ◌≢◌, ℕ, ◌+◌, ◌-◌, ◌<◌, ◌≤◌, ℤ, pos, map, nat_lt, if◌then◌else◌, Bool, true, false, true≢false, List, [], ◌∷◌, ◌++◌, length, slice_index, Some, None, Less, Equal, Greater, inl, inr, refl, sym, ap, subst, ◌∙◌, arith}
 use Rattle.std.specs.List.{All, AllByRecursion}
 use Rattle.std.specs.List.Sorted.{IsStrictlySortedBy}
 use Rattle.std.specs.Ordering.{int_cmp}
@@ -19,6 +19,9 @@ use Rattle.segment_machine.specs.Actor.{bucket_key, has_buckets}
 use Rattle.segment_machine.specs.Note.{TookBucket}
 use Rattle.live_segment.specs.declared.deltas.Mounted.{Mounted}
 use Rattle.live_segment.specs.declared.segment.Segment.{Segment}
+use Rattle.live_segment.specs.declared.recorder.KnownHistogram.{KnownHistogram}
+use Rattle.live_segment.specs.declared.rule.Setting.{Setting}
+use Rattle.live_segment.specs.Known.{known_view, KnowsRight}
 use Rattle.live_segment.specs.Deltas.{AreUnits, TakesAt, TakesOn, units_of_key}
 use Rattle.live_segment.specs.Steps.{IsSame, Pass}
 use Rattle.live_segment.proofs.OneBucket.{takes_not, takes_then}
@@ -78,6 +81,14 @@ module _ (known : Known) (lawful : spec_fault known.spec ≡ None) (bucketed : h
             (sorted_push (map (λ (c : ℤ × ℕ). c.0) counts) last.0 are.ascending (keys_below bucket under counts below));
         some = All-push (λ (c : ℤ × ℕ). 1 ≤ c.1) counts last are.some least;
       }
+
+-- a recorder has as many ranges of a histogram as that has buckets
+module _ (histogram : KnownHistogram) (setting : Setting) (a : Actor) (right : KnowsRight setting a histogram) (bucketed : has_buckets histogram.spec ≡ true) where
+  pub buckets_long : (n : ℕ) → n ≡ length histogram.ranges - 1 → n ≡ buckets_of histogram.spec
+  buckets_long n is =
+      let count = (split (known_view histogram) right.lawful bucketed).count in
+      let long = ap length right.ranges in
+      omega (arith, count, long, is)
 
 -- what was taken of the first buckets
 pub record HasDrawn (segment : Segment) (known : Known) (mounted : Mounted) (first seat : Pass) (bucket : ℕ) (list : List (ℤ × ℕ)) : Type 0 where

@@ -43,7 +43,7 @@ free_at a look known stands =
     (λ (bucket, count, place, knows). ap is_bound place) stands
 
 -- a reference that is not 0 is seen as it was found
-counts_there : (words : List Sighting) (histogram found : ℕ) → found ≢ 0 → ((counts : ℕ) → word_seen words (histogram + 8) ≡ Some counts → found ≡ counts)
+pub counts_there : (words : List Sighting) (histogram found : ℕ) → found ≢ 0 → ((counts : ℕ) → word_seen words (histogram + 8) ≡ Some counts → found ≡ counts)
     → word_seen (words ++ sight_counts histogram found) (histogram + 8) ≡ Some found
 counts_there words histogram found used same =
     ap (λ (b : Bool). word_seen (words ++ (if b then [] else sight (histogram + 8) found)) (histogram + 8)) (ne_eqb found 0 used)

@@ -32,3 +32,6 @@ mod OwnNames
 mod Searching
 mod Showing
 mod Naming
+mod OneDelta
+mod Knowing
+mod DeltaEnds

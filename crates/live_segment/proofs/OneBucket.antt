@@ -96,7 +96,7 @@ saw_here a at word low =
     (Contains-append_right (drop a.since.counts a.seen.counts) (sight at word) it (0, omega arith, refl))
 
 -- a list that grows stays long enough
-long_still : {X : Type 0} (n : ℕ) (old new : List X) → n ≤ length old → ((more : List X) × (new ≡ old ++ more)) → n ≤ length new
+pub long_still : {X : Type 0} (n : ℕ) (old new : List X) → n ≤ length old → ((more : List X) × (new ≡ old ++ more)) → n ≤ length new
 long_still n old new low (more, is) = let long = ap length is ∙ length-append old more in omega (arith, low, long)
 
 -- a delta that went on takes the same histogram

@@ -1,17 +1,21 @@
 -- What a delta makes of its recorder: what it takes on its way, and what it has taken when it ends.
-use Rattle.std.specs.Prelude.{◌≡◌, true, false, ℕ, ◌+◌, ◌≤◌, ℤ, List, [], ◌∷◌, ◌++◌, length, map, nat_lt, if◌then◌else◌, Some}
-use Rattle.std.specs.List.{All}
+use Rattle.std.specs.Prelude.{◌≡◌, ◌≢◌, true, false, ℕ, ◌+◌, ◌<◌, ◌≤◌, ℤ, ◌+ℤ◌, List, [], ◌∷◌, ◌++◌, length, map, nat_lt, if◌then◌else◌, Option, Some, None}
+use Rattle.std.specs.List.{All, Contains}
 use Rattle.std.specs.List.Sorted.{IsStrictlySortedBy}
 use Rattle.std.specs.Ordering.{int_cmp}
 use Rattle.segment_image.specs.declared.layout.TheConstants.{HISTOGRAM_COUNTS, HISTOGRAM_SINGLE}
+use Rattle.bucket_ranges.specs.declared.spec.Spec.TheVariants as spec
 use Rattle.bucket_ranges.specs.Single.{packed_bucket, single_of}
 use Rattle.bucket_ranges.specs.Spec.{buckets_of}
 use Rattle.segment_machine.specs.declared.actor.Actor.{Actor}
 use Rattle.segment_machine.specs.declared.actor.Known.{Known}
 use Rattle.segment_machine.specs.declared.actor.Taken.{Taken}
-use Rattle.segment_machine.specs.Actor.{SawSingle, is_opener, word_seen}
+use Rattle.segment_machine.specs.declared.place.Place.TheVariants.{Idle}
+use Rattle.segment_machine.specs.Actor.{SawSingle, has_buckets, is_bound, is_opener, looking, units_listed, word_seen}
 use Rattle.segment_machine.specs.Calls.{change_last}
 use Rattle.segment_machine.specs.Form.{is_off, units_in}
+use Rattle.segment_machine.specs.Made.{SawSample}
+use Rattle.segment_machine.specs.Note.{TookAll, TookBucket, TookSample, moment_of}
 use Rattle.segment_machine.specs.Taking.{Takes}
 use Rattle.live_segment.specs.declared.deltas.Mounted.{Mounted}
 use Rattle.live_segment.specs.declared.segment.Segment.{Segment}
@@ -21,7 +25,7 @@ use Rattle.live_segment.specs.Onward.{SeesOn}
 use Rattle.live_segment.specs.Rule.{IsOf}
 use Rattle.live_segment.specs.Steps.{Pass}
 use Rattle.live_segment.specs.Telling.{KnowsAlone}
-use Rattle.live_segment.specs.Working.{CountsWithin}
+use Rattle.live_segment.specs.Working.{CountsWithin, LooksAt}
 
 -- ---- what is taken
 
@@ -41,6 +45,32 @@ pub record TakesOn (more : List (ℤ × ℕ)) (old new : Actor) : Type 0 where
     seen = new.seen;
   }
   pub seen : SeesOn old.seen new.seen
+
+-- keys with units, ascending, each once
+pub record AreUnits (counts : List (ℤ × ℕ)) : Type 0 where
+  pub ascending : IsStrictlySortedBy int_cmp (map (λ count. count.0) counts)
+  pub some : All (λ count. 1 ≤ count.1) counts
+
+-- ---- of a histogram with buckets
+
+-- A recorder's seat takes a delta of a histogram with buckets, and has loaded its single word.
+pub record TakesWord (segment : Segment) (known : Known) (word : ℕ) (seat : Pass) : Type 0 where
+  pub table : seat.table_id ≡ table_of segment
+  pub recorder : is_opener seat.me.0.role ≡ false
+  pub of : IsOf segment.setting seat.me.0
+  pub alone : KnowsAlone seat.me.0 known
+  pub bucketed : has_buckets known.spec ≡ true
+  pub takes : Takes seat.me.0 known.reference known
+  pub saw : SawSingle seat.me.0 (known.reference + HISTOGRAM_SINGLE) word
+  pub formed : single_of seat.me.0.segment.version (buckets_of known.spec) word ≢ None
+  pub counted : ℕ
+  pub stands : LooksAt seat.me.0 known.reference (Some word) counted
+  pub singles : seat.me.0.since.singles ≤ length seat.me.0.seen.singles
+  pub counts : seat.me.0.since.counts ≤ length seat.me.0.seen.counts
+
+-- the bucket whose units a single word holds or held, and the units that it holds
+abbrev pub SaysPacked : ℕ → ℕ → ℕ → Option ℕ → ℕ → Type 0
+SaysPacked version buckets word packed kept = (packed ≡ packed_bucket (single_of version buckets word)) × (kept ≡ units_in (single_of version buckets word))
 
 -- ---- at the counts
 
@@ -63,9 +93,52 @@ pub record TakesAt (segment : Segment) (known : Known) (mounted : Mounted) (seat
   pub singles : seat.me.0.since.singles ≤ length seat.me.0.seen.singles
   pub counts : seat.me.0.since.counts ≤ length seat.me.0.seen.counts
 
--- ---- what is answered
 
--- keys with units, ascending, each once
-pub record AreUnits (counts : List (ℤ × ℕ)) : Type 0 where
-  pub ascending : IsStrictlySortedBy int_cmp (map (λ count. count.0) counts)
-  pub some : All (λ count. 1 ≤ count.1) counts
+-- ---- what was taken
+
+-- A delta has taken these units of the buckets of a histogram, which is all that its recorder saw of them since it began.
+pub record HasTakenBuckets (known : Known) (taken : List (ℤ × ℕ)) (old new : Actor) : Type 0 where
+  pub on : TakesOn taken old new
+  pub free : is_bound new.hand.place ≡ false
+  pub took : (bucket : ℕ) → bucket < buckets_of known.spec → TookBucket new known bucket
+  pub units : AreUnits taken
+
+-- A delta has taken of the units of a histogram all that its recorder saw, and may take of the sum.
+pub record MayTakeSum (segment : Segment) (known : Known) (seat : Pass) : Type 0 where
+  pub table : seat.table_id ≡ table_of segment
+  pub recorder : is_opener seat.me.0.role ≡ false
+  pub free : is_bound seat.me.0.hand.place ≡ false
+  pub takes : Takes seat.me.0 known.reference known
+  pub buckets : has_buckets known.spec ≡ true → (bucket : ℕ) → bucket < buckets_of known.spec → TookBucket seat.me.0 known bucket
+  pub samples : known.spec ≡ spec.Sparse → (value : ℤ) (sample : ℕ) → Contains seat.me.0.seen.chain sample
+      → SawSample seat.me.0.seen known.reference value sample → TookSample seat.me.0 sample
+
+-- a delta took this of the sum
+abbrev pub with_sum : ℤ → Taken → Taken
+with_sum amount taken = record taken { sum = taken.sum +ℤ amount; swapped = true }
+
+-- it has taken this of the sum, and ended
+pub record HasTakenSum (known : Known) (amount : ℤ) (old new : Actor) : Type 0 where
+  pub view : new ≡ record old {
+    hand = record old.hand { place = Idle };
+    deltas = record old.deltas { taking = false; taken = change_last (with_sum amount) old.deltas.taken };
+  }
+  pub all : TookAll new known
+
+-- what a delta took, as its recorder keeps it
+abbrev pub taken_as : Actor → Known → List (ℤ × ℕ) → ℤ → Taken
+taken_as a known counts sum = record { name = known.name; counts = counts; sum = sum; swapped = true; moment = moment_of a }
+
+-- A delta of a histogram has taken all that its recorder saw since it began, and is noted behind those before. It is answered with keys and
+-- units, of each key as many as it took. Its recorder has seen no less, and all else that it has is as before.
+pub record HasTaken (known : Known) (delta : List (ℤ × ℕ)) (sum : ℤ) (old new : Actor) : Type 0 where
+  pub counts : List (ℤ × ℕ)
+  pub same : new ≡ record (looking old) {
+    hand = record old.hand { place = Idle };
+    seen = new.seen;
+    deltas = record old.deltas { taking = false; taken = old.deltas.taken ++ taken_as old known counts sum ∷ [] };
+  }
+  pub seen : SeesOn old.seen new.seen
+  pub all : TookAll new known
+  pub units : AreUnits delta
+  pub each : (key : ℤ) → units_listed delta key ≡ units_listed counts key

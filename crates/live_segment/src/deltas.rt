@@ -1,18 +1,22 @@
 //! How a recorder takes a delta of a histogram: of each bucket the units that no delta has taken yet, and of the sum what is new.
 
-ghost use Rattle.std.specs.Prelude.{◌≡◌, ◌<◌, ◌+◌, ◌≤◌, true, ℕ, [], Some, length, vec_capacity};
+ghost use Rattle.std.specs.Prelude.{◌≡◌, ◌<◌, ◌+◌, ◌≤◌, true, false, ℕ, [], Some, length, vec_capacity};
 ghost use Rattle.bucket_ranges.specs.Spec.{buckets_of};
 ghost use Rattle.segment_machine.specs.Actor.{bucket_key, has_buckets};
+ghost use Rattle.segment_machine.specs.Form.{is_off};
 ghost use Rattle.segment_machine.specs.Note.{TookBucket};
-ghost use Rattle.live_segment.specs.Deltas.{AreUnits, TakesAt, TakesOn, units_of_key};
+ghost use Rattle.live_segment.specs.Deltas.{AreUnits, HasTaken, HasTakenBuckets, HasTakenSum, MayTakeSum, SaysPacked, TakesAt, TakesOn, TakesWord, units_of_key};
 ghost use Rattle.live_segment.specs.Known.{known_view, KnowsRight};
 
 use crate::recorder::KnownHistogram;
 use crate::rule::Pass;
 use crate::segment::Segment;
+use bucket_ranges::SingleWord;
+use hist_core::packing::DISABLED_BIT;
 use segment_image::layout::BLOCK_HEADER;
 
 // The counts of a histogram, as a delta found them in use.
+#[derive(Drop)]
 pub(crate) struct Mounted {
     // Where they stand.
     counts: u64,
@@ -21,8 +25,23 @@ pub(crate) struct Mounted {
     kept: u64,
 }
 
+// The bucket whose units a single word of a version holds or held, where there is one, and the units that it holds.
+fn packed_in(version: u64, word: u64, buckets: usize) -> (Option<usize>, u64)
+    requires few { buckets ≤ 65535 }
+    ensures { SaysPacked version buckets word result.0 result.1 }
+{
+    match SingleWord::of(version, word, buckets) {
+        Some(SingleWord::Packed { bucket, units }) => (Some(bucket), units),
+        Some(SingleWord::Frozen { bucket, units }) => (Some(bucket), units),
+        Some(SingleWord::Disabled { packed }) => (packed, 0),
+        _ => (None, 0),
+    }
+}
+
 impl Segment {
-    ghost use Rattle.live_segment.specs.Steps.{IsSame};
+    ghost use Rattle.live_segment.specs.Holders.{table_of};
+    ghost use Rattle.live_segment.specs.Rule.{IsOf};
+    ghost use Rattle.live_segment.specs.Steps.{IsAtRest, IsSame};
 
     // The units of a bucket that the delta takes: its count is loaded, and where that is not 0, the mark is raised to it. The packed bucket
     // has the single mark, and its total is the count with what the single word keeps.
@@ -82,5 +101,85 @@ impl Segment {
                 taken.push_reserved((histogram.ranges.low(bucket), units));
             }
         }
+    }
+    // The delta takes the packed units: the single mark is raised to them, and what is new is listed.
+    fn take_packed(
+        &self,
+        seat: &mut Pass,
+        histogram: &KnownHistogram,
+        bucket: usize,
+        units: u64,
+        taken: &mut Vec<(i32, u64)>,
+    )
+        requires right { KnowsRight self.now.setting seat.old.me.0 histogram.now }
+        requires takes { (word : ℕ) × TakesWord self.now (known_view histogram.now) word seat.old × (is_off word ≡ false) × SaysPacked self.now.setting.version (buckets_of histogram.now.spec) word (Some bucket) units }
+        requires room { (taken.old.items ≡ []) × (1 ≤ vec_capacity taken.old) }
+        ensures same { IsSame seat.old seat.new }
+        ensures taken { HasTakenBuckets (known_view histogram.now) taken.new.items seat.old.me.0 seat.new.me.0 }
+    {
+        let mark = self.raise_single_mark(seat, histogram.reference, units);
+        if mark < units {
+            taken.push_reserved((histogram.ranges.low(bucket), units - mark));
+        }
+    }
+
+    // The delta takes what is new in all buckets, and lists it in their order. There is room for all of them.
+    fn take_units(
+        &self,
+        seat: &mut Pass,
+        histogram: &KnownHistogram,
+        word: u64,
+        taken: &mut Vec<(i32, u64)>,
+    )
+        requires right { KnowsRight self.now.setting seat.old.me.0 histogram.now }
+        requires takes { TakesWord self.now (known_view histogram.now) word seat.old }
+        requires room { (taken.old.items ≡ []) × (buckets_of histogram.now.spec ≤ vec_capacity taken.old) }
+        ensures same { IsSame seat.old seat.new }
+        ensures taken { HasTakenBuckets (known_view histogram.now) taken.new.items seat.old.me.0 seat.new.me.0 }
+    {
+        let (packed, kept) = packed_in(self.setting.version, word, histogram.ranges.len());
+        if word >= DISABLED_BIT {
+            let counts = self.load_counts(seat, histogram.reference);
+            let mounted = Mounted {
+                counts,
+                packed,
+                kept,
+            };
+            self.take_buckets(seat, histogram, &mounted, taken);
+        } else if let Some(bucket) = packed {
+            self.take_packed(seat, histogram, bucket, kept, taken);
+        }
+    }
+
+    // The delta takes what is new of the sum, and ends.
+    fn take_sum(&self, seat: &mut Pass, histogram: &KnownHistogram) -> i64
+        requires may { MayTakeSum self.now (known_view histogram.now) seat.old }
+        requires room { histogram.now.reference + 15 ≤ self.now.setting.shape.size }
+        ensures same { IsSame seat.old seat.new }
+        ensures taken { HasTakenSum (known_view histogram.now) result seat.old.me.0 seat.new.me.0 }
+    {
+        let sum = self.load_sum(seat, histogram.reference).cast_signed();
+        let mark = self.swap_sum_mark(seat, histogram.reference, sum).cast_signed();
+        sum - mark
+    }
+
+    // A delta of a histogram with buckets. There is room for all of them. It answers what it took of the sum.
+    pub(crate) fn delta_of_buckets(
+        &self,
+        seat: &mut Pass,
+        histogram: &KnownHistogram,
+        taken: &mut Vec<(i32, u64)>,
+    ) -> i64
+        requires seat { (seat.old.table_id ≡ table_of self.now) × IsOf self.now.setting seat.old.me.0 }
+        requires rests { IsAtRest seat.old.me.0 }
+        requires right { KnowsRight self.now.setting seat.old.me.0 histogram.now }
+        requires bucketed { has_buckets histogram.now.spec ≡ true }
+        requires room { (taken.old.items ≡ []) × (buckets_of histogram.now.spec ≤ vec_capacity taken.old) }
+        ensures same { IsSame seat.old seat.new }
+        ensures taken { HasTaken (known_view histogram.now) taken.new.items result seat.old.me.0 seat.new.me.0 }
+    {
+        let word = self.take_single(seat, histogram.reference);
+        self.take_units(seat, histogram, word, taken);
+        self.take_sum(seat, histogram)
     }
 }

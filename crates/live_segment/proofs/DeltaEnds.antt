@@ -1,0 +1,155 @@
+-- A delta ends: it takes what is new of the sum, and its recorder keeps what it took.
+use Rattle.std.proofs.Common.{◌≡◌, ℕ, ◌+◌, ◌<◌, ◌≤◌, ℤ, Bool, true, false, true≢false, List, [], ◌∷◌, ◌++◌, pos, refl, sym, ap, subst, ◌∙◌, arith}
+use Rattle.std.specs.Prelude.{◌+ℤ◌, ◌-ℤ◌}
+use Rattle.std.specs.Int.{cast_signed, w64}
+use Rattle.std.specs.List.{Contains}
+use Rattle.std.proofs.Math.IntN.{+ℤ_idl}
+use Rattle.bucket_ranges.specs.Spec.{buckets_of}
+use Rattle.bucket_ranges.specs.declared.spec.Spec.TheVariants as spec
+use Rattle.segment_machine.specs.declared.actor.Actor.{Actor}
+use Rattle.segment_machine.specs.declared.actor.Known.{Known}
+use Rattle.segment_machine.specs.declared.actor.Taken.{Taken}
+use Rattle.segment_machine.specs.declared.place.Place.TheVariants.{Idle, SumLoaded}
+use Rattle.segment_machine.specs.Actor.{has_buckets, is_opener, looking}
+use Rattle.segment_machine.specs.Calls.{change_last}
+use Rattle.segment_machine.specs.Event.{Event, next, packing_event, taking_event}
+use Rattle.segment_machine.specs.Made.{SawSample}
+use Rattle.segment_machine.specs.Note.{TookAll, TookBucket, TookSample, has_taken, noted, nothing_taken, takes}
+use Rattle.segment_machine.specs.Packing.{load_single}
+use Rattle.segment_machine.specs.Taking.{Takes, load_sum, swap_sum, swap_sum_mark}
+use Rattle.segment_invariant.proofs.Notes.Amounts.{last_changed}
+use Rattle.live_segment.specs.declared.segment.Segment.{Segment}
+use Rattle.live_segment.specs.Deltas.{HasTaken, HasTakenBuckets, HasTakenSum, MayTakeSum, TakesWord, taken_as, with_sum, with_units}
+use Rattle.live_segment.specs.Holders.{MayStep}
+use Rattle.live_segment.specs.Onward.{SeesOn}
+use Rattle.live_segment.specs.Steps.{IsSame, Pass, Stepped}
+use Rattle.live_segment.specs.Telling.{MayDo, Noted}
+use Rattle.live_segment.proofs.Beginning.{sees_single}
+use Rattle.live_segment.proofs.OneBucket.{takes_of}
+use Rattle.live_segment.proofs.Proceeding.{sees_on}
+
+module _ (segment : Segment) (known : Known) (old : Pass) (may : MayTakeSum segment known old) where
+  pub may_load_sum : MayStep segment old (taking_event (load_sum known.reference))
+  may_load_sum = record { table = may.table; recorder = may.recorder; ready = (may.free, (known, may.takes.1, refl)) }
+
+  module _ (word : ℕ) (mid : Pass) (load : Stepped old (taking_event (load_sum known.reference)) word mid) where
+    abbrev sum : ℤ
+    sum = cast_signed w64 word
+
+    abbrev loaded : Actor
+    loaded = record old.me.0 { hand = record old.me.0.hand { place = SumLoaded known.reference sum } }
+
+    abbrev swapping : Event
+    swapping = taking_event (swap_sum_mark known.reference sum)
+
+    takes_loaded : Takes loaded known.reference known
+    takes_loaded = may.takes
+
+    -- all that it saw is taken, whatever the mark was
+    took_all : (found : ℕ) → TookAll (next loaded swapping found) known
+    took_all found =
+        let (taking, has, of, (before, last, is, name)) = may.takes in record {
+          buckets = may.buckets;
+          samples = may.samples;
+          summed = (
+            before,
+            swap_sum sum (cast_signed w64 found) last,
+            ap (change_last (swap_sum sum (cast_signed w64 found))) is ∙ last_changed (swap_sum sum (cast_signed w64 found)) before last,
+            name,
+            refl,
+          );
+        }
+
+    pub may_swap : MayDo mid [] swapping (has_taken ∷ [])
+    may_swap = record {
+      recorder = ap (λ (a : Actor). is_opener a.role) load.view ∙ may.recorder;
+      may = refl;
+      ready = subst (λ (a : Actor). (k : Known) × Takes a known.reference k × (a.hand.place ≡ SumLoaded known.reference sum)) (sym load.view)
+          (known, takes_loaded, refl);
+      goes = λ found learned. (
+            (
+              ap (λ (a : Actor). a.deltas.taking) load.view ∙ may.takes.0,
+              subst (λ (a : Actor). (k : Known) × Contains a.answers.names k × TookAll (next a swapping found) k) (sym load.view)
+                  (known, may.takes.1, took_all found),
+            ),
+            refl,
+          );
+    }
+
+    module _ (mark : ℕ) (new : Pass) (swap : Noted mid [] swapping (has_taken ∷ []) mark new) where
+      pub ended : (amount : ℤ) → amount ≡ sum -ℤ cast_signed w64 mark → HasTakenSum known amount old.me.0 new.me.0
+      ended amount is =
+          let whole : new.me.0 ≡ noted (next loaded swapping mark) has_taken = swap.view ∙ ap (λ (a : Actor). noted (next a swapping mark) has_taken) load.view in record {
+            view = whole ∙ ap (λ (d : ℤ). record old.me.0 {
+              hand = record old.me.0.hand { place = Idle };
+              deltas = record old.me.0.deltas { taking = false; taken = change_last (with_sum d) old.me.0.deltas.taken };
+            }) (sym is);
+            all = subst (λ (a : Actor). TookAll a known) (sym whole) (let all = took_all mark in record { buckets = all.buckets; samples = all.samples; summed = all.summed });
+          }
+
+-- ---- all of it
+
+module _ (segment : Segment) (known : Known) (first one two : Pass) (word : ℕ) (takes_word : TakesWord segment known word one)
+    (view : one.me.0 ≡ next (noted first.me.0 (takes known.name)) (packing_event (load_single known.reference)) word)
+    (units : List (ℤ × ℕ)) (same : IsSame one two) (took : HasTakenBuckets known units one.me.0 two.me.0) where
+  pub may_take_sum : MayTakeSum segment known two
+  may_take_sum = record {
+    table = same.0 ∙ takes_word.table;
+    recorder = ap (λ (a : Actor). is_opener a.role) took.on.view ∙ takes_word.recorder;
+    free = took.free;
+    takes = takes_of one.me.0 two.me.0 units known.reference known took.on takes_word.takes;
+    buckets = λ bucketed. took.took;
+    samples = λ sparse. absurd (true≢false (sym takes_word.bucketed ∙ ap has_buckets sparse));
+  }
+
+  module _ (amount : ℤ) (new : Actor) (ends : HasTakenSum known amount two.me.0 new) where
+    abbrev at_word : Actor
+    at_word = next (noted first.me.0 (takes known.name)) (packing_event (load_single known.reference)) word
+
+    abbrev ending : Actor → Actor
+    ending a = record a {
+      hand = record a.hand { place = Idle };
+      deltas = record a.deltas { taking = false; taken = change_last (with_sum amount) a.deltas.taken };
+    }
+
+    abbrev going : Actor → Actor
+    going a = record a {
+      hand = record a.hand { place = two.me.0.hand.place };
+      deltas = record a.deltas { taken = change_last (with_units units) a.deltas.taken };
+      seen = two.me.0.seen;
+    }
+
+    abbrev keeping : List Taken → Actor
+    keeping taken = record (looking first.me.0) {
+      hand = record first.me.0.hand { place = Idle };
+      seen = two.me.0.seen;
+      deltas = record first.me.0.deltas { taking = false; taken = taken };
+    }
+
+    taken_is : change_last (with_sum amount) (change_last (with_units units) (first.me.0.deltas.taken ++ nothing_taken first.me.0 known.name ∷ []))
+        ≡ first.me.0.deltas.taken ++ taken_as first.me.0 known units amount ∷ []
+    taken_is =
+        let before : List Taken = first.me.0.deltas.taken in
+        let nothing : Taken = nothing_taken first.me.0 known.name in
+        ap (change_last (with_sum amount)) (last_changed (with_units units) before nothing)
+        ∙ (last_changed (with_sum amount) before (with_units units nothing)
+        ∙ ap (λ (sum : ℤ). before ++ record (taken_as first.me.0 known units amount) { sum = sum } ∷ []) (+ℤ_idl amount))
+
+    seen_is : new.seen ≡ two.me.0.seen
+    seen_is = ap (λ (a : Actor). a.seen) ends.view
+
+    view_is : new ≡ keeping (first.me.0.deltas.taken ++ taken_as first.me.0 known units amount ∷ [])
+    view_is =
+        ends.view ∙ (ap ending took.on.view ∙ (ap (λ (a : Actor). ending (going a)) view ∙ ap keeping taken_is))
+
+    pub has_taken_all : HasTaken known units amount first.me.0 new
+    has_taken_all = record {
+      counts = units;
+      same = view_is ∙ ap (λ seen. record (keeping (first.me.0.deltas.taken ++ taken_as first.me.0 known units amount ∷ [])) { seen = seen }) (sym seen_is);
+      seen = subst (SeesOn first.me.0.seen) (sym seen_is)
+          (sees_on first.me.0.seen one.me.0.seen two.me.0.seen
+          (subst (λ (a : Actor). SeesOn first.me.0.seen a.seen) (sym view) (sees_single first.me.0.seen (record { at = known.reference + 9; word = word } ∷ []))) took.on.seen);
+      all = ends.all;
+      units = took.units;
+      each = λ key. refl;
+    }

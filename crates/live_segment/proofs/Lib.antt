@@ -23,6 +23,7 @@ mod Mounted
 mod Answering
 mod SampleWords
 mod Disabled
+mod Counted
 mod Walked
 mod Seeing
 mod OneBucket

@@ -96,7 +96,7 @@ sees_words a more = record {
 }
 
 -- it stands elsewhere with other blocks, and has seen words more
-with_words : (a : Actor) (hand : Hand) (more : List Sighting) → is_bound hand.place ≡ false
+pub with_words : (a : Actor) (hand : Hand) (more : List Sighting) → is_bound hand.place ≡ false
     → LooksOn a (record a { hand = hand; seen = record a.seen { words = a.seen.words ++ more } })
 with_words a hand more free = record {
   proceeds = record { same = refl; free = free; done = does_not a.done; seen = sees_words a.seen more };
@@ -326,6 +326,7 @@ module _ (segment : Segment) (known : Known) (old : Pass) (table : old.table_id 
               looks = looks_last;
               untouched = ap (λ (b : Actor). b.seen.counts) is ∙ ap (λ (b : Actor). b.seen.counts) step.view;
               ends = ends;
+              idle = ap (λ (b : Actor). b.hand.place) (ends ∙ only_given_up last) ∙ ap (λ (b : Actor). b.hand.place) is;
               none = ap (λ (s : Seen). word_seen s.words (known.reference + 8)) seen
                   ∙ (ap (λ (b : Actor). word_seen b.seen.words (known.reference + 8)) is ∙ none_seen);
               room = room;

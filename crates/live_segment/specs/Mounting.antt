@@ -7,6 +7,7 @@ use Rattle.bucket_ranges.specs.Spec.{buckets_of}
 use Rattle.segment_machine.specs.declared.actor.Actor.{Actor}
 use Rattle.segment_machine.specs.declared.actor.Known.{Known}
 use Rattle.segment_machine.specs.declared.actor.Own.{Own}
+use Rattle.segment_machine.specs.declared.place.Place.TheVariants.{Idle}
 use Rattle.segment_machine.specs.declared.seen.Seen.{Seen}
 use Rattle.segment_machine.specs.Actor.{Buckets, is_bound, is_opener, word_seen}
 use Rattle.segment_machine.specs.Counting.{load_counts}
@@ -61,6 +62,7 @@ pub record HasNotMounted (why : Refusal) (known : Known) (old new : Actor) : Typ
   pub looks : LooksOn old last
   pub untouched : last.seen.counts ≡ old.seen.counts
   pub ends : new ≡ given_up last
+  pub idle : new.hand.place ≡ Idle
   pub none : word_seen new.seen.words (known.reference + HISTOGRAM_COUNTS) ≡ None
   pub room : HasNoRoom why (block_words known) new
 

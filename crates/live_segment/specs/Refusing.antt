@@ -6,6 +6,7 @@ use Rattle.hist_core.specs.declared.refusal.Refusal.{Refusal}
 use Rattle.segment_machine.specs.declared.entry.Counting.{Counting}
 use Rattle.segment_machine.specs.declared.actor.Actor.{Actor}
 use Rattle.segment_machine.specs.declared.actor.Known.{Known}
+use Rattle.segment_machine.specs.declared.place.Place.TheVariants.{Idle}
 use Rattle.segment_machine.specs.Actor.{word_seen}
 use Rattle.segment_machine.specs.Allocating.{load_flags, set_flag}
 use Rattle.segment_machine.specs.Entry.{has_ended}
@@ -62,6 +63,7 @@ pub record IsTurnedAway (why : Refusal) (known : Known) (bucket units : ℕ) (ol
   pub looks : LooksFor known bucket units old last
   pub untouched : last.seen.counts ≡ old.seen.counts
   pub ends : new ≡ given_up last
+  pub idle : new.hand.place ≡ Idle
   pub cannot : CannotPack known bucket units old new
   pub none : word_seen new.seen.words (known.reference + HISTOGRAM_COUNTS) ≡ None
   pub room : HasNoRoom why (block_words known) new

@@ -21,9 +21,11 @@ fn moves_units(version: u64, word: u64) -> bool
 }
 
 impl Segment {
-    ghost use Rattle.std.specs.Prelude.{◌≡◌, ◌+◌, ◌*◌, ◌≤◌, MatchResult};
-    ghost use Rattle.bucket_ranges.specs.Spec.{buckets_of};
-    ghost use Rattle.live_segment.specs.Known.{known_view, KnowsRight};
+    ghost use Rattle.std.specs.Prelude.{◌≡◌, ◌+◌, ◌*◌, ◌≤◌, MatchResult, None};
+    ghost use Rattle.bucket_ranges.specs.Spec.{buckets_of, spec_fault};
+    ghost use Rattle.live_segment.specs.Known.{known_view};
+    ghost use Rattle.live_segment.specs.Adding.{block_words};
+    ghost use Rattle.bucket_ranges.specs.Ranges.{boundaries_of};
     ghost use Rattle.live_segment.specs.Holders.{table_of};
     ghost use Rattle.live_segment.specs.Mounting.{MayMount, HasBlank, LooksAtCounts, HasMounted, HasNotMounted, HasDisabled};
     ghost use Rattle.live_segment.specs.Refusing.{MayGiveUp};
@@ -38,7 +40,9 @@ impl Segment {
         histogram: &KnownHistogram,
     ) -> Result<u64, Refusal>
         requires seat { (seat.old.table_id ≡ table_of self.now) × IsOf self.now.setting seat.old.me.0 }
-        requires right { KnowsRight self.now.setting seat.old.me.0 histogram.now }
+        requires room { histogram.now.reference + 15 ≤ self.now.setting.shape.size }
+        requires fits { block_words (known_view histogram.now) ≤ self.now.setting.shape.page }
+        requires right { (spec_fault histogram.now.spec ≡ None) × (histogram.now.ranges ≡ boundaries_of histogram.now.spec) }
         requires may { MayMount seat.old.me.0 (known_view histogram.now) }
         requires closes { MayGiveUp seat.old.me.0 }
         ensures same { IsSame seat.old seat.new }

@@ -12,35 +12,35 @@ returns-then-counts-ne0-clause-outcome c =
 pub overflow_mul-words : goal.overflow_mul-words
 overflow_mul-words c =
     let h = c.args.histogram.now in
-    let len = c.len.ensures in let all = ap length c.requires.right.ranges in
-    let count = bucket_count h.spec c.requires.right.lawful c.requires.may.knows.2 in
+    let len = c.len.ensures in let all = ap length c.requires.right.1 in
+    let count = bucket_count h.spec c.requires.right.0 c.requires.may.knows.2 in
     let words = words_of_block (known_view h) c.requires.may.knows.2 in
-    let fits = c.requires.right.fits in
+    let fits = c.requires.fits in
     omega (arith, len, all, count.0, words, fits)
 
 pub overflow_add-words : goal.overflow_add-words
 overflow_add-words c =
     let h = c.args.histogram.now in
-    let len = c.len.ensures in let all = ap length c.requires.right.ranges in
-    let count = bucket_count h.spec c.requires.right.lawful c.requires.may.knows.2 in
+    let len = c.len.ensures in let all = ap length c.requires.right.1 in
+    let count = bucket_count h.spec c.requires.right.0 c.requires.may.knows.2 in
     let words = words_of_block (known_view h) c.requires.may.knows.2 in
-    let fits = c.requires.right.fits in
+    let fits = c.requires.fits in
     omega (arith, len, all, count.0, words, fits)
 
 pub allocate-requires-clause-size : goal.allocate-requires-clause-size
 allocate-requires-clause-size c =
     let h = c.args.histogram.now in
-    let len = c.len.ensures in let all = ap length c.requires.right.ranges in
-    let count = bucket_count h.spec c.requires.right.lawful c.requires.may.knows.2 in
+    let len = c.len.ensures in let all = ap length c.requires.right.1 in
+    let count = bucket_count h.spec c.requires.right.0 c.requires.may.knows.2 in
     let words = words_of_block (known_view h) c.requires.may.knows.2 in
-    let fits = c.requires.right.fits in
+    let fits = c.requires.fits in
     (omega (arith, len, all, count.0, count.1), omega (arith, len, all, count.0, words, fits))
 
 pub returns-in_err-at-clause-outcome : goal.returns-in_err-at-clause-outcome
 returns-in_err-at-clause-outcome c =
     let h = c.args.histogram.now in
-    let len = c.len.ensures in let all = ap length c.requires.right.ranges in
-    let count = bucket_count h.spec c.requires.right.lawful c.requires.may.knows.2 in
+    let len = c.len.ensures in let all = ap length c.requires.right.1 in
+    let count = bucket_count h.spec c.requires.right.0 c.requires.may.knows.2 in
     let words = words_of_block (known_view h) c.requires.may.knows.2 in
     let p = err_from_is_err_and c.from_residual.result c.from_residual.ensures.1 in
     rw (p.1, p.2)
@@ -50,31 +50,31 @@ returns-in_err-at-clause-outcome c =
 pub mount-requires-clause-may : goal.mount-requires-clause-may
 mount-requires-clause-may c =
     let h = c.args.histogram.now in
-    let len = c.len.ensures in let all = ap length c.requires.right.ranges in
-    let count = bucket_count h.spec c.requires.right.lawful c.requires.may.knows.2 in
+    let len = c.len.ensures in let all = ap length c.requires.right.1 in
+    let count = bucket_count h.spec c.requires.right.0 c.requires.may.knows.2 in
     mounts_next c.args.self.now (known_view h) c.args.seat.now c.requires.seat.0 c.requires.may _ c.load_counts-counts.new.seat c.load_counts-counts.ensures.step
     _ _ c.allocate.new.seat (omega (arith, len, all, count.0)) c.in_ok-at.ensures.unspoiled c.in_ok-at.ensures.outcome
 
 pub mount-requires-clause-blank : goal.mount-requires-clause-blank
 mount-requires-clause-blank c =
     let h = c.args.histogram.now in
-    let len = c.len.ensures in let all = ap length c.requires.right.ranges in
-    let count = bucket_count h.spec c.requires.right.lawful c.requires.may.knows.2 in
+    let len = c.len.ensures in let all = ap length c.requires.right.1 in
+    let count = bucket_count h.spec c.requires.right.0 c.requires.may.knows.2 in
     has_blank c.args.self.now (known_view h) c.args.seat.now c.requires.seat.0 c.requires.may _ c.load_counts-counts.new.seat c.load_counts-counts.ensures.step
     _ _ c.allocate.new.seat (omega (arith, len, all, count.0)) c.in_ok-at.ensures.unspoiled c.in_ok-at.ensures.outcome
 
 pub mount-requires-clause-within : goal.mount-requires-clause-within
 mount-requires-clause-within c =
     let h = c.args.histogram.now in
-    let len = c.len.ensures in let all = ap length c.requires.right.ranges in
-    let count = bucket_count h.spec c.requires.right.lawful c.requires.may.knows.2 in
+    let len = c.len.ensures in let all = ap length c.requires.right.1 in
+    let count = bucket_count h.spec c.requires.right.0 c.requires.may.knows.2 in
     block_within c.args.self.now (known_view h) c.args.seat.now c.requires.seat.0 c.requires.may _ c.load_counts-counts.new.seat c.load_counts-counts.ensures.step
     _ _ c.allocate.new.seat (omega (arith, len, all, count.0)) c.in_ok-at.ensures.unspoiled c.in_ok-at.ensures.outcome
 
 pub returns-clause-outcome : goal.returns-clause-outcome
 returns-clause-outcome c =
     let h = c.args.histogram.now in
-    let len = c.len.ensures in let all = ap length c.requires.right.ranges in
-    let count = bucket_count h.spec c.requires.right.lawful c.requires.may.knows.2 in
+    let len = c.len.ensures in let all = ap length c.requires.right.1 in
+    let count = bucket_count h.spec c.requires.right.0 c.requires.may.knows.2 in
     mounted_behind c.args.self.now (known_view h) c.args.seat.now c.requires.seat.0 c.requires.may _ c.load_counts-counts.new.seat c.load_counts-counts.ensures.step
     _ _ c.allocate.new.seat (omega (arith, len, all, count.0)) c.in_ok-at.ensures.unspoiled c.in_ok-at.ensures.outcome _ c.mount.new.seat c.mount.ensures.mounted

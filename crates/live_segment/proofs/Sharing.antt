@@ -1,6 +1,6 @@
 -- A try of a call on a shared cursor: what a recorder knows once it has loaded the cursor and the next behind it, and once its exchange
 -- took or came too late.
-use Rattle.std.proofs.Common.{◌≡◌, ◌≢◌, ℕ, ◌+◌, ◌-◌, ◌*◌, ◌<◌, ◌≤◌, ◌==◌, ◌&&◌, Bool, true, false, true≢false, not, if◌then◌else◌, List, [], ◌∷◌, ◌++◌, length, set, slice_index, inr, refl, sym, ap, subst, ◌∙◌, ⊎_elim, eq-eqb, ne_eqb, arith, All}
+use Rattle.std.proofs.Common.{◌≡◌, ◌≢◌, ℕ, ◌+◌, ◌-◌, ◌*◌, ◌<◌, ◌≤◌, ◌==◌, ◌&&◌, Bool, true, false, true≢false, not, if◌then◌else◌, List, [], ◌∷◌, ◌++◌, length, set, slice_index, inr, refl, sym, ap, subst, ◌∙◌, ⊎_elim, eq-eqb, ne_eqb, arith, All, Option, Some, None}
 use Rattle.std.specs.List.{Contains}
 use Rattle.std.proofs.lemmas.Bool.{or_cases, and_parts, eqb-true, leb-true}
 use Rattle.std.proofs.lemmas.List.{append-nil, append_assoc, set-set, set-get_or, get_or-set_same}
@@ -23,7 +23,7 @@ use Rattle.live_segment.specs.Rule.{IsOf}
 use Rattle.live_segment.specs.Steps.{Pass, IsSame, Stepped}
 use Rattle.live_segment.specs.Holders.{table_of, MayStep}
 use Rattle.live_segment.specs.Onward.{Grows}
-use Rattle.live_segment.specs.Cursors.{IsLate, IsGivenNext, IsAtEnd, StandsBehind, at_cursor, ended_at}
+use Rattle.live_segment.specs.Cursors.{AnswersNext, IsLate, IsGivenNext, IsAtEnd, StandsBehind, at_cursor, ended_at}
 
 -- ---- numbers
 
@@ -101,6 +101,20 @@ gives_one cursor reference old new is =
 pub gives_none : (cursor : ℕ) (old new : Actor) → IsAtEnd cursor old new → new.done.given ≡ old.done.given ++ []
 gives_none cursor old new is =
     ap (λ (a : Actor). a.done.given) is.view ∙ (ap (λ (a : Actor). a.done.given) is.before.same ∙ sym (append-nil old.done.given))
+
+-- ---- what it has seen
+
+-- it has seen no less of the list
+pub answer_grows : (cursor : ℕ) (old : Actor) (answer : Option ℕ) (new : Actor) → AnswersNext cursor old answer new → Grows old.seen.chain new.seen.chain
+answer_grows cursor old (Some reference) new is =
+    grows_on old.seen.chain is.late.seen.chain new.seen.chain is.before.chain
+    (subst (Grows is.late.seen.chain) (sym (ap (λ (a : Actor). a.seen.chain) is.view)) (extended_grows is.late.seen.chain is.at reference))
+answer_grows cursor old None new is = subst (Grows old.seen.chain) (sym (ap (λ (a : Actor). a.seen.chain) is.view)) is.before.chain
+
+-- it knows the same histograms
+pub answer_names : (cursor : ℕ) (old : Actor) (answer : Option ℕ) (new : Actor) → AnswersNext cursor old answer new → new.answers.names ≡ old.answers.names
+answer_names cursor old (Some reference) new is = ap (λ (a : Actor). a.answers.names) is.view ∙ ap (λ (a : Actor). a.answers.names) is.before.same
+answer_names cursor old None new is = ap (λ (a : Actor). a.answers.names) is.view ∙ ap (λ (a : Actor). a.answers.names) is.before.same
 
 -- ---- a try
 

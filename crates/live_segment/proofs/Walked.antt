@@ -1,9 +1,11 @@
 -- A walk along the list: what a recorder knows between two of its steps, and at its end.
 use Rattle.std.proofs.Common.{◌≡◌, ◌≢◌, ℕ, suc, ◌+◌, ◌*◌, ◌<◌, ◌≤◌, Bool, true, false, true≢false, List, [], ◌∷◌, ◌++◌, length, slice_index, refl, sym, ap, subst, ◌∙◌, ne_eqb, length-append, arith}
-use Rattle.std.specs.Prelude.{if◌then◌else◌}
-use Rattle.std.specs.List.{All, Contains}
+use Rattle.std.specs.Prelude.{◌==◌, ◌||◌, if◌then◌else◌, take, drop}
+use Rattle.std.specs.List.{All, Contains, list_any}
+use Rattle.std.proofs.lemmas.List.Folds.{list_any-append}
 use Rattle.std.proofs.Math.ListN.{get_or}
-use Rattle.std.proofs.lemmas.List.{append-nil, get_or_append_left, get_or_push, length_push}
+use Rattle.std.proofs.lemmas.List.{append-nil, append_assoc, get_or_append_left, get_or_push, length_push, length-take-le, take-append-drop, take-append-le}
+use Rattle.std.proofs.Math.Seq.{drop-append_seam, take-length}
 use Rattle.std.proofs.lemmas.List.Elements.{All-push}
 use mathlib.Core.Option.{some}
 use lib.ListN.{get_elem?}
@@ -16,7 +18,8 @@ use Rattle.list_core.proofs.Walks.{place_of}
 use Rattle.segment_machine.specs.declared.actor.Actor.{Actor}
 use Rattle.segment_machine.specs.declared.place.Place.{Place}
 use Rattle.segment_machine.specs.declared.place.Place.TheVariants.{Spent}
-use Rattle.segment_machine.specs.Actor.{is_bound, is_opener}
+use Rattle.segment_machine.specs.declared.actor.Known.{Known}
+use Rattle.segment_machine.specs.Actor.{is_bound, is_opener, known_at}
 use Rattle.segment_machine.specs.Event.{walking_event, change, next, Ready}
 use Rattle.segment_machine.specs.Stages.{Walks}
 use Rattle.segment_machine.specs.Walking.{load_next, extended, records_met}
@@ -27,7 +30,11 @@ use Rattle.live_segment.specs.Rule.{Runs, IsOf, opened_of}
 use Rattle.live_segment.specs.Steps.{Pass, Sat, IsSame, Stepped}
 use Rattle.live_segment.specs.Holders.{table_of, MayStep}
 use Rattle.live_segment.specs.Onward.{Grows}
+use Rattle.live_segment.specs.declared.recorder.KnownHistogram.{KnownHistogram}
+use Rattle.live_segment.specs.declared.records.WalkPlace.{WalkPlace}
+use Rattle.live_segment.specs.Known.{KnowsRight}
 use Rattle.live_segment.specs.Records.{StandOnce, LoadsNext, HasWalked}
+use Rattle.live_segment.specs.Walks.{HasCome, WalksOn}
 use Rattle.live_segment.proofs.Allowed.{does_at}
 use Rattle.live_segment.proofs.OwnNames.{knows_own_names}
 use Rattle.live_segment.proofs.Sharing.{extended_end, extended_grows, grows_on, reference_behind}
@@ -78,15 +85,20 @@ pub record IsWalking (first now : Pass) (given : List ℕ) (at : ℕ) : Type 0 w
   pub stands : at ≡ stands_behind given
   pub within : All (λ r. (16 ≤ r) × (r + 5 ≤ first.me.0.segment.shape.size)) given
 
-pub begins : (first : Pass) → is_bound first.me.0.hand.place ≡ false → IsWalking first first [] 12
-begins first free = record {
-  same = (refl, refl, refl);
-  view = refl;
-  chain = ([], sym (append-nil first.me.0.seen.chain));
-  walks = (free, (first.me.0.seen.chain, refl));
-  stands = refl;
-  within = λ k d low. absurd (omega arith);
-}
+-- it begins with the records that it gave before
+pub begins : (size : ℕ) (first : Pass) (place : WalkPlace) → is_bound first.me.0.hand.place ≡ false → first.me.0.segment.shape.size ≡ size
+    → HasCome size first.me.0.seen.chain place → IsWalking first first (take place.given first.me.0.seen.chain) place.at
+begins size first place free sized come =
+    let chain = first.me.0.seen.chain in
+    let front : chain ≡ take place.given chain ++ drop place.given chain = sym (take-append-drop place.given chain) in
+    let long : length (take place.given chain) ≡ place.given = length-take-le place.given chain come.few in record {
+      same = (refl, refl, refl);
+      view = refl;
+      chain = ([], sym (append-nil chain));
+      walks = (free, (drop place.given chain, front));
+      stands = come.stands ∙ (ap (slice_index (stops chain)) (sym long) ∙ place_of (take place.given chain) (drop place.given chain) chain front);
+      within = subst (λ (n : ℕ). All (λ r. (16 ≤ r) × (r + 5 ≤ n)) (take place.given chain)) (sym sized) come.within;
+    }
 
 -- a block where a walk stands lies within the segment
 stands_within : (size : ℕ) (given : List ℕ) → 17 ≤ size → All (λ r. (16 ≤ r) × (r + 5 ≤ size)) given → stands_behind given + 5 ≤ size
@@ -191,3 +203,66 @@ module _ (segment : Segment) (first old : Pass) (given : List ℕ) (at : ℕ) (t
           let fits : 5 * length (extended old.me.0.seen.chain at found) + 16 ≤ segment.setting.shape.size =
           subst (λ (s : Dimensions). 5 * length (extended old.me.0.seen.chain at found) + 16 ≤ s.size) shape load.learned.few in
           omega (arith, long, one, all, fits)
+
+-- ---- at the end
+
+-- where a walk stands that has given all of a list
+come_to : (size at given : ℕ) (list : List ℕ) → given ≡ length list → at ≡ stands_behind list
+    → All (λ r. (16 ≤ r) × (r + 5 ≤ size)) list → HasCome size list (record { given = given; at = at })
+come_to size at given list all stands within = record {
+  few = omega (arith, all);
+  stands = stands ∙ (sym (place_of list [] list (sym (append-nil list))) ∙ ap (slice_index (stops list)) (sym all));
+  within = subst (All (λ r. (16 ≤ r) × (r + 5 ≤ size))) (sym (ap (λ (n : ℕ). take n list) all ∙ take-length list)) within;
+}
+
+-- it has gone on from a place to the end of the list
+pub walked_on : (size : ℕ) (first : Pass) (from to : WalkPlace) (records : List ℕ) (old new : Pass) → first.me.0.segment.shape.size ≡ size
+    → HasCome size first.me.0.seen.chain from → IsWalking first old (take from.given first.me.0.seen.chain ++ records) to.at
+    → to.given ≡ length (take from.given first.me.0.seen.chain ++ records)
+    → HasWalked first.me.0 (take from.given first.me.0.seen.chain ++ records) new.me.0 → WalksOn size first.me.0 from records new.me.0 to
+walked_on size first from to records old new sized come is given walked =
+    let front = take from.given first.me.0.seen.chain in
+    let long : length front ≡ from.given = length-take-le from.given first.me.0.seen.chain come.few in record {
+      list = front ++ records;
+      walked = walked;
+      behind = sym (ap (λ (n : ℕ). drop n (front ++ records)) (sym long) ∙ drop-append_seam front records);
+      come = come_to size to.at to.given (front ++ records) given is.stands
+          (subst (λ (n : ℕ). All (λ r. (16 ≤ r) × (r + 5 ≤ n)) (front ++ records)) sized is.within);
+      given = given;
+    }
+
+-- where a walk stood it stands still, once more of the list was seen
+pub come_still : (size : ℕ) (old new : List ℕ) (place : WalkPlace) → Grows old new → HasCome size old place → HasCome size new place
+come_still size old new place (more, is) come =
+    let few = come.few in
+    let longer : length new ≡ length old + length more = ap length is ∙ length-append old more in record {
+      few = omega (arith, few, longer);
+      stands =
+          come.stands
+          ∙ sym (ap (λ (l : List ℕ). slice_index (stops l) place.given) is ∙ get_or_append_left (stops old) more 0 place.given (omega (arith, few)));
+      within = subst (All (λ r. (16 ≤ r) × (r + 5 ≤ size))) (sym (ap (take place.given) is ∙ take-append-le place.given old more few)) come.within;
+    }
+
+-- a walk has seen no less of the list
+pub walk_grows : (old : Actor) (list : List ℕ) (new : Actor) → HasWalked old list new → Grows old.seen.chain new.seen.chain
+walk_grows old list new walked = subst (Grows old.seen.chain) (sym (ap (λ (a : Actor). a.seen.chain) walked.view)) walked.chain
+
+-- a histogram that a recorder knows it knows still
+pub right_still : (setting : Setting) (old new : Actor) (known : KnownHistogram) → new.answers.names ≡ old.answers.names
+    → Grows old.seen.chain new.seen.chain → KnowsRight setting old known → KnowsRight setting new known
+right_still setting old new known names (more, is) right = record {
+  lawful = right.lawful;
+  ranges = right.ranges;
+  room = right.room;
+  fits = right.fits;
+  alone = ap (λ (list : List Known). known_at list known.reference) names ∙ right.alone;
+  met =
+      ap (list_any (λ at. at == known.reference)) is
+      ∙ (list_any-append (λ at. at == known.reference) old.seen.chain more
+      ∙ ap (λ (b : Bool). b || list_any (λ at. at == known.reference) more) right.met);
+}
+
+-- and all of them
+pub all_right : (setting : Setting) (old new : Actor) (known : List KnownHistogram) → new.answers.names ≡ old.answers.names
+    → Grows old.seen.chain new.seen.chain → All (KnowsRight setting old) known → All (KnowsRight setting new) known
+all_right setting old new known names grows all k d low = right_still setting old new _ names grows (all k d low)

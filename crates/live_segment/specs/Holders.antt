@@ -51,11 +51,12 @@ pub record IsSameOpener (old new : Opener) : Type 0 where
 abbrev pub IsRecorderOf : Recorder → Opener → Type 0
 IsRecorderOf recorder opener = recorder.seat.table_id ≡ opener.seat.table_id
 
--- a recorder goes on with the same segment, and knows the same histograms
+-- a recorder goes on with the same segment, knows the same histograms, and was given no fresh records
 pub record IsSameRecorder (old new : Recorder) : Type 0 where
   pub segment : new.segment ≡ old.segment
   pub table : new.seat.table_id ≡ old.seat.table_id
   pub known : new.known ≡ old.known
+  pub fresh : new.fresh ≡ old.fresh
 
 -- a histogram is one that a recorder knows
 abbrev pub Knows : Recorder → Hist → Type 0

@@ -18,6 +18,8 @@ pub mod Searching
 pub mod Cursors
 pub mod Looking
 pub mod Records
+pub mod Walks
+pub mod Fresh
 pub mod Refusing
 pub mod Snapshots
 pub mod Samples

@@ -32,6 +32,7 @@ impl Opener {
     ghost use Rattle.segment_image.specs.Checks.{first_fault};
     ghost use Rattle.segment_machine.specs.Seats.{offering, parent, newcomer, joined};
     ghost use Rattle.live_segment.specs.Steps.{recorder_checks, IsSame};
+    ghost use Rattle.live_segment.specs.Fresh.{given_fresh};
     ghost use Rattle.live_segment.specs.Holders.{IsMadeWith, IsRecorderOf, IsSameOpener, view_of_opener, view_of_recorder};
 
     // The opener of a new segment.
@@ -79,7 +80,7 @@ impl Opener {
     ) -> Result<Recorder<'a>, Refusal>
         requires { IsMadeWith segment.now self.old }
         ensures mine { MatchResult result (λ _. IsSameOpener self.old self.new × (view_of_opener self.new ≡ parent (offering (view_of_opener self.old) units))) (λ _. self.new ≡ self.old) }
-        ensures theirs { MatchOption (first_fault (recorder_checks (view_of_opener self.old) units)) (MatchResult result (λ recorder. (recorder.segment ≡ segment.entry) × (view_of_recorder recorder ≡ newcomer (offering (view_of_opener self.old) units))) (λ _. ⊥)) (λ why. result ≡ Err why) }
+        ensures theirs { MatchOption (first_fault (recorder_checks (view_of_opener self.old) units)) (MatchResult result (λ recorder. (recorder.segment ≡ segment.entry) × (view_of_recorder recorder ≡ newcomer (offering (view_of_opener self.old) units)) × (given_fresh recorder ≡ 0)) (λ _. ⊥)) (λ why. result ≡ Err why) }
     {
         if units > self.units {
             return Err(Refusal::NoUnits);

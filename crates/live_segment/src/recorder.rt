@@ -5,9 +5,11 @@ ghost use Rattle.segment_machine.specs.Seats.{newcomer};
 ghost use Rattle.live_segment.specs.Rule.{IsOf};
 ghost use Rattle.live_segment.specs.Steps.{IsAtRest};
 ghost use Rattle.live_segment.specs.Known.{known_view, KnowsRight};
+ghost use Rattle.live_segment.specs.Walks.{HasCome};
 ghost use Rattle.std.specs.List.{All};
 ghost use Rattle.std.proofs.Props.{props};
 
+use crate::records::WalkPlace;
 use crate::rule::Pass;
 use crate::segment::Segment;
 use bucket_ranges::{Ranges, Spec};
@@ -39,6 +41,8 @@ pub struct Recorder<'a> {
     seat: Pass,
     units: u32,
     known: Vec<KnownHistogram>,
+    // Up to where it was given fresh records.
+    fresh: WalkPlace,
     ghost fits: { seat.table_id ≡ segment.now.table.shared.table_id },
     ghost set: { IsOf segment.now.setting seat.me.0 },
     ghost rests: { IsAtRest seat.me.0 },
@@ -46,6 +50,7 @@ pub struct Recorder<'a> {
     ghost listed: { map known_view known.items ≡ seat.me.0.answers.names },
     ghost right: { All (KnowsRight segment.now.setting seat.me.0) known.items } by { Prim.hlevel props },
     ghost free: { seat.me.1 ≡ [] } by { Prim.hlevel props },
+    ghost come: { HasCome segment.now.setting.shape.size seat.me.0.seen.chain fresh } by { Prim.hlevel props },
 }
 
 impl<'a> Recorder<'a> {
@@ -54,6 +59,7 @@ impl<'a> Recorder<'a> {
     ghost use Rattle.live_segment.specs.Cursors.{AnswersNext, gift};
     ghost use Rattle.live_segment.specs.Holders.{view_of_recorder, IsSameRecorder, Knows};
     ghost use Rattle.live_segment.specs.Records.{HasWalked};
+    ghost use Rattle.live_segment.specs.Fresh.{GivesFresh, given_fresh};
     ghost use Rattle.hist_core.specs.declared.refusal.Refusal.TheVariants.{NoMemory};
 
     // A recorder that has done nothing.
@@ -61,7 +67,7 @@ impl<'a> Recorder<'a> {
         requires fits { (seat.table_id ≡ segment.now.table.shared.table_id) × (seat.me.1 ≡ []) }
         requires set { IsOf segment.now.setting seat.me.0 }
         requires rests { IsAtRest seat.me.0 × (units ≡ seat.me.0.units.share) × (seat.me.0.answers.names ≡ []) }
-        ensures { (result.segment ≡ segment.entry) × (result.seat ≡ seat) }
+        ensures { (result.segment ≡ segment.entry) × (result.seat ≡ seat) × (given_fresh result ≡ 0) }
     {
         Recorder {
             alloc,
@@ -69,6 +75,7 @@ impl<'a> Recorder<'a> {
             seat,
             units,
             known: Vec::new(alloc),
+            fresh: WalkPlace::start(),
         }
     }
 
@@ -83,6 +90,7 @@ impl<'a> Recorder<'a> {
             seat,
             units,
             known: _,
+            fresh: _,
         } = self;
         (segment, seat, units)
     }
@@ -119,7 +127,22 @@ impl<'a> Recorder<'a> {
     {
         let size = self.segment.setting.shape.size() as usize;
         let mut records = Vec::with_capacity(self.alloc, (size - HEADER_WORDS) / BLOCK_LEAST)?;
-        self.segment.walk(&mut self.seat, &mut records);
+        self.segment
+            .walk(&mut self.seat, &mut WalkPlace::start(), &mut records);
+        Ok(records)
+    }
+
+    /// The references of the records of the list that no earlier call gave, in its order: those of all calls, one behind the
+    /// other, are what [`Recorder::records`] would answer now.
+    ///
+    /// `NoMemory` where there is none for so many as fit in a segment; then nothing has changed, and the next call gives them.
+    pub fn fresh_records(&mut self) -> Result<Vec<u64>, Refusal>
+        ensures fresh { MatchResult result (λ records. GivesFresh self.old records.items self.new) (λ why. (why ≡ NoMemory) × (self.new ≡ self.old)) }
+    {
+        let size = self.segment.setting.shape.size() as usize;
+        let mut records = Vec::with_capacity(self.alloc, (size - HEADER_WORDS) / BLOCK_LEAST)?;
+        self.segment
+            .walk(&mut self.seat, &mut self.fresh, &mut records);
         Ok(records)
     }
 

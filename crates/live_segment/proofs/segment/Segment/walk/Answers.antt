@@ -1,48 +1,65 @@
-use Rattle.std.proofs.Common.{ℕ, List, arith, sym, ap, subst, ◌∙◌, length}
-use Rattle.std.proofs.lemmas.List.{length_push}
-use Rattle.live_segment.proofs.Walked.{IsWalking, begins, may_load, room, same_still, ended, walking, few}
+use Rattle.std.proofs.Common.{◌≡◌, ℕ, List, arith, sym, ap, subst, ◌∙◌, ◌++◌, ◌∷◌, [], length, length-append}
+use Rattle.std.specs.Prelude.{take}
+use Rattle.std.proofs.lemmas.List.{append-nil, append_assoc, length_push, length-take-le}
+use Rattle.segment_image.specs.Shape.{Dimensions}
+use Rattle.live_segment.proofs.Walked.{IsWalking, begins, may_load, room, same_still, ended, walking, walked_on, few}
 use Rattle.live_segment.proofs.segment.Segment.walk.Goals as goal
 
-pub loop-at-init : goal.loop-at-init
-loop-at-init c = record {
-  walking = subst (λ (l : List ℕ). IsWalking c.args.seat.now c.args.seat.now l 12) (sym c.requires.room.0) (begins c.args.seat.now c.requires.free);
-  room = c.requires.room.1;
-}
+pub loop-next-init : goal.loop-next-init
+loop-next-init c =
+    let front = take c.args.place.now.given c.args.seat.now.me.0.seen.chain in
+    let same : front ≡ front ++ c.args.records.now.items = sym (ap (λ (l : List ℕ). front ++ l) c.requires.room.0 ∙ append-nil front) in record {
+      walking = subst (λ (l : List ℕ). IsWalking c.args.seat.now c.args.seat.now l c.args.place.now.at) same
+          (begins c.args.self.now.setting.shape.size c.args.seat.now c.args.place.now c.requires.free (ap (λ (d : Dimensions). d.size) c.requires.seat.2.shape) c.requires.come);
+      given = sym (length-take-le c.args.place.now.given c.args.seat.now.me.0.seen.chain c.requires.come.few) ∙ ap length same;
+      room = c.requires.room.1;
+    }
 
 pub load_next-next-requires-clause-may : goal.load_next-next-requires-clause-may
 load_next-next-requires-clause-may c =
-    may_load c.args.self.now c.args.seat.now _ _ _ c.requires.seat.0 c.requires.seat.1 c.requires.seat.2 c.loop-at.invariant.walking
+    may_load c.args.self.now c.args.seat.now _ _ _ c.requires.seat.0 c.requires.seat.1 c.requires.seat.2 c.loop-next.invariant.walking
 
 pub load_next-next-requires-clause-room : goal.load_next-next-requires-clause-room
 load_next-next-requires-clause-room c =
-    room c.args.self.now c.args.seat.now _ _ _ c.requires.seat.0 c.requires.seat.1 c.requires.seat.2 c.loop-at.invariant.walking
+    room c.args.self.now c.args.seat.now _ _ _ c.requires.seat.0 c.requires.seat.1 c.requires.seat.2 c.loop-next.invariant.walking
 
 pub returns-then-next-eq-QUEUE-clause-same : goal.returns-then-next-eq-QUEUE-clause-same
 returns-then-next-eq-QUEUE-clause-same c =
-    same_still c.args.self.now c.args.seat.now _ _ _ c.requires.seat.0 c.requires.seat.1 c.requires.seat.2 c.loop-at.invariant.walking _ _ c.load_next-next.ensures.step
+    same_still c.args.self.now c.args.seat.now _ _ _ c.requires.seat.0 c.requires.seat.1 c.requires.seat.2 c.loop-next.invariant.walking _ _ c.load_next-next.ensures.step
 
 pub returns-then-next-eq-QUEUE-clause-walked : goal.returns-then-next-eq-QUEUE-clause-walked
 returns-then-next-eq-QUEUE-clause-walked c =
-    ended c.args.self.now c.args.seat.now _ _ _ c.requires.seat.0 c.requires.seat.1 c.requires.seat.2 c.loop-at.invariant.walking _ _ c.load_next-next.ensures.step
-    c.load_next-next.ensures.once c.if-next-eq-QUEUE.true
+    walked_on c.args.self.now.setting.shape.size c.args.seat.now c.args.place.now c.loop-next.place c.loop-next.records.items c.loop-next.seat c.load_next-next.new.seat
+    (ap (λ (d : Dimensions). d.size) c.requires.seat.2.shape) c.requires.come c.loop-next.invariant.walking c.loop-next.invariant.given
+    (ended c.args.self.now c.args.seat.now _ _ _ c.requires.seat.0 c.requires.seat.1 c.requires.seat.2 c.loop-next.invariant.walking _ _ c.load_next-next.ensures.step
+    c.load_next-next.ensures.once c.if-next-eq-QUEUE.true)
 
 pub push_reserved-requires : goal.push_reserved-requires
 push_reserved-requires c =
-    let most = few c.args.self.now c.args.seat.now _ _ _ c.requires.seat.0 c.requires.seat.1 c.requires.seat.2 c.loop-at.invariant.walking _ _
+    let most = few c.args.self.now c.args.seat.now _ _ _ c.requires.seat.0 c.requires.seat.1 c.requires.seat.2 c.loop-next.invariant.walking _ _
     c.load_next-next.ensures.step c.if-next-eq-QUEUE.false in
-    let enough = c.loop-at.invariant.room in omega (arith, most, enough)
+    let enough = c.loop-next.invariant.room in
+    let long = length-append (take c.args.place.now.given c.args.seat.now.me.0.seen.chain) c.loop-next.records.items in omega (arith, most, enough, long)
 
-pub loop-at-smaller : goal.loop-at-smaller
-loop-at-smaller c =
-    let most = few c.args.self.now c.args.seat.now _ _ _ c.requires.seat.0 c.requires.seat.1 c.requires.seat.2 c.loop-at.invariant.walking _ _
+pub loop-next-smaller : goal.loop-next-smaller
+loop-next-smaller c =
+    let most = few c.args.self.now c.args.seat.now _ _ _ c.requires.seat.0 c.requires.seat.1 c.requires.seat.2 c.loop-next.invariant.walking _ _
     c.load_next-next.ensures.step c.if-next-eq-QUEUE.false in
-    let longer = ap length c.push_reserved.ensures.items ∙ length_push c.loop-at.records.items c.load_next-next.result in
-    omega (arith, most, longer)
+    let long = length-append (take c.args.place.now.given c.args.seat.now.me.0.seen.chain) c.loop-next.records.items in
+    let longer = ap length c.push_reserved.ensures.items ∙ length_push c.loop-next.records.items c.load_next-next.result in
+    omega (arith, most, longer, long)
 
-pub loop-at-preserved : goal.loop-at-preserved
-loop-at-preserved c = record {
-  walking = subst (λ (l : List ℕ). IsWalking c.args.seat.now c.load_next-next.new.seat l c.load_next-next.result) (sym c.push_reserved.ensures.items)
-      (walking c.args.self.now c.args.seat.now _ _ _ c.requires.seat.0 c.requires.seat.1 c.requires.seat.2 c.loop-at.invariant.walking _ _
-      c.load_next-next.ensures.step c.if-next-eq-QUEUE.false);
-  room = let stays = c.push_reserved.ensures.capacity in let enough = c.loop-at.invariant.room in omega (arith, stays, enough);
-}
+pub loop-next-preserved : goal.loop-next-preserved
+loop-next-preserved c =
+    let front = take c.args.place.now.given c.args.seat.now.me.0.seen.chain in
+    let longer : (front ++ c.loop-next.records.items) ++ c.load_next-next.result ∷ [] ≡ front ++ c.push_reserved.new.self.items =
+    append_assoc front c.loop-next.records.items (c.load_next-next.result ∷ []) ∙ ap (λ (l : List ℕ). front ++ l) (sym c.push_reserved.ensures.items) in record {
+      walking = subst (λ (l : List ℕ). IsWalking c.args.seat.now c.load_next-next.new.seat l c.load_next-next.result) longer
+          (walking c.args.self.now c.args.seat.now _ _ _ c.requires.seat.0 c.requires.seat.1 c.requires.seat.2 c.loop-next.invariant.walking _ _
+          c.load_next-next.ensures.step c.if-next-eq-QUEUE.false);
+      given =
+          let one = length_push (front ++ c.loop-next.records.items) c.load_next-next.result in
+          let all = ap length longer in
+          let was = c.loop-next.invariant.given in omega (arith, one, all, was);
+      room = let stays = c.push_reserved.ensures.capacity in let enough = c.loop-next.invariant.room in omega (arith, stays, enough);
+    }

@@ -1,0 +1,12 @@
+use Rattle.std.proofs.Common.{ap}
+use Rattle.segment_machine.specs.declared.actor.Actor.{Actor}
+use Rattle.live_segment.proofs.Walked.{all_right, come_still, walk_grows}
+use Rattle.live_segment.proofs.recorder.Recorder.records.Goals as goal
+
+pub invariant_of-self-clause-right : goal.invariant_of-self-clause-right
+invariant_of-self-clause-right c =
+    all_right c.args.self.now.segment.now.setting _ _ c.args.self.now.known.items (ap (λ (a : Actor). a.answers.names) c.walk.ensures.walked.walked.view)
+    (walk_grows _ _ _ c.walk.ensures.walked.walked) c.args.self.now.right
+
+pub invariant_of-self-clause-come : goal.invariant_of-self-clause-come
+invariant_of-self-clause-come c = come_still _ _ _ _ (walk_grows _ _ _ c.walk.ensures.walked.walked) c.args.self.now.come

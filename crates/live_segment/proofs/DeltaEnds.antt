@@ -67,13 +67,13 @@ module _ (segment : Segment) (known : Known) (old : Pass) (may : MayTakeSum segm
       ready = subst (λ (a : Actor). (k : Known) × Takes a known.reference k × (a.hand.place ≡ SumLoaded known.reference sum)) (sym load.view)
           (known, takes_loaded, refl);
       goes = λ found learned. (
-            (
-              ap (λ (a : Actor). a.deltas.taking) load.view ∙ may.takes.0,
-              subst (λ (a : Actor). (k : Known) × Contains a.answers.names k × TookAll (next a swapping found) k) (sym load.view)
-                  (known, may.takes.1, took_all found),
-            ),
-            refl,
-          );
+        (
+          ap (λ (a : Actor). a.deltas.taking) load.view ∙ may.takes.0,
+          subst (λ (a : Actor). (k : Known) × Contains a.answers.names k × TookAll (next a swapping found) k) (sym load.view)
+              (known, may.takes.1, took_all found),
+        ),
+        refl,
+      );
     }
 
     module _ (mark : ℕ) (new : Pass) (swap : Noted mid [] swapping (has_taken ∷ []) mark new) where

@@ -93,7 +93,6 @@ pub record TakesAt (segment : Segment) (known : Known) (mounted : Mounted) (seat
   pub singles : seat.me.0.since.singles ≤ length seat.me.0.seen.singles
   pub counts : seat.me.0.since.counts ≤ length seat.me.0.seen.counts
 
-
 -- ---- what was taken
 
 -- A delta has taken these units of the buckets of a histogram, which is all that its recorder saw of them since it began.

@@ -159,7 +159,9 @@ impl Segment {
         ensures taken { HasTakenSum (known_view histogram.now) result seat.old.me.0 seat.new.me.0 }
     {
         let sum = self.load_sum(seat, histogram.reference).cast_signed();
-        let mark = self.swap_sum_mark(seat, histogram.reference, sum).cast_signed();
+        let mark = self
+            .swap_sum_mark(seat, histogram.reference, sum)
+            .cast_signed();
         sum - mark
     }
 

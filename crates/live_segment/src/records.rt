@@ -25,7 +25,10 @@ impl WalkPlace {
     pub(crate) fn start() -> WalkPlace
         ensures { (result.given ≡ 0) × (result.at ≡ QUEUE) }
     {
-        WalkPlace { given: 0, at: QUEUE }
+        WalkPlace {
+            given: 0,
+            at: QUEUE,
+        }
     }
 }
 

@@ -23,7 +23,7 @@ take_units-requires-clause-right c =
 pub take_units-requires-clause-takes : goal.take_units-requires-clause-takes
 take_units-requires-clause-takes c =
     takes_word c.args.self.now (known_view c.args.histogram.now) c.args.seat.now c.requires.seat.0 c.requires.seat.1 c.requires.rests c.requires.right.alone c.requires.bucketed
-     c.take_single-word.result c.take_single-word.new.seat c.take_single-word.ensures
+    c.take_single-word.result c.take_single-word.new.seat c.take_single-word.ensures
 
 pub take_sum-requires-clause-may : goal.take_sum-requires-clause-may
 take_sum-requires-clause-may c =

@@ -1,5 +1,5 @@
 -- The records of a text, read one after the other.
-use Rattle.std.proofs.Common.{◌≡◌, ◌∙◌, ℕ, suc, ◌+◌, ◌-◌, ◌<◌, ◌≤◌, ◌==◌, ◌&&◌, Bool, true, false, List, [], ◌∷◌, ◌++◌, length, Option, Some, None, if◌then◌else◌, zero-add, ap, refl, subst, sym, arith}
+use Rattle.std.proofs.Common.{Result, Ok, Err, IsErrAnd, MatchResult, ◌≡◌, ◌∙◌, ℕ, suc, ◌+◌, ◌-◌, ◌<◌, ◌≤◌, ◌==◌, ◌&&◌, Bool, true, false, List, [], ◌∷◌, ◌++◌, length, Option, Some, None, if◌then◌else◌, zero-add, ap, refl, subst, sym, arith}
 use Rattle.std.specs.Borrow.{Bor}
 use Rattle.std.proofs.lemmas.List.{append-nil, length-append}
 use Rattle.csv.specs.Machine.{Read, after_end, ends_at_end, ends_with, is_byte, field_after, fields_after, in_field, is_end, next_record, start_field, start_record, step}
@@ -217,3 +217,8 @@ starts bytes reader plain config start source = record {
 pub found_is : (text : List ℕ) (rows : List (List (List ℕ))) (old new : Reader (Bor (List ℕ))) (found known : Bool) (fields : List (List ℕ)) → found ≡ known
     → IsNext text rows old new found fields → IsNext text rows old new known fields
 found_is text rows old new found known fields same next = subst (λ f. IsNext text rows old new f fields) same next
+
+-- a fault that is passed on
+pub passed_on : {T E : Type 0} (result : Result T E) (P : T → Type 0) (Q : E → Type 0) (fault : E) → IsErrAnd result (λ passed. passed ≡ fault) → Q fault → MatchResult result P Q
+passed_on (Ok value) P Q fault same holds = absurd same
+passed_on (Err passed) P Q fault same holds = subst Q (sym same) holds

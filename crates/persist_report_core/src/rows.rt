@@ -31,7 +31,8 @@ pub(crate) fn next_fields(
 
 /// All records of a text, without a header row, each with any number of fields. Empty lines are none.
 pub fn read_rows(alloc: Global, text: &[u8]) -> Result<Vec<ByteRecord>, AllocError>
-    ensures { IfOk result (λ rows. map fields_of rows.items ≡ records default_config (strip_bom text.now)) }
+    ensures rows { IfOk result (λ rows. map fields_of rows.items ≡ records default_config (strip_bom text.now)) }
+    ensures few { IfOk result (λ rows. length rows.items ≤ length text.now) }
 {
     let mut reader = ReaderBuilder::new()
         .has_headers(false)

@@ -1,9 +1,9 @@
-use Rattle.std.proofs.Common.{◌≡◌, ◌∙◌, ◌++◌, ◌∷◌, [], map, true, false, sym, subst, ap, rules}
-use Rattle.std.proofs.lemmas.List.{map-append}
+use Rattle.std.proofs.Common.{arith, ◌≡◌, ◌∙◌, ◌++◌, ◌∷◌, [], map, true, false, sym, subst, ap, rules}
+use Rattle.std.proofs.lemmas.List.{length-map, map-append}
 use Rattle.csv.specs.Reading.{strip_bom}
 use Rattle.csv.specs.Records.{fields_of}
 use Rattle.persist_report_core.specs.Rows.{IsBehind}
-use Rattle.persist_report_core.proofs.Records.{found_is, starts}
+use Rattle.persist_report_core.proofs.Records.{found_is, length-strip_bom, starts}
 use Rattle.persist_report_core.proofs.rows.read_rows.Goals as goal
 
 pub records-init : goal.records-init
@@ -33,9 +33,14 @@ records-preserved c =
       behind = subst (λ all. IsBehind text all c.next_fields.new.reader) pushed more;
     }
 
-pub returns : goal.returns
-returns c =
+pub returns-clause-rows : goal.returns-clause-rows
+returns-clause-rows c =
     let text = strip_bom c.args.text.now in
     let rows = map fields_of c.records.rows.items in
     let next = c.in_ok-next_fields.ensures.next text rows c.records.invariant.behind in
     sym (found_is text rows c.records.reader c.next_fields.new.reader _ false (fields_of c.next_fields.new.fields) c.if-branch.false next)
+
+pub returns-clause-few : goal.returns-clause-few
+returns-clause-few c =
+    let behind = c.records.invariant.behind in
+    omega (arith, behind.room, length-map c.records.rows.items fields_of, length-strip_bom c.args.text.now)

@@ -1,16 +1,11 @@
-use Rattle.std.proofs.Common.{◌≡◌, ◌+◌, ◌++◌, ◌∷◌, [], true, false, option_map, Result, Ok, Err, IsErrAnd, MatchResult, rules, sym, subst, arith}
+use Rattle.std.proofs.Common.{◌+◌, ◌++◌, ◌∷◌, [], true, false, option_map, rules, arith}
 use Rattle.csv.specs.Reading.{strip_bom}
 use Rattle.csv.specs.Records.{fields_of}
 use Rattle.persist_report_core.specs.Request.{request_view}
 use Rattle.persist_report_core.specs.Script.{IsScriptFault, later_fault, opening_fault, script_view}
-use Rattle.persist_report_core.proofs.Records.{found_is, length-strip_bom, records-behind, starts}
+use Rattle.persist_report_core.proofs.Records.{found_is, length-strip_bom, passed_on, records-behind, starts}
 use Rattle.persist_report_core.proofs.ReadScripts.{few_hists, fault_told, read-first, read-more, script_of-empty, script_of-first, script_of-later, script_of-read}
 use Rattle.persist_report_core.proofs.script.reading.script_in.Goals as goal
-
--- a fault that is passed on
-passed_on : {T E : Type 0} (result : Result T E) (P : T → Type 0) (Q : E → Type 0) (fault : E) → IsErrAnd result (λ passed. passed ≡ fault) → Q fault → MatchResult result P Q
-passed_on (Ok value) P Q fault same holds = absurd same
-passed_on (Err passed) P Q fault same holds = subst Q (sym same) holds
 
 pub returns-then-not-branch-clause-answer : goal.returns-then-not-branch-clause-answer
 returns-then-not-branch-clause-answer c =

@@ -1,0 +1,3 @@
+mod Fewer
+mod Items
+mod Orders

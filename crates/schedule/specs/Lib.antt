@@ -1,0 +1,4 @@
+pub mod Fields
+pub mod Call
+pub mod Order
+pub mod Schedule

@@ -1,0 +1,58 @@
+-- What a record of a schedule asks for, by its fields.
+use Rattle.std.specs.Prelude.{if◌then◌else◌, nat_le, ℕ, List, [], ◌∷◌, codes, Option, Some, None, option_map}
+use Rattle.std.specs.Option.{option_and_then}
+use Rattle.std.specs.Str.{bytes_eq}
+use Rattle.persist_report_core.specs.Number.{long_number}
+use Rattle.persist_report_core.specs.Request.{from_two}
+use Rattle.schedule.specs.declared.order.Opening.{Opening}
+use Rattle.schedule.specs.declared.order.Order.{Order}
+use Rattle.schedule.specs.declared.order.OrderKind as code
+use Rattle.schedule.specs.declared.order.OrderKind.TheVariants as kind
+use Rattle.schedule.specs.Call.{Call, call_in, call_view}
+
+-- a value made of five parts, where all are there
+abbrev pub from_five : {A B C D E X : Type 0} → (A → B → C → D → E → X) → Option A → Option B → Option C → Option D → Option E → Option X
+from_five make (Some a) (Some b) (Some c) (Some d) (Some e) = Some (make a b c d e)
+from_five make _ _ _ _ _ = None
+
+-- a world of so many words, so many to a page, an id, so many actors and a version
+abbrev pub opening_of : ℕ → ℕ → ℕ → ℕ → ℕ → Opening
+opening_of size page id actors version = record { size = size; page = page; id = id; actors = actors; version = version }
+
+-- the world of the first record
+abbrev pub opening_in : List (List ℕ) → Option Opening
+opening_in (word ∷ size ∷ page ∷ id ∷ actors ∷ version ∷ []) =
+    if bytes_eq word (codes "world") then from_five opening_of (long_number size) (long_number page) (long_number id) (long_number actors) (long_number version)
+    else None
+opening_in _ = None
+
+-- how many events: one or more
+abbrev pub some_number : ℕ → Option ℕ
+some_number times = if nat_le 1 times then Some times else None
+
+abbrev pub times_in : List (List ℕ) → Option ℕ
+times_in (times ∷ []) = option_and_then some_number (long_number times)
+times_in _ = None
+
+-- what an actor is to do: to begin a call, or to go on by so many events at most
+pub data Kind : Type 0 where
+  Begin : Call → Kind
+  Step : (times : ℕ) → Kind
+
+-- by a word and the fields behind the actor
+abbrev pub kind_in : List ℕ → List (List ℕ) → Option Kind
+kind_in word behind = if bytes_eq word (codes "step") then option_map Step (times_in behind) else option_map Begin (call_in word behind)
+
+-- what a later record asks for: its actor, and what that is to do
+abbrev pub order_in : List (List ℕ) → Option (ℕ × Kind)
+order_in (word ∷ actor ∷ behind) = from_two (λ actor kind. (actor, kind)) (long_number actor) (kind_in word behind)
+order_in _ = None
+
+-- ---- the program's values
+
+abbrev pub kind_view : code.OrderKind → Kind
+kind_view (kind.Begin call) = Begin (call_view call)
+kind_view (kind.Step times) = Step times
+
+abbrev pub order_view : Order → ℕ × Kind
+order_view order = (order.actor, kind_view order.kind)

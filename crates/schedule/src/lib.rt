@@ -1,0 +1,17 @@
+//! Schedules of the stepped world: who begins which call, and who goes on by how many events.
+//!
+//! A schedule is a CSV text. It is read whole and is then a value, or its first faulty record: `specs/Schedule.antt`.
+#![tactic(auto)]
+
+mod call;
+mod fault;
+mod fields;
+mod order;
+mod reading;
+
+pub use fault::ScheduleFault;
+pub use order::{Opening, Order, OrderKind};
+pub use reading::{Schedule, read_schedule};
+
+#[cfg(test)]
+mod tests;

@@ -1,0 +1,121 @@
+//! What a record of a schedule asks for, by its fields.
+
+ghost use Rattle.std.specs.Prelude.{◌≡◌, IfOk, option_map, drop};
+ghost use Rattle.csv.specs.Records.{fields_of};
+ghost use Rattle.schedule.specs.Fields.{texts};
+ghost use Rattle.schedule.specs.Order.{kind_in, kind_view, opening_in, order_in, order_view, times_in};
+
+use crate::call::read_call;
+use crate::fields::list_fields;
+use csv::ByteRecord;
+use hist_core::Call;
+use persist_report_core::long_number;
+use std::alloc::{AllocError, Global};
+
+/// What a world is made as: the first record.
+#[derive(Clone, Copy, Debug, PartialEq, Eq)]
+pub struct Opening {
+    /// How many words its segment has, lawful or not.
+    pub size: u64,
+    /// How many words a page has, lawful or not.
+    pub page: u64,
+    /// The segment's id.
+    pub id: u64,
+    /// How many actors it has, lawful or not.
+    pub actors: usize,
+    /// The version of the format, lawful or not.
+    pub version: u64,
+}
+
+/// What an actor is to do: a later record.
+#[derive(Debug, Drop)]
+pub struct Order {
+    /// The number of the actor, from 0, whether there is one or not.
+    pub actor: usize,
+    /// What it is to do.
+    pub kind: OrderKind,
+}
+
+/// What an actor is to do.
+#[derive(Debug, Drop)]
+pub enum OrderKind {
+    /// It begins a call.
+    Begin(Call),
+    /// It goes on with its call by at least one event and at most so many, fewer where the call ends.
+    Step(u64),
+}
+
+// The world of these fields.
+fn opening_of(fields: &[&[u8]]) -> Option<Opening>
+    ensures { result ≡ opening_in (texts fields.now) }
+{
+    let [word, size, page, id, actors, version] = fields else {
+        return None;
+    };
+    if *word != b"world".as_slice() {
+        return None;
+    }
+    Some(Opening {
+        size: long_number(size)?,
+        page: long_number(page)?,
+        id: long_number(id)?,
+        actors: long_number(actors)? as usize,
+        version: long_number(version)?,
+    })
+}
+
+/// The world that the first record asks for, or nothing where it has no lawful form.
+pub(crate) fn read_opening(
+    alloc: Global,
+    record: &ByteRecord,
+) -> Result<Option<Opening>, AllocError>
+    ensures { IfOk result (λ opening. opening ≡ opening_in (fields_of record.now)) }
+{
+    let fields = list_fields(alloc, record)?;
+    Ok(opening_of(&fields))
+}
+
+// How many events: one or more.
+fn times_of(behind: &[&[u8]]) -> Option<u64>
+    ensures { result ≡ times_in (texts behind.now) }
+{
+    let [times] = behind else {
+        return None;
+    };
+    let times = long_number(times)?;
+    if times == 0 { None } else { Some(times) }
+}
+
+// What an actor is to do, by a word and the fields behind the actor.
+fn read_kind(
+    alloc: Global,
+    word: &[u8],
+    behind: &[&[u8]],
+    record: &ByteRecord,
+) -> Result<Option<OrderKind>, AllocError>
+    requires { texts behind.now ≡ drop 2 (fields_of record.now) }
+    ensures { IfOk result (λ kind. option_map kind_view kind ≡ kind_in word.now (texts behind.now)) }
+{
+    if word == b"step".as_slice() {
+        Ok(times_of(behind).map(OrderKind::Step))
+    } else {
+        Ok(read_call(alloc, word, behind, record)?.map(OrderKind::Begin))
+    }
+}
+
+/// What a later record asks for, or nothing where it has no lawful form.
+pub(crate) fn read_order(alloc: Global, record: &ByteRecord) -> Result<Option<Order>, AllocError>
+    ensures { IfOk result (λ order. option_map order_view order ≡ order_in (fields_of record.now)) }
+{
+    let fields = list_fields(alloc, record)?;
+    let [word, actor, behind @ ..] = fields.as_slice() else {
+        return Ok(None);
+    };
+    match (long_number(actor), read_kind(alloc, word, behind, record)?) {
+        (Some(actor), Some(kind)) => Ok(Some(Order {
+            actor: actor as usize,
+            kind,
+        })),
+        _ => Ok(None),
+    }
+}

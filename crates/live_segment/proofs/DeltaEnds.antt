@@ -1,11 +1,9 @@
 -- A delta ends: it takes what is new of the sum, and its recorder keeps what it took.
-use Rattle.std.proofs.Common.{◌≡◌, ℕ, ◌+◌, ◌<◌, ◌≤◌, ℤ, Bool, true, false, true≢false, List, [], ◌∷◌, ◌++◌, pos, refl, sym, ap, subst, ◌∙◌, arith}
-use Rattle.std.specs.Prelude.{◌+ℤ◌, ◌-ℤ◌}
+use Rattle.std.proofs.Common.{◌≡◌, ℕ, ◌+◌, ℤ, false, true≢false, List, [], ◌∷◌, ◌++◌, refl, sym, ap, subst, ◌∙◌}
+use Rattle.std.specs.Prelude.{◌-ℤ◌}
 use Rattle.std.specs.Int.{cast_signed, w64}
 use Rattle.std.specs.List.{Contains}
 use Rattle.std.proofs.Math.IntN.{+ℤ_idl}
-use Rattle.bucket_ranges.specs.Spec.{buckets_of}
-use Rattle.bucket_ranges.specs.declared.spec.Spec.TheVariants as spec
 use Rattle.segment_machine.specs.declared.actor.Actor.{Actor}
 use Rattle.segment_machine.specs.declared.actor.Known.{Known}
 use Rattle.segment_machine.specs.declared.actor.Taken.{Taken}
@@ -13,8 +11,7 @@ use Rattle.segment_machine.specs.declared.place.Place.TheVariants.{Idle, SumLoad
 use Rattle.segment_machine.specs.Actor.{has_buckets, is_opener, looking}
 use Rattle.segment_machine.specs.Calls.{change_last}
 use Rattle.segment_machine.specs.Event.{Event, next, packing_event, taking_event}
-use Rattle.segment_machine.specs.Made.{SawSample}
-use Rattle.segment_machine.specs.Note.{TookAll, TookBucket, TookSample, has_taken, noted, nothing_taken, takes}
+use Rattle.segment_machine.specs.Note.{TookAll, has_taken, noted, nothing_taken, takes}
 use Rattle.segment_machine.specs.Packing.{load_single}
 use Rattle.segment_machine.specs.Taking.{Takes, load_sum, swap_sum, swap_sum_mark}
 use Rattle.segment_invariant.proofs.Notes.Amounts.{last_changed}

@@ -1,5 +1,5 @@
 -- What a recorder knows of its histograms stays right while it knows the same and sees more of the list.
-use Rattle.std.proofs.Common.{◌≡◌, Bool, true, ◌||◌, List, ◌++◌, sym, ap, subst, ◌∙◌, ◌==◌, ℕ}
+use Rattle.std.proofs.Common.{◌≡◌, Bool, ◌||◌, List, ap, ◌∙◌, ◌==◌}
 use Rattle.std.specs.List.{All, list_any}
 use Rattle.std.proofs.lemmas.List.Folds.{list_any-append}
 use Rattle.segment_machine.specs.declared.actor.Actor.{Actor}

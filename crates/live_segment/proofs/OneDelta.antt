@@ -1,10 +1,10 @@
 -- A delta of a histogram with buckets: it begins with the single word, takes what that says, and ends with the sum.
-use Rattle.std.proofs.Common.{◌≡◌, ◌≢◌, ◌⊎◌, ℕ, ◌+◌, ◌-◌, ◌*◌, ◌^◌, ◌<◌, ◌≤◌, ℤ, max, nat_lt, if◌then◌else◌, Bool, true, false, true≢false, List, [], ◌∷◌, ◌++◌, drop, take, length, Option, Some, None, inl, inr, ⊎_elim, refl, sym, ap, subst, ◌∙◌, arith}
+use Rattle.std.proofs.Common.{◌≡◌, ◌≢◌, ℕ, ◌+◌, ◌-◌, ◌*◌, ◌<◌, ◌≤◌, ℤ, max, if◌then◌else◌, Bool, true, false, true≢false, List, [], ◌∷◌, ◌++◌, drop, take, length, Option, Some, None, inl, inr, ⊎_elim, refl, sym, ap, subst, ◌∙◌, arith}
 use Rattle.std.specs.Prelude.{unwrap_or}
 use Rattle.std.specs.List.{Contains}
 use Rattle.std.specs.List.Sorted.{IsStrictlySortedBy}
 use Rattle.std.proofs.Math.Seq.{drop-append_seam}
-use Rattle.std.proofs.lemmas.Bool.{le-leb, lt-ltb, le-ltb, ne_eqb}
+use Rattle.std.proofs.lemmas.Bool.{lt-ltb, le-ltb}
 use Rattle.std.proofs.lemmas.List.Elements.{All-push, Contains-append_right}
 use Rattle.std.proofs.lemmas.List.{take-append-drop}
 use mathlib.Core.Logic.{dite}
@@ -15,7 +15,6 @@ use Rattle.bucket_ranges.specs.declared.single.SingleWord.{SingleWord}
 use Rattle.segment_image.specs.Shape.{Dimensions}
 use Rattle.segment_machine.specs.declared.actor.Actor.{Actor}
 use Rattle.segment_machine.specs.declared.actor.Known.{Known}
-use Rattle.segment_machine.specs.declared.actor.Since.{Since}
 use Rattle.segment_machine.specs.declared.actor.Taken.{Taken}
 use Rattle.segment_machine.specs.declared.place.Look.{Look}
 use Rattle.segment_machine.specs.declared.place.Place.{Place}
@@ -23,21 +22,19 @@ use Rattle.segment_machine.specs.declared.place.Place.TheVariants.{Looking}
 use Rattle.segment_machine.specs.declared.seen.Seen.{Seen}
 use Rattle.segment_machine.specs.declared.seen.Sighting.{Sighting}
 use Rattle.segment_machine.specs.Actor.{Buckets, SawCount, SawSingle, bucket_key, has_buckets, is_bound, is_opener, known_at, known_buckets, word_seen}
-use Rattle.segment_machine.specs.Calls.{back, change_last, form_seen, look_of, sight, sight_counts}
+use Rattle.segment_machine.specs.Calls.{back, form_seen, look_of, sight, sight_counts}
 use Rattle.segment_machine.specs.Counting.{load_counts}
-use Rattle.segment_machine.specs.Event.{Event, next, Learned, Ready, counting_event, packing_event, taking_event}
+use Rattle.segment_machine.specs.Event.{Event, next, counting_event, packing_event, taking_event}
 use Rattle.segment_machine.specs.Form.{is_off, units_in}
 use Rattle.segment_machine.specs.Note.{TookBucket, noted, takes}
 use Rattle.segment_machine.specs.Packing.{load_single}
-use Rattle.segment_machine.specs.Taking.{Takes, raise_single_mark, single_key, take_units}
+use Rattle.segment_machine.specs.Taking.{Takes, raise_single_mark, single_key}
 use Rattle.segment_invariant.proofs.Consistency.Keys.{packed_within}
 use Rattle.segment_invariant.proofs.Consistency.Marks.{packed_all}
 use Rattle.segment_invariant.proofs.Lists.Maps.{contains_map}
-use Rattle.live_segment.specs.declared.deltas.Mounted.{Mounted}
 use Rattle.live_segment.specs.declared.segment.Segment.{Segment}
-use Rattle.live_segment.specs.Deltas.{AreUnits, HasTakenBuckets, SaysPacked, TakesAt, TakesOn, TakesWord, units_of_key}
+use Rattle.live_segment.specs.Deltas.{HasTakenBuckets, SaysPacked, TakesAt, TakesOn, TakesWord, units_of_key}
 use Rattle.live_segment.specs.Holders.{MayStep, table_of}
-use Rattle.live_segment.specs.Looking.{StandsAt}
 use Rattle.live_segment.specs.Onward.{SeesOn}
 use Rattle.live_segment.specs.Rule.{IsOf}
 use Rattle.live_segment.specs.Steps.{IsAtRest, IsSame, Pass, Stepped}
@@ -48,7 +45,6 @@ use Rattle.live_segment.proofs.BucketsSeen.{counts_there}
 use Rattle.live_segment.proofs.OneBucket.{long_still, marked, none_packed, nothing_more, saw_here, sees_count, takes_by, takes_not, takes_of}
 use Rattle.live_segment.proofs.Proceeding.{grows_by, grows_not, looks_again, looks_there}
 use Rattle.live_segment.proofs.Ranks.{on_units}
-use Rattle.live_segment.proofs.Seeing.{saw_single}
 
 -- ---- it begins
 

@@ -1,8 +1,8 @@
 -- The word of a sample's value: the value of an `i32` that it holds, where it holds one.
-use Rattle.std.proofs.Common.{◌≡◌, ◌≢◌, ℕ, ◌<◌, ◌^◌, true, ℤ, pos, negsuc, w32, w64, FitsSigned, to_z, of_z, rules, arith, refl, sym, ap, ◌∙◌, subst}
+use Rattle.std.proofs.Common.{◌≡◌, ◌≢◌, ℕ, ◌<◌, ◌^◌, true, ℤ, pos, negsuc, w32, w64, FitsSigned, rules, arith, sym, ap, ◌∙◌, subst}
 use Rattle.std.specs.Int.{cast_signed, cast_unsigned}
 use Rattle.std.proofs.lemmas.Bool.{lt-ltb, ltb-true}
-use Rattle.std.proofs.lemmas.Int.{of_z-to_z, to_z-of_z}
+use Rattle.std.proofs.lemmas.Int.{of_z-to_z}
 use Rattle.bucket_ranges.specs.Reading.{is_i32}
 use Rattle.segment_machine.proofs.Values.{value_word}
 

@@ -1,4 +1,4 @@
-use Rattle.std.proofs.Common.{rules, ℤ, FitsSigned, w64, sym, ap, ◌∙◌, subst, arith}
+use Rattle.std.proofs.Common.{rules, ℤ, FitsSigned, w64, sym, ap, ◌∙◌, subst}
 use Rattle.std.proofs.lemmas.Int.{to_z-of_z}
 use Rattle.segment_machine.specs.declared.actor.Actor.{Actor}
 use Rattle.live_segment.specs.Deltas.{HasTaken}

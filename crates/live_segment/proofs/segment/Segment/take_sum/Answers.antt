@@ -5,10 +5,9 @@ use Rattle.std.proofs.lemmas.Int.{to_z-of_z, fits_signed_from_abs}
 use Rattle.segment_machine.specs.Event.{taking_event}
 use Rattle.segment_machine.specs.Note.{has_taken}
 use Rattle.segment_machine.specs.Taking.{swap_sum_mark}
-use Rattle.live_segment.specs.Deltas.{HasTakenSum}
 use Rattle.live_segment.specs.Known.{known_view}
 use Rattle.live_segment.specs.Telling.{MayDo, Noted}
-use Rattle.live_segment.proofs.DeltaEnds.{may_load_sum, may_swap, ended}
+use Rattle.live_segment.proofs.DeltaEnds.{may_swap, ended}
 use Rattle.live_segment.proofs.segment.Segment.take_sum.Goals as goal
 
 pub swap_sum_mark-requires-clause-may : goal.swap_sum_mark-requires-clause-may

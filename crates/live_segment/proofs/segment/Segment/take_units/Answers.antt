@@ -1,4 +1,4 @@
-use Rattle.std.proofs.Common.{ℕ, ℤ, List, Option, ◌^◌, length, sym, ap, ◌∙◌, subst, arith}
+use Rattle.std.proofs.Common.{ℕ, ℤ, List, Option, ◌^◌, sym, subst, arith}
 use Rattle.std.proofs.lemmas.Bool.{le-leb}
 use Rattle.bucket_ranges.specs.Spec.{buckets_of}
 use Rattle.segment_invariant.proofs.Packing.OffForms.{few_buckets}
@@ -6,7 +6,7 @@ use Rattle.live_segment.specs.Deltas.{HasTakenBuckets, SaysPacked}
 use Rattle.live_segment.specs.Known.{known_view}
 use Rattle.live_segment.proofs.AllBuckets.{buckets_long}
 use Rattle.live_segment.proofs.Attempts.{is_on}
-use Rattle.live_segment.proofs.OneDelta.{may_load, loads_on, takes_at, took_nothing}
+use Rattle.live_segment.proofs.OneDelta.{takes_at, took_nothing}
 use Rattle.live_segment.proofs.segment.Segment.take_units.Goals as goal
 
 pub packed_in-packed-requires : goal.packed_in-packed-requires

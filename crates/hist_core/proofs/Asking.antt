@@ -1,9 +1,19 @@
 -- A `hist` of an actor goes on, and what its actor knows then.
-use Rattle.std.proofs.Common.{◌≡◌, ◌≢◌, ℕ, suc, ◌≤◌, List, [], ◌∷◌, ◌++◌, length, map, All, inl, inr, refl, sym, ap, subst, ◌∙◌, vec_len}
-use Rattle.std.specs.Prelude.{Option, Some, None, vec_capacity}
+use Rattle.std.proofs.Common.{◌≡◌, ◌≢◌, ◌<◌, ◌+◌, ℕ, zero, suc, ◌≤◌, List, [], ◌∷◌, ◌++◌, length, map, All, inl, inr, refl, sym, ap, subst, ◌∙◌, vec_len, arith}
+use Rattle.std.specs.Prelude.{Option, Some, None, Result, Ok, Err, vec_capacity}
+use Rattle.std.specs.declared.alloc.AllocError.{AllocError}
+use Rattle.bucket_ranges.specs.declared.spec.Spec.{Spec}
+use Rattle.alloc_core.specs.Layout.{IsShape}
+use Rattle.hist_core.specs.Asked.{IsAskedFor}
+use Rattle.hist_core.specs.declared.asked.Asked.{Asked}
+use Rattle.hist_core.specs.declared.call.Begun.{Begun}
+use Rattle.hist_core.specs.declared.call.Begun.TheVariants.{Going, Ended}
 use Rattle.std.proofs.lemmas.List.{map-append}
 use Rattle.std.proofs.lemmas.List.Elements.{All-push}
-use mathlib.Core.Option.{some-ne-none}
+use mathlib.Core.Logic.{dite}
+use native.Mathlib.Decide.{ℕ_discrete}
+use mathlib.Core.Option.{some, some-injective, some-ne-none}
+use lib.ListN.{get_elem?}
 use Rattle.atomic_table.proofs.Lists.{at_snoc}
 use Rattle.segment_image.specs.Shape.{Dimensions}
 use Rattle.segment_machine.specs.declared.actor.Actor.{Actor}
@@ -20,7 +30,7 @@ use Rattle.hist_core.specs.declared.runner.Running.TheVariants.{Hist}
 use Rattle.hist_core.specs.declared.runner.Runner.{Runner}
 use Rattle.hist_core.specs.Goes.{Beside, Goes}
 use Rattle.hist_core.specs.Hist.{IsSomeHist, HistSteps, asked_of}
-use Rattle.hist_core.specs.Runner.{known_of, IsKnown, NoneHasName, HaveOwnNames, StandsIn, HasRoom, IsRun, IsSomeRun, IsHistSaid, Advances, Answers}
+use Rattle.hist_core.specs.Runner.{known_of, IsKnown, NoneHasName, HaveOwnNames, StandsIn, HasRoom, IsRun, IsSomeRun, IsHistSaid, BeginsHist, Advances, Answers}
 use Rattle.hist_core.proofs.Parts.Walks.{goes_with}
 
 -- ---- a note more
@@ -156,3 +166,60 @@ hist_answers old before words new_words Done new result same (asked, is_asked, n
     ((let k = asked.asked in record k { reference = asked.reference }), refl, items ∙ ap (λ (l : List Known). l ++ (let k = asked.asked in record k { reference = asked.reference }) ∷ []) same, ap (λ (r : Runner). r.running) new_is)
 hist_answers old before words new_words (Refused why) new result same (new_is, result_is) =
     subst (Answers old words new new_words) (sym result_is) (ap (λ (r : Runner). r.running) new_is, ap (λ (r : Runner). r.known.items) new_is ∙ same)
+
+-- ---- what it begins with
+
+-- what stands at a place stands within the list
+pub place_below : {A : Type 0} (l : List A) (i : ℕ) (x : A) → get_elem? l i ≡ some x → i < length l
+place_below [] i x at = absurd (some-ne-none x (sym at))
+place_below (y ∷ l) zero x at = omega arith
+place_below (y ∷ l) (suc i) x at = let below = place_below l i x at in omega (arith, below)
+
+-- it begins a `hist`, or there was no memory for it: the machine's actor stands as before
+pub begins_hist : (shape : Dimensions) (version : ℕ) (name : List ℕ) (spec : Spec) (asked : Asked) (old new : Runner) (result : Result Begun AllocError) (a : Actor)
+    → IsAskedFor shape name spec asked → IsShape shape → old.running ≡ None → BeginsHist shape asked old new result → IsRun shape version old a → IsRun shape version new a
+begins_hist shape version name spec asked old new (Ok Going) a asks lawful rests (hist, begun, new_is, items, room, none) run =
+    let stands = subst (λ running. StandsIn shape old.known.items running a) rests run.stands in
+    subst (λ (r : Runner). IsRun shape version r a) (sym new_is) (record {
+      records = run.records;
+      segment = run.segment;
+      first = run.first;
+      within = run.within;
+      ended = run.ended;
+      begun = run.begun;
+      untaken = run.untaken;
+      names = ap (map known_of) items ∙ run.names;
+      lawful = subst (All (IsKnown shape)) (sym items) run.lawful;
+      once = subst HaveOwnNames (sym items) run.once;
+      stands = (
+        begun.stands name spec a asks lawful (ap (λ s. s.shape) run.segment) stands.0,
+        stands.1,
+        subst (λ (l : List Known). NoneHasName l hist.asked.name.items) (sym items)
+            (subst (NoneHasName old.known.items) (ap (λ n. n.items) (sym begun.named)) none),
+      );
+      room = room;
+    })
+begins_hist shape version name spec asked old new (Ok (Ended answered)) a asks lawful rests (new_is, known) run = subst (λ (r : Runner). IsRun shape version r a) (sym new_is) run
+begins_hist shape version name spec asked old new (Err error) a asks lawful rests (new_is, items) run =
+    subst (λ (r : Runner). IsRun shape version r a) (sym new_is) (record {
+      records = run.records;
+      segment = run.segment;
+      first = run.first;
+      within = run.within;
+      ended = run.ended;
+      begun = run.begun;
+      untaken = run.untaken;
+      names = ap (map known_of) items ∙ run.names;
+      lawful = subst (All (IsKnown shape)) (sym items) run.lawful;
+      once = subst HaveOwnNames (sym items) run.once;
+      stands = subst (λ (p : List Known × Option Running). StandsIn shape p.0 p.1 a) (λ i. (sym items i, old.running)) run.stands;
+      room = subst (λ running. HasRoom running (vec_len new.known) (vec_capacity new.known)) (sym rests) tt;
+    })
+
+-- the next has another name, too
+pub none_further : (list : List Known) (name : List ℕ) (i : ℕ) (next : Known)
+    → ((j : ℕ) (known : Known) → j < i → get_elem? list j ≡ some known → known.name.items ≢ name) → get_elem? list i ≡ some next → next.name.items ≢ name
+    → (j : ℕ) (known : Known) → j < i + 1 → get_elem? list j ≡ some known → known.name.items ≢ name
+none_further list name i next before here other j known below at = dite (ℕ_discrete j i)
+    (λ same. λ named. other (ap (λ (k : Known). k.name.items) (some-injective next known (sym here ∙ (ap (get_elem? list) (sym same) ∙ at))) ∙ named))
+    (λ apart. before j known (omega (arith, below, apart)) at)

@@ -1,5 +1,6 @@
 mod Adds
 mod Asking
+mod Beginnings
 mod Boards
 mod Letters
 mod Looks

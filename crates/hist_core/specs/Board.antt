@@ -1,5 +1,5 @@
 -- The words of a segment with its actors, and the states of the machine that they stand for.
-use Rattle.std.specs.Prelude.{◌≡◌, ◌≢◌, ℕ, ◌+◌, true, List, [], ◌∷◌, IsSome, None, All, vec_len, ⊤}
+use Rattle.std.specs.Prelude.{◌≡◌, ◌≢◌, ℕ, ◌+◌, true, List, [], ◌∷◌, IsSome, Option, Some, None, Result, Ok, Err, All, vec_len, ⊤}
 use mathlib.Core.Option.{some}
 use lib.ListN.{get_elem?}
 use Rattle.std.specs.List.{Contains}
@@ -20,7 +20,18 @@ use Rattle.segment_promises.specs.Reads.{HasNoFault, ReadsHead, ReadsNames, Read
 use Rattle.hist_core.specs.declared.call.Stepped.{Stepped}
 use Rattle.hist_core.specs.declared.runner.Runner.{Runner}
 use Rattle.hist_core.specs.declared.board.Board.{Board}
-use Rattle.hist_core.specs.Runner.{IsFresh, IsRun, Answers}
+use Rattle.bucket_ranges.specs.declared.spec.Spec.{Spec}
+use Rattle.std.specs.declared.alloc.AllocError.{AllocError}
+use Rattle.hist_core.specs.declared.call.Answer.{Answer}
+use Rattle.hist_core.specs.declared.call.Answer.TheVariants as answer
+use Rattle.hist_core.specs.declared.call.Begun.{Begun}
+use Rattle.hist_core.specs.declared.call.Begun.TheVariants.{Going, Ended}
+use Rattle.hist_core.specs.declared.hist.Known.{Known}
+use Rattle.hist_core.specs.declared.refusal.Refusal.TheVariants as refusal
+use Rattle.hist_core.specs.declared.runner.Running.{Running}
+use Rattle.hist_core.specs.declared.runner.Running.TheVariants.{Hist}
+use Rattle.hist_core.specs.Asked.{IsRefusedFor}
+use Rattle.hist_core.specs.Runner.{IsFresh, IsRun, IsAsItWas, IsKnownAnswer, Answers}
 
 -- a new segment with so many actors, which have done nothing
 pub record IsNewBoard (shape : Dimensions) (version id actors : ℕ) (board : Board) : Type 0 where
@@ -62,7 +73,7 @@ pub record IsReachedAs (board : Board) (state : State) : Type 0 where
 abbrev pub IsReached : Board → Type 0
 IsReached board = (state : State) × IsReachedAs board state
 
--- ---- a step
+-- ---- the actors
 
 -- a call of an actor is going on
 abbrev pub IsBusy : Board → ℕ → Type 0
@@ -83,6 +94,39 @@ pub record OthersStay (actor : ℕ) (old new : Board) : Type 0 where
   pub version : new.version ≡ old.version
   pub count : vec_len new.runners ≡ vec_len old.runners
   pub others : (other : ℕ) → other ≢ actor → get_elem? new.runners.items other ≡ get_elem? old.runners.items other
+
+-- all is as it was, but for the room for histograms that actors may know
+pub record IsAsBefore (old new : Board) : Type 0 where
+  pub shape : new.shape ≡ old.shape
+  pub version : new.version ≡ old.version
+  pub words : new.words ≡ old.words
+  pub count : vec_len new.runners ≡ vec_len old.runners
+  pub runners : (i : ℕ) (before behind : Runner) → get_elem? old.runners.items i ≡ some before → get_elem? new.runners.items i ≡ some behind
+      → IsAsItWas before behind
+
+-- ---- how a `hist` begins
+
+-- What it is answered without an event, and why: the name or the spec is unlawful, or a record or its counts would be too large; or the
+-- actor knows a histogram of that name, with the same spec or with another.
+abbrev pub IsAnsweredAtOnce : Dimensions → List Known → List ℕ → Spec → Answer → Type 0
+IsAnsweredAtOnce shape known name spec (answer.Refused refusal.OtherSpec) = IsKnownAnswer known name spec (answer.Refused refusal.OtherSpec)
+IsAnsweredAtOnce shape known name spec (answer.Refused refusal.NoMemory) = ⊥
+IsAnsweredAtOnce shape known name spec (answer.Refused why) = IsRefusedFor shape name spec why
+IsAnsweredAtOnce shape known name spec answered = IsKnownAnswer known name spec answered
+
+-- the histogram of a name and a spec that a running call asks for
+abbrev pub AsksFor : List ℕ → Spec → Option Running → Type 0
+AsksFor name spec (Some (Hist hist)) = (hist.asked.name.items ≡ name) × (hist.asked.spec ≡ spec)
+AsksFor name spec running = ⊥
+
+-- It goes on, asking for the histogram; or it is answered at once; or there was no memory.
+abbrev pub HistBegins : ℕ → List ℕ → Spec → Board → Board → Result Begun AllocError → Type 0
+HistBegins actor name spec old new (Ok Going) = (runner : Runner) × (get_elem? new.runners.items actor ≡ some runner) × AsksFor name spec runner.running
+HistBegins actor name spec old new (Ok (Ended answered)) =
+    IsAsBefore old new × ((runner : Runner) → get_elem? old.runners.items actor ≡ some runner → IsAnsweredAtOnce old.shape runner.known.items name spec answered)
+HistBegins actor name spec old new (Err error) = IsAsBefore old new
+
+-- ---- a step
 
 -- what the call of the actor says
 abbrev pub Says : ℕ → Board → Board → Stepped → Type 0

@@ -1,11 +1,12 @@
 -- An actor of a world at run time, and the actor of the machine that it stands for.
-use Rattle.std.specs.Prelude.{◌≡◌, ◌≢◌, ◌≤◌, ◌<◌, ℕ, ◌+◌, ◌*◌, true, false, List, [], ◌∷◌, ◌++◌, map, take, length, Option, Some, None, bit_or, ⊤, vec_len, vec_capacity}
+use Rattle.std.specs.Prelude.{◌≡◌, ◌≢◌, ◌≤◌, ◌<◌, ℕ, ◌+◌, ◌*◌, true, false, List, [], ◌∷◌, ◌++◌, map, take, length, Option, Some, None, bit_or, ⊤, Result, Ok, Err, vec_len, vec_capacity}
 use Rattle.std.specs.List.{All}
 use mathlib.Core.Option.{some}
 use lib.ListN.{get_elem?}
 use Rattle.bucket_ranges.specs.Ranges.{boundaries_of}
 use Rattle.bucket_ranges.specs.Reading.{is_name}
-use Rattle.bucket_ranges.specs.Spec.{spec_fault, buckets_of}
+use Rattle.bucket_ranges.specs.Spec.{spec_fault, buckets_of, SameSpec}
+use Rattle.bucket_ranges.specs.declared.spec.Spec.{Spec}
 use Rattle.segment_image.specs.Words.{word_at}
 use Rattle.segment_image.specs.Shape.{Dimensions}
 use Rattle.segment_image.specs.declared.layout.TheConstants.{BLOCK_HEADER, FLAG_CORRUPT, FLAGS_WORD, HEADER_WORDS, HISTOGRAM_NAME}
@@ -14,7 +15,13 @@ use Rattle.segment_machine.specs.declared.actor.Actor.{Actor}
 use Rattle.segment_machine.specs.Actor.{is_opener, is_bound}
 use Rattle.segment_machine.specs.declared.actor.Known.{Known as MachineKnown}
 use Rattle.hist_core.specs.Goes.{Goes}
-use Rattle.hist_core.specs.Hist.{IsHist}
+use Rattle.hist_core.specs.Hist.{IsHist, IsBegun}
+use Rattle.hist_core.specs.declared.asked.Asked.{Asked}
+use Rattle.hist_core.specs.declared.refusal.Refusal.TheVariants as why
+use Rattle.hist_core.specs.declared.call.Answer.{Answer}
+use Rattle.hist_core.specs.declared.call.Begun.{Begun}
+use Rattle.hist_core.specs.declared.call.Begun.TheVariants.{Going, Ended}
+use Rattle.std.specs.declared.alloc.AllocError.{AllocError}
 use Rattle.hist_core.specs.declared.hist.Hist.{Hist as HistCall}
 use Rattle.hist_core.specs.declared.hist.HistStep.{HistStep}
 use Rattle.hist_core.specs.declared.hist.HistStep.TheVariants as hist
@@ -62,6 +69,10 @@ pub record IsKnown (shape : Dimensions) (known : Known) : Type 0 where
   pub ranges : known.ranges ≡ boundaries_of known.spec
   pub fits : BLOCK_HEADER + 2 * buckets_of known.spec ≤ shape.page
   pub within : known.reference + HISTOGRAM_NAME ≤ shape.size
+
+-- the histogram of a name stands at a place among those that are known
+abbrev pub IsKnownAt : List Known → ℕ → List ℕ → Type 0
+IsKnownAt list i name = (known : Known) × (get_elem? list i ≡ some known) × (known.name.items ≡ name)
 
 -- none of them has a name
 abbrev pub NoneHasName : List Known → List ℕ → Type 0
@@ -136,3 +147,24 @@ IsHistSaid old hist.Done new result =
     × (new.known.items ≡ old.known.items ++ (let known = asked.asked in record known { reference = asked.reference }) ∷ [])
     × (result ≡ Done (answer.Hist asked.reference))
 IsHistSaid old (hist.Refused why) new result = (new ≡ record old { running = None }) × (result ≡ Done (answer.Refused why))
+
+-- ---- how it begins a `hist`
+
+-- What a `hist` of a known name is answered: the known reference where the spec is the same, and else that it has another.
+abbrev pub IsKnownAnswer : List Known → List ℕ → Spec → Answer → Type 0
+IsKnownAnswer list name spec (answer.Hist reference) =
+    (i : ℕ) × (known : IsKnownAt list i name) × SameSpec known.0.spec spec × (known.0.reference ≡ reference)
+IsKnownAnswer list name spec (answer.Refused why.OtherSpec) = (i : ℕ) × (known : IsKnownAt list i name) × (¬ (SameSpec known.0.spec spec))
+IsKnownAnswer list name spec answered = ⊥
+
+-- it is as it was, but for the room for histograms that it may know
+abbrev pub IsAsItWas : Runner → Runner → Type 0
+IsAsItWas old new = (new ≡ record old { known = new.known }) × (new.known.items ≡ old.known.items)
+
+-- It asks for a histogram that it does not know, with room for it; or is answered at once; or there was no memory for the room.
+abbrev pub BeginsHist : Dimensions → Asked → Runner → Runner → Result Begun AllocError → Type 0
+BeginsHist shape asked old new (Ok Going) =
+    (hist : HistCall) × IsBegun shape asked hist × (new ≡ record old { known = new.known; running = Some (Hist hist) })
+    × (new.known.items ≡ old.known.items) × (vec_len new.known < vec_capacity new.known) × NoneHasName old.known.items asked.name.items
+BeginsHist shape asked old new (Ok (Ended answered)) = (new ≡ old) × IsKnownAnswer old.known.items asked.name.items asked.spec answered
+BeginsHist shape asked old new (Err error) = IsAsItWas old new

@@ -1,5 +1,5 @@
 -- What a world shows, and why it takes no move.
-use Rattle.std.specs.Prelude.{Bool, false, not, ◌&&◌, ◌||◌, ◌==◌, nat_lt, nat_le, ℕ, List, [], ◌∷◌, vec_len, is_some}
+use Rattle.std.specs.Prelude.{Bool, false, not, ◌&&◌, ◌||◌, ◌==◌, nat_lt, nat_le, ℕ, List, [], ◌∷◌, vec_len, is_some, Ok, ⊤}
 use mathlib.Core.Option.{Option, some, none}
 use lib.ListN.{get_elem?}
 use Rattle.segment_image.specs.Shape.{is_page, is_size}
@@ -10,6 +10,11 @@ use Rattle.hist_core.specs.declared.fault.WorldFault.TheVariants.{BadShape, NoAc
 use Rattle.hist_core.specs.declared.runner.Runner.{Runner}
 use Rattle.hist_core.specs.declared.board.Board.{Board}
 use Rattle.hist_core.specs.Runner.{ended_by, begun_by}
+use Rattle.hist_core.specs.Board.{HistBegins, IsBusy}
+use Rattle.hist_core.specs.declared.call.Begun.{Begun}
+use Rattle.hist_core.specs.declared.call.Begun.TheVariants.{Going, Ended}
+use Rattle.hist_core.specs.declared.call.Call.{Call}
+use Rattle.hist_core.specs.declared.call.Call.TheVariants.{Hist, SetCorrupt}
 
 -- ---- what it shows of an actor, where that is there
 
@@ -53,3 +58,22 @@ begin_checks board actor = (nat_le (vec_len board.runners) actor, NoActor) ∷ (
 -- with a step: there is no such actor, or it runs no call
 abbrev pub step_checks : Board → ℕ → List (Bool × WorldFault)
 step_checks board actor = (nat_le (vec_len board.runners) actor, NoActor) ∷ (rests (get_elem? board.runners.items actor), Idle) ∷ []
+
+-- ---- the begin of a call
+
+-- the calls that can begin so far
+abbrev pub CanBegin : Call → Type 0
+CanBegin (Hist name spec) = ⊤
+CanBegin SetCorrupt = ⊤
+CanBegin call = ⊥
+
+-- a call for whose begin there may be no memory
+abbrev pub TakesMemory : Call → Type 0
+TakesMemory (Hist name spec) = ⊤
+TakesMemory call = ⊥
+
+-- what the begin of a call says: it goes on, or it is answered at once
+abbrev pub BeginSays : ℕ → Call → Board → Board → Begun → Type 0
+BeginSays actor (Hist name spec) old new said = HistBegins actor name.items spec old new (Ok said)
+BeginSays actor call old new Going = IsBusy new actor
+BeginSays actor call old new (Ended answered) = ⊥

@@ -1,7 +1,10 @@
 //! The words of a segment, and the actors that call on it.
 
-use crate::call::Stepped;
+use crate::asked::Asked;
+use crate::call::{Answer, Begun, Stepped};
+use crate::refusal::Refusal;
 use crate::runner::{Runner, Running};
+use bucket_ranges::Spec;
 use segment_image::Shape;
 use segment_image::layout::{
     HEADER_WORDS, QUEUE, QUEUE_COOKIE, QUEUE_SIZE, SEGMENT_COOKIE, STATE_READY, TYPE_PURGED,
@@ -11,6 +14,7 @@ use std::alloc::{AllocError, Global};
 /// The words of a segment, and the actors that call on it.
 #[derive(Debug, Drop)]
 pub(crate) struct Board {
+    pub(crate) alloc: Global,
     pub(crate) shape: Shape,
     pub(crate) version: u64,
     pub(crate) words: Vec<u64>,
@@ -67,7 +71,7 @@ impl Board {
     ghost use lib.ListN.{get_elem?};
     ghost use Rattle.segment_machine.specs.State.{State};
     ghost use Rattle.hist_core.specs.declared.runner.Runner.{Runner};
-    ghost use Rattle.hist_core.specs.Board.{IsNewBoard, IsReached, IsReachedAs, StepsTo, Rests, IsBusy, OthersStay, Says};
+    ghost use Rattle.hist_core.specs.Board.{IsNewBoard, IsReached, IsReachedAs, StepsTo, Rests, IsBusy, OthersStay, HistBegins, Says};
 
     // A new segment with so many actors.
     pub(crate) fn new(
@@ -80,6 +84,7 @@ impl Board {
         ensures { IfOk result (λ board. IsNewBoard shape version id actors board) }
     {
         Ok(Board {
+            alloc,
             shape,
             version,
             words: new_words(alloc, shape, version, id)?,
@@ -97,6 +102,29 @@ impl Board {
     {
         let runner = &mut self.runners[actor];
         runner.running = Some(Running::SetCorrupt);
+    }
+
+    // An actor that rests begins to ask for a histogram of a name and a spec, or is answered at once.
+    pub(crate) fn begin_hist(
+        &mut self,
+        actor: usize,
+        name: &[u8],
+        spec: &Spec,
+    ) -> Result<Begun, AllocError>
+        requires near { actor < vec_len self.old.runners }
+        requires rests { Rests self.old actor }
+        ensures begins { (state : State) → IsReachedAs self.old state → IsReachedAs self.new state }
+        ensures others { OthersStay actor self.old self.new }
+        ensures says { HistBegins actor name.now spec.now self.old self.new result }
+    {
+        match Asked::of(self.alloc, self.shape, name, spec) {
+            Ok(asked) => {
+                let runner = &mut self.runners[actor];
+                runner.begin_hist(self.shape, asked)
+            }
+            Err(Refusal::NoMemory) => Err(AllocError),
+            Err(why) => Ok(Begun::Ended(Answer::Refused(why))),
+        }
     }
 
     // An actor goes on with its call by one event.

@@ -1,5 +1,6 @@
 //! Why a world takes no move.
 
+use std::alloc::AllocError;
 use thiserror::Error;
 
 /// Why a world takes no move, or is not made. The first of these that holds is answered, and the world is as it was.
@@ -34,5 +35,16 @@ impl WorldFault {
         ensures { result ≡ world_fault_number self.now }
     {
         *self as u32
+    }
+}
+
+impl From<AllocError> for WorldFault {
+    ghost use Rattle.std.specs.Prelude.{◌≡◌};
+    ghost use Rattle.hist_core.specs.declared.fault.WorldFault.TheVariants.{NoMemory};
+
+    ghost from_gives = { λ _ fault. fault ≡ NoMemory };
+
+    fn from(_: AllocError) -> WorldFault {
+        WorldFault::NoMemory
     }
 }

@@ -1,11 +1,14 @@
 //! One actor of a world, with the call that it runs.
 
-use crate::call::{Answer, Stepped};
+use crate::asked::Asked;
+use crate::call::{Answer, Begun, Stepped};
 use crate::entry::{Entry, Taken};
 use crate::hist::{Hist, HistStep, Known};
+use crate::refusal::Refusal;
 use alloc_core::event::set_bits;
+use segment_image::Shape;
 use segment_image::layout::{FLAG_CORRUPT, FLAGS_WORD};
-use std::alloc::Global;
+use std::alloc::{AllocError, Global};
 
 /// A call that is going on, with what it does next.
 #[derive(Debug, Drop)]
@@ -32,11 +35,11 @@ pub(crate) struct Runner {
 }
 
 impl Runner {
-    ghost use Rattle.std.specs.Prelude.{◌≡◌, ◌≤◌, ℕ, List, length, IsSome, vec_len, vec_capacity};
+    ghost use Rattle.std.specs.Prelude.{◌≡◌, ◌≤◌, ℕ, List, length, IsSome, IfSome, IfNone, vec_len, vec_capacity};
     ghost use Rattle.segment_image.specs.Shape.{Dimensions};
     ghost use Rattle.segment_machine.specs.declared.actor.Actor.{Actor};
     ghost use Rattle.hist_core.specs.declared.hist.HistStep.TheVariants.{Done};
-    ghost use Rattle.hist_core.specs.Runner.{IsFresh, IsRun, IsSomeRun, HasRoom, AsksForOne, IsHistSaid, Advances, Answers};
+    ghost use Rattle.hist_core.specs.Runner.{IsFresh, IsRun, IsSomeRun, NoneHasName, IsKnownAt, IsKnownAnswer, BeginsHist, HasRoom, AsksForOne, IsHistSaid, Advances, Answers};
 
     // An actor that has done nothing.
     pub(crate) fn new(alloc: Global) -> Runner
@@ -50,6 +53,44 @@ impl Runner {
             known: Vec::new(alloc),
             running: None,
         }
+    }
+
+    // The place of the histogram of a name among those that it knows.
+    fn place_of(&self, name: &[u8]) -> Option<usize>
+        ensures found { IfSome result (λ i. IsKnownAt self.now.known.items i name.now) }
+        ensures none { IfNone result (NoneHasName self.now.known.items name.now) }
+    {
+        for (i, known) in self.known.iter().enumerate() {
+            if known.name.as_slice() == name {
+                return Some(i);
+            }
+        }
+        None
+    }
+
+    // What a `hist` of a histogram that it knows is answered.
+    fn known_answer(&self, i: usize, asked: &Asked) -> Answer
+        requires { IsKnownAt self.now.known.items i asked.now.name.items }
+        ensures { IsKnownAnswer self.now.known.items asked.now.name.items asked.now.spec result }
+    {
+        let known = &self.known[i];
+        if known.spec.is_same(&asked.spec) {
+            Answer::Hist(known.reference)
+        } else {
+            Answer::Refused(Refusal::OtherSpec)
+        }
+    }
+
+    // It begins to ask for a histogram, or is answered at once where it knows one of that name.
+    pub(crate) fn begin_hist(&mut self, shape: Shape, asked: Asked) -> Result<Begun, AllocError>
+        ensures { BeginsHist shape asked self.old self.new result }
+    {
+        if let Some(i) = self.place_of(&asked.name) {
+            return Ok(Begun::Ended(self.known_answer(i, &asked)));
+        }
+        self.known.reserve(1)?;
+        self.running = Some(Running::Hist(Hist::start(shape, asked)));
+        Ok(Begun::Going)
     }
 
     // The histogram that its `hist` asked for is known, and the call has ended.

@@ -22,12 +22,12 @@ pub struct World {
 ghost use Rattle.hist_core.specs.Board.{IsReached};
 
 impl World {
-    ghost use Rattle.std.specs.Prelude.{◌≡◌, ◌≢◌, ◌≤◌, ◌<◌, ◌⊎◌, ℕ, Ok, Err, OnOk, OnErr, IfOk, IsOk, MatchOption, MatchResult, vec_len};
+    ghost use Rattle.std.specs.Prelude.{◌≡◌, ◌≢◌, ◌≤◌, ◌<◌, ◌⊎◌, ℕ, Ok, Err, OnOk, OnErr, IfOk, IfErr, IsOk, MatchOption, MatchResult, vec_len};
     ghost use Rattle.segment_image.specs.Checks.{first_fault};
     ghost use Rattle.alloc_core.specs.Layout.{IsShape};
     ghost use Rattle.segment_machine.specs.State.{State};
-    ghost use Rattle.hist_core.specs.Board.{IsReachedAs, IsNewBoard, StepsTo, IsBusy, OthersStay, Says, IsConsistentAs, IsReadAs};
-    ghost use Rattle.hist_core.specs.World.{world_checks, begin_checks, step_checks, ended_of, begun_of, taken_of};
+    ghost use Rattle.hist_core.specs.Board.{IsReachedAs, IsNewBoard, StepsTo, IsAsBefore, OthersStay, Says, IsConsistentAs, IsReadAs};
+    ghost use Rattle.hist_core.specs.World.{world_checks, begin_checks, CanBegin, TakesMemory, BeginSays, step_checks, ended_of, begun_of, taken_of};
 
     /// A new segment of `size` words in pages of `page` words, of version 1 or 2, with so many actors that have done nothing.
     ///
@@ -100,18 +100,19 @@ impl World {
         &runner.entries[..runner.ended]
     }
 
-    /// An actor begins to mark the segment as corrupt, which is one event. The other calls are to come.
+    /// An actor begins a call, which asks for a histogram or marks the segment as corrupt. The other calls are to come.
     ///
-    /// `NoActor` where there is no such actor, then `Busy` where a call of it is going on.
+    /// `NoActor` where there is no such actor, then `Busy` where a call of it is going on, then `NoMemory`. Where the call needs
+    /// no event it has ended: a `Hist` that is refused `BadName`, `BadSpec` or `TooLarge`, and one of a name that the actor knows.
+    /// No word of the segment changes.
     pub fn begin(&mut self, actor: usize, call: &Call) -> Result<Begun, WorldFault>
-        requires { call.now ≡ Call.SetCorrupt }
-        ensures faults { MatchOption (first_fault (begin_checks self.old.board actor)) (IsOk result) (λ fault. result ≡ Err fault) }
-        ensures fault { OnErr result (self.new.board ≡ self.old.board) }
-        ensures begins { OnOk result ((state : State) → IsReachedAs self.old.board state → IsReachedAs self.new.board state) }
-        ensures others { OnOk result (OthersStay actor self.old.board self.new.board) }
-        ensures runs { OnOk result (IsBusy self.new.board actor) }
+        requires { CanBegin call.now }
+        ensures faults { MatchOption (first_fault (begin_checks self.old.board actor)) (IfErr result (λ fault. (fault ≡ WorldFault.NoMemory) × TakesMemory call.now)) (λ fault. result ≡ Err fault) }
+        ensures fault { OnErr result (IsAsBefore self.old.board self.new.board) }
+        ensures begins { (state : State) → IsReachedAs self.old.board state → IsReachedAs self.new.board state }
+        ensures others { OthersStay actor self.old.board self.new.board }
+        ensures says { IfOk result (λ said. BeginSays actor call.now self.old.board self.new.board said) }
     {
-        let _ = call;
         let board = &mut self.board;
         if actor >= board.runners.len() {
             return Err(WorldFault::NoActor);
@@ -119,8 +120,14 @@ impl World {
         if board.runners[actor].running.is_some() {
             return Err(WorldFault::Busy);
         }
-        board.begin_set_corrupt(actor);
-        Ok(Begun::Going)
+        match call {
+            Call::Hist(name, spec) => Ok(board.begin_hist(actor, name, spec)?),
+            Call::SetCorrupt => {
+                board.begin_set_corrupt(actor);
+                Ok(Begun::Going)
+            }
+            _ => unreachable!(),
+        }
     }
 
     /// An actor goes on with its call by one event.

@@ -1,6 +1,6 @@
 -- A call of a world begins: what has become of the actors, and what is said.
-use Rattle.std.proofs.Common.{◌≡◌, ◌≢◌, ◌<◌, ℕ, List, length, set, refl, sym, ap, subst, ◌∙◌, vec_len}
-use Rattle.std.specs.Prelude.{Option, Some, None, Result, Ok, Err}
+use Rattle.std.proofs.Common.{◌≡◌, ℕ, List, set, refl, sym, ap, subst, ◌∙◌, vec_len}
+use Rattle.std.specs.Prelude.{Result, Ok, Err}
 use Rattle.std.specs.declared.alloc.AllocError.{AllocError}
 use mathlib.Core.Logic.{dite}
 use mathlib.Core.Option.{some, some-injective}

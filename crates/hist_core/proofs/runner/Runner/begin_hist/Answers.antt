@@ -1,4 +1,4 @@
-use Rattle.std.proofs.Common.{◌<◌, ◌+◌, arith, subst, refl}
+use Rattle.std.proofs.Common.{arith, subst, refl}
 use Rattle.hist_core.specs.Runner.{IsKnownAt, NoneHasName}
 use Rattle.hist_core.proofs.runner.Runner.begin_hist.Goals as goal
 

@@ -1,6 +1,5 @@
-use Rattle.std.proofs.Common.{◌≡◌, ◌<◌, ℕ, length, arith, ap, sym, ◌∙◌, true, false, true≢false, subst, vec_len}
-use mathlib.Core.Option.{some, some-injective}
-use lib.ListN.{get_elem?}
+use Rattle.std.proofs.Common.{◌≡◌, arith, ap, sym, ◌∙◌, true≢false, subst, vec_len}
+use mathlib.Core.Option.{some-injective}
 use Rattle.bucket_ranges.specs.Spec.{SameSpec}
 use Rattle.hist_core.specs.declared.hist.Known.{Known}
 use Rattle.hist_core.proofs.Asking.{place_below}

@@ -1,5 +1,5 @@
-use Rattle.std.proofs.Common.{◌≡◌, ◌≢◌, ◌<◌, ◌+◌, ℕ, List, length, arith, ap, sym, ◌∙◌, true, false, true≢false, subst, refl}
-use mathlib.Core.Option.{some, some-injective}
+use Rattle.std.proofs.Common.{◌≡◌, List, length, arith, ap, sym, ◌∙◌, true≢false, subst, refl}
+use mathlib.Core.Option.{some}
 use Rattle.std.proofs.lemmas.Slice.Eq.{bytes_eq-Decides}
 use lib.ListN.{get_elem?}
 use Rattle.hist_core.specs.declared.hist.Known.{Known}

@@ -36,3 +36,4 @@ mod Naming
 mod OneDelta
 mod Knowing
 mod DeltaEnds
+mod OneSample

@@ -3,20 +3,20 @@ use Rattle.std.specs.Prelude.{◌≡◌, ◌≢◌, true, false, ℕ, ◌+◌, �
 use Rattle.std.specs.List.{All, Contains}
 use Rattle.std.specs.List.Sorted.{IsStrictlySortedBy}
 use Rattle.std.specs.Ordering.{int_cmp}
-use Rattle.segment_image.specs.declared.layout.TheConstants.{HISTOGRAM_COUNTS, HISTOGRAM_SINGLE}
+use Rattle.segment_image.specs.declared.layout.TheConstants.{HISTOGRAM_COUNTS, HISTOGRAM_SINGLE, SAMPLE_COUNT}
 use Rattle.bucket_ranges.specs.declared.spec.Spec.TheVariants as spec
 use Rattle.bucket_ranges.specs.Single.{packed_bucket, single_of}
 use Rattle.bucket_ranges.specs.Spec.{buckets_of}
 use Rattle.segment_machine.specs.declared.actor.Actor.{Actor}
 use Rattle.segment_machine.specs.declared.actor.Known.{Known}
 use Rattle.segment_machine.specs.declared.actor.Taken.{Taken}
-use Rattle.segment_machine.specs.declared.place.Place.TheVariants.{Idle}
-use Rattle.segment_machine.specs.Actor.{SawSingle, has_buckets, is_bound, is_opener, looking, units_listed, word_seen}
+use Rattle.segment_machine.specs.declared.place.Place.TheVariants.{Idle, SampleLoaded}
+use Rattle.segment_machine.specs.Actor.{SawCount, SawSingle, has_buckets, is_bound, is_opener, looking, units_listed, word_seen}
 use Rattle.segment_machine.specs.Calls.{change_last}
 use Rattle.segment_machine.specs.Form.{is_off, units_in}
 use Rattle.segment_machine.specs.Made.{SawSample}
 use Rattle.segment_machine.specs.Note.{TookAll, TookBucket, TookSample, moment_of}
-use Rattle.segment_machine.specs.Taking.{Takes}
+use Rattle.segment_machine.specs.Taking.{Takes, is_looking}
 use Rattle.live_segment.specs.declared.deltas.Mounted.{Mounted}
 use Rattle.live_segment.specs.declared.segment.Segment.{Segment}
 use Rattle.live_segment.specs.Holders.{table_of}
@@ -92,6 +92,35 @@ pub record TakesAt (segment : Segment) (known : Known) (mounted : Mounted) (seat
   pub within : CountsWithin seat.me.0 known mounted.counts
   pub singles : seat.me.0.since.singles ≤ length seat.me.0.seen.singles
   pub counts : seat.me.0.since.counts ≤ length seat.me.0.seen.counts
+
+-- ---- of a sparse histogram
+
+-- A recorder's seat takes a delta of a sparse histogram.
+pub record TakesValues (segment : Segment) (known : Known) (seat : Pass) : Type 0 where
+  pub table : seat.table_id ≡ table_of segment
+  pub recorder : is_opener seat.me.0.role ≡ false
+  pub of : IsOf segment.setting seat.me.0
+  pub alone : KnowsAlone seat.me.0 known
+  pub sparse : known.spec ≡ spec.Sparse
+  pub takes : Takes seat.me.0 known.reference known
+  pub free : is_bound seat.me.0.hand.place ≡ false
+  pub apart : is_looking seat.me.0.hand.place ≡ false
+  pub singles : seat.me.0.since.singles ≤ length seat.me.0.seen.singles
+  pub counts : seat.me.0.since.counts ≤ length seat.me.0.seen.counts
+
+-- it may take of a sample whose count it has loaded
+pub record MayTakeSample (segment : Segment) (known : Known) (value : ℤ) (sample count : ℕ) (seat : Pass) : Type 0 where
+  pub takes : TakesValues segment known seat
+  pub saw : SawSample seat.me.0.seen known.reference value sample
+  pub loaded : seat.me.0.hand.place ≡ SampleLoaded sample count
+  pub counted : SawCount seat.me.0 (sample + SAMPLE_COUNT) count
+  pub some : count ≢ 0
+
+-- and has taken units of it, which are all that it saw
+pub record HasTakenSample (segment : Segment) (known : Known) (value : ℤ) (sample units : ℕ) (old new : Pass) : Type 0 where
+  pub takes : TakesValues segment known new
+  pub on : TakesOn (units_of_key value units) old.me.0 new.me.0
+  pub took : TookSample new.me.0 sample
 
 -- ---- what was taken
 

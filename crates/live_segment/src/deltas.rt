@@ -1,11 +1,12 @@
 //! How a recorder takes a delta of a histogram: of each bucket the units that no delta has taken yet, and of the sum what is new.
 
-ghost use Rattle.std.specs.Prelude.{◌≡◌, ◌<◌, ◌+◌, ◌≤◌, true, false, ℕ, [], Some, length, vec_capacity};
+ghost use Rattle.std.specs.Prelude.{◌≡◌, ◌<◌, ◌+◌, ◌≤◌, true, false, ℕ, ℤ, [], Some, length, vec_capacity};
 ghost use Rattle.bucket_ranges.specs.Spec.{buckets_of};
+ghost use Rattle.segment_machine.specs.declared.actor.Known.{Known};
 ghost use Rattle.segment_machine.specs.Actor.{bucket_key, has_buckets};
 ghost use Rattle.segment_machine.specs.Form.{is_off};
 ghost use Rattle.segment_machine.specs.Note.{TookBucket};
-ghost use Rattle.live_segment.specs.Deltas.{AreUnits, HasTaken, HasTakenBuckets, HasTakenSum, MayTakeSum, SaysPacked, TakesAt, TakesOn, TakesWord, units_of_key};
+ghost use Rattle.live_segment.specs.Deltas.{AreUnits, HasTaken, HasTakenBuckets, HasTakenSample, HasTakenSum, MayTakeSample, MayTakeSum, SaysPacked, TakesAt, TakesOn, TakesWord, units_of_key};
 ghost use Rattle.live_segment.specs.Known.{known_view, KnowsRight};
 
 use crate::recorder::KnownHistogram;
@@ -13,7 +14,7 @@ use crate::rule::Pass;
 use crate::segment::Segment;
 use bucket_ranges::SingleWord;
 use hist_core::packing::DISABLED_BIT;
-use segment_image::layout::BLOCK_HEADER;
+use segment_image::layout::{BLOCK_HEADER, SAMPLE_MARK};
 
 // The counts of a histogram, as a delta found them in use.
 #[derive(Drop)]
@@ -183,5 +184,14 @@ impl Segment {
         let word = self.take_single(seat, histogram.reference);
         self.take_units(seat, histogram, word, taken);
         self.take_sum(seat, histogram)
+    }
+    // The units of a sample that the delta takes, whose count was loaded: its mark is raised to that.
+    fn take_sample(&self, seat: &mut Pass, sample: u64, count: u64) -> u64
+        requires room { sample + 8 ≤ self.now.setting.shape.size }
+        requires may { (known : Known) × (value : ℤ) × MayTakeSample self.now known value sample count seat.old }
+        ensures same { IsSame seat.old seat.new }
+        ensures taken { (known : Known) (value : ℤ) → MayTakeSample self.now known value sample count seat.old → HasTakenSample self.now known value sample result seat.old seat.new }
+    {
+        count.saturating_sub(self.raise_mark(seat, sample + SAMPLE_MARK as u64, count))
     }
 }

@@ -22,6 +22,8 @@ mod BucketsSeen
 mod Mounted
 mod Answering
 mod SampleWords
+mod SampleCounts
+mod SamplesBehind
 mod Disabled
 mod Counted
 mod Walked

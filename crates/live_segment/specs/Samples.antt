@@ -1,10 +1,15 @@
 -- What a recorder sees of the samples of a sparse histogram, which it meets along the list.
-use Rattle.std.specs.Prelude.{◌≡◌, true, ℕ, ◌+◌, ◌≤◌, ℤ, List, ◌∷◌, ◌++◌, Option, Some, None}
+use Rattle.std.specs.Prelude.{◌≡◌, ◌≢◌, ◌⊎◌, true, false, ℕ, ◌+◌, ◌≤◌, ℤ, List, ◌∷◌, ◌++◌, Option, Some, None}
 use Rattle.std.specs.List.{Contains}
-use Rattle.segment_image.specs.declared.layout.TheConstants.{SAMPLE_LEAST}
+use Rattle.segment_image.specs.declared.layout.TheConstants.{SAMPLE_COUNT, SAMPLE_LEAST}
 use Rattle.bucket_ranges.specs.Reading.{is_i32}
 use Rattle.segment_machine.specs.declared.actor.Actor.{Actor}
+use Rattle.segment_machine.specs.Event.{taking_event}
 use Rattle.segment_machine.specs.Made.{SawSample, SawOther}
+use Rattle.segment_machine.specs.Actor.{SawCount, is_bound}
+use Rattle.segment_machine.specs.Taking.{IsLaterSample, is_looking, load_sum}
+use Rattle.live_segment.specs.Onward.{Grows}
+use Rattle.live_segment.specs.Steps.{DoesAt, Sat}
 
 -- it saw that a record is a sample of this value of a histogram, and lies within the segment; or that it is a sample of no value of it
 abbrev pub ShowsSample : ℕ → ℕ → Option ℤ → Actor → Type 0
@@ -15,3 +20,27 @@ ShowsSample histogram at None a = (value : ℤ) → is_i32 value ≡ true → Sa
 abbrev pub SamplesStandBehind : Actor → Type 0
 SamplesStandBehind a = (histogram sample : ℕ) (value : ℤ) (front behind : List ℕ) → Contains a.seen.chain sample → SawSample a.seen histogram value sample
     → a.seen.chain ≡ front ++ histogram ∷ behind → Contains behind sample
+
+-- the sum of a sparse histogram is loaded, by a recorder that met its samples there
+abbrev pub LoadsSumOfValues : ℕ → Sat → ℕ → Sat → Type 0
+LoadsSumOfValues word me found me' = DoesAt (λ histogram. taking_event (load_sum histogram)) word me found me' × SamplesStandBehind me.0
+
+-- It has seen more words of published records and more counts, and looks at no histogram with buckets; otherwise it is as it was.
+pub record SeesSample (old new : Actor) : Type 0 where
+  pub view : new ≡ record old {
+    hand = record old.hand { place = new.hand.place };
+    seen = record old.seen { words = new.seen.words; counts = new.seen.counts };
+  }
+  pub words : Grows old.seen.words new.seen.words
+  pub counts : Grows old.seen.counts new.seen.counts
+  pub free : is_bound new.hand.place ≡ false
+  pub apart : is_looking new.hand.place ≡ false
+
+-- A record is a sample of a value of a histogram, and has these units, so it is not a later one of its value. Or it is a sample of none, or
+-- of a value and has no units.
+abbrev pub CountsSample : ℕ → ℕ → Option (ℤ × ℕ) → Actor → Type 0
+CountsSample histogram at (Some count) a =
+    SawSample a.seen histogram count.0 at × SawCount a (at + SAMPLE_COUNT) count.1 × (count.1 ≢ 0) × ¬ (IsLaterSample a at)
+CountsSample histogram at None a =
+    ((value : ℤ) → is_i32 value ≡ true → SawOther a.seen histogram value at)
+    ⊎ ((value : ℤ) × SawSample a.seen histogram value at × SawCount a (at + SAMPLE_COUNT) 0)

@@ -1,14 +1,19 @@
 //! How a recorder meets the samples of a sparse histogram along the list.
 
-ghost use Rattle.std.specs.Prelude.{◌≡◌, ◌+◌, ◌≤◌, false};
+ghost use Rattle.std.specs.Prelude.{◌≡◌, ◌+◌, ◌≤◌, false, length};
+ghost use Rattle.bucket_ranges.specs.declared.spec.Spec.TheVariants.{Sparse};
 ghost use Rattle.segment_machine.specs.Actor.{is_opener};
+ghost use Rattle.segment_machine.specs.Taking.{is_looking};
 ghost use Rattle.live_segment.specs.Finding.{Meets, SeesWords};
+ghost use Rattle.live_segment.specs.Known.{known_view};
 ghost use Rattle.live_segment.specs.Rule.{IsOf};
-ghost use Rattle.live_segment.specs.Samples.{ShowsSample};
+ghost use Rattle.live_segment.specs.Samples.{CountsSample, SeesSample, ShowsSample};
+ghost use Rattle.live_segment.specs.Telling.{KnowsAlone};
 
+use crate::recorder::KnownHistogram;
 use crate::rule::Pass;
 use crate::segment::Segment;
-use segment_image::layout::{BLOCK_TYPE, SAMPLE_HISTOGRAM, SAMPLE_VALUE, TYPE_SAMPLE};
+use segment_image::layout::{BLOCK_TYPE, SAMPLE_COUNT, SAMPLE_HISTOGRAM, SAMPLE_VALUE, TYPE_SAMPLE};
 
 impl Segment {
     ghost use Rattle.live_segment.specs.Holders.{table_of};
@@ -35,5 +40,30 @@ impl Segment {
             Ok(value) => Some(value),
             Err(_) => None,
         }
+    }
+
+    // The value and the units of a record that was met, where it is a sample of a histogram and has some.
+    pub(crate) fn sample_at(
+        &self,
+        seat: &mut Pass,
+        histogram: &KnownHistogram,
+        at: u64,
+    ) -> Option<(i32, u64)>
+        requires seat { (seat.old.table_id ≡ table_of self.now) × (is_opener seat.old.me.0.role ≡ false) × IsOf self.now.setting seat.old.me.0 }
+        requires sparse { KnowsAlone seat.old.me.0 (known_view histogram.now) × (histogram.now.spec ≡ Sparse) }
+        requires apart { is_looking seat.old.me.0.hand.place ≡ false }
+        requires since { seat.old.me.0.since.counts ≤ length seat.old.me.0.seen.counts }
+        requires met { Meets at seat.old.me.0 }
+        requires room { at + 5 ≤ self.now.setting.shape.size }
+        ensures same { IsSame seat.old seat.new }
+        ensures view { SeesSample seat.old.me.0 seat.new.me.0 }
+        ensures counts { CountsSample histogram.now.reference at result seat.new.me.0 }
+    {
+        let value = self.shows_sample(seat, at, histogram.reference)?;
+        let count = self.load_count(seat, at + SAMPLE_COUNT as u64);
+        if count == 0 {
+            return None;
+        }
+        Some((value, count))
     }
 }

@@ -1,0 +1,20 @@
+use Rattle.std.proofs.Common.{rules, arith}
+use Rattle.live_segment.proofs.SamplesBehind.{sums_values}
+use Rattle.live_segment.proofs.segment.Segment.load_sum_of_values.Goals as goal
+
+pub load-requires : goal.load-requires
+load-requires c = (
+  search rules,
+  search rules,
+  sums_values c.args.self.now.table.shared.key _ _ _ _ c.requires.may.recorder c.args.histogram (omega arith) c.requires.may.ready,
+)
+
+pub returns-clause-step : goal.returns-clause-step
+returns-clause-step c = let told = c.load.ensures.2.0 c.args.histogram (omega arith) in record {
+  same = (c.load.ensures.0, c.load.ensures.1, told.1);
+  view = told.0;
+  learned = told.2;
+}
+
+pub returns-clause-behind : goal.returns-clause-behind
+returns-clause-behind c = c.load.ensures.2.1

@@ -1,0 +1,36 @@
+//! The step that loads the sum of a sparse histogram, once its samples were met.
+
+ghost use Rattle.std.specs.Prelude.{◌+◌, ◌≤◌};
+ghost use Rattle.segment_machine.specs.Event.{taking_event};
+ghost use Rattle.segment_machine.specs.Taking.{load_sum};
+ghost use Rattle.live_segment.specs.Samples.{LoadsSumOfValues, SamplesStandBehind};
+
+use crate::rule::{Announcement, Pass};
+use crate::segment::Segment;
+use crate::steps::FIRST;
+use atomic_table::Play;
+use segment_image::layout::HISTOGRAM_SUM;
+use segment_machine::Actor;
+
+pub(crate) struct LoadSumOfValues;
+
+impl Play<Announcement, Actor> for LoadSumOfValues {
+    ghost then = { λ st. LoadsSumOfValues st.word };
+}
+
+impl Segment {
+    ghost use Rattle.live_segment.specs.Holders.{MayStep};
+    ghost use Rattle.live_segment.specs.Steps.{Stepped};
+
+    // No sample of a histogram stands before its record.
+    pub(crate) fn load_sum_of_values(&self, seat: &mut Pass, histogram: u64) -> u64
+        requires may { MayStep self.now seat.old (taking_event (load_sum histogram)) }
+        requires room { histogram + 15 ≤ self.now.setting.shape.size }
+        ensures step { Stepped seat.old (taking_event (load_sum histogram)) result seat.new }
+        ensures behind { SamplesStandBehind seat.old.me.0 }
+    {
+        self.table
+            .shared
+            .load::<LoadSumOfValues>(seat, FIRST + histogram as usize + HISTOGRAM_SUM)
+    }
+}

@@ -1,5 +1,5 @@
 -- The count of a sample that was met is loaded.
-use Rattle.std.proofs.Common.{◌≡◌, ◌≢◌, ℕ, ◌+◌, ◌-◌, ◌≤◌, true, false, ℤ, List, [], ◌∷◌, ◌++◌, drop, length, Some, inr, refl, sym, ap, ◌∙◌, subst, arith}
+use Rattle.std.proofs.Common.{◌≡◌, ◌≢◌, ℕ, ◌+◌, ◌≤◌, false, ℤ, List, [], ◌++◌, drop, length, inr, refl, sym, ap, ◌∙◌, subst, arith}
 use Rattle.std.specs.List.{Contains}
 use Rattle.std.proofs.lemmas.List.{append-nil, drop-append-le}
 use Rattle.std.proofs.lemmas.List.Elements.{Contains-append_right}
@@ -9,7 +9,7 @@ use Rattle.segment_machine.specs.declared.actor.Known.{Known}
 use Rattle.segment_machine.specs.declared.place.Place.{Place}
 use Rattle.segment_machine.specs.declared.place.Place.TheVariants as place
 use Rattle.segment_machine.specs.declared.seen.Sighting.{Sighting}
-use Rattle.segment_machine.specs.Actor.{SawCount, Sparse, is_bound, is_opener}
+use Rattle.segment_machine.specs.Actor.{SawCount, is_bound, is_opener}
 use Rattle.segment_machine.specs.Calls.{MayTurn, sight}
 use Rattle.segment_machine.specs.Event.{Event, next, taking_event}
 use Rattle.segment_machine.specs.Made.{SawSample}
@@ -21,7 +21,6 @@ use Rattle.live_segment.specs.Samples.{SeesSample}
 use Rattle.live_segment.specs.Steps.{Pass, IsSame, Stepped}
 use Rattle.live_segment.specs.Telling.{KnowsAlone}
 use Rattle.live_segment.proofs.Beginning.{known_there}
-use Rattle.live_segment.proofs.Proceeding.{grows_not}
 use Rattle.live_segment.proofs.Showing.{meets_still}
 
 -- where it stands that has loaded the count of a sample

@@ -13,7 +13,9 @@ ghost use Rattle.live_segment.specs.Telling.{KnowsAlone};
 use crate::recorder::KnownHistogram;
 use crate::rule::Pass;
 use crate::segment::Segment;
-use segment_image::layout::{BLOCK_TYPE, SAMPLE_COUNT, SAMPLE_HISTOGRAM, SAMPLE_VALUE, TYPE_SAMPLE};
+use segment_image::layout::{
+    BLOCK_TYPE, SAMPLE_COUNT, SAMPLE_HISTOGRAM, SAMPLE_VALUE, TYPE_SAMPLE,
+};
 
 impl Segment {
     ghost use Rattle.live_segment.specs.Holders.{table_of};

@@ -1,9 +1,9 @@
-use Rattle.std.proofs.Common.{◌≡◌, ℕ, ◌+◌, ℤ, w32, FitsSigned, rules, inr, sym, subst}
+use Rattle.std.proofs.Common.{ℕ, ◌+◌, ℤ, w32, FitsSigned, rules, inr, sym, subst}
 use Rattle.std.proofs.lemmas.Int.{to_z-of_z}
 use Rattle.segment_machine.specs.Actor.{SawCount}
 use Rattle.segment_machine.specs.Made.{SawSample}
 use Rattle.live_segment.specs.Known.{known_view}
-use Rattle.live_segment.proofs.SampleCounts.{sees_no_count, may_count, sees_count, saw_sample, saw_found, not_later}
+use Rattle.live_segment.proofs.SampleCounts.{may_count, saw_sample, saw_found, not_later}
 use Rattle.live_segment.proofs.segment.Segment.sample_at.Goals as goal
 
 pub load_count-count-requires-clause-may : goal.load_count-count-requires-clause-may

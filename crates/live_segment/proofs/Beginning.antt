@@ -73,7 +73,7 @@ singled a place more free = record {
 abbrev begun : Known → ℕ → ℕ → List Note
 begun known bucket units = begins known.name units (bucket_entry known bucket units ∷ []) ∷ []
 
-notes_new : (a : Actor) (known : Known) (bucket units : ℕ) → HasNotBegun a units → bucket_notes a known bucket units ≡ begun known bucket units
+pub notes_new : (a : Actor) (known : Known) (bucket units : ℕ) → HasNotBegun a units → bucket_notes a known bucket units ≡ begun known bucket units
 notes_new a known bucket units new = ap (λ (r : List Counting). opening_notes r (bucket_entry known bucket units) units) new.0
 
 -- what waits has not ended

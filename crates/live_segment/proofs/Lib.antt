@@ -39,3 +39,6 @@ mod OneDelta
 mod Knowing
 mod DeltaEnds
 mod OneSample
+mod BucketKeys
+mod TurnedAway
+mod Added

@@ -1,5 +1,5 @@
 -- What a sample makes of the recorder that adds it, accepted and refused.
-use Rattle.std.specs.Prelude.{◌≡◌, Bool, true, false, nat_lt, ◌==◌, ℕ, ◌+◌, ◌*◌, ◌<◌, if◌then◌else◌, ℤ, List, [], ◌∷◌, ◌++◌, drop, length, None}
+use Rattle.std.specs.Prelude.{◌≡◌, Bool, true, false, nat_lt, ◌==◌, ℕ, ◌+◌, ◌*◌, ◌<◌, if◌then◌else◌, ℤ, List, [], ◌∷◌, ◌++◌, drop, length, None, Result, MatchResult, ⊤}
 use Rattle.std.specs.List.{All, Contains}
 use Rattle.std.specs.Str.{bytes_eq}
 use Rattle.segment_image.specs.declared.layout.TheConstants.{BLOCK_HEADER, HISTOGRAM_COUNTS, HISTOGRAM_SINGLE, SAMPLE_LEAST}
@@ -71,3 +71,10 @@ HasNoRoom _ words a = ⊥
 -- a block was needed, and could not be claimed
 abbrev pub LacksBlock : Refusal → Known → ℤ → ℕ → Actor → Actor → Type 0
 LacksBlock why known value count old new = NeedsBlock known value count old new × HasNoRoom why (block_words known) new
+
+-- ---- how a sample is answered
+
+-- it is added, or a block was needed and could not be claimed
+abbrev pub AnswersSample : Known → ℤ → ℕ → Actor → Result ⊤ Refusal → Actor → Type 0
+AnswersSample known value count old result new =
+    MatchResult result (λ _. IsAdded known value count old new) (λ why. IsRefused known.name old new × LacksBlock why known value count old new)

@@ -6,6 +6,7 @@
 //! What a thread has done and seen is the view of its seat at that table, which takes no memory.
 #![tactic(auto)]
 
+mod adding;
 mod allocation;
 mod comparing;
 mod counting;

@@ -1,5 +1,5 @@
 -- An `add` that is going on.
-use Rattle.std.specs.Prelude.{◌≡◌, ◌≢◌, Bool, true, false, ◌⊎◌, ◌||◌, ◌==◌, if◌then◌else◌, ℕ, ◌+◌, ◌*◌, ◌%◌, ◌^◌, ◌<◌, ◌≤◌, ℤ, pos, List, [], ◌∷◌, ◌++◌, length, Option, Some, None, is_some, ⊤}
+use Rattle.std.specs.Prelude.{◌≡◌, ◌≢◌, Bool, true, false, ◌⊎◌, ◌||◌, ◌==◌, if◌then◌else◌, ℕ, ◌+◌, ◌*◌, ◌/◌, ◌%◌, ◌^◌, ◌&&◌, nat_lt, ◌<◌, ◌≤◌, ℤ, pos, List, [], ◌∷◌, ◌++◌, length, Option, Some, None, is_some, ⊤}
 use Rattle.std.specs.List.{Contains}
 use Rattle.std.specs.Ordering.{int_eq}
 use Rattle.bucket_ranges.specs.Ranges.{boundaries_of}
@@ -10,6 +10,8 @@ use Rattle.segment_image.specs.declared.layout.TheConstants.{BLOCK_HEADER, BLOCK
 use Rattle.segment_image.specs.Shape.{Dimensions}
 use Rattle.alloc_core.specs.Layout.{IsShape}
 use Rattle.alloc_core.specs.Alloc as alloc
+use Rattle.alloc_core.specs.declared.alloc.AllocStep.{AllocStep}
+use Rattle.alloc_core.specs.declared.alloc.AllocStep.TheVariants as said
 use Rattle.list_core.specs.Walk.{IsPrefix}
 use Rattle.segment_machine.specs.declared.actor.Actor.{Actor}
 use Rattle.segment_machine.specs.declared.actor.Known.{Known}
@@ -196,3 +198,30 @@ IsBehindSingle add word (Packing old new) =
     (is_off word ≡ false) × (old ≡ word) × ((word ≡ 0) ⊎ (1 ≤ word % 2 ^ 32) → IsPacking add.bucket add.units word new)
 IsBehindSingle add word SeekingCounts = (is_off word ≡ false) × ((packed : ℕ) → IsPacking add.bucket add.units word packed → ⊥)
 IsBehindSingle add word _ = ⊥
+
+-- it begins to allocate the counts, which fit in a page
+abbrev pub BeginsToAllocate : Add → Add → AddStep → Type 0
+BeginsToAllocate old new More = new ≡ record old { stage = Allocating (alloc.first_of old.shape (2 * old.buckets) TYPE_COUNTS) }
+BeginsToAllocate old new Done = ⊥
+BeginsToAllocate old new (Refused cause) = ⊥
+
+-- it is allocating
+abbrev pub IsAllocating : Stage → Type 0
+IsAllocating (Allocating allocation) = ⊤
+IsAllocating _ = ⊥
+
+-- what becomes of it by what a step of its allocation said: it goes on, or mounts the counts in its block, or is refused
+abbrev pub IsAllocated : Add → AllocStep → Add → AddStep → Type 0
+IsAllocated old said.More new result = (new ≡ old) × (result ≡ More)
+IsAllocated old (said.Done at) new result = (new ≡ record old { stage = Mounting at }) × (result ≡ More)
+IsAllocated old said.Full new result = (new ≡ old) × (result ≡ Refused why.Full)
+IsAllocated old said.Corrupt new result = (new ≡ old) × (result ≡ Refused why.Corrupt)
+
+-- where the count of its value stands among counts
+abbrev pub count_in : Add → ℕ → ℕ
+count_in add counts = (counts + (BLOCK_HEADER + add.bucket)) % 2 ^ 64
+
+-- what it does behind the event that disables a word: in version 1 it moves the units that the word had
+abbrev pub behind_disabling : Add → ℕ → ℕ → Stage
+behind_disabling add counts old =
+    if (add.version == 1) && nat_lt 0 old then Moving counts (old / 2 ^ 32) (old % 2 ^ 32) else Counting (count_in add counts)

@@ -3,13 +3,14 @@
 ghost use Rattle.std.specs.Prelude.{◌≡◌, length};
 
 use crate::counting::fetch_add;
-use crate::packing::{DISABLED_BIT, packed_with};
+use crate::packing::{DISABLED_BIT, off_word, packed_with, unpacked};
 use crate::refusal::Refusal;
-use alloc_core::Alloc;
-use alloc_core::event::exchange;
+use alloc_core::event::{exchange, store};
+use alloc_core::{Alloc, AllocStep};
 use segment_image::Shape;
 use segment_image::layout::{
-    BLOCK_HEADER, HISTOGRAM_COUNTS, HISTOGRAM_REDUNDANT, HISTOGRAM_SINGLE, HISTOGRAM_SUM,
+    BLOCK_HEADER, BLOCK_TYPE, HISTOGRAM_COUNTS, HISTOGRAM_REDUNDANT, HISTOGRAM_SINGLE,
+    HISTOGRAM_SUM, TYPE_COUNTS, TYPE_PURGED, VERSION_MOVING,
 };
 
 /// What an `add` does next.
@@ -92,9 +93,10 @@ pub(crate) struct Add {
 }
 
 impl Add {
-    ghost use Rattle.std.specs.Prelude.{◌≤◌};
-    ghost use Rattle.hist_core.specs.declared.add.Stage.TheVariants.{LoadingSingle, Packing, LoadingCounts, Counting, Summing, Noting};
-    ghost use Rattle.hist_core.specs.Add.{IsSomeAdd, AddSteps, IsBehindSingle, behind_count};
+    ghost use Rattle.std.specs.Prelude.{◌≤◌, ◌+◌, ◌*◌, ◌^◌, ◌<◌};
+    ghost use Rattle.alloc_core.specs.Layout.{IsShape};
+    ghost use Rattle.hist_core.specs.declared.add.Stage.TheVariants.{LoadingSingle, Packing, LoadingCounts, SeekingCounts, Mounting, Purging, LoadingAgain, Disabling, Moving, Counting, Summing, Noting};
+    ghost use Rattle.hist_core.specs.Add.{IsSomeAdd, AddSteps, IsBehindSingle, BeginsToAllocate, IsAllocating, IsAllocated, behind_count, behind_disabling, count_in};
 
     // Its units are counted: it adds its amount next, where that is not 0.
     fn counted(&mut self)
@@ -147,15 +149,174 @@ impl Add {
         AddStep::More
     }
 
-    // It loads the counts reference. The counts are in use, so the count lies within the segment, and the sum does not wrap.
+    // It loads the counts reference. The counts are in use, so they lie within the segment.
     fn load_counts(&mut self, words: &[u64]) -> AddStep
         requires loads { self.old.stage ≡ LoadingCounts }
         requires stands { ∥ IsSomeAdd (length words.now) self.old ∥₁ }
         ensures { AddSteps self.old words.now self.new words.now result }
     {
         let counts = words[self.histogram as usize + HISTOGRAM_COUNTS];
-        let at = counts.wrapping_add((BLOCK_HEADER + self.bucket) as u64);
-        self.stage = Stage::Counting { at };
+        self.stage = Stage::Counting {
+            at: self.count_in(counts),
+        };
+        AddStep::More
+    }
+
+    // It loads the counts reference, to put the counts in use. Where there are none yet, it claims words for them.
+    fn seek_counts(&mut self, words: &[u64]) -> AddStep
+        requires seeks { self.old.stage ≡ SeekingCounts }
+        requires stands { ∥ IsSomeAdd (length words.now) self.old ∥₁ }
+        ensures { AddSteps self.old words.now self.new words.now result }
+    {
+        let counts = words[self.histogram as usize + HISTOGRAM_COUNTS];
+        if counts == 0 {
+            return self.begin_allocating();
+        }
+        self.stage = Stage::LoadingAgain { counts };
+        AddStep::More
+    }
+
+    // There are no counts so far.
+    fn begin_allocating(&mut self) -> AddStep
+        requires lawful { IsShape self.old.shape }
+        requires one_page { BLOCK_HEADER + 2 * self.old.buckets ≤ self.old.shape.page }
+        ensures { BeginsToAllocate self.old self.new result }
+    {
+        match Alloc::start(self.shape, 2 * self.buckets as u64, TYPE_COUNTS) {
+            Ok(alloc) => {
+                self.stage = Stage::Allocating { alloc };
+                AddStep::More
+            }
+            Err(_) => AddStep::Refused(Refusal::TooLarge),
+        }
+    }
+
+    // What becomes of it by what a step of its allocation said.
+    fn allocated(&mut self, said: AllocStep) -> AddStep
+        ensures { IsAllocated self.old said self.new result }
+    {
+        match said {
+            AllocStep::More => AddStep::More,
+            AllocStep::Done(at) => {
+                self.stage = Stage::Mounting { at };
+                AddStep::More
+            }
+            AllocStep::Full => AddStep::Refused(Refusal::Full),
+            AllocStep::Corrupt => AddStep::Refused(Refusal::Corrupt),
+        }
+    }
+
+    // It goes on with claiming the words of the counts.
+    fn allocate(&mut self, words: &mut [u64]) -> AddStep
+        requires allocates { IsAllocating self.old.stage }
+        requires stands { ∥ IsSomeAdd (length words.old) self.old ∥₁ }
+        ensures { AddSteps self.old words.old self.new words.new result }
+    {
+        match &mut self.stage {
+            Stage::Allocating { alloc } => {
+                let said = alloc.step(words);
+                self.allocated(said)
+            }
+            _ => AddStep::More,
+        }
+    }
+
+    // It stores the reference of its block, where there are no counts yet; else its block is of no use.
+    fn mount(&mut self, words: &mut [u64], at: u64) -> AddStep
+        requires mounts { self.old.stage ≡ Mounting at }
+        requires stands { ∥ IsSomeAdd (length words.old) self.old ∥₁ }
+        ensures { AddSteps self.old words.old self.new words.new result }
+    {
+        let reference = self.histogram as usize + HISTOGRAM_COUNTS;
+        let counts = exchange(words, reference, 0, at);
+        self.stage = if counts == 0 {
+            Stage::LoadingAgain { counts: at }
+        } else {
+            Stage::Purging { at, counts }
+        };
+        AddStep::More
+    }
+
+    // It marks its block as of no use.
+    fn purge(&mut self, words: &mut [u64], at: u64, counts: u64) -> AddStep
+        requires purges { self.old.stage ≡ Purging at counts }
+        requires stands { ∥ IsSomeAdd (length words.old) self.old ∥₁ }
+        ensures { AddSteps self.old words.old self.new words.new result }
+    {
+        store(words, at as usize + BLOCK_TYPE, TYPE_PURGED);
+        self.stage = Stage::LoadingAgain { counts };
+        AddStep::More
+    }
+
+    // Where the count of its value stands, among counts that lie within the segment.
+    fn count_in(&self, counts: u64) -> u64
+        requires { self.now.bucket ≤ 65535 }
+        ensures { result ≡ count_in self.now counts }
+    {
+        counts.wrapping_add((BLOCK_HEADER + self.bucket) as u64)
+    }
+
+    // It loads the single word once more. It counts where that is off, and else disables it.
+    fn load_again(&mut self, words: &[u64], counts: u64) -> AddStep
+        requires loads { self.old.stage ≡ LoadingAgain counts }
+        requires stands { ∥ IsSomeAdd (length words.now) self.old ∥₁ }
+        ensures { AddSteps self.old words.now self.new words.now result }
+    {
+        let old = words[self.histogram as usize + HISTOGRAM_SINGLE];
+        self.stage = if old >= DISABLED_BIT {
+            Stage::Counting {
+                at: self.count_in(counts),
+            }
+        } else {
+            Stage::Disabling { counts, old }
+        };
+        AddStep::More
+    }
+
+    // The single word is disabled: what it does next.
+    fn behind_disabling(&self, counts: u64, old: u64) -> Stage
+        requires { self.now.bucket ≤ 65535 }
+        ensures { result ≡ behind_disabling self.now counts old }
+    {
+        if self.version == VERSION_MOVING && old != 0 {
+            let (bucket, units) = unpacked(old);
+            return Stage::Moving {
+                counts,
+                bucket,
+                units,
+            };
+        }
+        Stage::Counting {
+            at: self.count_in(counts),
+        }
+    }
+
+    // It disables the single word, where that is as it was; else it loads it anew.
+    fn disable(&mut self, words: &mut [u64], counts: u64, old: u64) -> AddStep
+        requires disables { self.old.stage ≡ Disabling counts old }
+        requires stands { ∥ IsSomeAdd (length words.old) self.old ∥₁ }
+        ensures { AddSteps self.old words.old self.new words.new result }
+    {
+        let at = self.histogram as usize + HISTOGRAM_SINGLE;
+        let off = off_word(self.version, old);
+        self.stage = if exchange(words, at, old, off) == old {
+            self.behind_disabling(counts, old)
+        } else {
+            Stage::LoadingAgain { counts }
+        };
+        AddStep::More
+    }
+
+    // It adds the units that the single word had to the count of their bucket.
+    fn move_units(&mut self, words: &mut [u64], counts: u64, bucket: usize, units: u64) -> AddStep
+        requires moves { self.old.stage ≡ Moving counts bucket units }
+        requires stands { ∥ IsSomeAdd (length words.old) self.old ∥₁ }
+        ensures { AddSteps self.old words.old self.new words.new result }
+    {
+        fetch_add(words, counts as usize + (BLOCK_HEADER + bucket), units);
+        self.stage = Stage::Counting {
+            at: self.count_in(counts),
+        };
         AddStep::More
     }
 
@@ -191,5 +352,31 @@ impl Add {
         let at = self.histogram as usize + HISTOGRAM_REDUNDANT;
         fetch_add(words, at, u64::from(self.units));
         AddStep::Done
+    }
+
+    // Goes on by one event.
+    pub(crate) fn step(&mut self, words: &mut [u64]) -> AddStep
+        requires stands { ∥ IsSomeAdd (length words.old) self.old ∥₁ }
+        ensures { AddSteps self.old words.old self.new words.new result }
+    {
+        match self.stage {
+            Stage::LoadingSingle => self.load_single(words),
+            Stage::Packing { old, new } => self.pack(words, old, new),
+            Stage::LoadingCounts => self.load_counts(words),
+            Stage::SeekingCounts => self.seek_counts(words),
+            Stage::Allocating { .. } => self.allocate(words),
+            Stage::Mounting { at } => self.mount(words, at),
+            Stage::Purging { at, counts } => self.purge(words, at, counts),
+            Stage::LoadingAgain { counts } => self.load_again(words, counts),
+            Stage::Disabling { counts, old } => self.disable(words, counts, old),
+            Stage::Moving {
+                counts,
+                bucket,
+                units,
+            } => self.move_units(words, counts, bucket, units),
+            Stage::Counting { at } => self.count(words, at),
+            Stage::Summing => self.sum(words),
+            Stage::Noting => self.note(words),
+        }
     }
 }

@@ -1,6 +1,6 @@
 //! What packing and disabling make of a single word.
 
-ghost use Rattle.std.specs.Prelude.{◌≡◌, ◌⊎◌, ◌%◌, ◌^◌, ◌<◌, ◌≤◌, MatchOption};
+ghost use Rattle.std.specs.Prelude.{◌≡◌, ◌⊎◌, ◌/◌, ◌%◌, ◌^◌, ◌<◌, ◌≤◌, MatchOption};
 ghost use Rattle.segment_machine.specs.Form.{IsPacking, off_word};
 
 use bucket_ranges::limits::MAX_PACKED;
@@ -46,4 +46,11 @@ pub fn off_word(version: u64, word: u64) -> u64
         return DISABLED_BIT + NO_BUCKET;
     }
     DISABLED_BIT + word / UNITS
+}
+
+/// The bucket of a packed word, and its units.
+pub fn unpacked(word: u64) -> (usize, u64)
+    ensures { result ≡ (word / 2 ^ 32, word % 2 ^ 32) }
+{
+    ((word / UNITS) as usize, word % UNITS)
 }

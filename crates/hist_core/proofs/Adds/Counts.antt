@@ -1,5 +1,5 @@
 -- An `add` counts its units, adds its amount to the sum, and notes its units in the redundant count.
-use Rattle.std.proofs.Common.{◌≡◌, ℕ, ◌+◌, ◌%◌, ◌^◌, ◌<◌, ◌≤◌, ℤ, pos, Bool, true, false, List, [], ◌∷◌, length, refl, sym, ap, subst, arith, inl, inr, ⊎_elim}
+use Rattle.std.proofs.Common.{◌≡◌, ℕ, ◌+◌, ◌%◌, ◌^◌, ◌<◌, ◌≤◌, ℤ, pos, Bool, true, false, List, [], ◌∷◌, length, refl, sym, ap, subst, arith, inl, inr, ⊎_elim, ◌∙◌}
 use Rattle.std.specs.Prelude.{slice_set, if◌then◌else◌}
 use Rattle.std.specs.Ordering.{int_eq}
 use Rattle.std.proofs.Props.{props}
@@ -15,7 +15,7 @@ use Rattle.segment_machine.specs.Counting.{add_count}
 use Rattle.bucket_ranges.specs.Ranges.{boundaries_of}
 use Rattle.bucket_ranges.specs.declared.spec.Spec.{Spec}
 use Rattle.segment_machine.specs.Made.{IsFirstSample}
-use Rattle.segment_machine.specs.Entry.{key_of, has_ended}
+use Rattle.segment_machine.specs.Entry.{key_of, has_ended, is_counted}
 use Rattle.segment_machine.specs.Event.{Event, next, counting_event}
 use Rattle.hist_core.specs.declared.add.Add.{Add}
 use Rattle.hist_core.specs.declared.add.AddStep.TheVariants.{More}
@@ -24,6 +24,7 @@ use Rattle.hist_core.specs.declared.add.Stage.TheVariants.{Counting, Summing, No
 use Rattle.hist_core.specs.Goes.{Goes}
 use Rattle.hist_core.specs.Add.{IsCounting, HasEntry, IsSomeAdd, StandsAtStage, IsAdd, AddGives, behind_count}
 use Rattle.hist_core.proofs.Adds.Entries.{still_open, only_open, only_changed, counting_of}
+use Rattle.segment_machine.specs.Packing.{CountsIn}
 
 -- it counts the same at whatever stage
 pub counts_on : (shape : Dimensions) (known : Known) (add : Add) (stage : Stage) → IsCounting shape known add → IsCounting shape known (record add { stage = stage })
@@ -59,6 +60,17 @@ module _ (shape : Dimensions) (known : Known) (add : Add) (a : Actor) (is : IsAd
 
   pub changed_is : (f : MachineCounting → MachineCounting) → change_next f a.entries.running ≡ f (counting_of known add counted summed) ∷ []
   changed_is f = only_changed (counting_of known add counted summed) a.entries.running has goes_on f
+
+-- it may make room: nothing is counted of its entry, and it takes nothing
+pub counts_in : (shape : Dimensions) (known : Known) (add : Add) (a : Actor) → IsAdd shape known add a → HasEntry known add a false false → CountsIn a known
+counts_in shape known add a is has = (is.rests, λ c first. by c (first_is c first))
+  where
+    first_is : (c : MachineCounting) → IsNext a c → counting_of known add false false ≡ c
+    first_is c first = let same : (counting_of known add false false ∷ []) ≡ c ∷ first.0 =
+        sym (only_open (counting_of known add false false) a.entries.running has (still_open (counting_of known add false false) refl is.counting.some)) ∙ first.1 in cc same
+
+    by : (c : MachineCounting) → counting_of known add false false ≡ c → (is_counted c ≡ false) × (c.entry.name ≡ known.name)
+    by c same = subst (λ (d : MachineCounting). (is_counted d ≡ false) × (d.entry.name ≡ known.name)) same (is.counting.some, refl)
 
 module _ (shape : Dimensions) (known : Known) (add : Add) (a : Actor) (words : List ℕ) (is : IsAdd shape known add a) where
   -- its record lies in the words

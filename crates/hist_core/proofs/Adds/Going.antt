@@ -6,7 +6,7 @@ use Rattle.segment_image.specs.Words.{word_at}
 use Rattle.segment_machine.specs.declared.actor.Actor.{Actor}
 use Rattle.segment_machine.specs.declared.actor.Known.{Known}
 use Rattle.segment_machine.specs.Calls.{sight_counts}
-use Rattle.segment_machine.specs.Event.{spot, after, next, Ready, Learned, packing_event}
+use Rattle.segment_machine.specs.Event.{spot, after, next, Ready, Learned, packing_event, Event}
 use Rattle.segment_machine.specs.Packing.{PackingEvent, load_single, pack, mount_counts, purge_block, disable, add_moved, after_pack, after_mount, after_disable}
 use Rattle.hist_core.specs.declared.add.Add.{Add}
 use Rattle.hist_core.specs.declared.add.AddStep.TheVariants.{More}
@@ -32,7 +32,7 @@ aside_still a b role segment deltas names chain words = record {
 }
 
 -- where it has seen a counts reference
-aside_counts : (a b : Actor) (histogram found : ℕ) → b.role ≡ a.role → b.segment ≡ a.segment → b.deltas ≡ a.deltas → b.answers.names ≡ a.answers.names
+pub aside_counts : (a b : Actor) (histogram found : ℕ) → b.role ≡ a.role → b.segment ≡ a.segment → b.deltas ≡ a.deltas → b.answers.names ≡ a.answers.names
     → b.seen.chain ≡ a.seen.chain → b.seen.words ≡ a.seen.words ++ sight_counts histogram found → Aside a b
 aside_counts a b histogram found role segment deltas names chain words = record {
   role = role;
@@ -87,24 +87,30 @@ module _ (shape : Dimensions) (known : Known) (add : Add) (a : Actor) (is : IsAd
     },
   )
 
-  -- by an event of packing that it may do
-  module _ (words new_words : List ℕ) (e : PackingEvent) where
+  -- by an event that it may do
+  module _ (words new_words : List ℕ) (event : Event) where
     abbrev found : ℕ
-    found = word_at words (spot shape.size (packing_event e))
+    found = word_at words (spot shape.size event)
 
     abbrev acted : Actor
-    acted = next a (packing_event e) found
+    acted = next a event found
 
-    pub packs_on : Ready a (packing_event e) → new_words ≡ after shape.size add.version (packing_event e) words
-        → (Learned a (packing_event e) found → StandsAtStage shape known (record add { stage = stage }) acted stage)
+    pub acts_on : Ready a event → new_words ≡ after shape.size add.version event words → Aside a acted × StaysOpen a acted
+        → (Learned a event found → StandsAtStage shape known (record add { stage = stage }) acted stage)
         → Goes shape.size add.version a words new_words (AddGives shape known (record add { stage = stage }) More a)
-    packs_on ready are stands = record {
+    acts_on ready are beside stands = record {
       before = [];
       at = a;
       told = refl;
-      event = packing_event e;
+      event = event;
       ready = ready;
       words_are = are;
-      goes = λ learned apart.
-          let beside = packing_aside a e found in ([], acted, refl, goes_still acted beside.0 beside.1 (stands learned));
+      goes = λ learned apart. ([], acted, refl, goes_still acted beside.0 beside.1 (stands learned));
     }
+
+  pub packs_on : (words new_words : List ℕ) (e : PackingEvent) → Ready a (packing_event e) → new_words ≡ after shape.size add.version (packing_event e) words
+      → (Learned a (packing_event e) (word_at words (spot shape.size (packing_event e)))
+      → StandsAtStage shape known (record add { stage = stage }) (next a (packing_event e) (word_at words (spot shape.size (packing_event e)))) stage)
+      → Goes shape.size add.version a words new_words (AddGives shape known (record add { stage = stage }) More a)
+  packs_on words new_words e ready are stands =
+      acts_on words new_words (packing_event e) ready are (packing_aside a e (word_at words (spot shape.size (packing_event e)))) stands

@@ -1,8 +1,6 @@
 -- An `add` loads the counts reference.
 use Rattle.std.proofs.Common.{◌≡◌, ◌<◌, ◌≤◌, ℕ, ◌+◌, ◌*◌, ◌%◌, ◌^◌, Bool, List, [], refl, sym, ap, subst, ◌∙◌, arith, inl}
 use Rattle.std.specs.Prelude.{◌≢◌, Some, if◌then◌else◌}
-use Rattle.std.proofs.Props.{props}
-use Rattle.std.proofs.Math.Logic.{∥∥₁_elim}
 use Rattle.std.proofs.lemmas.List.{append-nil}
 use Rattle.std.proofs.lemmas.Bool.{eq-eqb}
 use lib.Seq.{set-get_or}
@@ -22,7 +20,7 @@ use Rattle.hist_core.specs.declared.add.Add.{Add}
 use Rattle.hist_core.specs.declared.add.AddStep.TheVariants.{More}
 use Rattle.hist_core.specs.declared.add.Stage.TheVariants.{LoadingCounts, Counting}
 use Rattle.hist_core.specs.Goes.{Goes}
-use Rattle.hist_core.specs.Add.{StandsAtStage, IsAdd, IsSomeAdd, AddGives}
+use Rattle.hist_core.specs.Add.{StandsAtStage, IsAdd, AddGives}
 use Rattle.hist_core.proofs.Adds.Counts.{counts_on}
 
 module _ (shape : Dimensions) (known : Known) (add : Add) (a : Actor) (words : List ℕ) (is : IsAdd shape known add a) (loads : add.stage ≡ LoadingCounts) where
@@ -115,8 +113,3 @@ module _ (shape : Dimensions) (known : Known) (add : Add) (a : Actor) (words : L
       ),
     );
   }
-
--- the bucket of an `add` that stands so somewhere is small
-pub bucket_small : (add : Add) (n : ℕ) → add.stage ≡ LoadingCounts → ∥ IsSomeAdd n add ∥₁ → add.bucket < 1048576
-bucket_small add n loads stands = ∥∥₁_elim stands (hlevel props)
-    (λ (shape, known, a, long, is). let inside = bucket_inside shape known add a [] is loads in omega (arith, inside.0, inside.1))

@@ -53,7 +53,7 @@ module _ (x : Allocation) where
   either true one other at size first second is = first is
   either false one other at size first second is = second is
 
-  claimed_suits : (stage : AllocStage) (found at size : ℕ) (event : atomic.Event) → event_at x stage ≡ Some event → IsAimed x stage
+  pub claimed_suits : (stage : AllocStage) (found at size : ℕ) (event : atomic.Event) → event_at x stage ≡ Some event → IsAimed x stage
       → stage_after x found stage ≡ Claimed at size → x.size ≤ size
   claimed_suits LoadFlags found at size event goes aimed is = absurd (either (bit_and found 1 == 0) LoadFree Corrupt at size (λ e. cc e) (λ e. cc e) is)
   claimed_suits LoadFree found at size event goes aimed is = absurd (either (is_pointer x.shape found) (stage_of_plan found (planned found x.size x.shape)) Corrupt at size (λ e. from_plan found (planned found x.size x.shape) at size e) (λ e. cc e) is)
@@ -67,7 +67,7 @@ module _ (x : Allocation) where
   claimed_suits Full found at size event goes aimed is = cc goes
   claimed_suits Corrupt found at size event goes aimed is = cc goes
 
-claimed_of : (stage : AllocStage) (at : ℕ) → said.Done at ≡ answer stage → (size : ℕ) × (stage ≡ Claimed at size)
+pub claimed_of : (stage : AllocStage) (at : ℕ) → said.Done at ≡ answer stage → (size : ℕ) × (stage ≡ Claimed at size)
 claimed_of (Claimed from size) at is = let same : from ≡ at = cc is in (size, ap (λ (n : ℕ). Claimed n size) same)
 claimed_of LoadFlags at is = cc is
 claimed_of LoadFree at is = cc is
@@ -99,7 +99,7 @@ notes_append a b c [] second is goes = subst (λ (x : Actor). Notes x second c) 
 notes_append a b c (note ∷ first) second (may, rest) goes = (may, notes_append (noted a note) b c first second rest goes)
 
 -- an actor goes on, and notes what it knows then
-goes_noting : {size version : ℕ} {a : Actor} {words new_words : List ℕ} {holds then_holds : Actor → Type 0} → Goes size version a words new_words holds
+pub goes_noting : {size version : ℕ} {a : Actor} {words new_words : List ℕ} {holds then_holds : Actor → Type 0} → Goes size version a words new_words holds
     → ((b : Actor) → holds b → (notes : List Note) × (c : Actor) × Notes b notes c × then_holds c) → Goes size version a words new_words then_holds
 goes_noting go then_notes = record {
   before = go.before;
@@ -121,7 +121,7 @@ kind_is (spec.Custom values) rest is = cc is
 kind_is spec.Sparse rest is = cc is
 
 -- where an allocation has ended, its actor rests
-rests_at : (b : Actor) (y : Allocation) (stage : AllocStage) → answer stage ≢ said.More → StandsAt b y stage → b.hand.place ≡ Idle
+pub rests_at : (b : Actor) (y : Allocation) (stage : AllocStage) → answer stage ≢ said.More → StandsAt b y stage → b.hand.place ≡ Idle
 rests_at b y (Claimed at size) ends stands = stands.0
 rests_at b y Full ends stands = stands.0
 rests_at b y Corrupt ends stands = stands
@@ -134,7 +134,7 @@ rests_at b y (StoreType at n) ends stands = absurd (ends refl)
 rests_at b y SetFull ends stands = absurd (ends refl)
 
 -- and where it was refused for want of room, it has set the full flag
-filled_at : (b : Actor) (y : Allocation) (stage : AllocStage) → answer stage ≡ said.Full → StandsAt b y stage → b.done.filled ≡ true
+pub filled_at : (b : Actor) (y : Allocation) (stage : AllocStage) → answer stage ≡ said.Full → StandsAt b y stage → b.done.filled ≡ true
 filled_at b y Full ends stands = stands.1
 filled_at b y (Claimed at size) ends stands = cc ends
 filled_at b y Corrupt ends stands = cc ends

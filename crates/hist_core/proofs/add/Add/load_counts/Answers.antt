@@ -1,7 +1,9 @@
-use Rattle.std.proofs.Common.{arith, refl}
+use Rattle.std.proofs.Common.{arith, subst}
 use Rattle.hist_core.proofs.Adds.Counts.{some_inside}
-use Rattle.hist_core.proofs.Adds.Loads.{bucket_small, loads_so}
+use Rattle.hist_core.proofs.Adds.Loads.{loads_so}
 use Rattle.hist_core.proofs.add.Add.load_counts.Goals as goal
+use Rattle.hist_core.specs.Add.{StandsAtStage}
+use Rattle.hist_core.proofs.Adds.Packs.{small_bucket}
 
 pub overflow_add-counts : goal.overflow_add-counts
 overflow_add-counts c = let inside = some_inside c.args.self.now c.args.words.now c.requires.stands in omega (arith, inside.0, inside.1)
@@ -12,9 +14,11 @@ offset_bounds-words-self c = let inside = some_inside c.args.self.now c.args.wor
 pub bounds-words-self : goal.bounds-words-self
 bounds-words-self c = let inside = some_inside c.args.self.now c.args.words.now c.requires.stands in omega (arith, inside.0)
 
-pub overflow_add-at : goal.overflow_add-at
-overflow_add-at c = let small = bucket_small c.args.self.now _ c.requires.loads c.requires.stands in omega (arith, small)
+pub count_in-requires : goal.count_in-requires
+count_in-requires c =
+    let small = small_bucket c.args.self.now _ (λ shape known a is. (subst (StandsAtStage shape known c.args.self.now a) c.requires.loads is.stands).0) c.requires.stands in
+    omega (arith, small)
 
 pub returns : goal.returns
 returns c = λ shape known a long is.
-    loads_so shape known c.args.self.now a c.args.words.now is c.requires.loads _ refl
+    loads_so shape known c.args.self.now a c.args.words.now is c.requires.loads _ c.count_in.ensures

@@ -1,0 +1,32 @@
+use Rattle.std.proofs.Common.{◌≤◌, ◌+◌, ◌*◌, sym, subst, arith}
+use Rattle.std.proofs.Props.{props}
+use Rattle.std.proofs.Math.Logic.{∥∥₁_elim}
+use Rattle.segment_image.specs.Shape.{Dimensions}
+use Rattle.alloc_core.specs.Layout.{IsShape}
+use Rattle.hist_core.proofs.Adds.Counts.{some_inside}
+use Rattle.hist_core.proofs.Adds.Mounts.{seeks_none, seeks_some}
+use Rattle.hist_core.proofs.add.Add.seek_counts.Goals as goal
+
+pub overflow_add-counts : goal.overflow_add-counts
+overflow_add-counts c = let inside = some_inside c.args.self.now c.args.words.now c.requires.stands in omega (arith, inside.0, inside.1)
+
+pub offset_bounds-words-self : goal.offset_bounds-words-self
+offset_bounds-words-self c = let inside = some_inside c.args.self.now c.args.words.now c.requires.stands in omega (arith, inside.0, inside.1)
+
+pub bounds-words-self : goal.bounds-words-self
+bounds-words-self c = let inside = some_inside c.args.self.now c.args.words.now c.requires.stands in omega (arith, inside.0)
+
+pub begin_allocating-requires-clause-lawful : goal.begin_allocating-requires-clause-lawful
+begin_allocating-requires-clause-lawful c =
+    ∥∥₁_elim c.requires.stands (hlevel props) (λ (shape, known, a, long, is). subst IsShape (sym is.counting.shaped) is.lawful_shape)
+
+pub begin_allocating-requires-clause-one_page : goal.begin_allocating-requires-clause-one_page
+begin_allocating-requires-clause-one_page c = ∥∥₁_elim c.requires.stands (hlevel props)
+    (λ (shape, known, a, long, is). subst (λ (d : Dimensions). 4 + 2 * c.args.self.now.buckets ≤ d.page) (sym is.counting.shaped) is.counting.fits)
+
+pub returns-then-counts-eq0 : goal.returns-then-counts-eq0
+returns-then-counts-eq0 c = λ shape known a long is.
+    seeks_none shape known c.args.self.now a c.args.words.now is c.requires.seeks c.begin_allocating.new.self c.begin_allocating.result c.begin_allocating.ensures
+
+pub returns : goal.returns
+returns c = λ shape known a long is. seeks_some shape known c.args.self.now a c.args.words.now is c.requires.seeks c.if-counts-eq0.false

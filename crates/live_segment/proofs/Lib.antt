@@ -13,6 +13,9 @@ mod Attempts
 mod Listed
 mod Owned
 mod Published
+mod OnWay
+mod OwnSamples
+mod SampleSearches
 mod Answered
 mod Totals
 mod Refusing

@@ -37,6 +37,7 @@ use Rattle.live_segment.specs.Records.{StandOnce, LoadsNext, HasWalked}
 use Rattle.live_segment.specs.Walks.{HasCome, WalksOn}
 use Rattle.live_segment.proofs.Allowed.{does_at}
 use Rattle.live_segment.proofs.OwnNames.{knows_own_names}
+use Rattle.live_segment.proofs.OwnSamples.{knows_own_samples}
 use Rattle.live_segment.proofs.Sharing.{extended_end, extended_grows, grows_on, reference_behind}
 
 -- ---- its step
@@ -67,6 +68,7 @@ module _ (setting : Setting) (slots id : ℕ) (me : Sat) (word : ℕ) (records :
           told,
           once_in run.segment.words me.0.seen.chain _ fits.sees.walked run.kept.list.linked,
           knows_own_names setting.shape (opened_of setting) run.segment run.kept id me.0 there live,
+          knows_own_samples setting.shape (opened_of setting) run.segment run.kept id me.0 there live,
         ),
       )
 

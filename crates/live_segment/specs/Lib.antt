@@ -23,6 +23,7 @@ pub mod Fresh
 pub mod Refusing
 pub mod Snapshots
 pub mod Samples
+pub mod Sampling
 pub mod Deltas
 pub mod Mounting
 pub mod Finishing

@@ -1,12 +1,12 @@
 -- What a walk along the list makes of a recorder: it has seen all of the list, and has its records in their order.
-use Rattle.std.specs.Prelude.{◌≡◌, ◌≢◌, false, ℕ, ◌+◌, ◌<◌, ◌≤◌, List, length, slice_index}
+use Rattle.std.specs.Prelude.{◌≡◌, ◌≢◌, false, ℕ, ◌+◌, ◌<◌, ◌≤◌, ℤ, List, ◌∷◌, ◌++◌, length, slice_index}
 use Rattle.std.specs.List.{All, Contains}
 use Rattle.segment_image.specs.declared.layout.TheConstants.{BLOCK_LEAST, HEADER_WORDS}
 use Rattle.list_core.specs.Chain.{stops}
 use Rattle.bucket_ranges.specs.declared.spec.Spec.{Spec}
 use Rattle.segment_machine.specs.declared.actor.Actor.{Actor}
-use Rattle.segment_machine.specs.declared.actor.Made.TheVariants.{Histogram}
-use Rattle.segment_machine.specs.Made.{SawOtherName}
+use Rattle.segment_machine.specs.declared.actor.Made.TheVariants.{Histogram, Sample}
+use Rattle.segment_machine.specs.Made.{SawOther, SawOtherName}
 use Rattle.segment_machine.specs.Actor.{is_bound}
 use Rattle.segment_machine.specs.Event.{walking_event}
 use Rattle.segment_machine.specs.Walking.{load_next, records_met}
@@ -22,10 +22,17 @@ abbrev pub KnowsOwnNames : Actor → Type 0
 KnowsOwnNames a = (name : List ℕ) (spec : Spec) (at : ℕ) → Contains a.done.published (record { reference = at; made = Histogram name spec })
     → SawOtherName a.seen name at → ⊥
 
--- a next is loaded, by a recorder that has met no block twice, and no record of its own under another name
+-- No sample that it published did it see to be another record. Where it met such a sample on the list, that stands behind its histogram's record.
+abbrev pub KnowsOwnSamples : Actor → Type 0
+KnowsOwnSamples a = (histogram : ℕ) (value : ℤ) (at : ℕ) → Contains a.done.published (record { reference = at; made = Sample histogram value })
+    → (SawOther a.seen histogram value at → ⊥)
+    × ((front behind : List ℕ) → a.seen.chain ≡ front ++ histogram ∷ behind → Contains a.seen.chain at → Contains behind at)
+
+-- a next is loaded, by a recorder that has met no block twice, and no record of its own as another one
 abbrev pub LoadsNext : ℕ → Sat → ℕ → Sat → Type 0
 LoadsNext word me found me' =
     DoesAt (λ at. walking_event (load_next at)) word me found me' × StandOnce me.0.seen.chain × KnowsOwnNames me.0
+    × KnowsOwnSamples me.0
 
 -- The records of the list are these, in its order, each once and within the segment: first those that the recorder had seen there, and
 -- among them all that it had met elsewhere. It has seen them now, a cursor that it had loaded may be let go, and all else is as it was.

@@ -3,7 +3,9 @@ use Rattle.std.specs.Prelude.{◌≡◌, ℕ, ◌+◌, ◌≤◌, List, length, 
 use Rattle.std.specs.List.{All}
 use Rattle.segment_image.specs.declared.layout.TheConstants.{BLOCK_LEAST, HEADER_WORDS}
 use Rattle.list_core.specs.Chain.{stops}
+use Rattle.list_core.specs.Walk.{IsPrefix, stands_behind}
 use Rattle.segment_machine.specs.declared.actor.Actor.{Actor}
+use Rattle.segment_machine.specs.Calls.{MayTurn}
 use Rattle.live_segment.specs.declared.records.WalkPlace.{WalkPlace}
 use Rattle.live_segment.specs.Records.{HasWalked}
 
@@ -20,3 +22,10 @@ pub record WalksOn (size : ℕ) (old : Actor) (from : WalkPlace) (records : List
   pub behind : records ≡ drop from.given list
   pub come : HasCome size list to
   pub given : to.given ≡ length list
+
+-- A walk has given the front of the chain that its recorder has seen, and stands at the last of these records, or at the queue block.
+pub record IsOnWay (given : List ℕ) (at : ℕ) (a : Actor) : Type 0 where
+  pub free : MayTurn a
+  pub front : IsPrefix given a.seen.chain
+  pub stands : at ≡ stands_behind given
+  pub within : at + BLOCK_LEAST ≤ a.segment.shape.size

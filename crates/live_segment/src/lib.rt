@@ -22,6 +22,7 @@ mod recorder;
 mod records;
 mod rule;
 mod samples;
+mod sampling;
 mod seats;
 mod segment;
 mod shared_cursors;

@@ -27,7 +27,7 @@ impl Play<Announcement, Actor> for LoadPublished {
 
 impl Segment {
     ghost use Rattle.live_segment.specs.Holders.{MayStep};
-    ghost use Rattle.live_segment.specs.Records.{StandOnce, KnowsOwnNames};
+    ghost use Rattle.live_segment.specs.Records.{StandOnce, KnowsOwnNames, KnowsOwnSamples};
     ghost use Rattle.live_segment.specs.Steps.{Stepped};
 
     pub(crate) fn load_next(&self, seat: &mut Pass, at: u64) -> u64
@@ -36,6 +36,7 @@ impl Segment {
         ensures step { Stepped seat.old (walking_event (load_next at)) result seat.new }
         ensures once { StandOnce seat.old.me.0.seen.chain }
         ensures own { KnowsOwnNames seat.old.me.0 }
+        ensures samples { KnowsOwnSamples seat.old.me.0 }
     {
         self.table
             .shared

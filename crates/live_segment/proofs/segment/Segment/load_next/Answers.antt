@@ -21,3 +21,6 @@ returns-clause-once c = c.load.ensures.2.1
 
 pub returns-clause-own : goal.returns-clause-own
 returns-clause-own c = c.load.ensures.2.2
+
+pub returns-clause-samples : goal.returns-clause-samples
+returns-clause-samples c = c.load.ensures.2.3

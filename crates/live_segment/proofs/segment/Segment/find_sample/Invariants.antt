@@ -1,0 +1,16 @@
+use Rattle.std.proofs.Common.{◌≡◌, ◌-◌, ℤ}
+use Rattle.live_segment.specs.Sampling.{WalksBehind}
+use Rattle.live_segment.specs.Searching.{HasSearched}
+use Rattle.live_segment.specs.Steps.{IsSame}
+use Rattle.live_segment.proofs.Searching.{last_of}
+use Rattle.live_segment.proofs.segment.Segment.find_sample.Given as goal
+
+abbrev pub invariant-loop-from : goal.invariant-loop-from
+invariant-loop-from l = record {
+  same : IsSame l.fn.seat l.seat;
+  searched : HasSearched l.fn.seat.me.0 l.seat.me.0;
+  walks : (value : ℤ) → value ≡ l.value → WalksBehind l.histogram value l.at l.seat.me.0;
+}
+
+abbrev pub decreases-loop-from : goal.decreases-loop-from
+decreases-loop-from l = l.self.setting.shape.size - last_of l.seat.me.0.seen.chain l.at

@@ -1,0 +1,38 @@
+-- How a recorder finds the sample of a value of a sparse histogram: it walks along the list, on from the histogram's record.
+use Rattle.std.specs.Prelude.{◌≡◌, Bool, true, false, ℕ, ◌+◌, ◌≤◌, ℤ, List, ◌∷◌, ◌++◌}
+use Rattle.std.specs.List.{All, Contains}
+use Rattle.segment_image.specs.declared.layout.TheConstants.{SAMPLE_LEAST}
+use Rattle.segment_machine.specs.declared.actor.Actor.{Actor}
+use Rattle.segment_machine.specs.declared.actor.Made.TheVariants.{Sample}
+use Rattle.segment_machine.specs.Calls.{MayTurn}
+use Rattle.segment_machine.specs.Made.{IsFirstSample, SawOther, SawSample}
+use Rattle.live_segment.specs.declared.sampling.SampleSearch.{SampleSearch}
+use Rattle.live_segment.specs.declared.sampling.SampleSearch.TheVariants.{Met, End}
+use Rattle.live_segment.specs.Walks.{IsOnWay}
+
+-- it saw that a record is the sample of a value, which lies within the segment, or that it is another record
+abbrev pub ShowsValue : ℕ → ℤ → ℕ → Bool → Actor → Type 0
+ShowsValue histogram value at true a = SawSample a.seen histogram value at × (at + SAMPLE_LEAST ≤ a.segment.shape.size)
+ShowsValue histogram value at false a = SawOther a.seen histogram value at
+
+-- Its walk has gone on behind the histogram's record. None of the records that it has given since is a sample of the value.
+pub record WalksBehind (histogram : ℕ) (value : ℤ) (at : ℕ) (a : Actor) : Type 0 where
+  pub front : List ℕ
+  pub given : List ℕ
+  pub way : IsOnWay (front ++ histogram ∷ given) at a
+  pub others : All (SawOther a.seen histogram value) given
+
+-- it saw that no record behind the histogram's is a sample of the value, up to the end of the list
+abbrev pub SawNone : ℕ → ℤ → Actor → Type 0
+SawNone histogram value a = (front behind : List ℕ) × (a.seen.chain ≡ front ++ histogram ∷ behind) × All (SawOther a.seen histogram value) behind
+
+-- it has published no sample of the value
+abbrev pub HasMadeNoSample : ℕ → ℤ → Actor → Type 0
+HasMadeNoSample histogram value a = (at : ℕ) → ¬ (Contains a.done.published (record { reference = at; made = Sample histogram value }))
+
+-- It met the first sample of the value, within the segment. Or it saw all of the list, which has none, and has published none.
+abbrev pub FindsSample : ℕ → ℤ → SampleSearch → Actor → Type 0
+FindsSample histogram value (Met reference) a =
+    MayTurn a × IsFirstSample a.seen histogram value reference × (reference + SAMPLE_LEAST ≤ a.segment.shape.size)
+FindsSample histogram value (End at) a =
+    WalksBehind histogram value at a × SawNone histogram value a × HasMadeNoSample histogram value a

@@ -1,0 +1,67 @@
+//! How a recorder finds the sample of a value of a sparse histogram.
+
+ghost use Rattle.std.specs.Prelude.{◌≡◌, ◌+◌, ◌≤◌, false};
+ghost use Rattle.segment_machine.specs.Actor.{is_opener};
+ghost use Rattle.live_segment.specs.Rule.{IsOf};
+ghost use Rattle.live_segment.specs.Finding.{Meets, SeesWords};
+ghost use Rattle.live_segment.specs.Searching.{HasSearched};
+ghost use Rattle.live_segment.specs.Sampling.{ShowsValue, WalksBehind, FindsSample};
+
+use crate::rule::Pass;
+use crate::segment::Segment;
+use segment_image::layout::QUEUE;
+
+// How a walk behind the record of a sparse histogram ended.
+pub(crate) enum SampleSearch {
+    // At the first sample of the value.
+    Met(u64),
+    // At the end of the list, behind this block: there is none.
+    End(u64),
+}
+
+impl Segment {
+    ghost use Rattle.live_segment.specs.Holders.{table_of};
+    ghost use Rattle.live_segment.specs.Steps.{IsSame};
+
+    // Walks along the list, on from where a walk behind the histogram's record stands, up to the first sample of the value.
+    pub(crate) fn find_sample(
+        &self,
+        seat: &mut Pass,
+        from: u64,
+        histogram: u64,
+        value: i32,
+    ) -> SampleSearch
+        requires seat { (seat.old.table_id ≡ table_of self.now) × (is_opener seat.old.me.0.role ≡ false) × IsOf self.now.setting seat.old.me.0 }
+        requires walks { WalksBehind histogram value from seat.old.me.0 }
+        ensures same { IsSame seat.old seat.new }
+        ensures view { HasSearched seat.old.me.0 seat.new.me.0 }
+        ensures outcome { FindsSample histogram value result seat.new.me.0 }
+    {
+        let mut at = from;
+        loop {
+            let next = self.load_next(seat, at);
+            if next == QUEUE {
+                return SampleSearch::End(at);
+            }
+            if self.shows_value(seat, next, histogram, value) {
+                return SampleSearch::Met(next);
+            }
+            at = next;
+        }
+    }
+
+    // Whether a record that was met is a sample of the value.
+    fn shows_value(&self, seat: &mut Pass, at: u64, histogram: u64, value: i32) -> bool
+        requires seat { (seat.old.table_id ≡ table_of self.now) × (is_opener seat.old.me.0.role ≡ false) × IsOf self.now.setting seat.old.me.0 }
+        requires met { Meets at seat.old.me.0 }
+        requires room { at + 5 ≤ self.now.setting.shape.size }
+        ensures same { IsSame seat.old seat.new }
+        ensures view { SeesWords seat.old.me.0 seat.new.me.0 }
+        ensures shown { ShowsValue histogram value at result seat.new.me.0 }
+    {
+        match self.shows_sample(seat, at, histogram) {
+            Some(shown) => shown == value,
+            None => false,
+        }
+    }
+}

@@ -1,17 +1,14 @@
 -- A sample that a recorder published is never seen to be another record, and stands behind the record of its histogram.
-use Rattle.std.proofs.Common.{◌≡◌, ◌≢◌, ℕ, zero, suc, ◌+◌, ◌<◌, ℤ, List, ◌∷◌, ◌++◌, length, map, slice_index, Some, inl, inr, ⊎_elim, sym, ap, ◌∙◌, subst, arith, append_assoc, length-append}
+use Rattle.std.proofs.Common.{◌≡◌, ◌≢◌, ℕ, ◌+◌, ◌<◌, ℤ, List, ◌∷◌, ◌++◌, map, slice_index, Some, inl, inr, sym, ap, ◌∙◌, subst, arith}
 use Rattle.std.specs.List.{Contains}
 use Rattle.std.proofs.lemmas.List.{map-append}
-use Rattle.std.proofs.lemmas.List.Elements.{All-contains, Contains-append_cases, Contains-append_right}
+use Rattle.std.proofs.lemmas.List.Elements.{All-contains, Contains-append_right}
 use Rattle.std.proofs.lemmas.List.Sorted.{IsPermutation-sym, Contains-permutation}
 use Rattle.std.specs.Int.{cast_unsigned, w64}
-use lib.Seq.{get_or-append_seam}
 use mathlib.Core.Option.{some}
 use lib.ListN.{get_elem?}
 use Rattle.segment_image.specs.Shape.{Dimensions}
 use Rattle.bucket_ranges.specs.declared.spec.Spec.TheVariants as spec
-use Rattle.list_core.specs.Chain.{IsLinked, stops}
-use Rattle.list_core.proofs.Chains.{one_place}
 use Rattle.segment_machine.specs.declared.actor.Actor.{Actor}
 use Rattle.segment_machine.specs.declared.actor.Made.TheVariants as made
 use Rattle.segment_machine.specs.declared.actor.Published.{Published}
@@ -26,48 +23,7 @@ use Rattle.segment_invariant.proofs.Lists.Elements.{at_from, row_in, split_at}
 use Rattle.segment_invariant.proofs.Lists.Maps.{contains_map}
 use Rattle.segment_invariant.proofs.Walking.Words.{sighted}
 use Rattle.live_segment.specs.Records.{KnowsOwnSamples}
-
--- ---- lists on which nothing stands twice
-
-module _ (words order : List ℕ) (linked : IsLinked words order) where
-  one_index : (p q r s : List ℕ) (x : ℕ) → order ≡ p ++ x ∷ q → order ≡ r ++ x ∷ s → length p ≡ length r
-  one_index p q r s x is same =
-      let here : slice_index order (length p) ≡ x = ap (λ (l : List ℕ). slice_index l (length p)) is ∙ get_or-append_seam p x q 0 in
-      let there : slice_index order (length r) ≡ x = ap (λ (l : List ℕ). slice_index l (length r)) same ∙ get_or-append_seam r x s 0 in
-      let first = ap length is ∙ length-append p (x ∷ q) in
-      let second = ap length same ∙ length-append r (x ∷ s) in
-      let place = one_place words order (suc (length p)) (suc (length r)) linked (omega (arith, first)) (omega (arith, second)) (here ∙ sym there) in
-      omega (arith, place)
-
-  -- what stands behind another on the list stands behind it on its front
-  behind_there : (chain rest front behind fs gs bs : List ℕ) (h s : ℕ) → order ≡ chain ++ rest → chain ≡ front ++ h ∷ behind
-      → order ≡ (fs ++ h ∷ gs) ++ s ∷ bs → Contains chain s → Contains behind s
-  behind_there chain rest front behind fs gs bs h s whole is apart met =
-      ⊎_elim before (λ later. not_itself later) (Contains-append_cases front (h ∷ behind) s (subst (λ (l : List ℕ). Contains l s) is met))
-    where
-      at_h : order ≡ fs ++ h ∷ (gs ++ s ∷ bs)
-      at_h = apart ∙ append_assoc fs (h ∷ gs) (s ∷ bs)
-
-      long : length (fs ++ h ∷ gs) ≡ length fs + length (h ∷ gs)
-      long = length-append fs (h ∷ gs)
-
-      before : Contains front s → Contains behind s
-      before has =
-          let (i, there) = at_from front s has in
-          let (p, q, parts, others) = split_at front i s there in
-          let first : order ≡ front ++ h ∷ (behind ++ rest) = whole ∙ (ap (λ (l : List ℕ). l ++ rest) is ∙ append_assoc front (h ∷ behind) rest) in
-          let split : order ≡ p ++ s ∷ (q ++ h ∷ (behind ++ rest)) =
-          first ∙ (ap (λ (l : List ℕ). l ++ h ∷ (behind ++ rest)) parts ∙ append_assoc p (s ∷ q) (h ∷ (behind ++ rest))) in
-          let of_h = one_index front (behind ++ rest) fs (gs ++ s ∷ bs) h first at_h in
-          let of_s = one_index p (q ++ h ∷ (behind ++ rest)) (fs ++ h ∷ gs) bs s split apart in
-          let all = ap length parts ∙ length-append p (s ∷ q) in
-          absurd (omega (arith, of_h, of_s, all, long))
-
-      not_itself : Contains (h ∷ behind) s → Contains behind s
-      not_itself (zero, below, same) =
-          let one = one_index fs (gs ++ s ∷ bs) (fs ++ h ∷ gs) bs h at_h (subst (λ (x : ℕ). order ≡ (fs ++ h ∷ gs) ++ x ∷ bs) (sym same) apart) in
-          absurd (omega (arith, one, long))
-      not_itself (suc k, below, same) = (k, omega (arith, below), same)
+use Rattle.live_segment.proofs.SamplesBehind.{behind_there}
 
 -- ---- what a recorder published
 

@@ -1,6 +1,6 @@
 -- A search for the sample of a value: what a recorder knows once it has loaded the next of the block where its walk stands, and once it has
 -- looked at the record that it met.
-use Rattle.std.proofs.Common.{◌≡◌, ◌≢◌, ℕ, ◌+◌, ◌≤◌, ℤ, ◌==◌, Bool, true, false, not, List, [], ◌∷◌, ◌++◌, map, inl, inr, refl, sym, ap, subst, ◌∙◌, arith}
+use Rattle.std.proofs.Common.{◌≡◌, ◌≢◌, ℕ, ◌+◌, ◌≤◌, ℤ, ◌==◌, true, false, not, List, [], ◌∷◌, ◌++◌, map, inl, inr, refl, sym, ap, subst, ◌∙◌}
 use Rattle.std.specs.List.{All, Contains, filter}
 use Rattle.std.proofs.Math.ListN.{get_or}
 use Rattle.std.proofs.lemmas.List.{append_assoc}
@@ -13,7 +13,7 @@ use Rattle.segment_machine.specs.declared.seen.Seen.{Seen}
 use Rattle.segment_machine.specs.declared.seen.Sighting.{Sighting}
 use Rattle.segment_machine.specs.Actor.{is_opener}
 use Rattle.segment_machine.specs.Event.{walking_event}
-use Rattle.segment_machine.specs.Made.{IsFirstSample, SawOther, SawSample}
+use Rattle.segment_machine.specs.Made.{SawOther}
 use Rattle.segment_machine.specs.Walking.{load_next, records_met}
 use Rattle.segment_invariant.proofs.Lists.Maps.{contains_map}
 use Rattle.live_segment.specs.declared.sampling.SampleSearch.TheVariants as search

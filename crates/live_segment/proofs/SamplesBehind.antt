@@ -1,5 +1,5 @@
 -- Each sample that a recorder met stands behind the record of its histogram, as on the list.
-use Rattle.std.proofs.Common.{◌≡◌, ◌≢◌, ℕ, zero, suc, ◌+◌, ◌<◌, ℤ, List, ◌∷◌, ◌++◌, length, map, slice_index, Some, false, true≢false, ⊎_elim, sym, ap, ◌∙◌, subst, arith, append_assoc, length-append}
+use Rattle.std.proofs.Common.{◌≡◌, ◌≢◌, ℕ, zero, suc, ◌+◌, ℤ, List, ◌∷◌, ◌++◌, length, map, slice_index, Some, false, true≢false, ⊎_elim, sym, ap, ◌∙◌, subst, arith, append_assoc, length-append}
 use Rattle.std.specs.List.{Contains}
 use Rattle.std.proofs.lemmas.List.{map-append}
 use Rattle.std.proofs.lemmas.List.Elements.{Contains-append_cases}
@@ -9,7 +9,7 @@ use lib.ListN.{get_elem?}
 use Rattle.atomic_table.specs.Table.{Allows}
 use Rattle.segment_image.specs.Shape.{Dimensions}
 use Rattle.bucket_ranges.specs.declared.spec.Spec.TheVariants as spec
-use Rattle.list_core.specs.Chain.{IsLinked, stops}
+use Rattle.list_core.specs.Chain.{IsLinked}
 use Rattle.list_core.proofs.Chains.{one_place}
 use Rattle.segment_machine.specs.declared.actor.Actor.{Actor}
 use Rattle.segment_machine.specs.declared.actor.Made.TheVariants as made
@@ -41,7 +41,7 @@ module _ (words order : List ℕ) (linked : IsLinked words order) where
       omega (arith, place)
 
   -- what stands behind another on the list stands behind it on its front
-  behind_there : (chain rest front behind fs gs bs : List ℕ) (h s : ℕ) → order ≡ chain ++ rest → chain ≡ front ++ h ∷ behind
+  pub behind_there : (chain rest front behind fs gs bs : List ℕ) (h s : ℕ) → order ≡ chain ++ rest → chain ≡ front ++ h ∷ behind
       → order ≡ (fs ++ h ∷ gs) ++ s ∷ bs → Contains chain s → Contains behind s
   behind_there chain rest front behind fs gs bs h s whole is apart met =
       ⊎_elim before (λ later. not_itself later) (Contains-append_cases front (h ∷ behind) s (subst (λ (l : List ℕ). Contains l s) is met))

@@ -1,6 +1,6 @@
 use crate::{Answer, BatchRefusal, Begun, Call, Refusal, Stepped, World, WorldFault};
-use bucket_ranges::SpecFault;
-use std::alloc::AllocError;
+use bucket_ranges::{Spec, SpecFault};
+use std::alloc::{AllocError, Global};
 use std::test::Fail;
 
 #[test]
@@ -52,5 +52,196 @@ fn world_faults(rt: HostRuntime) -> Result<(), Fail> {
     assert!(rt; fault_of(world.step(63)) == 4);
     assert!(rt; fault_of(world.begin(63, &Call::SetCorrupt)) == 0);
     assert!(rt; fault_of(world.begin(63, &Call::SetCorrupt)) == 3);
+    Ok(())
+}
+
+// Whether these words stand in a world from an index on.
+fn holds(world: &World, from: usize, words: &[u64]) -> bool {
+    match world.words().get(from..) {
+        Some(rest) => rest.starts_with(words),
+        None => false,
+    }
+}
+
+// An actor begins to ask for a histogram.
+fn ask(
+    world: &mut World,
+    alloc: Global,
+    actor: usize,
+    name: &[u8],
+    spec: Spec,
+) -> Result<Begun, WorldFault> {
+    let name = Vec::from_slice(alloc, name)?;
+    world.begin(actor, &Call::Hist(name, spec))
+}
+
+// Does so many events of an actor's call.
+fn go(world: &mut World, actor: usize, events: u32) -> Result<(), WorldFault> {
+    for _ in 0..events {
+        world.step(actor)?;
+    }
+    Ok(())
+}
+
+// What an answer of a `hist` says: the reference, or the number of the refusal.
+fn hist_answer(answer: &Answer) -> Result<u64, u32> {
+    match answer {
+        Answer::Hist(reference) => Ok(*reference),
+        Answer::Refused(why) => Err(why.number()),
+        _ => Err(0),
+    }
+}
+
+// Goes on with an actor's `hist` for 200 events at most, and says what it answers.
+fn finish(world: &mut World, actor: usize) -> Result<Result<u64, u32>, WorldFault> {
+    for _ in 0..200 {
+        if let Stepped::Done(answer) = world.step(actor)? {
+            return Ok(hist_answer(&answer));
+        }
+    }
+    Ok(Err(0))
+}
+
+// What a `hist` answers that needs no event.
+fn at_once(begun: &Begun) -> Result<u64, u32> {
+    match begun {
+        Begun::Ended(answer) => hist_answer(answer),
+        Begun::Going => Err(0),
+    }
+}
+
+// The cookie of a claimed block.
+const CLAIMED: u64 = 0xC879_9269;
+
+#[test]
+fn fresh_boolean(rt: HostRuntime) -> Result<(), Fail> {
+    let alloc = rt.alloc();
+    for version in [1, 2] {
+        let mut world = World::new(alloc, 128, 64, 7, 1, version)?;
+        let begun = ask(&mut world, alloc, 0, b"A", Spec::Boolean)?;
+        assert!(rt; matches!(begun, Begun::Going));
+        assert!(rt; finish(&mut world, 0)? == Ok(16));
+        assert!(rt; holds(&world, 7, &[32, 16]) && holds(&world, 15, &[16]));
+        assert!(rt;
+            holds(
+                &world,
+                16,
+                &[16, CLAIMED, 1, 12, 2, 1, 2, 3, 0, 0, 0, 0, 0, 0, 1, 65, 0]
+            )
+        );
+    }
+    Ok(())
+}
+
+#[test]
+fn race_for_a_name(rt: HostRuntime) -> Result<(), Fail> {
+    let alloc = rt.alloc();
+    let mut world = World::new(alloc, 128, 64, 7, 2, 1)?;
+    for actor in [0, 1] {
+        ask(&mut world, alloc, actor, b"A", Spec::Boolean)?;
+        go(&mut world, actor, 1)?;
+    }
+    for actor in [0, 1] {
+        go(&mut world, actor, 3)?;
+    }
+    assert!(rt; holds(&world, 7, &[48, 12]));
+    assert!(rt; finish(&mut world, 1)? == Ok(32));
+    assert!(rt; finish(&mut world, 0)? == Ok(32));
+    assert!(rt; holds(&world, 15, &[32]) && holds(&world, 35, &[16]) && holds(&world, 19, &[12]));
+    assert!(rt; holds(&world, 7, &[48, 16]));
+    for actor in [0, 1] {
+        let begun = ask(&mut world, alloc, actor, b"A", Spec::Boolean)?;
+        assert!(rt; at_once(&begun) == Ok(32));
+    }
+    Ok(())
+}
+
+#[test]
+fn stopped_after_the_link(rt: HostRuntime) -> Result<(), Fail> {
+    let alloc = rt.alloc();
+    let mut world = World::new(alloc, 128, 64, 7, 2, 1)?;
+    ask(&mut world, alloc, 0, b"A", Spec::Boolean)?;
+    go(&mut world, 0, 15)?;
+    assert!(rt; holds(&world, 8, &[12]) && holds(&world, 15, &[12]));
+    go(&mut world, 0, 1)?;
+    assert!(rt; holds(&world, 8, &[12]) && holds(&world, 15, &[16]));
+    ask(&mut world, alloc, 1, b"B", Spec::Boolean)?;
+    go(&mut world, 1, 20)?;
+    assert!(rt; holds(&world, 8, &[12]) && holds(&world, 19, &[12]));
+    go(&mut world, 1, 1)?;
+    assert!(rt; holds(&world, 8, &[16]) && holds(&world, 19, &[12]));
+    go(&mut world, 1, 2)?;
+    assert!(rt; holds(&world, 8, &[16]) && holds(&world, 19, &[32]));
+    go(&mut world, 1, 1)?;
+    assert!(rt; holds(&world, 8, &[32]));
+    assert!(rt; finish(&mut world, 1)? == Ok(32));
+    assert!(rt; finish(&mut world, 0)? == Ok(16));
+    Ok(())
+}
+
+// Whether a `hist` of actor 0 is refused for its name.
+fn is_bad_name(world: &mut World, alloc: Global, name: &[u8]) -> Result<bool, WorldFault> {
+    let begun = ask(world, alloc, 0, name, Spec::Boolean)?;
+    Ok(at_once(&begun) == Err(1))
+}
+
+#[test]
+fn refusals_of_hist(rt: HostRuntime) -> Result<(), Fail> {
+    let alloc = rt.alloc();
+    let mut world = World::new(alloc, 128, 64, 7, 2, 1)?;
+    let long = [b'a'; 129];
+    assert!(rt; is_bad_name(&mut world, alloc, b"")?);
+    assert!(rt; is_bad_name(&mut world, alloc, b"a,b")?);
+    assert!(rt; is_bad_name(&mut world, alloc, b"!x")?);
+    assert!(rt; is_bad_name(&mut world, alloc, &long)?);
+    for (min, max, n, number) in [(1, 10, 2, 2), (1, 100, 31, 7)] {
+        let begun = ask(&mut world, alloc, 0, b"B", Spec::Linear { min, max, n })?;
+        assert!(rt; at_once(&begun) == Err(number));
+    }
+    ask(&mut world, alloc, 0, &long[..128], Spec::Boolean)?;
+    assert!(rt; finish(&mut world, 0)? == Ok(16));
+    for actor in [0, 1] {
+        let linear = Spec::Linear {
+            min: 1,
+            max: 2,
+            n: 3,
+        };
+        let begun = ask(&mut world, alloc, actor, &long[..128], linear)?;
+        if actor == 0 {
+            assert!(rt; at_once(&begun) == Err(10));
+        } else {
+            assert!(rt; finish(&mut world, actor)? == Err(10));
+        }
+    }
+    let linear = Spec::Linear {
+        min: 1,
+        max: 100,
+        n: 30,
+    };
+    ask(&mut world, alloc, 1, b"B", linear)?;
+    assert!(rt; finish(&mut world, 1)? == Ok(47));
+    Ok(())
+}
+
+#[test]
+fn refused_allocations(rt: HostRuntime) -> Result<(), Fail> {
+    let alloc = rt.alloc();
+    let mut world = World::new(alloc, 64, 64, 7, 1, 1)?;
+    for (letter, reference) in [(b'A', 16), (b'B', 32), (b'C', 48)] {
+        ask(&mut world, alloc, 0, &[letter], Spec::Boolean)?;
+        assert!(rt; finish(&mut world, 0)? == Ok(reference));
+    }
+    ask(&mut world, alloc, 0, b"D", Spec::Boolean)?;
+    assert!(rt; finish(&mut world, 0)? == Err(9));
+    assert!(rt; holds(&world, 6, &[2]));
+    let mut world = World::new(alloc, 128, 64, 7, 2, 2)?;
+    ask(&mut world, alloc, 0, b"A", Spec::Boolean)?;
+    assert!(rt; finish(&mut world, 0)? == Ok(16));
+    world.begin(0, &Call::SetCorrupt)?;
+    go(&mut world, 0, 1)?;
+    ask(&mut world, alloc, 1, b"A", Spec::Boolean)?;
+    assert!(rt; finish(&mut world, 1)? == Ok(16));
+    ask(&mut world, alloc, 1, b"B", Spec::Boolean)?;
+    assert!(rt; finish(&mut world, 1)? == Err(8));
     Ok(())
 }

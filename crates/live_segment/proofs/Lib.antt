@@ -36,6 +36,7 @@ mod Finished
 mod AllBuckets
 mod OwnNames
 mod Searching
+mod Filled
 mod Showing
 mod Naming
 mod OneDelta

@@ -15,6 +15,7 @@ mod fault;
 mod finding;
 mod finishing;
 mod looking;
+mod making;
 mod mounting;
 mod opener;
 mod publishing;

@@ -37,6 +37,7 @@ mod AllBuckets
 mod OwnNames
 mod Searching
 mod Filled
+mod Recorded
 mod Showing
 mod Naming
 mod OneDelta

@@ -1,0 +1,154 @@
+-- The record of a histogram is made: its block is claimed, filled and published.
+use Rattle.std.proofs.Common.{◌≡◌, ℕ, ◌+◌, ◌*◌, ◌-◌, ◌<◌, ◌≤◌, false, List, [], ◌∷◌, ◌++◌, length, refl, sym, ap, subst, ◌∙◌, arith}
+use Rattle.std.specs.Prelude.{Ok, Some}
+use Rattle.segment_image.specs.Shape.{Dimensions}
+use Rattle.bucket_ranges.specs.Spec.{buckets_of}
+use Rattle.segment_machine.specs.declared.actor.Actor.{Actor}
+use Rattle.segment_machine.specs.declared.actor.Made.TheVariants.{Histogram}
+use Rattle.segment_machine.specs.Actor.{is_bound, is_opener}
+use Rattle.segment_machine.specs.Allocating.{new_own}
+use Rattle.hist_core.specs.declared.asked.Asked.{Asked}
+use Rattle.live_segment.specs.declared.rule.Announcement.{Announcement}
+use Rattle.live_segment.specs.declared.segment.Segment.{Segment}
+use Rattle.live_segment.specs.Allocation.{Allocates, claimed}
+use Rattle.live_segment.specs.Finding.{IsAsked}
+use Rattle.live_segment.specs.Holders.{table_of}
+use Rattle.live_segment.specs.Making.{HasBlock, HasFilled, HasMade, SaysAsked}
+use Rattle.live_segment.specs.Publishing.{HasPublished, HasPublishedFor, IsFilledFor}
+use Rattle.live_segment.specs.Onward.{Grows}
+use Rattle.live_segment.specs.Rule.{IsOf}
+use Rattle.live_segment.specs.Searching.{asked_at}
+use Rattle.live_segment.specs.Steps.{Pass, IsSame}
+
+module _ (segment : Segment) (asked : Asked) (is : IsAsked segment.setting.shape asked) (old mid : Pass)
+    (seat : (old.table_id ≡ table_of segment) × (is_opener old.me.0.role ≡ false) × IsOf segment.setting old.me.0) (size at : ℕ)
+    (sized : size ≡ 4 + length asked.payload.items) (same : IsSame old mid) (allocates : Allocates size 1 old.me.0 (Ok at) mid.me.0) where
+  abbrev behind : ℕ
+  behind = allocates.0
+
+  view_is : mid.me.0 ≡ claimed old.me.0 at behind 1
+  view_is = allocates.1
+
+  pub seat_then : (mid.table_id ≡ table_of segment) × (is_opener mid.me.0.role ≡ false) × IsOf segment.setting mid.me.0
+  seat_then = (
+    same.0 ∙ seat.0,
+    ap (λ (a : Actor). is_opener a.role) view_is ∙ seat.1,
+    record {
+      shape = ap (λ (a : Actor). a.segment.shape) view_is ∙ seat.2.shape;
+      version = ap (λ (a : Actor). a.segment.version) view_is ∙ seat.2.version;
+      cursors = ap (λ (a : Actor). a.segment.cursors) view_is ∙ seat.2.cursors;
+    },
+  )
+
+  pub has_block : (words : List ℕ) → words ≡ asked.payload.items → HasBlock at (length words) mid.me.0
+  has_block words all = record {
+    free = ap (λ (a : Actor). is_bound a.hand.place) view_is;
+    front = old.me.0.hand.own;
+    own = new_own at (behind - at) 1;
+    is_last = ap (λ (a : Actor). a.hand.own) view_is;
+    begins = refl;
+    next = refl;
+    empty = refl;
+    unasked = refl;
+    tagged = refl;
+    room = let enough = allocates.3 in let many = ap length all in omega (arith, enough, many, sized);
+  }
+
+  pub room : (words : List ℕ) → words ≡ asked.payload.items → at + 4 + length words ≤ segment.setting.shape.size
+  room words all =
+      let enough = allocates.3 in let many = ap length all in let within = allocates.5.within in
+      let inside = ap (λ (d : Dimensions). d.size) seat.2.shape in
+      omega (arith, enough, many, sized, within, inside)
+
+  pub room_head : at + 5 ≤ segment.setting.shape.size
+  room_head =
+      let within = allocates.5.within in let five = allocates.5.five in let inside = ap (λ (d : Dimensions). d.size) seat.2.shape in
+      omega (arith, within, five, inside)
+
+  module _ (full : Pass) (kept : IsSame mid full) (words : List ℕ) (all : words ≡ asked.payload.items) (filled : HasFilled at words mid.me.0 full.me.0) where
+    pub seat_full : (full.table_id ≡ table_of segment) × (is_opener full.me.0.role ≡ false) × IsOf segment.setting full.me.0
+    seat_full = (
+      kept.0 ∙ seat_then.0,
+      ap (λ (a : Actor). is_opener a.role) filled.view ∙ seat_then.1,
+      record {
+        shape = ap (λ (a : Actor). a.segment.shape) filled.view ∙ seat_then.2.shape;
+        version = ap (λ (a : Actor). a.segment.version) filled.view ∙ seat_then.2.version;
+        cursors = ap (λ (a : Actor). a.segment.cursors) filled.view ∙ seat_then.2.cursors;
+      },
+    )
+
+    pub free_full : is_bound full.me.0.hand.place ≡ false
+    free_full = ap (λ (a : Actor). is_bound a.hand.place) filled.view ∙ ap (λ (a : Actor). is_bound a.hand.place) view_is
+
+    pub filled_for : (said : Announcement) → SaysAsked asked said → IsFilledFor full.me.0 at said
+    filled_for said says =
+        let (own, stands, next, unasked, payload, tag) = filled.found in (
+          Histogram asked.name.items asked.spec,
+          says,
+          record {
+            own = own;
+            stands = stands;
+            next = next;
+            asked = unasked;
+            payload = (is.payload.letters, is.payload.spells, payload ∙ (all ∙ is.payload.words));
+            may = (
+              tag,
+              is.lawful_name,
+              is.lawful_spec,
+              subst (λ (d : Dimensions). 4 + 2 * buckets_of asked.spec ≤ d.page) (sym seat_full.2.shape) is.fits,
+            );
+          },
+        )
+
+    full_is : full.me.0 ≡ record (claimed old.me.0 at behind 1) { hand = full.me.0.hand }
+    full_is = filled.view ∙ (λ i. record (view_is i) { hand = sym (ap (λ (a : Actor). a.hand) filled.view) i })
+
+    pub made : (said : Announcement) → SaysAsked asked said → (new : Pass) → HasPublishedFor at said full.me.0 new.me.0 → old.me.0.done.spoiled ≡ false
+        → HasMade asked old.me.0 new.me.0
+    made said says new published unspoiled = record {
+      at = at;
+      view = whole ∙ (λ i. record old.me.0 {
+        hand = new.me.0.hand;
+        done = record old.me.0.done {
+          claimed = sym claimed_is i;
+          published = old.me.0.done.published ++ record { reference = at; made = Histogram asked.name.items asked.spec } ∷ [];
+          beaten = new.me.0.done.beaten;
+        };
+        seen = record old.me.0.seen { free = sym free_is i; tails = new.me.0.seen.tails };
+        answers = record old.me.0.answers { owed = old.me.0.answers.owed ++ asked_at asked at ∷ [] };
+      });
+      free = ap (λ (a : Actor). is_bound a.hand.place) is_published.view;
+      unspoiled = unspoiled;
+      claimed = (record { at = at; size = behind - at } ∷ [], claimed_is);
+      later = let first = allocates.2 in let enough = allocates.3 in omega (arith, first, enough, free_is);
+      tails = subst (λ (a : Actor). Grows a.seen.tails new.me.0.seen.tails) full_is is_published.tails;
+    }
+      where
+        is_published : HasPublished at (Histogram asked.name.items asked.spec) full.me.0 new.me.0
+        is_published = published (Histogram asked.name.items asked.spec) says
+
+        whole : new.me.0 ≡ record old.me.0 {
+          hand = new.me.0.hand;
+          done = record old.me.0.done {
+            claimed = old.me.0.done.claimed ++ record { at = at; size = behind - at } ∷ [];
+            published = old.me.0.done.published ++ record { reference = at; made = Histogram asked.name.items asked.spec } ∷ [];
+            beaten = new.me.0.done.beaten;
+          };
+          seen = record old.me.0.seen { free = behind; tails = new.me.0.seen.tails };
+          answers = record old.me.0.answers { owed = old.me.0.answers.owed ++ asked_at asked at ∷ [] };
+        }
+        whole = is_published.view ∙ (λ i. let a = full_is i in record a {
+          hand = sym (ap (λ (b : Actor). b.hand) is_published.view) i;
+          done = record a.done {
+            published = a.done.published ++ record { reference = at; made = Histogram asked.name.items asked.spec } ∷ [];
+            beaten = new.me.0.done.beaten;
+          };
+          seen = record a.seen { tails = new.me.0.seen.tails };
+          answers = record a.answers { owed = a.answers.owed ++ asked_at asked at ∷ [] };
+        })
+
+        claimed_is : new.me.0.done.claimed ≡ old.me.0.done.claimed ++ record { at = at; size = behind - at } ∷ []
+        claimed_is = ap (λ (a : Actor). a.done.claimed) whole
+
+        free_is : new.me.0.seen.free ≡ behind
+        free_is = ap (λ (a : Actor). a.seen.free) whole

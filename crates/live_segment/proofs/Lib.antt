@@ -36,12 +36,13 @@ mod Finished
 mod AllBuckets
 mod OwnNames
 mod Searching
+mod HistSaid
+mod Knowing
 mod Filled
 mod Recorded
 mod Showing
 mod Naming
 mod OneDelta
-mod Knowing
 mod DeltaEnds
 mod OneSample
 mod BucketKeys

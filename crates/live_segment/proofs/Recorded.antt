@@ -29,77 +29,7 @@ module _ (segment : Segment) (asked : Asked) (is : IsAsked segment.setting.shape
   view_is : mid.me.0 ≡ claimed old.me.0 at behind 1
   view_is = allocates.1
 
-  pub seat_then : (mid.table_id ≡ table_of segment) × (is_opener mid.me.0.role ≡ false) × IsOf segment.setting mid.me.0
-  seat_then = (
-    same.0 ∙ seat.0,
-    ap (λ (a : Actor). is_opener a.role) view_is ∙ seat.1,
-    record {
-      shape = ap (λ (a : Actor). a.segment.shape) view_is ∙ seat.2.shape;
-      version = ap (λ (a : Actor). a.segment.version) view_is ∙ seat.2.version;
-      cursors = ap (λ (a : Actor). a.segment.cursors) view_is ∙ seat.2.cursors;
-    },
-  )
-
-  pub has_block : (words : List ℕ) → words ≡ asked.payload.items → HasBlock at (length words) mid.me.0
-  has_block words all = record {
-    free = ap (λ (a : Actor). is_bound a.hand.place) view_is;
-    front = old.me.0.hand.own;
-    own = new_own at (behind - at) 1;
-    is_last = ap (λ (a : Actor). a.hand.own) view_is;
-    begins = refl;
-    next = refl;
-    empty = refl;
-    unasked = refl;
-    tagged = refl;
-    room = let enough = allocates.3 in let many = ap length all in omega (arith, enough, many, sized);
-  }
-
-  pub room : (words : List ℕ) → words ≡ asked.payload.items → at + 4 + length words ≤ segment.setting.shape.size
-  room words all =
-      let enough = allocates.3 in let many = ap length all in let within = allocates.5.within in
-      let inside = ap (λ (d : Dimensions). d.size) seat.2.shape in
-      omega (arith, enough, many, sized, within, inside)
-
-  pub room_head : at + 5 ≤ segment.setting.shape.size
-  room_head =
-      let within = allocates.5.within in let five = allocates.5.five in let inside = ap (λ (d : Dimensions). d.size) seat.2.shape in
-      omega (arith, within, five, inside)
-
   module _ (full : Pass) (kept : IsSame mid full) (words : List ℕ) (all : words ≡ asked.payload.items) (filled : HasFilled at words mid.me.0 full.me.0) where
-    pub seat_full : (full.table_id ≡ table_of segment) × (is_opener full.me.0.role ≡ false) × IsOf segment.setting full.me.0
-    seat_full = (
-      kept.0 ∙ seat_then.0,
-      ap (λ (a : Actor). is_opener a.role) filled.view ∙ seat_then.1,
-      record {
-        shape = ap (λ (a : Actor). a.segment.shape) filled.view ∙ seat_then.2.shape;
-        version = ap (λ (a : Actor). a.segment.version) filled.view ∙ seat_then.2.version;
-        cursors = ap (λ (a : Actor). a.segment.cursors) filled.view ∙ seat_then.2.cursors;
-      },
-    )
-
-    pub free_full : is_bound full.me.0.hand.place ≡ false
-    free_full = ap (λ (a : Actor). is_bound a.hand.place) filled.view ∙ ap (λ (a : Actor). is_bound a.hand.place) view_is
-
-    pub filled_for : (said : Announcement) → SaysAsked asked said → IsFilledFor full.me.0 at said
-    filled_for said says =
-        let (own, stands, next, unasked, payload, tag) = filled.found in (
-          Histogram asked.name.items asked.spec,
-          says,
-          record {
-            own = own;
-            stands = stands;
-            next = next;
-            asked = unasked;
-            payload = (is.payload.letters, is.payload.spells, payload ∙ (all ∙ is.payload.words));
-            may = (
-              tag,
-              is.lawful_name,
-              is.lawful_spec,
-              subst (λ (d : Dimensions). 4 + 2 * buckets_of asked.spec ≤ d.page) (sym seat_full.2.shape) is.fits,
-            );
-          },
-        )
-
     full_is : full.me.0 ≡ record (claimed old.me.0 at behind 1) { hand = full.me.0.hand }
     full_is = filled.view ∙ (λ i. record (view_is i) { hand = sym (ap (λ (a : Actor). a.hand) filled.view) i })
 

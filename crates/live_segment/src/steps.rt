@@ -1,6 +1,7 @@
 //! The steps of a recorder, one for each kind of event: a family in each file. A step is the event and nothing else.
 
 pub(crate) mod allocating;
+pub(crate) mod answering;
 pub(crate) mod counting;
 pub(crate) mod cursors;
 pub(crate) mod packing;

@@ -1,0 +1,50 @@
+//! The steps that say what a `hist` was answered: that a histogram is known, or that the call was refused.
+
+ghost use Rattle.std.specs.Prelude.{◌≡◌, false, map};
+ghost use Rattle.segment_machine.specs.Actor.{is_opener};
+ghost use Rattle.segment_machine.specs.Note.{declines};
+ghost use Rattle.segment_promises.specs.Follows.{MayTell, noted_by};
+ghost use Rattle.live_segment.specs.Answering.{Declines, HasKnown, Knows, MayKnow};
+
+use crate::rule::{Announcement, Pass};
+use crate::segment::Segment;
+use atomic_table::Play;
+use segment_machine::Actor;
+
+pub(crate) struct Knowing;
+
+impl Play<Announcement, Actor> for Knowing {
+    ghost then = { Knows };
+}
+
+pub(crate) struct Declining;
+
+impl Play<Announcement, Actor> for Declining {
+    ghost then = { λ st. Declines };
+}
+
+impl Segment {
+    ghost use Rattle.live_segment.specs.Holders.{table_of};
+    ghost use Rattle.live_segment.specs.Steps.{IsSame};
+
+    // What is said is the histogram of the record at a word: the `hist` is answered with it.
+    pub(crate) fn know(&self, seat: &mut Pass, reference: u64, said: &Announcement)
+        requires table { seat.old.table_id ≡ table_of self.now }
+        requires may { MayKnow reference said.now seat.old }
+        ensures { HasKnown reference said.now seat.old seat.new }
+    {
+        self.table
+            .shared
+            .compare_exchange_with::<Knowing>(seat, 0, reference, reference, said);
+    }
+
+    // The answers that it owes are refusals.
+    pub(crate) fn decline(&self, seat: &mut Pass)
+        requires seat { (seat.old.table_id ≡ table_of self.now) × (is_opener seat.old.me.0.role ≡ false) }
+        requires may { MayTell seat.old.me.0 (map declines seat.old.me.0.answers.owed) }
+        ensures same { IsSame seat.old seat.new }
+        ensures view { seat.new.me.0 ≡ noted_by seat.old.me.0 (map declines seat.old.me.0.answers.owed) }
+    {
+        self.table.shared.load::<Declining>(seat, 0);
+    }
+}

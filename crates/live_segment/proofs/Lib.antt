@@ -37,6 +37,7 @@ mod AllBuckets
 mod OwnNames
 mod Searching
 mod HistSaid
+mod Settled
 mod Knowing
 mod Filled
 mod Recorded

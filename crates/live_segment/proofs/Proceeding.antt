@@ -40,7 +40,7 @@ sees_not a = record {
   cursors = grows_not a.cursors;
 }
 
-does_on : (a b c : Done) → DoesOn a b → DoesOn b c → DoesOn a c
+pub does_on : (a b c : Done) → DoesOn a b → DoesOn b c → DoesOn a c
 does_on a b c first second = record {
   same = second.same ∙ ap (λ (d : Done). record d { claimed = c.claimed; published = c.published; filled = c.filled; beaten = c.beaten }) first.same;
   claimed = grows_on a.claimed b.claimed c.claimed first.claimed second.claimed;

@@ -26,6 +26,7 @@ mod samples;
 mod sampling;
 mod seats;
 mod segment;
+mod settling;
 mod shared_cursors;
 mod snapshots;
 mod steps;

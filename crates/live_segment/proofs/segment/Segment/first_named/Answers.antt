@@ -1,0 +1,37 @@
+use Rattle.std.proofs.lemmas.Result.{err_from_is_err_and}
+use Rattle.live_segment.proofs.Settled.{walk_begins, walk_goes_on, meets_own, met_first, met_another, met_then, met_another_then, not_made}
+use Rattle.live_segment.proofs.segment.Segment.first_named.Goals as goal
+
+pub returns-in-Met-clause-outcome : goal.returns-in-Met-clause-outcome
+returns-in-Met-clause-outcome c =
+    met_first c.args.asked.now c.args.seat.now.me.0 c.find.new.seat.me.0 c.in-Met.reference c.requires.rests.2 c.find.ensures.view c.in-Met.ensures.outcome
+
+pub returns-in-OtherSpec-clause-outcome : goal.returns-in-OtherSpec-clause-outcome
+returns-in-OtherSpec-clause-outcome c =
+    met_another c.args.asked.now c.args.seat.now.me.0 c.find.new.seat.me.0 c.requires.rests.2 c.find.ensures.view c.in-OtherSpec.ensures.outcome
+
+pub returns-in_err-make_record-clause-outcome : goal.returns-in_err-make_record-clause-outcome
+returns-in_err-make_record-clause-outcome c =
+    let p = err_from_is_err_and c.from_residual.result c.from_residual.ensures.1 in
+    rw (p.1, p.2)
+    (not_made c.args.asked.now c.in-End.at c.args.seat.now.me.0 c.find.new.seat.me.0 c.make_record.new.seat.me.0 c.in_err-make_record.field-0.0
+    c.requires.rests.2 c.requires.rests.1 c.find.ensures.view c.in-End.ensures.outcome c.in_err-make_record.ensures.outcome)
+
+pub find-requires-2-clause-walks : goal.find-requires-2-clause-walks
+find-requires-2-clause-walks c =
+    walk_goes_on c.args.asked.now c.in-End.at c.find.new.seat.me.0 c.make_record.new.seat.me.0 c.in-End.ensures.outcome.0 c.in_ok-make_record.ensures.outcome
+
+pub unreachable-requires : goal.unreachable-requires
+unreachable-requires c =
+    meets_own c.args.asked.now c.find.new.seat.me.0 c.make_record.new.seat.me.0 c.find-2.new.seat.me.0 c.in_ok-make_record.ensures.outcome c.find-2.ensures.view
+    c.in-End-find.ensures.outcome.2
+
+pub returns-in-Met-find-clause-outcome : goal.returns-in-Met-find-clause-outcome
+returns-in-Met-find-clause-outcome c =
+    met_then c.args.asked.now c.args.seat.now.me.0 c.find.new.seat.me.0 c.make_record.new.seat.me.0 c.find-2.new.seat.me.0 c.requires.rests.2 c.find.ensures.view
+    c.in-End.ensures.outcome.0.free c.in_ok-make_record.ensures.outcome c.find-2.ensures.view c.in-Met-find.reference c.in-Met-find.ensures.outcome
+
+pub returns-in-OtherSpec-find-clause-outcome : goal.returns-in-OtherSpec-find-clause-outcome
+returns-in-OtherSpec-find-clause-outcome c =
+    met_another_then c.args.asked.now c.args.seat.now.me.0 c.find.new.seat.me.0 c.make_record.new.seat.me.0 c.find-2.new.seat.me.0 c.requires.rests.2 c.find.ensures.view
+    c.in-End.ensures.outcome.0.free c.in_ok-make_record.ensures.outcome c.find-2.ensures.view c.in-OtherSpec-find.ensures.outcome

@@ -1,0 +1,35 @@
+use Rattle.std.proofs.Common.{refl, ap, ◌∙◌}
+use Rattle.segment_machine.specs.declared.actor.Actor.{Actor}
+use Rattle.segment_machine.specs.Actor.{is_opener}
+use Rattle.live_segment.specs.Searching.{asked_at}
+use Rattle.live_segment.proofs.Showing.{same_on}
+use Rattle.live_segment.proofs.Settled.{may_decline, refused_so, known_so}
+use Rattle.live_segment.proofs.segment.Segment.settle.Goals as goal
+
+pub know-requires-clause-may : goal.know-requires-clause-may
+know-requires-clause-may c =
+    let (looks, owes, found) = c.in-Ok.ensures.outcome in record {
+      recorder = ap (λ (a : Actor). is_opener a.role) looks.same ∙ c.requires.seat.1;
+      free = looks.free;
+      known = asked_at c.args.asked.now c.in-Ok.reference;
+      says = (c.requires.says, refl);
+      may = found.0;
+    }
+
+pub returns-in-Ok-clause-same : goal.returns-in-Ok-clause-same
+returns-in-Ok-clause-same c =
+    let told = c.know.ensures (asked_at c.args.asked.now c.in-Ok.reference) (c.requires.says, refl) in
+    same_on c.args.seat.now c.first_named.new.seat c.know.new.seat c.in-Ok.ensures.same told.0
+
+pub returns-in-Ok-clause-outcome : goal.returns-in-Ok-clause-outcome
+returns-in-Ok-clause-outcome c =
+    let told = c.know.ensures (asked_at c.args.asked.now c.in-Ok.reference) (c.requires.says, refl) in
+    known_so c.args.asked.now c.in-Ok.reference c.args.seat.now.me.0 c.first_named.new.seat.me.0 c.know.new.seat.me.0 c.in-Ok.ensures.outcome told.1 told.2
+
+pub decline-requires-clause-may : goal.decline-requires-clause-may
+decline-requires-clause-may c =
+    let (looks, owes, why_is) = c.in-Err.ensures.outcome in may_decline c.args.asked.now c.in-Err.why c.first_named.new.seat.me.0 owes why_is
+
+pub returns-in-Err-clause-outcome : goal.returns-in-Err-clause-outcome
+returns-in-Err-clause-outcome c =
+    refused_so c.args.asked.now c.args.seat.now.me.0 c.first_named.new.seat.me.0 c.decline.new.seat.me.0 c.in-Err.why c.in-Err.ensures.outcome c.decline.ensures.view

@@ -1,0 +1,78 @@
+//! How a `hist` of a recorder is answered.
+
+ghost use Rattle.std.specs.Prelude.{◌≡◌, [], false};
+ghost use Rattle.segment_machine.specs.Actor.{is_opener};
+ghost use Rattle.segment_machine.specs.Calls.{MayTurn};
+ghost use Rattle.live_segment.specs.Rule.{IsOf};
+ghost use Rattle.live_segment.specs.Finding.{IsAsked};
+ghost use Rattle.live_segment.specs.Making.{SaysAsked};
+ghost use Rattle.live_segment.specs.Settling.{LooksUp, Settles};
+
+use crate::finding::Search;
+use crate::rule::{Announcement, Pass};
+use crate::segment::Segment;
+use hist_core::{Asked, Refusal};
+use segment_image::layout::QUEUE;
+
+impl Segment {
+    ghost use Rattle.live_segment.specs.Holders.{table_of};
+    ghost use Rattle.live_segment.specs.Steps.{IsSame};
+
+    // The first record of the name that is asked for, which is made where there is none.
+    //
+    // `Corrupt` or `Full` where no block could be claimed for it, `OtherSpec` where the first record has another spec.
+    fn first_named(
+        &self,
+        seat: &mut Pass,
+        asked: &Asked,
+        said: &Announcement,
+    ) -> Result<u64, Refusal>
+        requires seat { (seat.old.table_id ≡ table_of self.now) × (is_opener seat.old.me.0.role ≡ false) × IsOf self.now.setting seat.old.me.0 }
+        requires rests { MayTurn seat.old.me.0 × (seat.old.me.0.entries.running ≡ []) × (seat.old.me.0.answers.owed ≡ []) }
+        requires asked { IsAsked self.now.setting.shape asked.now }
+        requires says { SaysAsked asked.now said.now }
+        ensures same { IsSame seat.old seat.new }
+        ensures outcome { LooksUp asked.now seat.old.me.0 result seat.new.me.0 }
+    {
+        let end = match self.find(seat, QUEUE, asked) {
+            Search::Met(reference) => return Ok(reference),
+            Search::OtherSpec => return Err(Refusal::OtherSpec),
+            Search::End(at) => at,
+        };
+        self.make_record(seat, asked, said)?;
+        match self.find(seat, end, asked) {
+            Search::Met(reference) => Ok(reference),
+            Search::OtherSpec => Err(Refusal::OtherSpec),
+            Search::End(_) => unreachable!(),
+        }
+    }
+
+    /// The record of what is asked for, as a recorder knows it from then on.
+    ///
+    /// `Corrupt` or `Full` where no block could be claimed for it, `OtherSpec` where the first record of the name has
+    /// another spec.
+    pub(crate) fn settle(
+        &self,
+        seat: &mut Pass,
+        asked: &Asked,
+        said: &Announcement,
+    ) -> Result<u64, Refusal>
+        requires seat { (seat.old.table_id ≡ table_of self.now) × (is_opener seat.old.me.0.role ≡ false) × IsOf self.now.setting seat.old.me.0 }
+        requires rests { MayTurn seat.old.me.0 × (seat.old.me.0.entries.running ≡ []) × (seat.old.me.0.answers.owed ≡ []) }
+        requires asked { IsAsked self.now.setting.shape asked.now }
+        requires says { SaysAsked asked.now said.now }
+        ensures same { IsSame seat.old seat.new }
+        ensures outcome { Settles asked.now seat.old.me.0 result seat.new.me.0 }
+    {
+        match self.first_named(seat, asked, said) {
+            Ok(reference) => {
+                self.know(seat, reference, said);
+                Ok(reference)
+            }
+            Err(why) => {
+                self.decline(seat);
+                Err(why)
+            }
+        }
+    }
+}

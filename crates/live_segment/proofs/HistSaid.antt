@@ -1,5 +1,5 @@
 -- That the rule of a segment's table allows what is said of a `hist`: that it is answered with a histogram, or refused.
-use Rattle.std.proofs.Common.{◌≡◌, ◌≢◌, ℕ, false, ◌==◌, Bool, true, List, [], ◌∷◌, ◌++◌, map, All, true≢false, refl, sym, ap, ◌∙◌, subst, arith}
+use Rattle.std.proofs.Common.{◌≡◌, ◌≢◌, ℕ, false, ◌==◌, [], ◌∷◌, map, true≢false, refl, sym, ap, ◌∙◌, subst}
 use Rattle.std.specs.Prelude.{Some}
 use Rattle.std.specs.List.{Contains}
 use Rattle.std.proofs.lemmas.List.Elements.{All-contains}
@@ -9,27 +9,24 @@ use prog.Atomic.{either}
 use Rattle.atomic_table.specs.Table.{step, Allows}
 use Rattle.atomic_table.proofs.Lists.{exchanged}
 use Rattle.segment_image.specs.Shape.{Dimensions}
-use Rattle.bucket_ranges.specs.declared.spec.Spec.{Spec}
 use Rattle.segment_machine.specs.declared.actor.Actor.{Actor}
 use Rattle.segment_machine.specs.declared.actor.Known.{Known}
-use Rattle.segment_machine.specs.declared.actor.Made.{Made}
 use Rattle.segment_machine.specs.declared.actor.Made.TheVariants as made
 use Rattle.segment_machine.specs.declared.place.Place.TheVariants.{Spent}
 use Rattle.segment_machine.specs.Actor.{is_bound, is_opener}
 use Rattle.segment_machine.specs.Note.{declines, knows, noted, MayNote}
 use Rattle.segment_machine.specs.State.{State}
-use Rattle.segment_invariant.specs.Body.{Anatomy, Body, Listed, Record, histogram}
+use Rattle.segment_invariant.specs.Body.{Anatomy, Listed, Record}
 use Rattle.segment_invariant.specs.Invariant.{Invariant, StandsAs}
 use Rattle.segment_invariant.specs.Seen.{HasRecord, Knows as IsKnown}
 use Rattle.segment_invariant.proofs.Counting.Looks.{one_record}
 use Rattle.segment_invariant.proofs.Lists.Firsts.{split_among}
 use Rattle.segment_invariant.proofs.Notes.Names.{first_right}
-use Rattle.segment_promises.specs.Follows.{MayTell, noted_by}
+use Rattle.segment_promises.specs.Follows.{MayTell}
 use Rattle.segment_promises.proofs.Tables.{tables_announce}
 use Rattle.live_segment.specs.declared.rule.Announcement.{Announcement}
 use Rattle.live_segment.specs.declared.rule.Setting.{Setting}
 use Rattle.live_segment.specs.Answering.{Declines, HaveOneName, IsSaid, Knows}
-use Rattle.live_segment.specs.Listing.{asked_for}
 use Rattle.live_segment.specs.Rule.{opened_of, Runs}
 use Rattle.live_segment.specs.Steps.{Sat}
 

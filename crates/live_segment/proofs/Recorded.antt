@@ -1,20 +1,17 @@
 -- The record of a histogram is made: its block is claimed, filled and published.
-use Rattle.std.proofs.Common.{◌≡◌, ℕ, ◌+◌, ◌*◌, ◌-◌, ◌<◌, ◌≤◌, false, List, [], ◌∷◌, ◌++◌, length, refl, sym, ap, subst, ◌∙◌, arith}
-use Rattle.std.specs.Prelude.{Ok, Some}
-use Rattle.segment_image.specs.Shape.{Dimensions}
-use Rattle.bucket_ranges.specs.Spec.{buckets_of}
+use Rattle.std.proofs.Common.{◌≡◌, ℕ, ◌+◌, ◌-◌, false, List, [], ◌∷◌, ◌++◌, length, sym, ap, subst, ◌∙◌, arith}
+use Rattle.std.specs.Prelude.{Ok}
 use Rattle.segment_machine.specs.declared.actor.Actor.{Actor}
 use Rattle.segment_machine.specs.declared.actor.Made.TheVariants.{Histogram}
 use Rattle.segment_machine.specs.Actor.{is_bound, is_opener}
-use Rattle.segment_machine.specs.Allocating.{new_own}
 use Rattle.hist_core.specs.declared.asked.Asked.{Asked}
 use Rattle.live_segment.specs.declared.rule.Announcement.{Announcement}
 use Rattle.live_segment.specs.declared.segment.Segment.{Segment}
 use Rattle.live_segment.specs.Allocation.{Allocates, claimed}
 use Rattle.live_segment.specs.Finding.{IsAsked}
 use Rattle.live_segment.specs.Holders.{table_of}
-use Rattle.live_segment.specs.Making.{HasBlock, HasFilled, HasMade, SaysAsked}
-use Rattle.live_segment.specs.Publishing.{HasPublished, HasPublishedFor, IsFilledFor}
+use Rattle.live_segment.specs.Making.{HasFilled, HasMade, SaysAsked}
+use Rattle.live_segment.specs.Publishing.{HasPublished, HasPublishedFor}
 use Rattle.live_segment.specs.Onward.{Grows}
 use Rattle.live_segment.specs.Rule.{IsOf}
 use Rattle.live_segment.specs.Searching.{asked_at}

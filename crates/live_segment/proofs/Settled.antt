@@ -1,10 +1,9 @@
 -- A `hist` looks for the first record of its name, makes one where there is none, and looks on: what becomes of its recorder.
-use Rattle.std.proofs.Common.{◌≡◌, ◌≢◌, ◌⊎◌, ℕ, ◌+◌, ◌<◌, ◌≤◌, Bool, true, false, List, [], ◌∷◌, ◌++◌, length, map, not, ◌&&◌, ◌==◌, if◌then◌else◌, eq-eqb, All, inl, inr, refl, sym, ap, subst, ◌∙◌, arith, ⊎_elim}
-use Rattle.std.specs.Prelude.{Ok, Err, Some}
+use Rattle.std.proofs.Common.{◌≡◌, ◌≢◌, ℕ, ◌+◌, ◌<◌, ◌≤◌, Bool, false, List, [], ◌∷◌, ◌++◌, length, map, not, ◌&&◌, ◌==◌, if◌then◌else◌, eq-eqb, All, inl, inr, refl, sym, ap, subst, ◌∙◌, arith}
+use Rattle.std.specs.Prelude.{Ok, Err}
 use Rattle.std.specs.List.{Contains, filter}
 use Rattle.std.specs.Str.{bytes_eq}
 use Rattle.std.proofs.lemmas.Slice.Eq.{bytes_eq-Decides}
-use Rattle.std.proofs.lemmas.List.{append-nil}
 use Rattle.std.proofs.lemmas.List.Elements.{All-nil, Contains-append_right}
 use Rattle.list_core.specs.Walk.{IsPrefix}
 use Rattle.segment_image.specs.Shape.{Dimensions}
@@ -14,7 +13,6 @@ use Rattle.segment_machine.specs.declared.actor.Known.{Known}
 use Rattle.segment_machine.specs.declared.actor.Made.TheVariants.{Histogram}
 use Rattle.segment_machine.specs.declared.actor.Published.{Published}
 use Rattle.segment_machine.specs.declared.place.Place.TheVariants.{Idle}
-use Rattle.segment_machine.specs.declared.seen.Seen.{Seen}
 use Rattle.segment_machine.specs.Actor.{looking}
 use Rattle.segment_machine.specs.Note.{declines, knows, noted}
 use Rattle.segment_promises.specs.Follows.{MayTell, noted_by}
@@ -29,9 +27,8 @@ use Rattle.live_segment.specs.Allocation.{Allocates, filled, saw_free}
 use Rattle.live_segment.specs.Answering.{HaveOneName}
 use Rattle.live_segment.specs.Making.{HasMade, Makes}
 use Rattle.live_segment.specs.Settling.{IsRefusedBy, LooksAround, LooksUp, Owes, OwesAs, Settles}
-use Rattle.live_segment.specs.Onward.{DoesOn, Grows, SeesOn}
-use Rattle.live_segment.specs.Refusing.{given_up}
-use Rattle.live_segment.specs.Searching.{HasMadeNone, HasSearched, SawOther, Searches, WalksAt, asked_at}
+use Rattle.live_segment.specs.Onward.{DoesOn, Grows}
+use Rattle.live_segment.specs.Searching.{HasMadeNone, HasSearched, Searches, WalksAt, asked_at}
 use Rattle.live_segment.proofs.Proceeding.{does_not, does_on, grows_not, sees_on}
 use Rattle.live_segment.proofs.Refusing.{at_rest}
 use Rattle.live_segment.proofs.Searching.{others_still}

@@ -1,9 +1,8 @@
 -- What the steps tell that say how a `hist` was answered.
-use Rattle.std.specs.Prelude.{◌≡◌, false, ℕ, List, map, Some}
+use Rattle.std.specs.Prelude.{◌≡◌, false, ℕ, map, Some}
 use Rattle.std.specs.List.{All}
 use mathlib.Core.Option.{some}
 use Rattle.atomic_table.specs.Table.{Step}
-use Rattle.bucket_ranges.specs.declared.spec.Spec.{Spec}
 use Rattle.segment_machine.specs.declared.actor.Actor.{Actor}
 use Rattle.segment_machine.specs.declared.actor.Known.{Known}
 use Rattle.segment_machine.specs.declared.actor.Made.TheVariants.{Histogram}

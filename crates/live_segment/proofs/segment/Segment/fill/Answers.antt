@@ -1,5 +1,4 @@
-use Rattle.std.proofs.Common.{◌≡◌, refl, arith, sym, ap, subst, ◌∙◌, ℕ, ◌+◌}
-use Rattle.live_segment.specs.Making.{HasFilled}
+use Rattle.std.proofs.Common.{◌≡◌, refl, arith, sym, subst, ◌∙◌, ◌+◌}
 use Rattle.live_segment.specs.Steps.{Pass, IsSame}
 use Rattle.live_segment.proofs.Showing.{same_on}
 use Rattle.live_segment.proofs.Filled.{IsFilledTo, begins, may_store, stores, skips, filled}

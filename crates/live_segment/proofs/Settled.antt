@@ -217,7 +217,7 @@ owes_one : (asked : Asked) (a b c : Actor) → a.answers.owed ≡ [] → HasMade
 owes_one asked a b c none made searched = inr (
   made.at,
   ap (λ (x : Actor). x.answers.owed) searched.view
-  ∙ (ap (λ (x : Actor). x.answers.owed) made.view ∙ ap (λ (l : List Known). l ++ asked_at asked made.at ∷ []) none),
+      ∙ (ap (λ (x : Actor). x.answers.owed) made.view ∙ ap (λ (l : List Known). l ++ asked_at asked made.at ∷ []) none),
 )
 
 -- a search that met the first record of the name ends the call

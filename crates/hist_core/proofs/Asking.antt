@@ -157,15 +157,25 @@ module _ (shape : Dimensions) (version : ℕ) (old : Runner) (a : Actor) (run : 
       subst (λ (r : Runner). IsRun shape version r b) (sym new_is) (runs_on shape version old a run b None beside (may, still_rests b beside) tt))
 
 -- what is answered
-pub hist_answers : (old before : Runner) (words new_words : List ℕ) (said : HistStep) (new : Runner) (result : Stepped) → before.known.items ≡ old.known.items
-    → IsHistSaid before said new result → Answers old words new new_words result
-hist_answers old before words new_words More new result same (new_is, result_is) =
-    subst (Answers old words new new_words) (sym result_is) (ap (λ (r : Runner). r.known.items) new_is ∙ same)
-hist_answers old before words new_words Done new result same (asked, is_asked, new_is, items, result_is) =
-    subst (Answers old words new new_words) (sym result_is)
-    ((let k = asked.asked in record k { reference = asked.reference }), refl, items ∙ ap (λ (l : List Known). l ++ (let k = asked.asked in record k { reference = asked.reference }) ∷ []) same, ap (λ (r : Runner). r.running) new_is)
-hist_answers old before words new_words (Refused why) new result same (new_is, result_is) =
-    subst (Answers old words new new_words) (sym result_is) (ap (λ (r : Runner). r.running) new_is, ap (λ (r : Runner). r.known.items) new_is ∙ same)
+module _ (old : Runner) (h now : HistCall) (is : old.running ≡ Some (Hist h)) (same : now.asked ≡ h.asked) (words new_words : List ℕ) where
+  pub hist_answers : (said : HistStep) (new : Runner) (result : Stepped) → IsHistSaid (record old { running = Some (Hist now) }) said new result
+      → Answers old words new new_words result
+  hist_answers More new result (new_is, result_is) =
+      subst (Answers old words new new_words) (sym result_is) (
+        ap (λ (r : Runner). r.known.items) new_is,
+        λ asked is_asked. (now, ap (λ (r : Runner). r.running) new_is, same ∙ ap (λ (y : HistCall). y.asked) (ap (asked_by h) (sym is ∙ is_asked))),
+      )
+  hist_answers Done new result (asked, is_asked, new_is, items, result_is) =
+      let then_same : asked.asked ≡ h.asked = ap (λ (y : HistCall). y.asked) (sym (ap (asked_by now) is_asked)) ∙ same in
+      subst (Answers old words new new_words) (sym result_is) (
+        (let k = asked.asked in record k { reference = asked.reference }),
+        (h, is, (ap (λ (k : Known). k.name) then_same, ap (λ (k : Known). k.spec) then_same)),
+        refl,
+        items,
+        ap (λ (r : Runner). r.running) new_is,
+      )
+  hist_answers (Refused why) new result (new_is, result_is) =
+      subst (Answers old words new new_words) (sym result_is) (ap (λ (r : Runner). r.running) new_is, ap (λ (r : Runner). r.known.items) new_is)
 
 -- ---- what it begins with
 

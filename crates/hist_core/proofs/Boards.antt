@@ -1,5 +1,5 @@
 -- A step of a world is one event of the machine.
-use Rattle.std.proofs.Common.{◌≡◌, ℕ, zero, suc, ◌+◌, ◌<◌, ◌≤◌, List, [], ◌∷◌, ◌++◌, length, get_or, set, take, refl, sym, ap, ◌∙◌, subst, arith, length-set}
+use Rattle.std.proofs.Common.{◌≡◌, ◌≢◌, false, true≢false, ℕ, zero, suc, ◌+◌, ◌<◌, ◌≤◌, List, [], ◌∷◌, ◌++◌, length, get_or, set, take, refl, sym, ap, ◌∙◌, subst, arith, length-set}
 use Rattle.std.proofs.Math.Numerals.{add-one}
 use Rattle.std.proofs.lemmas.List.{append-nil, length-take-le}
 use Rattle.std.proofs.Math.Logic.{∥∥₁_elim}
@@ -22,11 +22,24 @@ use Rattle.segment_invariant.proofs.Lists.Pairs.{element_at}
 use Rattle.segment_promises.proofs.Reached.{states_are_kept, states_are_consistent}
 use Rattle.segment_promises.proofs.Readings.Stopped.{stopped_reads}
 use Rattle.segment_promises.proofs.Steps.{happens}
+use Rattle.segment_promises.proofs.Names.{names_are_first}
+use Rattle.std.specs.List.{Contains}
+use Rattle.bucket_ranges.specs.Reading.{spec_of}
+use Rattle.bucket_ranges.specs.Spec.{SameSpec}
+use Rattle.list_core.specs.Chain.{IsChain}
+use Rattle.segment_image.specs.Head.{head_of}
+use Rattle.segment_machine.specs.declared.actor.Known.{Known as MachineKnown}
+use Rattle.segment_machine.specs.declared.place.Place.{Place}
+use Rattle.segment_machine.specs.declared.place.Place.TheVariants.{Spent}
+use Rattle.segment_machine.specs.Actor.{is_bound}
+use Rattle.segment_invariant.specs.Consistent.{IsHistogram}
+use Rattle.segment_invariant.proofs.Lists.Maps.{contains_map}
+use Rattle.hist_core.specs.declared.hist.Known.{Known}
 use Rattle.hist_core.specs.declared.runner.Runner.{Runner}
 use Rattle.hist_core.specs.declared.board.Board.{Board}
 use Rattle.hist_core.specs.Goes.{AreApart}
-use Rattle.hist_core.specs.Runner.{IsRun, IsSomeRun, Advances}
-use Rattle.hist_core.specs.Board.{AreRun, IsReachedAs, IsReached, IsConsistentAs, IsReadAs, StepsTo}
+use Rattle.hist_core.specs.Runner.{IsRun, IsSomeRun, Advances, StandsIn, known_of}
+use Rattle.hist_core.specs.Board.{AreRun, IsReachedAs, IsReached, IsConsistentAs, IsReadAs, AreKnownFirst, StepsTo}
 use Rattle.hist_core.specs.World.{of_actor}
 
 -- ---- actors and those that they stand for
@@ -225,3 +238,23 @@ pub is_read_now : (board : Board) → ∥ IsReached board ∥₁ → ∥ IsReadA
 is_read_now board reached = ∥∥₁_elim reached (hlevel props) (λ (state, reach).
     let kept = states_are_kept board.shape board.version reach.id 0 state reach.reached in
     ∣ (state, reach, kept, λ reading is. stopped_reads board.shape (blank board.version reach.id board.shape.size) state reading kept is) ∣₁)
+
+-- a place that is spent is bound
+not_spent : (place : Place) → is_bound place ≡ false → place ≢ Spent
+not_spent place free spent = true≢false (sym (ap is_bound spent) ∙ free)
+
+-- what a resting actor knows is the first of its name
+pub are_known_first : (board : Board) → ∥ IsReached board ∥₁ → AreKnownFirst board
+are_known_first board reached chain is_chain i r known at rests inside = ∥∥₁_elim reached (hlevel props) (λ (state, reach).
+    let found = recorder_at board.shape board.version board.runners.items reach.shows.recorders i r reach.shows.runs at in
+    let a : Actor = found.0 in
+    let run = found.2 in
+    let kept = states_are_kept board.shape board.version reach.id 0 state reach.reached in
+    let there : get_elem? state.actors (i + 1) ≡ some a =
+    ap (λ actors. get_elem? actors (i + 1)) reach.shows.actors ∙ behind_first reach.shows.opener reach.shows.recorders i ∙ found.1 in
+    let words = reach.shows.words in
+    let knows : Contains a.answers.names (known_of known) = subst (λ (l : List MachineKnown). Contains l (known_of known)) run.names (contains_map known_of r.known.items known inside) in
+    let may = (subst (λ running. StandsIn board.shape r.known.items running a) rests run.stands).0 in
+    let first = names_are_first board.shape (blank board.version reach.id board.shape.size) state chain kept
+    (subst (λ (l : List ℕ). IsChain l (head_of l) chain) (sym words) is_chain) (i + 1) a there (not_spent a.hand.place may) (known_of known) knows in
+    ∣ subst (λ (l : List ℕ). IsHistogram l chain known.name.items known.reference × SameSpec (spec_of l known.reference) known.spec) words first ∣₁)

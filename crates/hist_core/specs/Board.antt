@@ -14,7 +14,10 @@ use Rattle.segment_machine.specs.Event.{Event}
 use Rattle.segment_machine.specs.State.{State, IsStep}
 use Rattle.segment_machine.specs.Reached.{IsState}
 use Rattle.segment_invariant.specs.Body.{blank}
-use Rattle.segment_invariant.specs.Consistent.{IsConsistent, new_opening}
+use Rattle.bucket_ranges.specs.Reading.{spec_of}
+use Rattle.bucket_ranges.specs.Spec.{SameSpec}
+use Rattle.list_core.specs.Chain.{IsChain}
+use Rattle.segment_invariant.specs.Consistent.{IsConsistent, IsHistogram, new_opening}
 use Rattle.segment_invariant.specs.Invariant.{Invariant}
 use Rattle.segment_promises.specs.Reads.{HasNoFault, ReadsHead, ReadsNames, ReadsUnits, ReadsAmounts}
 use Rattle.hist_core.specs.declared.call.Stepped.{Stepped}
@@ -147,3 +150,10 @@ IsReadAs board = (state : State) × (reach : IsReachedAs board state) × (kept :
     → HasNoFault reading × ReadsHead (blank board.version reach.id board.shape.size) state reading × ReadsNames kept.anatomy.records reading
     × ((h : Histogram) → Contains reading.hists h
     → ReadsUnits board.version state h × ReadsAmounts (blank board.version reach.id board.shape.size) state h))
+
+-- Each histogram that a resting actor knows, since a `hist` was answered with it, is the first of its name on the list, and the spec of its
+-- record is the same.
+abbrev pub AreKnownFirst : Board → Type 0
+AreKnownFirst board = (chain : List ℕ) → IsChain board.words.items (head_of board.words.items) chain
+    → (i : ℕ) (runner : Runner) (known : Known) → get_elem? board.runners.items i ≡ some runner → runner.running ≡ None → Contains runner.known.items known
+    → ∥ IsHistogram board.words.items chain known.name.items known.reference × SameSpec (spec_of board.words.items known.reference) known.spec ∥₁

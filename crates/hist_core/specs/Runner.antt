@@ -122,16 +122,25 @@ IsSomeRun n runner = (shape : Dimensions) × (version : ℕ) × (a : Actor) × (
 abbrev pub Advances : Dimensions → ℕ → Runner → List ℕ → Runner → List ℕ → Actor → Type 0
 Advances shape version old words new new_words a = Goes shape.size version a words new_words (IsRun shape version new)
 
--- What its call says, and what it knows then: the corrupt flag is set; a `hist` is answered with the histogram that it asked for, which is
--- the last that is known; or it is refused.
+-- it asks for the same histogram as before
+abbrev pub AsksOn : Option Running → Option Running → Type 0
+AsksOn old new = (asked : HistCall) → old ≡ Some (Hist asked) → (now : HistCall) × (new ≡ Some (Hist now)) × (now.asked ≡ asked.asked)
+
+-- a known histogram has the name and the spec that a call asks for
+abbrev pub IsAskedBy : Option Running → Known → Type 0
+IsAskedBy running known =
+    (call : HistCall) × (running ≡ Some (Hist call)) × let asked = call.asked in (known.name ≡ asked.name) × (known.spec ≡ asked.spec)
+
+-- What its call says, and what it knows then: it goes on; the corrupt flag is set; a `hist` is answered with the histogram that it asked
+-- for, which is the last that is known; or it is refused.
 abbrev pub Answers : Runner → List ℕ → Runner → List ℕ → Stepped → Type 0
-Answers old words new new_words More = new.known.items ≡ old.known.items
+Answers old words new new_words More = (new.known.items ≡ old.known.items) × AsksOn old.running new.running
 Answers old words new new_words (Done answer.Flagged) =
     (word_at new_words FLAGS_WORD ≡ bit_or (word_at words FLAGS_WORD) FLAG_CORRUPT) × (new.running ≡ None) × (new.known.items ≡ old.known.items)
 Answers old words new new_words (Done (answer.Hist reference)) =
-    (known : Known) × (known.reference ≡ reference) × (new.known.items ≡ old.known.items ++ known ∷ []) × (new.running ≡ None)
+    (known : Known) × IsAskedBy old.running known × (known.reference ≡ reference) × (new.known.items ≡ old.known.items ++ known ∷ []) × (new.running ≡ None)
 Answers old words new new_words (Done (answer.Refused why)) = (new.running ≡ None) × (new.known.items ≡ old.known.items)
-Answers old words new new_words (Done _) = ⊥
+Answers old words new new_words (Done _) = ⊤
 
 -- it asks for a histogram
 abbrev pub AsksForOne : Option Running → Type 0

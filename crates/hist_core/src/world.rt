@@ -26,7 +26,7 @@ impl World {
     ghost use Rattle.segment_image.specs.Checks.{first_fault};
     ghost use Rattle.alloc_core.specs.Layout.{IsShape};
     ghost use Rattle.segment_machine.specs.State.{State};
-    ghost use Rattle.hist_core.specs.Board.{IsReachedAs, IsNewBoard, StepsTo, IsAsBefore, OthersStay, Says, IsConsistentAs, IsReadAs};
+    ghost use Rattle.hist_core.specs.Board.{IsReachedAs, IsNewBoard, StepsTo, IsAsBefore, OthersStay, Says, IsConsistentAs, IsReadAs, AreKnownFirst};
     ghost use Rattle.hist_core.specs.World.{world_checks, begin_checks, CanBegin, TakesMemory, BeginSays, step_checks, ended_of, begun_of, taken_of};
 
     /// A new segment of `size` words in pages of `page` words, of version 1 or 2, with so many actors that have done nothing.
@@ -73,11 +73,13 @@ impl World {
     }
 
     /// The words of the segment. What they show is consistent; and whenever the world is looked at, they read back as exactly
-    /// the published histograms, each once, with no unit that was not begun and all ended ones but those in transit.
+    /// the published histograms, each once, with no unit that was not begun and all ended ones but those in transit. What a `Hist`
+    /// was answered with is the first histogram of its name, and has the same spec.
     pub fn words(&self) -> &[u64]
         ensures words { result.now ≡ self.now.board.words.items }
         ensures consistent { ∥ IsConsistentAs self.now.board ∥₁ }
         ensures reads { ∥ IsReadAs self.now.board ∥₁ }
+        ensures names { AreKnownFirst self.now.board }
     {
         self.board.words.as_slice()
     }

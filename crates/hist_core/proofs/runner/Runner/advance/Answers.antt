@@ -44,4 +44,5 @@ returns-in-Some-Hist-clause-advances c = λ shape version a size run.
 
 pub returns-in-Some-Hist-clause-answers : goal.returns-in-Some-Hist-clause-answers
 returns-in-Some-Hist-clause-answers c =
-    hist_answers c.args.self.now _ c.args.words.now c.step-said.new.words c.step-said.result c.hist_said.new.self c.hist_said.result refl c.hist_said.ensures
+    hist_answers c.args.self.now c.in-Some-Hist.hist c.step-said.new.self (c.in-Some-Hist.is ∙ ap Some c.in-Some-Hist.field-0-is) c.step-said.ensures.asks
+    c.args.words.now c.step-said.new.words c.step-said.result c.hist_said.new.self c.hist_said.result c.hist_said.ensures

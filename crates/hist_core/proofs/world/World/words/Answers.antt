@@ -1,4 +1,4 @@
-use Rattle.hist_core.proofs.Boards.{is_consistent_now, is_read_now}
+use Rattle.hist_core.proofs.Boards.{is_consistent_now, is_read_now, are_known_first}
 use Rattle.hist_core.proofs.world.World.words.Goals as goal
 
 pub returns-clause-consistent : goal.returns-clause-consistent
@@ -6,3 +6,6 @@ returns-clause-consistent c = is_consistent_now c.args.self.now.board c.args.sel
 
 pub returns-clause-reads : goal.returns-clause-reads
 returns-clause-reads c = is_read_now c.args.self.now.board c.args.self.now.reached
+
+pub returns-clause-names : goal.returns-clause-names
+returns-clause-names c = are_known_first c.args.self.now.board c.args.self.now.reached

@@ -49,3 +49,4 @@ mod OneSample
 mod BucketKeys
 mod TurnedAway
 mod Added
+mod FirstValues

@@ -103,9 +103,11 @@ module _ (segment : Segment) (old : Pass) (given : List ℕ) (at : ℕ) (table :
 
       pub meets : Meets found new.me.0
       meets =
-          let (rest, front) = longer.1 in
-          (longer.0, subst (λ (l : List ℕ). Contains l found) (sym front)
-          (Contains-append_left (given ++ found ∷ []) rest found (Contains-append_right given (found ∷ []) found (0, omega arith, refl))))
+          let (rest, front) = longer.1 in (
+            longer.0,
+            subst (λ (l : List ℕ). Contains l found) (sym front)
+                (Contains-append_left (given ++ found ∷ []) rest found (Contains-append_right given (found ∷ []) found (0, omega arith, refl))),
+          )
 
       pub room_found : found + 5 ≤ segment.setting.shape.size
       room_found =

@@ -124,7 +124,7 @@ module _ (segment : Segment) (old : Pass) (histogram : ℕ) (value : ℤ) (at : 
                 walks.front,
                 walks.given ++ found ∷ rest,
                 front
-                ∙ (append_assoc given (found ∷ []) rest ∙ append_assoc walks.front (histogram ∷ walks.given) (found ∷ rest)),
+                    ∙ (append_assoc given (found ∷ []) rest ∙ append_assoc walks.front (histogram ∷ walks.given) (found ∷ rest)),
                 (walks.given, rest, refl, others_last, saw),
               ),
               within,

@@ -55,7 +55,7 @@ returns-then-shows_value-clause-outcome c =
     let was = c.loop-from.invariant in let seat = seat_on c.args.self.now c.args.seat.now c.loop-from.seat c.requires.seat was.same was.searched in
     met_first c.args.self.now c.loop-from.seat c.args.histogram c.args.value c.loop-from.at seat (was.walks c.args.value (sym (to_z-of_z w32 c.args.value c.ranges.value))) _ _ c.load_next-next.ensures.step c.if-next-eq-QUEUE.false _ c.shows_value.ensures.view
     (subst (λ (b : Bool). ShowsValue c.args.histogram c.args.value c.load_next-next.result b c.shows_value.new.seat.me.0) c.if-shows_value.true
-          (subst (λ (v : ℤ). ShowsValue c.args.histogram v c.load_next-next.result c.shows_value.result c.shows_value.new.seat.me.0) (to_z-of_z w32 c.args.value c.ranges.value) c.shows_value.ensures.shown))
+    (subst (λ (v : ℤ). ShowsValue c.args.histogram v c.load_next-next.result c.shows_value.result c.shows_value.new.seat.me.0) (to_z-of_z w32 c.args.value c.ranges.value) c.shows_value.ensures.shown))
 
 pub loop-from-smaller : goal.loop-from-smaller
 loop-from-smaller c =

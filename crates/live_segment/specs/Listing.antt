@@ -36,7 +36,7 @@ StoresPayload word value me found me' =
 
 -- what is said that a record is to hold
 abbrev pub asked_for : Announcement → Option Made
-asked_for (Histogram known) = Some (made.Histogram known.name.items known.spec)
+asked_for (Histogram asked) = Some (made.Histogram asked.name.items asked.spec)
 asked_for (Sample histogram value) = Some (made.Sample histogram value)
 asked_for (Units units) = None
 asked_for (Answer histogram snapshot) = None

@@ -1,8 +1,7 @@
 //! What holds of the words and of all who step on them.
 
-use crate::recorder::KnownHistogram;
 use atomic_table::{Seat, TableRule};
-use hist_core::Snapshot;
+use hist_core::{Asked, Snapshot};
 use segment_image::Shape;
 use segment_machine::Actor;
 
@@ -21,7 +20,7 @@ pub(crate) enum Announcement {
     /// The units that the next recorder is to have.
     Units(u32),
     /// A histogram that a record is to hold, or that a `hist` was answered with or refused.
-    Histogram(KnownHistogram),
+    Histogram(Asked),
     /// The sample of a sparse histogram that a record is to hold.
     Sample { histogram: u64, value: i32 },
     /// What a snapshot of the histogram whose record has this reference is answered.

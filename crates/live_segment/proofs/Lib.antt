@@ -38,6 +38,7 @@ mod OwnNames
 mod Searching
 mod HistSaid
 mod Settled
+mod KnownNames
 mod Knowing
 mod Filled
 mod Recorded

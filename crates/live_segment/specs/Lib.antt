@@ -2,6 +2,7 @@ pub mod Fault
 pub mod Rule
 pub mod Known
 pub mod Steps
+pub mod Hist
 pub mod Holders
 pub mod Closing
 pub mod Allocation

@@ -10,10 +10,10 @@ ghost use Rattle.std.specs.List.{All};
 ghost use Rattle.std.proofs.Props.{props};
 
 use crate::records::WalkPlace;
-use crate::rule::Pass;
+use crate::rule::{Announcement, Pass};
 use crate::segment::Segment;
 use bucket_ranges::{Ranges, Spec};
-use hist_core::Refusal;
+use hist_core::{Asked, Refusal};
 use segment_image::layout::{BLOCK_LEAST, FLAG_CORRUPT, HEADER_WORDS};
 use std::alloc::Global;
 
@@ -30,6 +30,29 @@ pub(crate) struct KnownHistogram {
     pub(crate) spec: Spec,
     pub(crate) ranges: Ranges,
     pub(crate) reference: u64,
+}
+
+impl KnownHistogram {
+    ghost use Rattle.live_segment.specs.Searching.{asked_at};
+
+    // What was asked for, with its record.
+    fn of(asked: Asked, reference: u64) -> KnownHistogram
+        ensures view { known_view result ≡ asked_at asked reference }
+        ensures ranges { result.ranges ≡ asked.ranges }
+    {
+        let Asked {
+            name,
+            spec,
+            ranges,
+            ..
+        } = asked;
+        KnownHistogram {
+            name,
+            spec,
+            ranges,
+            reference,
+        }
+    }
 }
 
 /// Records for one thread. It may move to another.
@@ -54,12 +77,13 @@ pub struct Recorder<'a> {
 }
 
 impl<'a> Recorder<'a> {
-    ghost use Rattle.std.specs.Prelude.{◌↔◌, IsTrue, ◌<◌, ◌++◌, length, MatchResult};
+    ghost use Rattle.std.specs.Prelude.{◌↔◌, IsTrue, ◌<◌, ◌++◌, length, IfOk, MatchOption, MatchResult};
     ghost use Rattle.live_segment.specs.Allocation.{spoiled};
     ghost use Rattle.live_segment.specs.Cursors.{AnswersNext, gift};
     ghost use Rattle.live_segment.specs.Holders.{view_of_recorder, IsSameRecorder, Knows};
     ghost use Rattle.live_segment.specs.Records.{HasWalked};
     ghost use Rattle.live_segment.specs.Fresh.{GivesFresh, given_fresh};
+    ghost use Rattle.live_segment.specs.Hist.{IsAnsweredWith, IsKnownAt, IsNamed, IsRefusedWith, KnowsOn, NoneHasName};
     ghost use Rattle.hist_core.specs.declared.refusal.Refusal.TheVariants.{NoMemory};
 
     // A recorder that has done nothing.
@@ -107,6 +131,18 @@ impl<'a> Recorder<'a> {
         ensures { IsTrue result ↔ Knows self.now histogram }
     {
         histogram.index < self.known.len()
+    }
+
+    // The place of the histogram of a name among those that it knows.
+    fn index_of(&self, name: &[u8]) -> Option<usize>
+        ensures { MatchOption result (NoneHasName self.now.known.items name.now) (IsKnownAt self.now.known.items name.now) }
+    {
+        for (index, known) in self.known.iter().enumerate() {
+            if known.name.as_slice() == name {
+                return Some(index);
+            }
+        }
+        None
     }
 
     /// Marks the segment as corrupt for good: from then on no block is claimed in it. It is never refused.

@@ -126,6 +126,7 @@ module _ (known : Known) (bucket : ℕ) (value : ℤ) (units : ℕ) (old mid : A
     added_rests = record {
       recorder = ap (λ (x : Actor). is_opener x.role) new_is ∙ rest.recorder;
       free = ended.free;
+      apart = ended.apart;
       holds = ap (λ (x : Actor). x.units.held) new_is;
       runs = ap (λ (x : Actor). x.entries.running) new_is ∙ rest.runs;
       takes = ap (λ (x : Actor). x.deltas.taking) new_is ∙ rest.takes;

@@ -18,6 +18,7 @@ use Rattle.segment_machine.specs.Counting.{add_redundant}
 use Rattle.segment_machine.specs.Entry.{has_ended, is_counted, is_summed, is_noted}
 use Rattle.segment_machine.specs.Event.{counting_event, next, Ready}
 use Rattle.segment_machine.specs.Note.{amounts, ends}
+use Rattle.segment_machine.specs.Taking.{is_looking}
 use Rattle.segment_promises.specs.Follows.{noted_by}
 use Rattle.live_segment.specs.Finishing.{counted_entry, item_of, IsCounted, HasSample, IsSummed, HasEnded}
 use Rattle.live_segment.specs.Steps.{IsSame, Pass}
@@ -205,5 +206,6 @@ module _ (entry : Entry) (before : List Counting) (known : Known) (first : Actor
             ∙ (map-append (λ c. c.entry) first.entries.log (before ++ done ∷ [])
             ∙ ap (λ (l : List Entry). map (λ c. c.entry) first.entries.log ++ l) (map-append (λ c. c.entry) before (done ∷ [])));
         free = ap (λ (y : Actor). is_bound y.hand.place) noted.view;
+        apart = ap (λ (y : Actor). is_looking y.hand.place) noted.view;
         counts = (sight (histogram + 13) (found + units), counts);
       }

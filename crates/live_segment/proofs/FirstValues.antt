@@ -1,6 +1,6 @@
 -- The samples of a sparse histogram along the list: where a recorder saw of each record which value it is a sample of, or that it is none,
 -- a sample behind another of its value is a later one.
-use Rattle.std.proofs.Common.{◌≡◌, ◌≢◌, ◌⊎◌, ℕ, zero, suc, ◌+◌, ◌<◌, ℤ, Bool, true, false, true≢false, List, [], ◌∷◌, ◌++◌, Some, inl, inr, ⊎_elim, refl, sym, ap, subst, ◌∙◌, arith}
+use Rattle.std.proofs.Common.{◌≡◌, ◌≢◌, ◌⊎◌, ℕ, zero, suc, ℤ, Bool, true, false, true≢false, List, [], ◌∷◌, ◌++◌, Some, inl, inr, refl, sym, ap, subst, ◌∙◌, arith}
 use Rattle.std.specs.Int.{cast_signed, cast_unsigned, w64}
 use Rattle.std.specs.List.{All, AllByRecursion, Contains}
 use Rattle.std.specs.Ordering.{int_eq}
@@ -11,9 +11,9 @@ use Rattle.bucket_ranges.specs.Reading.{is_i32}
 use Rattle.segment_machine.specs.declared.actor.Actor.{Actor}
 use Rattle.segment_machine.specs.declared.actor.Known.{Known}
 use Rattle.segment_machine.specs.declared.seen.Seen.{Seen}
-use Rattle.segment_machine.specs.Actor.{Sparse, word_seen}
+use Rattle.segment_machine.specs.Actor.{Sparse}
 use Rattle.segment_machine.specs.Firsts.{ComesFirst}
-use Rattle.segment_machine.specs.Made.{IsFirstSample, SawOther, SawSample}
+use Rattle.segment_machine.specs.Made.{SawOther, SawSample}
 use Rattle.segment_machine.specs.Taking.{IsLaterSample}
 use Rattle.segment_machine.proofs.Values.{value_word}
 

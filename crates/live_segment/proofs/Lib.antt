@@ -9,6 +9,7 @@ mod Tries
 mod Ranks
 mod Proceeding
 mod Beginning
+mod Apart
 mod Attempts
 mod Listed
 mod Owned

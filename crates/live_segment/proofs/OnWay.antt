@@ -13,6 +13,7 @@ use Rattle.segment_machine.specs.declared.actor.Actor.{Actor}
 use Rattle.segment_machine.specs.Actor.{is_bound, is_opener}
 use Rattle.segment_machine.specs.Event.{walking_event, Ready}
 use Rattle.segment_machine.specs.Stages.{Walks}
+use Rattle.segment_machine.specs.Taking.{is_looking}
 use Rattle.segment_machine.specs.Walking.{load_next, extended, records_met}
 use Rattle.segment_machine.proofs.Stages.Walks.{walks_agree}
 use Rattle.live_segment.specs.declared.segment.Segment.{Segment}
@@ -25,6 +26,7 @@ use Rattle.live_segment.specs.Finding.{Meets, SeesWords}
 use Rattle.live_segment.specs.Searching.{HasSearched}
 use Rattle.live_segment.specs.Walks.{IsOnWay}
 use Rattle.live_segment.proofs.Sharing.{extended_end, extended_grows, reference_behind}
+use Rattle.live_segment.proofs.Apart.{behind_apart}
 use Rattle.live_segment.proofs.Searching.{last_of, last_least, last_most, last_stands}
 use Rattle.live_segment.proofs.Walked.{all_given}
 
@@ -56,6 +58,7 @@ module _ (segment : Segment) (old : Pass) (given : List ℕ) (at : ℕ) (table :
         hand = record old.me.0.hand { place = sym (ap (λ (a : Actor). a.hand.place) load.view) i };
         seen = record old.me.0.seen { chain = sym chain_is i; words = sym words_are i };
       });
+      apart = λ was. ap (λ (a : Actor). is_looking a.hand.place) load.view ∙ behind_apart old.me.0.hand.place at found was;
       chain = subst (Grows chain) (sym chain_is) (extended_grows chain at found);
       words = ([], words_are ∙ sym (append-nil old.me.0.seen.words));
     }

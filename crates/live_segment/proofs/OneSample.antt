@@ -1,30 +1,23 @@
 -- A delta takes what is counted in one sample of a sparse histogram: the sample's mark is raised to the count that was loaded.
-use Rattle.std.proofs.Common.{◌≡◌, ◌≢◌, ℕ, ◌+◌, ◌-◌, ◌<◌, ◌≤◌, ℤ, max, nat_lt, if◌then◌else◌, Bool, true, false, true≢false, List, [], ◌∷◌, ◌++◌, drop, length, Option, Some, None, inl, inr, refl, sym, ap, subst, ◌∙◌, arith}
+use Rattle.std.proofs.Common.{◌≡◌, ℕ, ◌+◌, ◌-◌, ◌≤◌, ℤ, max, false, List, ◌++◌, length, Option, inr, refl, sym, ap, subst, ◌∙◌, arith}
 use Rattle.std.specs.Prelude.{unwrap_or}
 use Rattle.std.specs.Int.{cast_signed, w64}
-use Rattle.std.specs.List.{Contains}
-use Rattle.std.proofs.lemmas.Bool.{lt-ltb, le-ltb}
 use Rattle.segment_machine.specs.declared.actor.Actor.{Actor}
 use Rattle.segment_machine.specs.declared.actor.Known.{Known}
 use Rattle.segment_machine.specs.declared.actor.Since.{Since}
 use Rattle.segment_machine.specs.declared.actor.Taken.{Taken}
-use Rattle.segment_machine.specs.declared.place.Place.{Place}
-use Rattle.segment_machine.specs.declared.place.Place.TheVariants.{Spent, Idle, FlagsLoaded, FreeLoaded, Raised, Sized, Marked, TailLoaded, Beaten, Linked, Looking, Losing, Moving, CountLoaded, SampleLoaded, SumLoaded, CursorLoaded, BehindCursor}
+use Rattle.segment_machine.specs.declared.place.Place.TheVariants.{Idle}
 use Rattle.segment_machine.specs.declared.seen.Seen.{Seen}
-use Rattle.segment_machine.specs.declared.seen.Sighting.{Sighting}
-use Rattle.segment_machine.specs.Actor.{SawCount, is_bound, is_opener, known_at, word_seen}
-use Rattle.segment_machine.specs.Calls.{back, change_last, sight}
-use Rattle.segment_machine.specs.Event.{next, taking_event}
-use Rattle.segment_machine.specs.Made.{SawSample}
-use Rattle.segment_machine.specs.Note.{TookSample}
-use Rattle.segment_machine.specs.Taking.{Takes, at_count, is_looking, load_count, raise_mark, taken_key}
+use Rattle.segment_machine.specs.Actor.{SawCount, is_bound, is_opener, known_at}
+use Rattle.segment_machine.specs.Calls.{back, sight}
+use Rattle.segment_machine.specs.Event.{taking_event}
+use Rattle.segment_machine.specs.Taking.{is_looking, raise_mark, taken_key}
 use Rattle.segment_machine.proofs.Values.{value_word}
 use Rattle.live_segment.specs.declared.segment.Segment.{Segment}
 use Rattle.live_segment.specs.Deltas.{HasTakenSample, MayTakeSample, TakesOn, TakesValues, units_of_key}
 use Rattle.live_segment.specs.Holders.{MayStep}
-use Rattle.live_segment.specs.Rule.{IsOf}
 use Rattle.live_segment.specs.Steps.{IsSame, Pass, Stepped}
-use Rattle.live_segment.proofs.OneBucket.{long_still, marked, nothing_more, saw_here, sees_count, takes_by, takes_of, takes_then}
+use Rattle.live_segment.proofs.OneBucket.{long_still, marked, saw_here, sees_count, takes_by, takes_of}
 use Rattle.live_segment.proofs.Seeing.{saw_count}
 
 -- ---- values

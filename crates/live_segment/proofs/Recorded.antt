@@ -4,6 +4,7 @@ use Rattle.std.specs.Prelude.{Ok}
 use Rattle.segment_machine.specs.declared.actor.Actor.{Actor}
 use Rattle.segment_machine.specs.declared.actor.Made.TheVariants.{Histogram}
 use Rattle.segment_machine.specs.Actor.{is_bound, is_opener}
+use Rattle.segment_machine.specs.Taking.{is_looking}
 use Rattle.hist_core.specs.declared.asked.Asked.{Asked}
 use Rattle.live_segment.specs.declared.rule.Announcement.{Announcement}
 use Rattle.live_segment.specs.declared.segment.Segment.{Segment}
@@ -45,6 +46,7 @@ module _ (segment : Segment) (asked : Asked) (is : IsAsked segment.setting.shape
         answers = record old.me.0.answers { owed = old.me.0.answers.owed ++ asked_at asked at ∷ [] };
       });
       free = ap (λ (a : Actor). is_bound a.hand.place) is_published.view;
+      apart = ap (λ (a : Actor). is_looking a.hand.place) is_published.view;
       unspoiled = unspoiled;
       claimed = (record { at = at; size = behind - at } ∷ [], claimed_is);
       later = let first = allocates.2 in let enough = allocates.3 in omega (arith, first, enough, free_is);

@@ -24,6 +24,7 @@ use Rattle.segment_machine.specs.Actor.{is_bound, is_opener}
 use Rattle.segment_machine.specs.Event.{walking_event, Ready}
 use Rattle.segment_machine.specs.Made.{IsFirstNamed, SawName, SawOtherName, SawSpec, SawOtherSpec}
 use Rattle.segment_machine.specs.Stages.{Walks}
+use Rattle.segment_machine.specs.Taking.{is_looking}
 use Rattle.segment_machine.specs.Walking.{load_next, extended, records_met}
 use Rattle.segment_machine.proofs.Stages.Walks.{walks_agree}
 use Rattle.segment_invariant.proofs.Lists.Maps.{contains_map}
@@ -37,6 +38,7 @@ use Rattle.live_segment.specs.Onward.{Grows}
 use Rattle.live_segment.specs.Records.{StandOnce, KnowsOwnNames}
 use Rattle.live_segment.specs.Finding.{IsAsked, Meets, SeesWords, ShowsName, ShowsSpec}
 use Rattle.live_segment.specs.Searching.{WalksAt, HasSearched, Searches, HasMadeNone}
+use Rattle.live_segment.proofs.Apart.{behind_apart}
 use Rattle.live_segment.proofs.Sharing.{extended_end, extended_grows, reference_behind}
 use Rattle.live_segment.proofs.Proceeding.{grows_on}
 use Rattle.live_segment.proofs.Showing.{still, sees_on}
@@ -56,7 +58,7 @@ others_still a b grows name given others k d inside = other_still a b grows name
 -- ---- on the way
 
 pub searched_not : (a : Actor) → HasSearched a a
-searched_not a = record { view = refl; chain = ([], sym (append-nil a.seen.chain)); words = ([], sym (append-nil a.seen.words)) }
+searched_not a = record { view = refl; apart = λ was. was; chain = ([], sym (append-nil a.seen.chain)); words = ([], sym (append-nil a.seen.words)) }
 
 pub searched_on : (a b c : Actor) → HasSearched a b → HasSearched b c → HasSearched a c
 searched_on a b c one two = record {
@@ -64,6 +66,7 @@ searched_on a b c one two = record {
     hand = record x.hand { place = c.hand.place };
     seen = record x.seen { chain = c.seen.chain; words = c.seen.words };
   }) one.view;
+  apart = λ was. two.apart (one.apart was);
   chain = grows_on a.seen.chain b.seen.chain c.seen.chain one.chain two.chain;
   words = grows_on a.seen.words b.seen.words c.seen.words one.words two.words;
 }
@@ -75,6 +78,7 @@ sees_searched a b sees = record {
         hand = record a.hand { place = sym (ap (λ (x : Actor). x.hand.place) sees.view) i };
         seen = record a.seen { chain = sym (ap (λ (x : Actor). x.seen.chain) sees.view) i; words = b.seen.words };
       });
+  apart = λ was. ap (λ (x : Actor). is_looking x.hand.place) sees.view ∙ was;
   chain = ([], ap (λ (x : Actor). x.seen.chain) sees.view ∙ sym (append-nil a.seen.chain));
   words = sees.words;
 }
@@ -186,6 +190,7 @@ module _ (segment : Segment) (old : Pass) (name : List ℕ) (at : ℕ) (table : 
         hand = record old.me.0.hand { place = sym (ap (λ (a : Actor). a.hand.place) load.view) i };
         seen = record old.me.0.seen { chain = sym chain_is i; words = sym words_are i };
       });
+      apart = λ was. ap (λ (a : Actor). is_looking a.hand.place) load.view ∙ behind_apart old.me.0.hand.place at found was;
       chain = subst (Grows chain) (sym chain_is) (extended_grows chain at found);
       words = ([], words_are ∙ sym (append-nil old.me.0.seen.words));
     }

@@ -45,6 +45,7 @@ pub around_on : (a b c : Actor) → LooksAround a b → LooksAround b c → Look
 around_on a b c one two = record {
   same = two.same ∙ ap (λ (x : Actor). record x { hand = c.hand; done = c.done; seen = c.seen; answers = record x.answers { owed = c.answers.owed } }) one.same;
   free = two.free;
+  apart = λ was. two.apart (one.apart was);
   done = does_on a.done b.done c.done one.done two.done;
   seen = sees_on a.seen b.seen c.seen one.seen two.seen;
   untouched = (two.untouched.0 ∙ one.untouched.0, two.untouched.1 ∙ one.untouched.1);
@@ -60,6 +61,7 @@ searched_around a b free searched = record {
     answers = record a.answers { owed = sym (ap (λ (x : Actor). x.answers.owed) searched.view) i };
   });
   free = free;
+  apart = searched.apart;
   done = does_same a.done b.done (ap (λ (x : Actor). x.done) searched.view);
   seen = record {
     free = let e = ap (λ (x : Actor). x.seen.free) searched.view in omega (arith, e);
@@ -83,6 +85,7 @@ made_around asked a b made = record {
     answers = record a.answers { owed = sym (ap (λ (x : Actor). x.answers.owed) made.view) i };
   });
   free = made.free;
+  apart = λ was. made.apart;
   done = record {
     same = ap (λ (x : Actor). x.done) made.view ∙ (λ i. record a.done {
       claimed = b.done.claimed;
@@ -112,6 +115,7 @@ saw_around : (a : Actor) (free : ℕ) → a.seen.free ≤ free → LooksAround a
 saw_around a free later = record {
   same = refl;
   free = refl;
+  apart = λ was. refl;
   done = does_not a.done;
   seen = record {
     free = later;
@@ -129,6 +133,7 @@ filled_around : (a : Actor) → MayTurn a → LooksAround a (filled a)
 filled_around a free = record {
   same = refl;
   free = free;
+  apart = λ was. was;
   done = record {
     same = refl;
     claimed = grows_not a.done.claimed;
@@ -335,6 +340,7 @@ around_unowed : (a b : Actor) → LooksAround a b → LooksAround a (record b { 
 around_unowed a b looks = record {
   same = ap (λ (x : Actor). record x { answers = record x.answers { owed = [] } }) looks.same;
   free = looks.free;
+  apart = looks.apart;
   done = looks.done;
   seen = looks.seen;
   untouched = looks.untouched;

@@ -10,12 +10,14 @@ use Rattle.segment_machine.specs.declared.actor.Cost.{Cost}
 use Rattle.segment_machine.specs.declared.actor.Entries.{Entries}
 use Rattle.segment_machine.specs.declared.actor.Known.{Known}
 use Rattle.segment_machine.specs.declared.actor.Units.{Units}
+use Rattle.segment_machine.specs.declared.place.Place.TheVariants.{Idle}
 use Rattle.segment_machine.specs.Actor.{cost_of, has_buckets, is_bound, is_opener}
 use Rattle.segment_machine.specs.Entry.{fresh, key_of}
 use Rattle.segment_machine.specs.Calls.{IsKeyOfBucket}
 use Rattle.segment_machine.specs.Form.{IsPacking}
 use Rattle.bucket_ranges.specs.Ranges.{boundaries_of}
 use Rattle.segment_machine.specs.Note.{Note, refused}
+use Rattle.segment_machine.specs.Taking.{is_looking}
 use Rattle.segment_promises.specs.Follows.{noted_by}
 use Rattle.live_segment.specs.Adding.{IsRefused, LacksBlock}
 use Rattle.live_segment.specs.Onward.{DoesOn, GoesOn, SeesOn}
@@ -102,10 +104,11 @@ module _ (known : Known) (bucket units : ℕ) (old last new : Actor) (rest : IsA
         seen = subst (SeesOn old.seen) (sym (ap (λ (x : Actor). x.seen) of_last)) looks.proceeds.seen;
       }
 
-  pub turned_rests : IsAtRest new
-  turned_rests = let kept = turned_onward.same in record {
+  pub turned_rests : new.hand.place ≡ Idle → IsAtRest new
+  turned_rests idle = let kept = turned_onward.same in record {
     recorder = ap (λ (x : Actor). is_opener x.role) kept ∙ rest.recorder;
     free = ap (λ (x : Actor). is_bound x.hand.place) back.else_as_last ∙ looks.proceeds.free;
+    apart = ap is_looking idle;
     holds = back.held_back;
     runs = ap (λ (e : Entries). e.running) back.entries_back ∙ rest.runs;
     takes = ap (λ (x : Actor). x.deltas.taking) kept ∙ rest.takes;

@@ -22,6 +22,7 @@ use Rattle.segment_machine.specs.declared.actor.Known.{Known}
 use Rattle.segment_machine.specs.Actor.{is_bound, is_opener, known_at}
 use Rattle.segment_machine.specs.Event.{walking_event, change, next, Ready}
 use Rattle.segment_machine.specs.Stages.{Walks}
+use Rattle.segment_machine.specs.Taking.{is_looking}
 use Rattle.segment_machine.specs.Walking.{load_next, extended, records_met}
 use Rattle.segment_machine.proofs.Stages.Walks.{walks_agree}
 use Rattle.live_segment.specs.declared.rule.Setting.{Setting}
@@ -29,13 +30,14 @@ use Rattle.live_segment.specs.declared.segment.Segment.{Segment}
 use Rattle.live_segment.specs.Rule.{Runs, IsOf, opened_of}
 use Rattle.live_segment.specs.Steps.{Pass, Sat, IsSame, Stepped}
 use Rattle.live_segment.specs.Holders.{table_of, MayStep}
-use Rattle.live_segment.specs.Onward.{Grows}
+use Rattle.live_segment.specs.Onward.{Grows, StaysApart}
 use Rattle.live_segment.specs.declared.recorder.KnownHistogram.{KnownHistogram}
 use Rattle.live_segment.specs.declared.records.WalkPlace.{WalkPlace}
 use Rattle.live_segment.specs.Known.{KnowsRight}
 use Rattle.live_segment.specs.Records.{StandOnce, LoadsNext, HasWalked}
 use Rattle.live_segment.specs.Walks.{HasCome, WalksOn}
 use Rattle.live_segment.proofs.Allowed.{does_at}
+use Rattle.live_segment.proofs.Apart.{behind_apart}
 use Rattle.live_segment.proofs.OwnNames.{knows_own_names}
 use Rattle.live_segment.proofs.OwnSamples.{knows_own_samples}
 use Rattle.live_segment.proofs.Sharing.{extended_end, extended_grows, grows_on, reference_behind}
@@ -82,6 +84,7 @@ saw_list a place chain = record a { hand = record a.hand { place = place }; seen
 pub record IsWalking (first now : Pass) (given : List ℕ) (at : ℕ) : Type 0 where
   pub same : IsSame first now
   pub view : now.me.0 ≡ saw_list first.me.0 now.me.0.hand.place now.me.0.seen.chain
+  pub apart : StaysApart first.me.0 now.me.0
   pub chain : Grows first.me.0.seen.chain now.me.0.seen.chain
   pub walks : Walks now.me.0 given
   pub stands : at ≡ stands_behind given
@@ -96,6 +99,7 @@ begins size first place free sized come =
     let long : length (take place.given chain) ≡ place.given = length-take-le place.given chain come.few in record {
       same = (refl, refl, refl);
       view = refl;
+      apart = λ was. was;
       chain = ([], sym (append-nil chain));
       walks = (free, (drop place.given chain, front));
       stands = come.stands ∙ (ap (slice_index (stops chain)) (sym long) ∙ place_of (take place.given chain) (drop place.given chain) chain front);
@@ -143,6 +147,9 @@ module _ (segment : Segment) (first old : Pass) (given : List ℕ) (at : ℕ) (t
         load.view ∙ (ap (λ (a : Actor). next a (walking_event (load_next at)) found) is.view
         ∙ (λ i. saw_list first.me.0 (sym (ap (λ (a : Actor). a.hand.place) load.view) i) (sym (ap (λ (a : Actor). a.seen.chain) load.view) i)))
 
+    apart_still : StaysApart first.me.0 new.me.0
+    apart_still was = ap (λ (a : Actor). is_looking a.hand.place) load.view ∙ behind_apart old.me.0.hand.place at found (is.apart was)
+
     chain_is : new.me.0.seen.chain ≡ extended old.me.0.seen.chain at found
     chain_is = ap (λ (a : Actor). a.seen.chain) load.view
 
@@ -163,6 +170,7 @@ module _ (segment : Segment) (first old : Pass) (given : List ℕ) (at : ℕ) (t
         let met : All (Contains old.me.0.seen.chain) (records_met old.me.0) = load.learned.all (ap stands_behind (sym whole) ∙ sym is.stands) end in record {
           view = view_still ∙ ap (saw_list first.me.0 new.me.0.hand.place) seen;
           free = walks_on.0;
+          apart = apart_still;
           chain = subst (Grows first.me.0.seen.chain) (sym whole) is.chain;
           once = subst StandOnce (sym whole) once;
           within = is.within;
@@ -185,6 +193,7 @@ module _ (segment : Segment) (first old : Pass) (given : List ℕ) (at : ℕ) (t
           let long = length_push given found in record {
             same = same_still;
             view = view_still;
+            apart = apart_still;
             chain = grows_on first.me.0.seen.chain old.me.0.seen.chain new.me.0.seen.chain is.chain
                 (subst (Grows old.me.0.seen.chain) (sym chain_is) (extended_grows old.me.0.seen.chain at found));
             walks = longer;

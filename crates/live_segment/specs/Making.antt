@@ -6,6 +6,7 @@ use Rattle.segment_machine.specs.declared.actor.Made.TheVariants.{Histogram}
 use Rattle.segment_machine.specs.declared.actor.Own.{Own}
 use Rattle.segment_machine.specs.Calls.{MayTurn, change_last}
 use Rattle.segment_machine.specs.Publishing.{own_at}
+use Rattle.segment_machine.specs.Taking.{is_looking}
 use Rattle.hist_core.specs.declared.asked.Asked.{Asked}
 use Rattle.hist_core.specs.declared.refusal.Refusal.{Refusal}
 use Rattle.live_segment.specs.declared.rule.Announcement.{Announcement}
@@ -64,6 +65,7 @@ pub record HasMade (asked : Asked) (old new : Actor) : Type 0 where
     answers = record old.answers { owed = old.answers.owed ++ asked_at asked at ∷ [] };
   }
   pub free : MayTurn new
+  pub apart : is_looking new.hand.place ≡ false
   pub unspoiled : old.done.spoiled ≡ false
   pub claimed : Grows old.done.claimed new.done.claimed
   pub later : old.seen.free ≤ new.seen.free

@@ -1,12 +1,17 @@
 -- What a call of a recorder leaves as it was, and what only grows.
-use Rattle.std.specs.Prelude.{◌≡◌, ◌≤◌, true, List, ◌++◌}
+use Rattle.std.specs.Prelude.{◌≡◌, ◌≤◌, true, false, List, ◌++◌}
 use Rattle.segment_machine.specs.declared.actor.Actor.{Actor}
 use Rattle.segment_machine.specs.declared.actor.Done.{Done}
 use Rattle.segment_machine.specs.declared.seen.Seen.{Seen}
+use Rattle.segment_machine.specs.Taking.{is_looking}
 
 -- a list has grown at its end
 abbrev pub Grows : {X : Type 0} → List X → List X → Type 0
 Grows {X} old new = (more : List X) × (new ≡ old ++ more)
+
+-- a recorder that stood at no single word and no counts of a histogram stands at none still
+abbrev pub StaysApart : Actor → Actor → Type 0
+StaysApart old new = is_looking old.hand.place ≡ false → is_looking new.hand.place ≡ false
 
 -- what an actor had seen it has still seen, and it may have seen more
 pub record SeesOn (old new : Seen) : Type 0 where

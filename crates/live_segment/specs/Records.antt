@@ -10,7 +10,7 @@ use Rattle.segment_machine.specs.Made.{SawOther, SawOtherName}
 use Rattle.segment_machine.specs.Actor.{is_bound}
 use Rattle.segment_machine.specs.Event.{walking_event}
 use Rattle.segment_machine.specs.Walking.{load_next, records_met}
-use Rattle.live_segment.specs.Onward.{Grows}
+use Rattle.live_segment.specs.Onward.{Grows, StaysApart}
 use Rattle.live_segment.specs.Steps.{DoesAt, Sat}
 
 -- along these nexts no block stands twice, and none is the queue block
@@ -39,6 +39,7 @@ LoadsNext word me found me' =
 pub record HasWalked (old : Actor) (given : List ℕ) (new : Actor) : Type 0 where
   pub view : new ≡ record old { hand = record old.hand { place = new.hand.place }; seen = record old.seen { chain = given } }
   pub free : is_bound new.hand.place ≡ false
+  pub apart : StaysApart old new
   pub chain : Grows old.seen.chain given
   pub once : StandOnce given
   pub within : All (λ at. (HEADER_WORDS ≤ at) × (at + BLOCK_LEAST ≤ old.segment.shape.size)) given

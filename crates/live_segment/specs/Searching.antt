@@ -13,7 +13,7 @@ use Rattle.segment_machine.specs.Note.{MayNote, knows}
 use Rattle.hist_core.specs.declared.asked.Asked.{Asked}
 use Rattle.live_segment.specs.declared.finding.Search.{Search}
 use Rattle.live_segment.specs.declared.finding.Search.TheVariants.{Met, OtherSpec, End}
-use Rattle.live_segment.specs.Onward.{Grows}
+use Rattle.live_segment.specs.Onward.{Grows, StaysApart}
 
 -- ---- on the way
 
@@ -33,6 +33,7 @@ pub record HasSearched (old new : Actor) : Type 0 where
     hand = record old.hand { place = new.hand.place };
     seen = record old.seen { chain = new.seen.chain; words = new.seen.words };
   }
+  pub apart : StaysApart old new
   pub chain : Grows old.seen.chain new.seen.chain
   pub words : Grows old.seen.words new.seen.words
 

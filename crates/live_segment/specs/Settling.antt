@@ -12,7 +12,7 @@ use Rattle.hist_core.specs.declared.refusal.Refusal.{Refusal}
 use Rattle.hist_core.specs.declared.refusal.Refusal.TheVariants.{OtherSpec}
 use Rattle.live_segment.specs.Adding.{HasNoRoom}
 use Rattle.live_segment.specs.Answering.{HaveOneName}
-use Rattle.live_segment.specs.Onward.{DoesOn, SeesOn}
+use Rattle.live_segment.specs.Onward.{DoesOn, SeesOn, StaysApart}
 use Rattle.live_segment.specs.Searching.{asked_at, SawOther}
 
 -- Of the segment it has seen more, and it may have claimed and published records and set the full flag. It has come to no single word, no count
@@ -20,6 +20,7 @@ use Rattle.live_segment.specs.Searching.{asked_at, SawOther}
 pub record LooksAround (old new : Actor) : Type 0 where
   pub same : new ≡ record old { hand = new.hand; done = new.done; seen = new.seen; answers = record old.answers { owed = new.answers.owed } }
   pub free : MayTurn new
+  pub apart : StaysApart old new
   pub done : DoesOn old.done new.done
   pub seen : SeesOn old.seen new.seen
   pub untouched : (new.seen.singles ≡ old.seen.singles) × (new.seen.counts ≡ old.seen.counts)

@@ -10,6 +10,7 @@ use Rattle.segment_machine.specs.declared.place.Place.TheVariants.{Idle}
 use Rattle.segment_machine.specs.Actor.{is_bound, is_opener, outstanding_of}
 use Rattle.segment_machine.specs.Event.{Event, spot, next, Learned}
 use Rattle.segment_machine.specs.Seats.{offering}
+use Rattle.segment_machine.specs.Taking.{is_looking}
 use Rattle.segment_promises.specs.Follows.{Told}
 use Rattle.live_segment.specs.declared.rule.Announcement.{Announcement}
 use Rattle.live_segment.specs.declared.rule.Announcement.TheVariants.{Units}
@@ -56,10 +57,11 @@ Bounds st me found me' = (me'.0 ≡ me.0) × (me'.1 ≡ me.1) × (me.0.units.sha
 abbrev pub recorder_checks : Actor → ℕ → List (Bool × Refusal)
 recorder_checks opener units = (nat_lt opener.units.share units, NoUnits) ∷ (outstanding_of opener.role == 256, TooMany) ∷ []
 
--- no call of a recorder goes on
+-- no call of a recorder goes on, and it stands at no single word and no counts of a histogram
 pub record IsAtRest (a : Actor) : Type 0 where
   pub recorder : is_opener a.role ≡ false
   pub free : is_bound a.hand.place ≡ false
+  pub apart : is_looking a.hand.place ≡ false
   pub holds : a.units.held ≡ []
   pub runs : a.entries.running ≡ []
   pub takes : a.deltas.taking ≡ false

@@ -23,7 +23,7 @@ pub returns-in_err-count_in_bucket-clause-rests : goal.returns-in_err-count_in_b
 returns-in_err-count_in_bucket-clause-rests c =
     let turned = c.in_err-count_in_bucket.ensures.outcome in
     turned_rests (known_view c.args.histogram.now) c.bucket-bucket.result c.args.units c.args.seat.now.me.0 turned.last c.count_in_bucket.new.seat.me.0
-    c.requires.rests c.requires.units.0 c.requires.units.1 turned.looks turned.ends
+    c.requires.rests c.requires.units.0 c.requires.units.1 turned.looks turned.ends turned.idle
 
 pub returns-in_err-count_in_bucket-clause-outcome : goal.returns-in_err-count_in_bucket-clause-outcome
 returns-in_err-count_in_bucket-clause-outcome c =

@@ -1,0 +1,18 @@
+-- A recorder that stands at no single word and no counts of a histogram stands at none once it has loaded a next.
+use Rattle.std.proofs.Common.{◌≡◌, ℕ, ◌==◌, Bool, true, false, refl}
+use Rattle.std.specs.Prelude.{if◌then◌else◌}
+use Rattle.segment_machine.specs.declared.place.Place.{Place}
+use Rattle.segment_machine.specs.declared.place.Place.TheVariants as place
+use Rattle.segment_machine.specs.Taking.{is_looking}
+use Rattle.segment_machine.specs.Walking.{behind}
+
+pub behind_apart : (p : Place) (at found : ℕ) → is_looking p ≡ false → is_looking (behind p at found) ≡ false
+behind_apart (place.Looking look) at found was = absurd (cc was)
+behind_apart (place.CountLoaded look bucket count) at found was = absurd (cc was)
+behind_apart (place.CursorLoaded cursor from) at found was = by (at == from) (found == 12)
+  where
+    by : (here ends : Bool) → is_looking (if here then (if ends then place.Idle else place.BehindCursor cursor from found) else place.CursorLoaded cursor from) ≡ false
+    by true true = refl
+    by true false = refl
+    by false ends = refl
+behind_apart p at found was = was

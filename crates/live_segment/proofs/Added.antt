@@ -1,5 +1,5 @@
--- A sample of a histogram with buckets is added: it is counted in its bucket, and finished.
-use Rattle.std.proofs.Common.{◌≡◌, ℕ, ◌+◌, ◌-◌, ◌≤◌, true, false, if◌then◌else◌, ℤ, List, [], ◌∷◌, ◌++◌, map, refl, sym, ap, ◌∙◌, subst, arith, inl}
+-- A sample is added: it is counted, in its bucket or in the sample of its value, and finished.
+use Rattle.std.proofs.Common.{◌≡◌, ℕ, ◌+◌, ◌-◌, ◌≤◌, true, false, if◌then◌else◌, ℤ, pos, List, [], ◌∷◌, ◌++◌, map, refl, sym, ap, ◌∙◌, subst, arith, inl}
 use Rattle.std.specs.Str.{bytes_eq}
 use Rattle.std.proofs.lemmas.List.{append_assoc}
 use Rattle.std.proofs.lemmas.List.Elements.{All-nil}
@@ -10,16 +10,17 @@ use Rattle.segment_machine.specs.declared.actor.Actor.{Actor}
 use Rattle.segment_machine.specs.declared.actor.Cost.{Cost}
 use Rattle.segment_machine.specs.declared.actor.Known.{Known}
 use Rattle.segment_machine.specs.declared.actor.Units.{Units}
-use Rattle.segment_machine.specs.Actor.{cost_of, has_buckets, is_opener, known_at}
+use Rattle.segment_machine.specs.Actor.{cost_of, has_buckets, is_bound, is_opener, known_at}
 use Rattle.segment_machine.specs.Entry.{fresh}
+use Rattle.segment_machine.specs.Taking.{is_looking}
 use Rattle.segment_machine.specs.Note.{Note, begins}
 use Rattle.segment_promises.specs.Follows.{noted_by}
 use Rattle.live_segment.specs.Adding.{IsAdded}
 use Rattle.live_segment.specs.Finishing.{counted_entry, item_of, sample_of, HasSample, HasEnded}
 use Rattle.live_segment.specs.Onward.{DoesOn, GoesOn, SeesOn}
 use Rattle.live_segment.specs.Steps.{IsAtRest}
-use Rattle.live_segment.specs.Telling.{bucket_entry, bucket_notes, KnowsAlone}
-use Rattle.live_segment.specs.Working.{counted_next, HasCounted, MayCount}
+use Rattle.live_segment.specs.Telling.{bucket_entry, entry_notes, KnowsAlone}
+use Rattle.live_segment.specs.Working.{counted_next, CountsAlone, HasCounted, MayCount}
 use Rattle.live_segment.proofs.Beginning.{notes_new}
 use Rattle.live_segment.proofs.Finished.{still_open, changed_behind}
 use Rattle.live_segment.proofs.Proceeding.{grows_on}
@@ -28,40 +29,45 @@ none_before : (n : ℕ) → 0 + n ≡ n
 none_before n = omega arith
 
 -- what a recorder at rest may count
-pub may_count : (known : Known) (bucket units : ℕ) (a : Actor) → IsAtRest a → KnowsAlone a known → has_buckets known.spec ≡ true → 1 ≤ units
-    → units ≤ a.units.share → MayCount a known bucket units
-may_count known bucket units a rest alone bucketed some enough = record {
+pub counts_alone : (known : Known) (entry : Entry) (a : Actor) → IsAtRest a → KnowsAlone a known → known.name ≡ entry.name → entry.amount ≡ pos 0
+    → 1 ≤ entry.units → entry.units ≤ a.units.share → CountsAlone a known entry
+counts_alone known entry a rest alone named amount some enough = record {
   recorder = rest.recorder;
   free = rest.free;
   takes = rest.takes;
   begun = inl (rest.runs, rest.holds, enough);
   alone = alone;
-  bucketed = bucketed;
+  named = named;
   some = some;
+  amount = amount;
 }
 
-module _ (known : Known) (bucket : ℕ) (value : ℤ) (units : ℕ) (old mid : Actor) (rest : IsAtRest old) (alone : KnowsAlone old known) (some : 1 ≤ units)
-    (enough : units ≤ old.units.share) (is_of : bucket_entry known bucket units ≡ item_of known value units) (has : HasCounted known bucket units old mid) where
+pub may_count : (known : Known) (bucket units : ℕ) (a : Actor) → IsAtRest a → KnowsAlone a known → has_buckets known.spec ≡ true → 1 ≤ units
+    → units ≤ a.units.share → MayCount a known bucket units
+may_count known bucket units a rest alone bucketed some enough =
+    record { counts = counts_alone known (bucket_entry known bucket units) a rest alone refl refl some enough; bucketed = bucketed }
+
+module _ (known : Known) (value : ℤ) (units : ℕ) (old mid : Actor) (rest : IsAtRest old) (alone : KnowsAlone old known) (some : 1 ≤ units)
+    (enough : units ≤ old.units.share) (has : HasCounted (item_of known value units) old mid) where
   abbrev cost : Cost
   cost = record { name = known.name; units = units }
 
   abbrev last : Counting
   last = counted_entry (item_of known value units) false
 
-  notes : bucket_notes old known bucket units ≡ begins known.name units (bucket_entry known bucket units ∷ []) ∷ []
-  notes = notes_new old known bucket units (rest.runs, rest.holds, enough)
+  notes : entry_notes old (item_of known value units) ≡ begins known.name units (item_of known value units ∷ []) ∷ []
+  notes = notes_new old (item_of known value units) (rest.runs, rest.holds, enough)
 
   units_mid : mid.units ≡ record old.units { share = old.units.share - units; held = cost ∷ [] }
   units_mid = has.units_are ∙ ap (λ (ns : List Note). (noted_by old ns).units) notes
 
   entries_mid : mid.entries ≡ record old.entries { running = last ∷ [] }
   entries_mid =
-      let begun = fresh (bucket_entry known bucket units) in
+      let begun = fresh (item_of known value units) in
       has.entries_are
       ∙ (ap (λ (ns : List Note). counted_next (noted_by old ns).entries) notes
-      ∙ (ap (λ (l : List Counting). record old.entries { running = l })
-      (changed_behind begun (still_open begun refl some) (λ c. record c { counted = true }) [] (All-nil _))
-      ∙ ap (λ (e : Entry). record old.entries { running = counted_entry e false ∷ [] }) is_of))
+      ∙ ap (λ (l : List Counting). record old.entries { running = l })
+      (changed_behind begun (still_open begun refl some) (λ c. record c { counted = true }) [] (All-nil _)))
 
   mid_is : mid ≡ record old {
     units = record old.units { share = old.units.share - units; held = cost ∷ [] };
@@ -125,8 +131,8 @@ module _ (known : Known) (bucket : ℕ) (value : ℤ) (units : ℕ) (old mid : A
     pub added_rests : IsAtRest new
     added_rests = record {
       recorder = ap (λ (x : Actor). is_opener x.role) new_is ∙ rest.recorder;
-      free = ended.free;
-      apart = ended.apart;
+      free = ap is_bound ended.idle;
+      apart = ap is_looking ended.idle;
       holds = ap (λ (x : Actor). x.units.held) new_is;
       runs = ap (λ (x : Actor). x.entries.running) new_is ∙ rest.runs;
       takes = ap (λ (x : Actor). x.deltas.taking) new_is ∙ rest.takes;

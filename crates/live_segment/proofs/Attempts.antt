@@ -10,6 +10,7 @@ use Rattle.bucket_ranges.specs.Single.{single_of}
 use Rattle.bucket_ranges.specs.Spec.{buckets_of}
 use Rattle.segment_machine.specs.declared.actor.Actor.{Actor}
 use Rattle.segment_machine.specs.declared.actor.Known.{Known}
+use Rattle.segment_machine.specs.declared.entry.Entry.{Entry}
 use Rattle.segment_machine.specs.declared.place.Look.{Look}
 use Rattle.segment_machine.specs.declared.place.Place.TheVariants.{Looking, Idle}
 use Rattle.segment_machine.specs.declared.seen.Sighting.{Sighting}
@@ -29,7 +30,7 @@ use Rattle.live_segment.specs.Onward.{SeesOn}
 use Rattle.live_segment.specs.Telling.{MayPack, HasPacked, Noted, bucket_entry, bucket_notes}
 use Rattle.live_segment.specs.Working.{LooksOn, LooksFor, MayCount, Tries}
 use Rattle.live_segment.proofs.Proceeding.{looks_there, does_not, sees_not}
-use Rattle.live_segment.proofs.Beginning.{singled, sees_single, may_tell, is_next, only_begun, knows, looks_for, may_still, looks_for_on, late, counted, counted_behind}
+use Rattle.live_segment.proofs.Beginning.{singled, sees_single, may_tell, is_next, only_begun, knows, looks_for, may_yet, looks_for_on, late, counted, counted_behind}
 use Rattle.live_segment.proofs.Ranks.{rank, on_units, leads_higher, last_rank, last_most, last_is, last_leads}
 
 -- whether a word is off
@@ -42,7 +43,7 @@ is_on word below = by_test (nat_le (2 ^ 63) word) refl
 
 module _ (segment : Segment) (known : Known) (bucket units : ℕ) (first old : Pass) (table : first.table_id ≡ table_of segment)
     (of : IsOf segment.setting first.me.0) (may : MayCount first.me.0 known bucket units) (same : IsSame first old)
-    (looks : LooksFor known bucket units first.me.0 old.me.0) (done : old.me.0.done ≡ first.me.0.done)
+    (looks : LooksFor (bucket_entry known bucket units) first.me.0 old.me.0) (done : old.me.0.done ≡ first.me.0.done)
     (counts : old.me.0.seen.counts ≡ first.me.0.seen.counts) where
   abbrev pub at : ℕ
   at = known.reference + 9
@@ -54,13 +55,13 @@ module _ (segment : Segment) (known : Known) (bucket units : ℕ) (first old : P
   version = old.me.0.segment.version
 
   still : MayCount old.me.0 known bucket units
-  still = may_still first.me.0 old.me.0 known bucket units may looks
+  still = may_yet first.me.0 old.me.0 known bucket units may looks
 
   pub may_load : MayStep segment old (packing_event (load_single known.reference))
   may_load = record {
     table = same.0 ∙ table;
-    recorder = still.recorder;
-    ready = (still.free, (known, knows old.me.0 known bucket units still));
+    recorder = still.counts.recorder;
+    ready = (still.counts.free, (known, knows old.me.0 known bucket units still));
   }
 
   module _ (word : ℕ) (seat : Pass) (step : Stepped old (packing_event (load_single known.reference)) word seat) where
@@ -76,9 +77,9 @@ module _ (segment : Segment) (known : Known) (bucket units : ℕ) (first old : P
     pub same_seat : IsSame first seat
     same_seat = (step.same.0 ∙ same.0, step.same.1 ∙ same.1, step.same.2 ∙ same.2)
 
-    pub looks_at : LooksFor known bucket units first.me.0 seat.me.0
-    looks_at = looks_for_on first.me.0 old.me.0 seat.me.0 known bucket units may looks
-        (looks_for known bucket units old.me.0 seat.me.0
+    pub looks_at : LooksFor (bucket_entry known bucket units) first.me.0 seat.me.0
+    looks_at = looks_for_on first.me.0 old.me.0 seat.me.0 known (bucket_entry known bucket units) may.counts looks
+        (looks_for (bucket_entry known bucket units) old.me.0 seat.me.0
         (subst (LooksOn old.me.0) (sym step.view) (singled old.me.0 (Looking look) (seen_here ∷ []) refl)))
 
     pub done_still : seat.me.0.done ≡ first.me.0.done
@@ -88,7 +89,7 @@ module _ (segment : Segment) (known : Known) (bucket units : ℕ) (first old : P
     counts_still = ap (λ (x : Actor). x.seen.counts) step.view ∙ counts
 
     loaded_may : MayCount seat.me.0 known bucket units
-    loaded_may = may_still first.me.0 seat.me.0 known bucket units may looks_at
+    loaded_may = may_yet first.me.0 seat.me.0 known bucket units may looks_at
 
     singles : seat.me.0.seen.singles ≡ old.me.0.seen.singles ++ seen_here ∷ []
     singles = ap (λ (x : Actor). x.seen.singles) step.view
@@ -132,7 +133,7 @@ module _ (segment : Segment) (known : Known) (bucket units : ℕ) (first old : P
       x = noted_by seat.me.0 (bucket_notes seat.me.0 known bucket units)
 
       only : x ≡ record seat.me.0 { units = x.units; entries = x.entries }
-      only = only_begun seat.me.0 known bucket units loaded_may
+      only = only_begun seat.me.0 known (bucket_entry known bucket units) loaded_may.counts
 
       knows_still : Buckets x known.reference known
       knows_still = subst (λ (y : Actor). Buckets y known.reference known) (sym only) (knows seat.me.0 known bucket units loaded_may)
@@ -140,16 +141,16 @@ module _ (segment : Segment) (known : Known) (bucket units : ℕ) (first old : P
       pub may_pack : bucket < buckets_of known.spec → MayPack seat known.reference word packed
       may_pack below = (
         record { known = known; bucket = bucket; units = units },
-        (refl, loaded_may.alone, packs),
+        (refl, loaded_may.counts.alone, packs),
         record {
-          recorder = loaded_may.recorder;
-          may = may_tell seat.me.0 known bucket units loaded_may;
+          recorder = loaded_may.counts.recorder;
+          may = may_tell seat.me.0 known (bucket_entry known bucket units) loaded_may.counts;
           ready = (
             fresh (bucket_entry known bucket units),
             look,
             known,
             bucket,
-            (is_next seat.me.0 known bucket units loaded_may, ap (λ (z : Bool). false || z) (ne_eqb units 0 (let some = may.some in λ e. omega (arith, e, some)))),
+            (is_next seat.me.0 known (bucket_entry known bucket units) loaded_may.counts, ap (λ (z : Bool). false || z) (ne_eqb units 0 (let some = may.counts.some in λ e. omega (arith, e, some)))),
             (ap (λ (y : Actor). y.hand.place) only ∙ placed, looks_there old.me.0.hand.place known.reference, refl, is_on word on, knows_still),
             refl,
             (below, refl),
@@ -161,7 +162,7 @@ module _ (segment : Segment) (known : Known) (bucket units : ℕ) (first old : P
 
       module _ (found : ℕ) (after : Pass) (has : HasPacked seat known.reference word packed found after) where
         told : Noted seat (bucket_notes seat.me.0 known bucket units) (packing_event (pack known.reference word packed)) [] found after
-        told = has (record { known = known; bucket = bucket; units = units }) (refl, loaded_may.alone, packs)
+        told = has (record { known = known; bucket = bucket; units = units }) (refl, loaded_may.counts.alone, packs)
 
         pub same_after : IsSame first after
         same_after = (told.same.0 ∙ same_seat.0, told.same.1 ∙ same_seat.1, told.same.2 ∙ same_seat.2)
@@ -170,9 +171,9 @@ module _ (segment : Segment) (known : Known) (bucket units : ℕ) (first old : P
         tries_packed won =
             let view : after.me.0 ≡ after_pack true x known.reference packed found =
             told.view ∙ ap (λ (b : Bool). after_pack b x known.reference packed found) (eq-eqb found word won) in
-            counted_behind first.me.0 seat.me.0 after.me.0 known bucket units may looks_at (ap (λ d. d.filled) done_still)
-            (counted seat.me.0 after.me.0 known bucket units (record x.hand { place = Idle }) (record x.seen { singles = x.seen.singles ++ sight at packed })
-            loaded_may refl
+            counted_behind first.me.0 seat.me.0 after.me.0 known (bucket_entry known bucket units) may.counts looks_at (ap (λ d. d.filled) done_still)
+            (counted seat.me.0 after.me.0 known (bucket_entry known bucket units) (record x.hand { place = Idle }) (record x.seen { singles = x.seen.singles ++ sight at packed })
+            loaded_may.counts refl
             (subst (λ (y : Actor). SeesOn seat.me.0.seen (record y.seen { singles = y.seen.singles ++ sight at packed })) (sym only) (sees_single seat.me.0.seen (sight at packed)))
             view)
 
@@ -180,12 +181,12 @@ module _ (segment : Segment) (known : Known) (bucket units : ℕ) (first old : P
           view : after.me.0 ≡ after_pack false x known.reference packed found
           view = told.view ∙ ap (λ (b : Bool). after_pack b x known.reference packed found) (ne_eqb found word lost)
 
-          came_late : LooksFor known bucket units seat.me.0 after.me.0 × (after.me.0.done ≡ seat.me.0.done)
+          came_late : LooksFor (bucket_entry known bucket units) seat.me.0 after.me.0 × (after.me.0.done ≡ seat.me.0.done)
               × (after.me.0.seen.counts ≡ seat.me.0.seen.counts) × (after.me.0.seen.singles ≡ seat.me.0.seen.singles ++ sight at found)
-          came_late = late seat.me.0 after.me.0 known bucket units (record x.hand { place = Idle }) (sight at found) loaded_may refl view
+          came_late = late seat.me.0 after.me.0 known (bucket_entry known bucket units) (record x.hand { place = Idle }) (sight at found) loaded_may.counts refl view
 
-          pub looks_after : LooksFor known bucket units first.me.0 after.me.0
-          looks_after = looks_for_on first.me.0 seat.me.0 after.me.0 known bucket units may looks_at came_late.0
+          pub looks_after : LooksFor (bucket_entry known bucket units) first.me.0 after.me.0
+          looks_after = looks_for_on first.me.0 seat.me.0 after.me.0 known (bucket_entry known bucket units) may.counts looks_at came_late.0
 
           pub done_after : after.me.0.done ≡ first.me.0.done
           done_after = came_late.1 ∙ done_still
@@ -219,8 +220,8 @@ module _ (segment : Segment) (known : Known) (bucket units : ℕ) (first old : P
                   omega (arith, low, last, most, rises)
 
 -- before the first attempt it has not even looked
-pub begun_not : (known : Known) (bucket units : ℕ) (a : Actor) → is_bound a.hand.place ≡ false → LooksFor known bucket units a a
-begun_not known bucket units a free = record {
+pub begun_not : (entry : Entry) (a : Actor) → is_bound a.hand.place ≡ false → LooksFor entry a a
+begun_not entry a free = record {
   proceeds = record { same = refl; free = free; done = does_not a.done; seen = sees_not a.seen };
   begun = inl (refl, refl);
 }

@@ -1,7 +1,8 @@
--- A call begins with units of a bucket: it may say so, its entry is then next, and once it is counted the call goes on.
-use Rattle.std.proofs.Common.{◌≡◌, ℕ, suc, ◌+◌, ◌-◌, ◌*◌, ◌≤◌, ◌==◌, not, ◌||◌, ◌&&◌, Bool, true, false, true≢false, if◌then◌else◌, pos, List, [], ◌∷◌, ◌++◌, Some, refl, sym, ap, ◌∙◌, subst, arith, filter, inl, inr, ◌⊎◌}
+-- A call begins with an entry: it may say so, its entry is then next, and once it is counted the call goes on.
+use Rattle.std.proofs.Common.{◌≡◌, ℕ, suc, ◌+◌, ◌-◌, ◌*◌, ◌≤◌, ◌==◌, ℤ, map, length, not, ◌||◌, ◌&&◌, Bool, true, false, true≢false, if◌then◌else◌, pos, List, [], ◌∷◌, ◌++◌, Some, refl, sym, ap, ◌∙◌, subst, arith, filter, inl, inr, ◌⊎◌}
 use Rattle.std.specs.Prelude.{unsigned_abs, fold, ◌+ℤ◌}
 use Rattle.std.specs.List.{Contains}
+use Rattle.std.specs.Ordering.{int_eq}
 use Rattle.std.specs.Str.{bytes_eq}
 use Rattle.std.proofs.lemmas.Bool.{eqb-true, ne_eqb}
 use Rattle.segment_machine.specs.declared.entry.Counting.{Counting}
@@ -22,8 +23,8 @@ use Rattle.segment_promises.specs.Follows.{MayTell, noted_by}
 use Rattle.segment_invariant.proofs.Lists.Elements.{all_from, each_of_one}
 use Rattle.segment_invariant.proofs.Lists.Maps.{contains_map}
 use Rattle.live_segment.specs.Onward.{SeesOn}
-use Rattle.live_segment.specs.Telling.{bucket_entry, bucket_notes, opening_notes}
-use Rattle.live_segment.specs.Working.{LooksOn, MayCount, HasNotBegun, Waits, HasBegun, LooksFor, HasCounted, counted_next}
+use Rattle.live_segment.specs.Telling.{bucket_entry, entry_notes, opening_notes}
+use Rattle.live_segment.specs.Working.{CountsAlone, LooksOn, MayCount, HasNotBegun, Waits, HasBegun, LooksFor, HasCounted, counted_next}
 use Rattle.live_segment.proofs.Proceeding.{does_not, grows_by, grows_not, proceeds_on}
 
 -- ---- what is known
@@ -70,49 +71,50 @@ singled a place more free = record {
 -- ---- how it begins
 
 -- the notes of a call that has not begun
-abbrev begun : Known → ℕ → ℕ → List Note
-begun known bucket units = begins known.name units (bucket_entry known bucket units ∷ []) ∷ []
+abbrev begun : Entry → List Note
+begun entry = begins entry.name entry.units (entry ∷ []) ∷ []
 
-pub notes_new : (a : Actor) (known : Known) (bucket units : ℕ) → HasNotBegun a units → bucket_notes a known bucket units ≡ begun known bucket units
-notes_new a known bucket units new = ap (λ (r : List Counting). opening_notes r (bucket_entry known bucket units) units) new.0
+pub notes_new : (a : Actor) (entry : Entry) → HasNotBegun a entry.units → entry_notes a entry ≡ begun entry
+notes_new a entry new = ap (λ (r : List Counting). opening_notes r entry entry.units) new.0
 
 -- what waits has not ended
-open_still : (known : Known) (bucket units : ℕ) → 1 ≤ units → has_ended (fresh (bucket_entry known bucket units)) ≡ false
-open_still known bucket units some =
-    let none : (units == 0) ≡ false = ne_eqb units 0 (λ e. omega (arith, e, some)) in
-    ap (λ (z : Bool). (false || z) && true && (false || z)) none
+open_still : (entry : Entry) → 1 ≤ entry.units → has_ended (fresh entry) ≡ false
+open_still entry some = falls (int_eq entry.amount (pos 0))
+  where
+    none : (entry.units == 0) ≡ false
+    none = ne_eqb entry.units 0 (λ e. omega (arith, e, some))
+
+    falls : (b : Bool) → ((false || (entry.units == 0)) && (false || b) && (false || (entry.units == 0))) ≡ false
+    falls b = ap (λ (z : Bool). (false || z) && (false || b) && (false || z)) none
 
 -- one that waits notes nothing
-notes_waiting : (a : Actor) (known : Known) (bucket units : ℕ) → 1 ≤ units → Waits a known bucket units → bucket_notes a known bucket units ≡ []
-notes_waiting a known bucket units some waits =
-    let e = bucket_entry known bucket units in
-    ap (λ (r : List Counting). opening_notes r e units) waits
-    ∙ ap (λ (b : Bool). if b && true then goes_on e units ∷ [] else []) (open_still known bucket units some)
+notes_waiting : (a : Actor) (entry : Entry) → 1 ≤ entry.units → Waits a entry → entry_notes a entry ≡ []
+notes_waiting a entry some waits =
+    ap (λ (r : List Counting). opening_notes r entry entry.units) waits
+    ∙ ap (λ (b : Bool). if b && true then goes_on entry entry.units ∷ [] else []) (open_still entry some)
 
-within : (known : Known) (bucket units : ℕ) → AreWithin known.name units (bucket_entry known bucket units ∷ [])
-within known bucket units = record {
-  of_name = all_from (λ (e : Entry). e.name ≡ known.name) (entry ∷ []) (each_of_one entry (λ i (e : Entry). e.name ≡ known.name) refl);
-  units = least (bytes_eq known.name known.name);
-  one = omega arith;
-  amount = nothing (bytes_eq known.name known.name);
+within : (entry : Entry) → entry.amount ≡ pos 0 → AreWithin entry.name entry.units (entry ∷ [])
+within entry none = record {
+  of_name = all_from (λ (e : Entry). e.name ≡ entry.name) (entry ∷ []) (each_of_one entry (λ i (e : Entry). e.name ≡ entry.name) refl);
+  units = least (bytes_eq entry.name entry.name);
+  one = subst (λ (z : ℤ). length (if not (int_eq z (pos 0)) then entry ∷ [] else []) ≤ 1) (sym none) (omega arith);
+  amount = subst (λ (z : ℤ). unsigned_abs (fold ◌+ℤ◌ (pos 0) ((if bytes_eq entry.name entry.name then z else pos 0) ∷ [])) ≤ 2147483648 * entry.units) (sym none)
+      (nothing (bytes_eq entry.name entry.name));
 }
   where
-    entry : Entry
-    entry = bucket_entry known bucket units
-
-    least : (b : Bool) → 0 + (if b then units else 0) ≤ units
+    least : (b : Bool) → 0 + (if b then entry.units else 0) ≤ entry.units
     least true = omega arith
     least false = omega arith
 
-    nothing : (b : Bool) → unsigned_abs (fold ◌+ℤ◌ (pos 0) ((if b then pos 0 else pos 0) ∷ [])) ≤ 2147483648 * units
+    nothing : (b : Bool) → unsigned_abs (fold ◌+ℤ◌ (pos 0) ((if b then pos 0 else pos 0) ∷ [])) ≤ 2147483648 * entry.units
     nothing true = omega arith
     nothing false = omega arith
 
-pub may_tell : (a : Actor) (known : Known) (bucket units : ℕ) → MayCount a known bucket units → MayTell a (bucket_notes a known bucket units)
-may_tell a known bucket units may = by may.begun
+pub may_tell : (a : Actor) (known : Known) (entry : Entry) → CountsAlone a known entry → MayTell a (entry_notes a entry)
+may_tell a known entry may = by may.begun
   where
-    by : HasNotBegun a units ⊎ Waits a known bucket units → MayTell a (bucket_notes a known bucket units)
-    by (inl new) = subst (MayTell a) (sym (notes_new a known bucket units new)) (
+    by : HasNotBegun a entry.units ⊎ Waits a entry → MayTell a (entry_notes a entry)
+    by (inl new) = subst (MayTell a) (sym (notes_new a entry new)) (
       (
         λ e. true≢false (sym (ap is_bound e) ∙ may.free),
         may.recorder,
@@ -120,141 +122,143 @@ may_tell a known bucket units may = by may.begun
         new.1,
         may.takes,
         new.2,
-        contains_map (λ (k : Known). k.name) a.answers.names known (known_there a.answers.names known.reference known may.alone).0,
-        within known bucket units,
+        subst (Contains (map (λ (k : Known). k.name) a.answers.names)) may.named
+            (contains_map (λ (k : Known). k.name) a.answers.names known (known_there a.answers.names known.reference known may.alone).0),
+        within entry may.amount,
       ),
       refl,
     )
-    by (inr waits) = subst (MayTell a) (sym (notes_waiting a known bucket units may.some waits)) refl
+    by (inr waits) = subst (MayTell a) (sym (notes_waiting a entry may.some waits)) refl
 
 -- the entry then waits
-pub then_waits : (a : Actor) (known : Known) (bucket units : ℕ) → MayCount a known bucket units
-    → Waits (noted_by a (bucket_notes a known bucket units)) known bucket units
-then_waits a known bucket units may = by may.begun
+pub then_waits : (a : Actor) (known : Known) (entry : Entry) → CountsAlone a known entry → Waits (noted_by a (entry_notes a entry)) entry
+then_waits a known entry may = by may.begun
   where
-    by : HasNotBegun a units ⊎ Waits a known bucket units → Waits (noted_by a (bucket_notes a known bucket units)) known bucket units
-    by (inl new) = ap (λ (ns : List Note). (noted_by a ns).entries.running) (notes_new a known bucket units new)
-    by (inr waits) = ap (λ (ns : List Note). (noted_by a ns).entries.running) (notes_waiting a known bucket units may.some waits) ∙ waits
+    by : HasNotBegun a entry.units ⊎ Waits a entry → Waits (noted_by a (entry_notes a entry)) entry
+    by (inl new) = ap (λ (ns : List Note). (noted_by a ns).entries.running) (notes_new a entry new)
+    by (inr waits) = ap (λ (ns : List Note). (noted_by a ns).entries.running) (notes_waiting a entry may.some waits) ∙ waits
 
 -- and is next
-pub is_next : (a : Actor) (known : Known) (bucket units : ℕ) → MayCount a known bucket units
-    → IsNext (noted_by a (bucket_notes a known bucket units)) (fresh (bucket_entry known bucket units))
-is_next a known bucket units may =
-    let c = fresh (bucket_entry known bucket units) in (
+pub is_next : (a : Actor) (known : Known) (entry : Entry) → CountsAlone a known entry
+    → IsNext (noted_by a (entry_notes a entry)) (fresh entry)
+is_next a known entry may =
+    let c = fresh entry in (
       [],
-      ap (filter (λ (x : Counting). not (has_ended x))) (then_waits a known bucket units may)
-          ∙ ap (λ (b : Bool). if not b then c ∷ [] else []) (open_still known bucket units may.some),
+      ap (filter (λ (x : Counting). not (has_ended x))) (then_waits a known entry may)
+          ∙ ap (λ (b : Bool). if not b then c ∷ [] else []) (open_still entry may.some),
     )
 
 -- nothing else changes
-pub only_begun : (a : Actor) (known : Known) (bucket units : ℕ) → MayCount a known bucket units
-    → noted_by a (bucket_notes a known bucket units)
-    ≡ (let x = noted_by a (bucket_notes a known bucket units) in record a { units = x.units; entries = x.entries })
-only_begun a known bucket units may = by may.begun
+pub only_begun : (a : Actor) (known : Known) (entry : Entry) → CountsAlone a known entry
+    → noted_by a (entry_notes a entry)
+    ≡ (let x = noted_by a (entry_notes a entry) in record a { units = x.units; entries = x.entries })
+only_begun a known entry may = by may.begun
   where
     Same : List Note → Type 0
     Same ns = noted_by a ns ≡ record a { units = (noted_by a ns).units; entries = (noted_by a ns).entries }
 
-    by : HasNotBegun a units ⊎ Waits a known bucket units → Same (bucket_notes a known bucket units)
-    by (inl new) = subst Same (sym (notes_new a known bucket units new)) refl
-    by (inr waits) = subst Same (sym (notes_waiting a known bucket units may.some waits)) refl
+    by : HasNotBegun a entry.units ⊎ Waits a entry → Same (entry_notes a entry)
+    by (inl new) = subst Same (sym (notes_new a entry new)) refl
+    by (inr waits) = subst Same (sym (notes_waiting a entry may.some waits)) refl
 
 pub knows : (a : Actor) (known : Known) (bucket units : ℕ) → MayCount a known bucket units → Buckets a known.reference known
-knows a known bucket units may = ((known_there a.answers.names known.reference known may.alone).0, refl, may.bucketed)
+knows a known bucket units may = ((known_there a.answers.names known.reference known may.counts.alone).0, refl, may.bucketed)
 
 -- ---- while it waits
 
-pub looks_for : (known : Known) (bucket units : ℕ) (a b : Actor) → LooksOn a b → LooksFor known bucket units a b
-looks_for known bucket units a b looks = record { proceeds = looks.proceeds; begun = inl (looks.units, looks.entries) }
+pub looks_for : (entry : Entry) (a b : Actor) → LooksOn a b → LooksFor entry a b
+looks_for entry a b looks = record { proceeds = looks.proceeds; begun = inl (looks.units, looks.entries) }
 
 -- it may count them still
-pub may_still : (a b : Actor) (known : Known) (bucket units : ℕ) → MayCount a known bucket units → LooksFor known bucket units a b
-    → MayCount b known bucket units
-may_still a b known bucket units may looks =
+pub may_still : (a b : Actor) (known : Known) (entry : Entry) → CountsAlone a known entry → LooksFor entry a b
+    → CountsAlone b known entry
+may_still a b known entry may looks =
     let same = looks.proceeds.same in record {
       recorder = ap (λ (x : Actor). is_opener x.role) same ∙ may.recorder;
       free = looks.proceeds.free;
       takes = ap (λ (x : Actor). x.deltas.taking) same ∙ may.takes;
       begun = by looks.begun may.begun;
       alone = ap (λ (x : Actor). known_at x.answers.names known.reference) same ∙ may.alone;
-      bucketed = may.bucketed;
+      named = may.named;
       some = may.some;
+      amount = may.amount;
     }
   where
-    by : ((b.units ≡ a.units) × (b.entries ≡ a.entries)) ⊎ HasBegun known bucket units a b → HasNotBegun a units ⊎ Waits a known bucket units
-        → HasNotBegun b units ⊎ Waits b known bucket units
+    by : ((b.units ≡ a.units) × (b.entries ≡ a.entries)) ⊎ HasBegun entry a b → HasNotBegun a entry.units ⊎ Waits a entry
+        → HasNotBegun b entry.units ⊎ Waits b entry
     by (inl (same_units, same_entries)) (inl new) =
         inl (
           ap (λ (e : Entries). e.running) same_entries ∙ new.0,
           ap (λ (u : Units). u.held) same_units ∙ new.1,
-          subst (λ (u : Units). units ≤ u.share) (sym same_units) new.2,
+          subst (λ (u : Units). entry.units ≤ u.share) (sym same_units) new.2,
         )
     by (inl (same_units, same_entries)) (inr waits) = inr (ap (λ (e : Entries). e.running) same_entries ∙ waits)
-    by (inr (units_are, entries_are)) begun = inr (ap (λ (e : Entries). e.running) entries_are ∙ then_waits a known bucket units may)
+    by (inr (units_are, entries_are)) begun = inr (ap (λ (e : Entries). e.running) entries_are ∙ then_waits a known entry may)
+
+pub may_yet : (a b : Actor) (known : Known) (bucket units : ℕ) → MayCount a known bucket units → LooksFor (bucket_entry known bucket units) a b
+    → MayCount b known bucket units
+may_yet a b known bucket units may looks = record { counts = may_still a b known (bucket_entry known bucket units) may.counts looks; bucketed = may.bucketed }
 
 -- it begins only once
-pub begins_once : (a b : Actor) (known : Known) (bucket units : ℕ) → MayCount a known bucket units → LooksFor known bucket units a b
-    → let first = noted_by a (bucket_notes a known bucket units) in let next = noted_by b (bucket_notes b known bucket units) in
+pub begins_once : (a b : Actor) (known : Known) (entry : Entry) → CountsAlone a known entry → LooksFor entry a b
+    → let first = noted_by a (entry_notes a entry) in let next = noted_by b (entry_notes b entry) in
     (next.units ≡ first.units) × (next.entries ≡ first.entries)
-begins_once a b known bucket units may looks = by looks.begun may.begun
+begins_once a b known entry may looks = by looks.begun may.begun
   where
     notes : Actor → List Note
-    notes x = bucket_notes x known bucket units
+    notes x = entry_notes x entry
 
-    entry : Counting
-    entry = fresh (bucket_entry known bucket units)
-
-    waiting : Waits b known bucket units → b.units ≡ (noted_by a (notes a)).units → b.entries ≡ (noted_by a (notes a)).entries
+    waiting : Waits b entry → b.units ≡ (noted_by a (notes a)).units → b.entries ≡ (noted_by a (notes a)).entries
         → ((noted_by b (notes b)).units ≡ (noted_by a (notes a)).units) × ((noted_by b (notes b)).entries ≡ (noted_by a (notes a)).entries)
     waiting waits units_are entries_are =
-        let none = notes_waiting b known bucket units may.some waits in
+        let none = notes_waiting b entry may.some waits in
         (ap (λ (ns : List Note). (noted_by b ns).units) none ∙ units_are, ap (λ (ns : List Note). (noted_by b ns).entries) none ∙ entries_are)
 
-    by : ((b.units ≡ a.units) × (b.entries ≡ a.entries)) ⊎ HasBegun known bucket units a b → HasNotBegun a units ⊎ Waits a known bucket units
+    by : ((b.units ≡ a.units) × (b.entries ≡ a.entries)) ⊎ HasBegun entry a b → HasNotBegun a entry.units ⊎ Waits a entry
         → ((noted_by b (notes b)).units ≡ (noted_by a (notes a)).units) × ((noted_by b (notes b)).entries ≡ (noted_by a (notes a)).entries)
     by (inl (same_units, same_entries)) (inl new) =
-        let mine = notes_new a known bucket units new in
-        let again : notes b ≡ begun known bucket units =
-        ap (λ (e : Entries). opening_notes e.running (bucket_entry known bucket units) units) same_entries ∙ mine in (
+        let mine = notes_new a entry new in
+        let again : notes b ≡ begun entry =
+        ap (λ (e : Entries). opening_notes e.running entry entry.units) same_entries ∙ mine in (
           ap (λ (ns : List Note). (noted_by b ns).units) again
-              ∙ (ap (λ (u : Units). record u { share = u.share - units; held = record { name = known.name; units = units } ∷ [] }) same_units
+              ∙ (ap (λ (u : Units). record u { share = u.share - entry.units; held = record { name = entry.name; units = entry.units } ∷ [] }) same_units
               ∙ sym (ap (λ (ns : List Note). (noted_by a ns).units) mine)),
           ap (λ (ns : List Note). (noted_by b ns).entries) again
-              ∙ (ap (λ (e : Entries). record e { running = entry ∷ [] }) same_entries ∙ sym (ap (λ (ns : List Note). (noted_by a ns).entries) mine)),
+              ∙ (ap (λ (e : Entries). record e { running = fresh entry ∷ [] }) same_entries ∙ sym (ap (λ (ns : List Note). (noted_by a ns).entries) mine)),
         )
     by (inl (same_units, same_entries)) (inr waits) =
-        let mine = notes_waiting a known bucket units may.some waits in
+        let mine = notes_waiting a entry may.some waits in
         waiting (ap (λ (e : Entries). e.running) same_entries ∙ waits)
         (same_units ∙ sym (ap (λ (ns : List Note). (noted_by a ns).units) mine))
         (same_entries ∙ sym (ap (λ (ns : List Note). (noted_by a ns).entries) mine))
     by (inr (units_are, entries_are)) begun =
-        waiting (ap (λ (e : Entries). e.running) entries_are ∙ then_waits a known bucket units may) units_are entries_are
+        waiting (ap (λ (e : Entries). e.running) entries_are ∙ then_waits a known entry may) units_are entries_are
 
-pub looks_for_on : (a b c : Actor) (known : Known) (bucket units : ℕ) → MayCount a known bucket units → LooksFor known bucket units a b
-    → LooksFor known bucket units b c → LooksFor known bucket units a c
-looks_for_on a b c known bucket units may first second =
+pub looks_for_on : (a b c : Actor) (known : Known) (entry : Entry) → CountsAlone a known entry → LooksFor entry a b
+    → LooksFor entry b c → LooksFor entry a c
+looks_for_on a b c known entry may first second =
     record { proceeds = proceeds_on a b c first.proceeds second.proceeds; begun = by first.begun second.begun }
   where
-    by : ((b.units ≡ a.units) × (b.entries ≡ a.entries)) ⊎ HasBegun known bucket units a b
-        → ((c.units ≡ b.units) × (c.entries ≡ b.entries)) ⊎ HasBegun known bucket units b c
-        → ((c.units ≡ a.units) × (c.entries ≡ a.entries)) ⊎ HasBegun known bucket units a c
+    by : ((b.units ≡ a.units) × (b.entries ≡ a.entries)) ⊎ HasBegun entry a b
+        → ((c.units ≡ b.units) × (c.entries ≡ b.entries)) ⊎ HasBegun entry b c
+        → ((c.units ≡ a.units) × (c.entries ≡ a.entries)) ⊎ HasBegun entry a c
     by (inl was) (inl is) = inl (is.0 ∙ was.0, is.1 ∙ was.1)
     by (inr was) (inl is) = inr (is.0 ∙ was.0, is.1 ∙ was.1)
-    by was (inr is) = let once = begins_once a b known bucket units may first in inr (is.0 ∙ once.0, is.1 ∙ once.1)
+    by was (inr is) = let once = begins_once a b known entry may first in inr (is.0 ∙ once.0, is.1 ∙ once.1)
 
 -- ---- an exchange
 
 -- one that comes too late has begun the call, and it has seen a single word
-pub late : (a b : Actor) (known : Known) (bucket units : ℕ) (hand : Hand) (more : List Sighting) → MayCount a known bucket units
+pub late : (a b : Actor) (known : Known) (entry : Entry) (hand : Hand) (more : List Sighting) → CountsAlone a known entry
     → is_bound hand.place ≡ false
-    → b ≡ (let x = noted_by a (bucket_notes a known bucket units) in record x { hand = hand; seen = record x.seen { singles = x.seen.singles ++ more } })
-    → LooksFor known bucket units a b × (b.done ≡ a.done) × (b.seen.counts ≡ a.seen.counts) × (b.seen.singles ≡ a.seen.singles ++ more)
-late a b known bucket units hand more may free is =
-    let x = noted_by a (bucket_notes a known bucket units) in
-    let only = only_begun a known bucket units may in
+    → b ≡ (let x = noted_by a (entry_notes a entry) in record x { hand = hand; seen = record x.seen { singles = x.seen.singles ++ more } })
+    → LooksFor entry a b × (b.done ≡ a.done) × (b.seen.counts ≡ a.seen.counts) × (b.seen.singles ≡ a.seen.singles ++ more)
+late a b known entry hand more may free is =
+    let x = noted_by a (entry_notes a entry) in
+    let only = only_begun a known entry may in
     let all : b ≡ record a { units = x.units; entries = x.entries; hand = hand; seen = record a.seen { singles = a.seen.singles ++ more } } =
     is ∙ ap (λ (y : Actor). record y { hand = hand; seen = record y.seen { singles = y.seen.singles ++ more } }) only in (
-      subst (LooksFor known bucket units a) (sym all) (record {
+      subst (LooksFor entry a) (sym all) (record {
         proceeds = record { same = refl; free = free; done = does_not a.done; seen = sees_single a.seen more };
         begun = inr (refl, refl);
       }),
@@ -265,16 +269,16 @@ late a b known bucket units hand more may free is =
 
 -- ---- once it is counted
 
-pub counted : (a b : Actor) (known : Known) (bucket units : ℕ) (hand : Hand) (seen : Seen) → MayCount a known bucket units
+pub counted : (a b : Actor) (known : Known) (entry : Entry) (hand : Hand) (seen : Seen) → CountsAlone a known entry
     → is_bound hand.place ≡ false → SeesOn a.seen seen
-    → b ≡ (let x = noted_by a (bucket_notes a known bucket units) in record x { hand = hand; entries = counted_next x.entries; seen = seen })
-    → HasCounted known bucket units a b
-counted a b known bucket units hand seen may free sees is =
-    let x = noted_by a (bucket_notes a known bucket units) in
-    let only = only_begun a known bucket units may in
+    → b ≡ (let x = noted_by a (entry_notes a entry) in record x { hand = hand; entries = counted_next x.entries; seen = seen })
+    → HasCounted entry a b
+counted a b known entry hand seen may free sees is =
+    let x = noted_by a (entry_notes a entry) in
+    let only = only_begun a known entry may in
     let all : b ≡ record a { units = x.units; entries = counted_next x.entries; hand = hand; seen = seen } =
     is ∙ ap (λ (y : Actor). record y { hand = hand; entries = counted_next x.entries; seen = seen }) only in
-    subst (HasCounted known bucket units a) (sym all) (record {
+    subst (HasCounted entry a) (sym all) (record {
       proceeds = record { same = refl; free = free; done = does_not a.done; seen = sees };
       units_are = refl;
       entries_are = refl;
@@ -282,10 +286,10 @@ counted a b known bucket units hand seen may free sees is =
     })
 
 -- it looked before
-pub counted_behind : (a b c : Actor) (known : Known) (bucket units : ℕ) → MayCount a known bucket units → LooksFor known bucket units a b
-    → b.done.filled ≡ a.done.filled → HasCounted known bucket units b c → HasCounted known bucket units a c
-counted_behind a b c known bucket units may looks filled has =
-    let once = begins_once a b known bucket units may looks in record {
+pub counted_behind : (a b c : Actor) (known : Known) (entry : Entry) → CountsAlone a known entry → LooksFor entry a b
+    → b.done.filled ≡ a.done.filled → HasCounted entry b c → HasCounted entry a c
+counted_behind a b c known entry may looks filled has =
+    let once = begins_once a b known entry may looks in record {
       proceeds = proceeds_on a b c looks.proceeds has.proceeds;
       units_are = has.units_are ∙ once.0;
       entries_are = has.entries_are ∙ ap counted_next once.1;

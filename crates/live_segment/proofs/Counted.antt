@@ -1,8 +1,8 @@
 -- Units of a bucket are counted in the counts, once these are in use: what a call that may count them knows behind each of its parts.
-use Rattle.std.proofs.Common.{◌≡◌, ◌≢◌, ◌⊎◌, ℕ, ◌+◌, ◌<◌, ◌||◌, not, Bool, true, false, if◌then◌else◌, List, [], ◌∷◌, ◌++◌, filter, length, take, drop, All, Some, inl, inr, refl, sym, ap, ◌∙◌, subst, arith}
+use Rattle.std.proofs.Common.{◌≡◌, ◌≢◌, ◌⊎◌, ℕ, ◌+◌, ◌<◌, ◌||◌, not, Bool, false, if◌then◌else◌, List, [], ◌∷◌, ◌++◌, filter, length, drop, Some, inl, inr, refl, sym, ap, ◌∙◌, subst, arith}
 use Rattle.std.specs.List.{Contains}
 use Rattle.std.proofs.lemmas.Bool.{ne_eqb}
-use Rattle.std.proofs.lemmas.List.Elements.{All-nil, All-cons, Contains-append_left}
+use Rattle.std.proofs.lemmas.List.Elements.{Contains-append_left}
 use Rattle.std.proofs.Math.Seq.{drop-append_seam}
 use Rattle.std.proofs.lemmas.List.{append_assoc}
 use Rattle.bucket_ranges.specs.Spec.{buckets_of}
@@ -11,32 +11,29 @@ use Rattle.segment_machine.specs.declared.actor.Known.{Known}
 use Rattle.segment_machine.specs.declared.entry.Counting.{Counting}
 use Rattle.segment_machine.specs.declared.entry.Entry.{Entry}
 use Rattle.segment_machine.specs.declared.place.Look.{Look}
-use Rattle.segment_machine.specs.declared.place.Place.TheVariants.{Looking, Idle}
-use Rattle.segment_machine.specs.declared.seen.Seen.{Seen}
+use Rattle.segment_machine.specs.declared.place.Place.TheVariants.{Looking}
 use Rattle.segment_machine.specs.declared.seen.Sighting.{Sighting}
 use Rattle.segment_machine.specs.Actor.{Buckets}
-use Rattle.segment_machine.specs.Calls.{IsNext, sight, sight_counts}
+use Rattle.segment_machine.specs.Calls.{IsNext, sight_counts}
 use Rattle.segment_machine.specs.Counting.{add_count, load_counts}
 use Rattle.segment_machine.specs.Entry.{fresh, has_ended, is_counted}
 use Rattle.segment_machine.specs.Event.{counting_event, next}
-use Rattle.segment_machine.specs.Note.{is_untouched}
 use Rattle.segment_promises.specs.Follows.{noted_by}
 use Rattle.hist_core.specs.declared.refusal.Refusal.{Refusal}
 use Rattle.live_segment.specs.declared.counting.Packing.TheVariants.{Off, Passed}
 use Rattle.live_segment.specs.Mounting.{HasDisabled, HasMounted, HasNotMounted, MayMount, StandsOff}
-use Rattle.live_segment.specs.Onward.{SeesOn}
-use Rattle.live_segment.specs.Refusing.{IsTurnedAway, MayEnd, MayGiveUp, how_many_ended}
+use Rattle.live_segment.specs.Refusing.{IsTurnedAway, MayGiveUp}
 use Rattle.live_segment.specs.Steps.{IsSame, Pass, Stepped}
 use Rattle.live_segment.specs.Rule.{IsOf}
 use Rattle.live_segment.specs.declared.segment.Segment.{Segment}
 use Rattle.segment_image.specs.Shape.{Dimensions}
 use Rattle.live_segment.specs.Telling.{HasAddedTo, MayAddTo, Noted, bucket_entry, bucket_notes}
 use Rattle.live_segment.specs.Working.{HasCounted, HasNotBegun, LooksFor, LooksOn, MayCount, Tries, Waits}
-use Rattle.live_segment.proofs.Beginning.{counted, counted_behind, is_next, knows, looks_for, looks_for_on, may_still, may_tell, only_begun}
-use Rattle.live_segment.proofs.Finished.{still_open}
+use Rattle.live_segment.proofs.Beginning.{counted_behind, knows, looks_for, looks_for_on, may_yet, may_tell, only_begun}
+use Rattle.live_segment.proofs.CountsAlone.{counted_at, counts_next, goes, may_give_up}
 use Rattle.live_segment.proofs.Mounted.{with_words}
-use Rattle.live_segment.proofs.Proceeding.{grows_by, grows_not, looks_again}
-use Rattle.live_segment.proofs.Refusing.{may_at_rest, only_given_up}
+use Rattle.live_segment.proofs.Proceeding.{looks_again}
+use Rattle.live_segment.proofs.Refusing.{only_given_up}
 
 -- ---- what a call may do that may count units of a bucket
 
@@ -47,57 +44,31 @@ module _ (a : Actor) (known : Known) (bucket units : ℕ) (may : MayCount a know
   abbrev one : Counting
   one = fresh entry
 
-  goes : has_ended one ≡ false
-  goes = still_open one refl may.some
-
   -- it may need counts
   pub may_mount : MayMount a known
   may_mount = record {
-    recorder = may.recorder;
-    free = may.free;
+    recorder = may.counts.recorder;
+    free = may.counts.free;
     knows = knows a known bucket units may;
-    alone = may.alone;
-    counts = (may.takes, λ c next. by may.begun c next);
+    alone = may.counts.alone;
+    counts = (may.counts.takes, λ c next. by may.counts.begun c next);
   }
     where
-      by : HasNotBegun a units ⊎ Waits a known bucket units → (c : Counting) → IsNext a c → (is_counted c ≡ false) × (c.entry.name ≡ known.name)
+      by : HasNotBegun a units ⊎ Waits a entry → (c : Counting) → IsNext a c → (is_counted c ≡ false) × (c.entry.name ≡ known.name)
       by (inl new) c (rest, is) = absurd (cc (sym is ∙ ap (filter (λ (x : Counting). not (has_ended x))) new.0))
       by (inr waits) c (rest, is) =
           let both : c ∷ rest ≡ one ∷ [] =
-          sym is ∙ (ap (filter (λ (x : Counting). not (has_ended x))) waits ∙ ap (λ (b : Bool). if not b then one ∷ [] else []) goes) in
+          sym is ∙ (ap (filter (λ (x : Counting). not (has_ended x))) waits ∙ ap (λ (b : Bool). if not b then one ∷ [] else []) (goes a known entry may.counts)) in
           let same : c ≡ one = cc in (
-            ap is_counted same ∙ ap (λ (b : Bool). false || b) (ne_eqb units 0 (let some_units = may.some in λ e. omega (arith, e, some_units))),
+            ap is_counted same ∙ ap (λ (b : Bool). false || b) (ne_eqb units 0 (let some_units = may.counts.some in λ e. omega (arith, e, some_units))),
             ap (λ (x : Counting). x.entry.name) same,
           )
 
   -- and may end where it gets none
-  pub may_give_up : MayGiveUp a
-  may_give_up = by may.begun
-    where
-      by : HasNotBegun a units ⊎ Waits a known bucket units → MayGiveUp a
-      by (inl new) = may_at_rest a new.0
-      by (inr waits) =
-          let none : how_many_ended (one ∷ []) ≡ 0 = ap (λ (b : Bool). length (if b then one ∷ [] else [])) goes in
-          subst MayEnd (sym waits) (record {
-            ended = subst (λ (n : ℕ). All (λ c. has_ended c ≡ true) (take n (one ∷ []))) (sym none) (All-nil (λ c. has_ended c ≡ true));
-            unsummed = subst (λ (n : ℕ). All (λ c. c.summed ≡ false) (take n (one ∷ []))) (sym none) (All-nil (λ c. c.summed ≡ false));
-            untouched = subst (λ (n : ℕ). All (λ c. is_untouched c ≡ true) (drop n (one ∷ []))) (sym none)
-                (All-cons (λ c. is_untouched c ≡ true) one [] refl (All-nil (λ c. is_untouched c ≡ true)));
-          })
+  pub may_do_without : MayGiveUp a
+  may_do_without = may_give_up a known entry may.counts
 
 -- ---- a count
-
--- it has seen a count more
-sees_count : (a : Seen) (more : List Sighting) → SeesOn a (record a { counts = a.counts ++ more })
-sees_count a more = record {
-  free = omega arith;
-  chain = grows_not a.chain;
-  tails = grows_not a.tails;
-  singles = grows_not a.singles;
-  counts = grows_by a.counts more;
-  words = grows_not a.words;
-  cursors = grows_not a.cursors;
-}
 
 -- the units are added to the count of their bucket
 module _ (known : Known) (bucket units counts : ℕ) (seat : Pass) (may : MayCount seat.me.0 known bucket units) (off : StandsOff seat.me.0 known counts)
@@ -115,7 +86,7 @@ module _ (known : Known) (bucket units counts : ℕ) (seat : Pass) (may : MayCou
   look = record { histogram = known.reference; single = Some off.0.0; counts = counts }
 
   only : x ≡ record a { units = x.units; entries = x.entries }
-  only = only_begun a known bucket units may
+  only = only_begun a known (bucket_entry known bucket units) may.counts
 
   pub count_within : at < a.segment.shape.size
   count_within = let most = off.1.1 in omega (arith, most, below)
@@ -123,14 +94,14 @@ module _ (known : Known) (bucket units counts : ℕ) (seat : Pass) (may : MayCou
   pub may_add : MayAddTo seat at units
   may_add = (
     record { known = known; counts = counts; bucket = bucket; units = units },
-    ((look, off.0.1, refl, refl), may.alone, refl, refl),
+    ((look, off.0.1, refl, refl), may.counts.alone, refl, refl),
     record {
-      recorder = may.recorder;
-      may = may_tell a known bucket units may;
+      recorder = may.counts.recorder;
+      may = may_tell a known (bucket_entry known bucket units) may.counts;
       ready = (
         fresh (bucket_entry known bucket units),
         known,
-        (is_next a known bucket units may, ap (λ (z : Bool). false || z) (ne_eqb units 0 (let some_units = may.some in λ e. omega (arith, e, some_units)))),
+        counts_next a known (bucket_entry known bucket units) may.counts,
         refl,
         refl,
         inl (
@@ -152,22 +123,17 @@ module _ (known : Known) (bucket units counts : ℕ) (seat : Pass) (may : MayCou
 
   has_told : (found : ℕ) (after : Pass) → HasAddedTo seat at units found after
       → Noted seat (bucket_notes a known bucket units) (counting_event (add_count at units)) [] found after
-  has_told found after has = has (record { known = known; counts = counts; bucket = bucket; units = units }) ((look, off.0.1, refl, refl), may.alone, refl, refl)
+  has_told found after has = has (record { known = known; counts = counts; bucket = bucket; units = units }) ((look, off.0.1, refl, refl), may.counts.alone, refl, refl)
 
-  pub adds : (found : ℕ) (after : Pass) → HasAddedTo seat at units found after → HasCounted known bucket units a after.me.0
-  adds found after has =
-      let told = has_told found after has in
-      counted a after.me.0 known bucket units (record x.hand { place = Idle }) (record x.seen { counts = x.seen.counts ++ sight at (found + units) })
-      may refl
-      (subst (λ (y : Actor). SeesOn a.seen (record y.seen { counts = y.seen.counts ++ sight at (found + units) })) (sym only) (sees_count a.seen (sight at (found + units))))
-      told.view
+  pub adds : (found : ℕ) (after : Pass) → HasAddedTo seat at units found after → HasCounted (bucket_entry known bucket units) a after.me.0
+  adds found after has = counted_at known (bucket_entry known bucket units) at found seat after may.counts (has_told found after has)
 
 -- it had looked before
 module _ (segment : Segment) (known : Known) (bucket units counts : ℕ) (old seat : Pass) (may : MayCount old.me.0 known bucket units)
-    (looks : LooksFor known bucket units old.me.0 seat.me.0) (filled : seat.me.0.done.filled ≡ old.me.0.done.filled)
+    (looks : LooksFor (bucket_entry known bucket units) old.me.0 seat.me.0) (filled : seat.me.0.done.filled ≡ old.me.0.done.filled)
     (off : StandsOff seat.me.0 known counts) (below : bucket < buckets_of known.spec) where
   may_here : MayCount seat.me.0 known bucket units
-  may_here = may_still old.me.0 seat.me.0 known bucket units may looks
+  may_here = may_yet old.me.0 seat.me.0 known bucket units may looks
 
   pub room_here : IsOf segment.setting old.me.0 → counts + 4 + bucket < segment.setting.shape.size
   room_here of = subst (λ (shape : Dimensions). counts + 4 + bucket < shape.size) (ap (λ (b : Actor). b.segment.shape) looks.proceeds.same ∙ of.shape)
@@ -182,20 +148,20 @@ module _ (segment : Segment) (known : Known) (bucket units counts : ℕ) (old se
         let told = has_told known bucket units counts seat may_here off below found after has in
         (told.same.0 ∙ same.0, told.same.1 ∙ same.1, told.same.2 ∙ same.2)
 
-    pub counted_here : HasCounted known bucket units old.me.0 after.me.0
+    pub counted_here : HasCounted (bucket_entry known bucket units) old.me.0 after.me.0
     counted_here =
-        counted_behind old.me.0 seat.me.0 after.me.0 known bucket units may looks filled (adds known bucket units counts seat may_here off below found after has)
+        counted_behind old.me.0 seat.me.0 after.me.0 known (bucket_entry known bucket units) may.counts looks filled (adds known bucket units counts seat may_here off below found after has)
 
 -- ---- behind an attempt to pack
 
 module _ (known : Known) (bucket units : ℕ) (old mid : Pass) (may : MayCount old.me.0 known bucket units) where
   -- the counts are in use: the reference is loaded
   module _ (tried : Tries known bucket units old.me.0 Off mid.me.0) where
-    looks_off : LooksFor known bucket units old.me.0 mid.me.0
+    looks_off : LooksFor (bucket_entry known bucket units) old.me.0 mid.me.0
     looks_off = tried.0
 
     pub counts_off : MayCount mid.me.0 known bucket units
-    counts_off = may_still old.me.0 mid.me.0 known bucket units may looks_off
+    counts_off = may_yet old.me.0 mid.me.0 known bucket units may looks_off
 
     module _ (found : ℕ) (seat : Pass) (step : Stepped mid (counting_event (load_counts known.reference)) found seat) where
       pub stands_off : StandsOff seat.me.0 known found
@@ -208,9 +174,9 @@ module _ (known : Known) (bucket units : ℕ) (old mid : Pass) (may : MayCount o
             (there, step.learned.0 known (knows mid.me.0 known bucket units counts_off) there),
           )
 
-      pub looks_off_on : LooksFor known bucket units old.me.0 seat.me.0
-      looks_off_on = looks_for_on old.me.0 mid.me.0 seat.me.0 known bucket units may looks_off
-          (looks_for known bucket units mid.me.0 seat.me.0 (subst (LooksOn mid.me.0) (sym step.view)
+      pub looks_off_on : LooksFor (bucket_entry known bucket units) old.me.0 seat.me.0
+      looks_off_on = looks_for_on old.me.0 mid.me.0 seat.me.0 known (bucket_entry known bucket units) may.counts looks_off
+          (looks_for (bucket_entry known bucket units) mid.me.0 seat.me.0 (subst (LooksOn mid.me.0) (sym step.view)
           (with_words mid.me.0 (next mid.me.0 (counting_event (load_counts known.reference)) found).hand (sight_counts known.reference found) refl)))
 
       pub filled_off : seat.me.0.done.filled ≡ old.me.0.done.filled
@@ -218,19 +184,19 @@ module _ (known : Known) (bucket units : ℕ) (old mid : Pass) (may : MayCount o
 
   -- the single word cannot take them: counts are found or made
   module _ (tried : Tries known bucket units old.me.0 Passed mid.me.0) where
-    looks_passed : LooksFor known bucket units old.me.0 mid.me.0
+    looks_passed : LooksFor (bucket_entry known bucket units) old.me.0 mid.me.0
     looks_passed = tried.0
 
     pub may_passed : MayCount mid.me.0 known bucket units
-    may_passed = may_still old.me.0 mid.me.0 known bucket units may looks_passed
+    may_passed = may_yet old.me.0 mid.me.0 known bucket units may looks_passed
 
     -- they are in use then
     module _ (counts : ℕ) (with_counts seat : Pass) (mounted : HasMounted known mid.me.0 counts with_counts.me.0)
         (disabled : HasDisabled known counts with_counts.me.0 seat.me.0) where
-      pub looks_passed_on : LooksFor known bucket units old.me.0 seat.me.0
+      pub looks_passed_on : LooksFor (bucket_entry known bucket units) old.me.0 seat.me.0
       looks_passed_on =
-          let first = looks_for_on old.me.0 mid.me.0 with_counts.me.0 known bucket units may looks_passed (looks_for known bucket units mid.me.0 with_counts.me.0 mounted.looks) in
-          looks_for_on old.me.0 with_counts.me.0 seat.me.0 known bucket units may first (looks_for known bucket units with_counts.me.0 seat.me.0 disabled.looks)
+          let first = looks_for_on old.me.0 mid.me.0 with_counts.me.0 known (bucket_entry known bucket units) may.counts looks_passed (looks_for (bucket_entry known bucket units) mid.me.0 with_counts.me.0 mounted.looks) in
+          looks_for_on old.me.0 with_counts.me.0 seat.me.0 known (bucket_entry known bucket units) may.counts first (looks_for (bucket_entry known bucket units) with_counts.me.0 seat.me.0 disabled.looks)
 
       pub filled_passed : seat.me.0.done.filled ≡ old.me.0.done.filled
       filled_passed = ap (λ d. d.filled) disabled.done ∙ (mounted.filled ∙ ap (λ d. d.filled) tried.1)
@@ -249,7 +215,7 @@ module _ (known : Known) (bucket units : ℕ) (old mid : Pass) (may : MayCount o
         subst (λ (l : List Sighting). Contains l (record { at = known.reference + 9; word = word })) (ap (drop (length begin)) grown ∙ drop-append_seam begin more) saw in
         let last : drop (length begin) new.me.0.seen.singles ≡ more ++ rest = ap (drop (length begin)) all ∙ drop-append_seam begin (more ++ rest) in record {
           last = refuses.last;
-          looks = looks_for_on old.me.0 mid.me.0 refuses.last known bucket units may looks_passed (looks_for known bucket units mid.me.0 refuses.last refuses.looks);
+          looks = looks_for_on old.me.0 mid.me.0 refuses.last known (bucket_entry known bucket units) may.counts looks_passed (looks_for (bucket_entry known bucket units) mid.me.0 refuses.last refuses.looks);
           untouched = refuses.untouched ∙ tried.2;
           ends = refuses.ends;
           idle = refuses.idle;

@@ -12,13 +12,12 @@ use Rattle.segment_machine.specs.declared.actor.Actor.{Actor}
 use Rattle.segment_machine.specs.declared.actor.Cost.{Cost}
 use Rattle.segment_machine.specs.declared.actor.Known.{Known}
 use Rattle.segment_machine.specs.declared.place.Place.TheVariants.{Idle}
-use Rattle.segment_machine.specs.Actor.{cost_total, is_bound, is_opener, known_at}
+use Rattle.segment_machine.specs.Actor.{cost_total, is_opener, known_at}
 use Rattle.segment_machine.specs.Calls.{change_last, change_next, sight}
 use Rattle.segment_machine.specs.Counting.{add_redundant}
 use Rattle.segment_machine.specs.Entry.{has_ended, is_counted, is_summed, is_noted}
 use Rattle.segment_machine.specs.Event.{counting_event, next, Ready}
 use Rattle.segment_machine.specs.Note.{amounts, ends}
-use Rattle.segment_machine.specs.Taking.{is_looking}
 use Rattle.segment_promises.specs.Follows.{noted_by}
 use Rattle.live_segment.specs.Finishing.{counted_entry, item_of, IsCounted, HasSample, IsSummed, HasEnded}
 use Rattle.live_segment.specs.Steps.{IsSame, Pass}
@@ -205,7 +204,6 @@ module _ (entry : Entry) (before : List Counting) (known : Known) (first : Actor
         logged = ap (map (λ c. c.entry)) log
             ∙ (map-append (λ c. c.entry) first.entries.log (before ++ done ∷ [])
             ∙ ap (λ (l : List Entry). map (λ c. c.entry) first.entries.log ++ l) (map-append (λ c. c.entry) before (done ∷ [])));
-        free = ap (λ (y : Actor). is_bound y.hand.place) noted.view;
-        apart = ap (λ (y : Actor). is_looking y.hand.place) noted.view;
+        idle = ap (λ (y : Actor). y.hand.place) noted.view;
         counts = (sight (histogram + 13) (found + units), counts);
       }

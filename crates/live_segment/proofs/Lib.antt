@@ -29,6 +29,7 @@ mod SampleWords
 mod SampleCounts
 mod SamplesBehind
 mod Disabled
+mod CountsAlone
 mod Counted
 mod Walked
 mod Seeing

@@ -5,6 +5,7 @@ use Rattle.std.proofs.lemmas.List.{append-nil}
 use Rattle.std.proofs.lemmas.List.Sums.{sum_by-append}
 use Rattle.hist_core.specs.declared.refusal.Refusal.{Refusal}
 use Rattle.segment_machine.specs.declared.entry.Counting.{Counting}
+use Rattle.segment_machine.specs.declared.entry.Entry.{Entry}
 use Rattle.segment_machine.specs.declared.actor.Actor.{Actor}
 use Rattle.segment_machine.specs.declared.actor.Cost.{Cost}
 use Rattle.segment_machine.specs.declared.actor.Entries.{Entries}
@@ -23,7 +24,6 @@ use Rattle.live_segment.specs.Adding.{IsRefused, LacksBlock}
 use Rattle.live_segment.specs.Onward.{DoesOn, GoesOn, SeesOn}
 use Rattle.live_segment.specs.Refusing.{given_up, how_many_ended, refusing_notes, IsTurnedAway}
 use Rattle.live_segment.specs.Steps.{IsAtRest}
-use Rattle.live_segment.specs.Telling.{bucket_entry}
 use Rattle.live_segment.specs.Working.{HasBegun, LooksFor}
 use Rattle.live_segment.proofs.Beginning.{notes_new}
 use Rattle.live_segment.proofs.Finished.{still_open}
@@ -38,8 +38,8 @@ spends_none costs name other =
     let both = sum_by-append (λ (c : Cost). if bytes_eq c.name other then c.units else 0) costs (record { name = name; units = 0 } ∷ []) in
     let none = nothing (bytes_eq name other) in omega (arith, both, none)
 
-module _ (known : Known) (bucket units : ℕ) (old last new : Actor) (rest : IsAtRest old) (some : 1 ≤ units) (enough : units ≤ old.units.share)
-    (looks : LooksFor known bucket units old last) (ends : new ≡ given_up last) where
+module _ (entry : Entry) (old last new : Actor) (rest : IsAtRest old) (some : 1 ≤ entry.units) (enough : entry.units ≤ old.units.share)
+    (looks : LooksFor entry old last) (ends : new ≡ given_up last) where
   -- it had begun nothing, or takes back what it had begun with
   record Back : Type 0 where
     pub units_back : new.units.share ≡ old.units.share
@@ -51,7 +51,7 @@ module _ (known : Known) (bucket units : ℕ) (old last new : Actor) (rest : IsA
   back : Back
   back = by looks.begun
     where
-      by : ((last.units ≡ old.units) × (last.entries ≡ old.entries)) ⊎ HasBegun known bucket units old last → Back
+      by : ((last.units ≡ old.units) × (last.entries ≡ old.entries)) ⊎ HasBegun entry old last → Back
       by (inl (units_are, entries_are)) =
           let is : new ≡ last =
           ends ∙ ap (λ (r : List Counting). noted_by last (refusing_notes r)) (ap (λ (e : Entries). e.running) entries_are ∙ rest.runs) in record {
@@ -62,22 +62,21 @@ module _ (known : Known) (bucket units : ℕ) (old last new : Actor) (rest : IsA
             else_as_last = subst (λ (x : Actor). x ≡ record last { units = x.units; entries = x.entries; since = x.since }) (sym is) refl;
           }
       by (inr (units_are, entries_are)) =
-          let entry = bucket_entry known bucket units in
-          let notes = notes_new old known bucket units (rest.runs, rest.holds, enough) in
-          let u : last.units ≡ record old.units { share = old.units.share - units; held = record { name = known.name; units = units } ∷ [] } =
+          let notes = notes_new old entry (rest.runs, rest.holds, enough) in
+          let u : last.units ≡ record old.units { share = old.units.share - entry.units; held = record { name = entry.name; units = entry.units } ∷ [] } =
           units_are ∙ ap (λ (ns : List Note). (noted_by old ns).units) notes in
           let e : last.entries ≡ record old.entries { running = fresh entry ∷ [] } = entries_are ∙ ap (λ (ns : List Note). (noted_by old ns).entries) notes in
           let none : how_many_ended (fresh entry ∷ []) ≡ 0 =
           ap (λ (b : Bool). length (if b then fresh entry ∷ [] else [])) (still_open (fresh entry) refl some) in
           let view : new ≡ noted_by (record last {
-            units = record old.units { share = old.units.share - units; held = record { name = known.name; units = units } ∷ [] };
+            units = record old.units { share = old.units.share - entry.units; held = record { name = entry.name; units = entry.units } ∷ [] };
             entries = record old.entries { running = fresh entry ∷ [] };
           }) (refused 0 ∷ []) =
           ends ∙ (ap (λ (r : List Counting). noted_by last (refusing_notes r)) (ap (λ (x : Entries). x.running) e)
           ∙ (ap (λ (n : ℕ). noted_by last (refused n ∷ [])) none
           ∙ (λ i. noted_by (record last { units = u i; entries = e i }) (refused 0 ∷ [])))) in record {
             units_back = ap (λ (x : Actor). x.units.share) view ∙ omega (arith, enough);
-            costs_back = λ other. ap (λ (x : Actor). cost_of x.units.costs other) view ∙ spends_none old.units.costs known.name other;
+            costs_back = λ other. ap (λ (x : Actor). cost_of x.units.costs other) view ∙ spends_none old.units.costs entry.name other;
             held_back = ap (λ (x : Actor). x.units.held) view;
             entries_back = ap (λ (x : Actor). x.entries) view
                 ∙ (λ i. record old.entries { log = append-nil old.entries.log i; running = sym rest.runs i });
@@ -115,12 +114,12 @@ module _ (known : Known) (bucket units : ℕ) (old last new : Actor) (rest : IsA
     owes = ap (λ (x : Actor). x.answers.owed) kept ∙ rest.owes;
   }
 
-  pub turned_refused : last.seen.counts ≡ old.seen.counts → IsRefused known.name old new
+  pub turned_refused : last.seen.counts ≡ old.seen.counts → IsRefused entry.name old new
   turned_refused untouched = record {
     logged = back.entries_back;
     pays = record {
       share = let same = back.units_back in omega (arith, same);
-      spent = λ other. let same = back.costs_back other in let none = nothing (bytes_eq known.name other) in omega (arith, same, none);
+      spent = λ other. let same = back.costs_back other in let none = nothing (bytes_eq entry.name other) in omega (arith, same, none);
     };
     untouched = ap (λ (x : Actor). x.seen.counts) back.else_as_last ∙ untouched;
     onward = turned_onward;

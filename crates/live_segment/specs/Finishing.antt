@@ -7,9 +7,9 @@ use Rattle.segment_machine.specs.declared.entry.Counting.{Counting}
 use Rattle.segment_machine.specs.declared.entry.Entry.{Entry}
 use Rattle.segment_machine.specs.declared.actor.Actor.{Actor}
 use Rattle.segment_machine.specs.declared.actor.Known.{Known}
+use Rattle.segment_machine.specs.declared.place.Place.TheVariants.{Idle}
 use Rattle.segment_machine.specs.Actor.{is_bound, is_opener}
 use Rattle.segment_machine.specs.Entry.{has_ended, item_entry, sample_entry}
-use Rattle.segment_machine.specs.Taking.{is_looking}
 use Rattle.live_segment.specs.Onward.{Grows}
 use Rattle.live_segment.specs.Telling.{KnowsAlone}
 
@@ -59,6 +59,5 @@ pub record HasEnded (entries : List Entry) (old new : Actor) : Type 0 where
     since = new.since;
   }
   pub logged : map (λ c. c.entry) new.entries.log ≡ map (λ c. c.entry) old.entries.log ++ entries
-  pub free : is_bound new.hand.place ≡ false
-  pub apart : is_looking new.hand.place ≡ false
+  pub idle : new.hand.place ≡ Idle
   pub counts : Grows old.seen.counts new.seen.counts

@@ -15,6 +15,7 @@ use Rattle.segment_machine.specs.Note.{Note, refused, is_untouched}
 use Rattle.segment_promises.specs.Follows.{noted_by, Told}
 use Rattle.live_segment.specs.Adding.{HasNoRoom, block_words}
 use Rattle.live_segment.specs.Steps.{Sat}
+use Rattle.live_segment.specs.Telling.{bucket_entry}
 use Rattle.live_segment.specs.Working.{CannotPack, LooksFor}
 
 -- ---- how it ends
@@ -60,7 +61,7 @@ SetsFull me found me' = Told [] (allocating_event (set_flag FLAG_FULL)) (λ foun
 -- be claimed for them. It has come to no count.
 pub record IsTurnedAway (why : Refusal) (known : Known) (bucket units : ℕ) (old new : Actor) : Type 0 where
   pub last : Actor
-  pub looks : LooksFor known bucket units old last
+  pub looks : LooksFor (bucket_entry known bucket units) old last
   pub untouched : last.seen.counts ≡ old.seen.counts
   pub ends : new ≡ given_up last
   pub idle : new.hand.place ≡ Idle

@@ -95,12 +95,15 @@ IsSumOf a histogram amount x = (x.known.reference ≡ histogram) × KnowsAlone a
 
 -- ---- what steps tell
 
--- the notes with which units of a bucket begin, of a value, and a sum
+-- the notes with which an entry begins whose call holds its units for it, those of units of a bucket, of a value, and of a sum
+abbrev pub entry_notes : Actor → Entry → List Note
+entry_notes a entry = opening_notes a.entries.running entry entry.units
+
 abbrev pub bucket_notes : Actor → Known → ℕ → ℕ → List Note
-bucket_notes a known bucket units = opening_notes a.entries.running (bucket_entry known bucket units) units
+bucket_notes a known bucket units = entry_notes a (bucket_entry known bucket units)
 
 abbrev pub value_notes : Actor → Known → ℤ → ℕ → List Note
-value_notes a known value units = opening_notes a.entries.running (value_entry known value units) units
+value_notes a known value units = entry_notes a (value_entry known value units)
 
 abbrev pub sum_notes : Actor → Known → ℤ → List Note
 sum_notes a known sum = opening_notes a.entries.running (sum_entry known.name sum) (sum_cost a sum)

@@ -1,11 +1,12 @@
 -- What becomes of a recorder while a call of it counts: it looks at a histogram, packs units, or makes room for them and adds them to a count.
-use Rattle.std.specs.Prelude.{◌⊎◌, ◌≡◌, ◌≢◌, true, false, ℕ, ◌+◌, ◌*◌, ◌≤◌, [], ◌∷◌, drop, length, Option, Some}
+use Rattle.std.specs.Prelude.{◌⊎◌, ◌≡◌, ◌≢◌, true, false, ℕ, ◌+◌, ◌*◌, ◌≤◌, pos, [], ◌∷◌, drop, length, Option, Some}
 use Rattle.std.specs.List.{Contains}
 use Rattle.segment_image.specs.declared.layout.TheConstants.{BLOCK_HEADER, HISTOGRAM_SINGLE}
 use Rattle.bucket_ranges.specs.Spec.{buckets_of}
 use Rattle.segment_machine.specs.declared.actor.Actor.{Actor}
 use Rattle.segment_machine.specs.declared.actor.Known.{Known}
 use Rattle.segment_machine.specs.declared.actor.Entries.{Entries}
+use Rattle.segment_machine.specs.declared.entry.Entry.{Entry}
 use Rattle.segment_machine.specs.declared.place.Place.TheVariants.{Looking}
 use Rattle.segment_machine.specs.Actor.{has_buckets, is_bound, is_opener}
 use Rattle.segment_machine.specs.Calls.{count_next}
@@ -15,7 +16,7 @@ use Rattle.segment_promises.specs.Follows.{noted_by}
 use Rattle.live_segment.specs.declared.counting.Packing.{Packing}
 use Rattle.live_segment.specs.declared.counting.Packing.TheVariants.{Packed, Off, Passed}
 use Rattle.live_segment.specs.Onward.{DoesOn, SeesOn}
-use Rattle.live_segment.specs.Telling.{KnowsAlone, bucket_entry, bucket_notes}
+use Rattle.live_segment.specs.Telling.{KnowsAlone, bucket_entry, entry_notes}
 
 -- A call of a recorder goes on: what only an ended call changes is as it was, and it has seen and done no less.
 pub record Proceeds (old new : Actor) : Type 0 where
@@ -34,29 +35,35 @@ pub record LooksOn (old new : Actor) : Type 0 where
 abbrev pub HasNotBegun : Actor → ℕ → Type 0
 HasNotBegun a units = (a.entries.running ≡ []) × (a.units.held ≡ []) × (units ≤ a.units.share)
 
--- the one entry that runs is of units of a bucket, and nothing has happened of it
-abbrev pub Waits : Actor → Known → ℕ → ℕ → Type 0
-Waits a known bucket units = a.entries.running ≡ fresh (bucket_entry known bucket units) ∷ []
+-- this entry alone runs, and nothing has happened of it
+abbrev pub Waits : Actor → Entry → Type 0
+Waits a entry = a.entries.running ≡ fresh entry ∷ []
 
--- a recorder whose call may count units of a bucket of a histogram that it knows: it has not begun, or has begun with them and waits
-pub record MayCount (a : Actor) (known : Known) (bucket units : ℕ) : Type 0 where
+-- A recorder whose call may count an entry of a histogram that it knows, and no other: it has not begun, or has begun with it and it waits.
+-- The amount of the entry is not known yet.
+pub record CountsAlone (a : Actor) (known : Known) (entry : Entry) : Type 0 where
   pub recorder : is_opener a.role ≡ false
   pub free : is_bound a.hand.place ≡ false
   pub takes : a.deltas.taking ≡ false
-  pub begun : HasNotBegun a units ⊎ Waits a known bucket units
+  pub begun : HasNotBegun a entry.units ⊎ Waits a entry
   pub alone : KnowsAlone a known
-  pub bucketed : has_buckets known.spec ≡ true
-  pub some : 1 ≤ units
+  pub named : known.name ≡ entry.name
+  pub some : 1 ≤ entry.units
+  pub amount : entry.amount ≡ pos 0
 
--- a call that may count units of a bucket has begun with them, and they wait
-abbrev pub HasBegun : Known → ℕ → ℕ → Actor → Actor → Type 0
-HasBegun known bucket units old new =
-    let begun = noted_by old (bucket_notes old known bucket units) in (new.units ≡ begun.units) × (new.entries ≡ begun.entries)
+-- it may count units of a bucket
+pub record MayCount (a : Actor) (known : Known) (bucket units : ℕ) : Type 0 where
+  pub counts : CountsAlone a known (bucket_entry known bucket units)
+  pub bucketed : has_buckets known.spec ≡ true
+
+-- a call that may count an entry has begun with it, and it waits
+abbrev pub HasBegun : Entry → Actor → Actor → Type 0
+HasBegun entry old new = let begun = noted_by old (entry_notes old entry) in (new.units ≡ begun.units) × (new.entries ≡ begun.entries)
 
 -- It has looked, and may have begun meanwhile: an exchange that comes too late has begun the call none the less.
-pub record LooksFor (known : Known) (bucket units : ℕ) (old new : Actor) : Type 0 where
+pub record LooksFor (entry : Entry) (old new : Actor) : Type 0 where
   pub proceeds : Proceeds old new
-  pub begun : ((new.units ≡ old.units) × (new.entries ≡ old.entries)) ⊎ HasBegun known bucket units old new
+  pub begun : ((new.units ≡ old.units) × (new.entries ≡ old.entries)) ⊎ HasBegun entry old new
 
 -- it looks at a histogram: the single word that it loaded, where that stands, and the counts
 abbrev pub LooksAt : Actor → ℕ → Option ℕ → ℕ → Type 0
@@ -70,11 +77,11 @@ CountsWithin a known counts = (counts ≢ 0) × (counts + (BLOCK_HEADER + 2 * bu
 abbrev pub counted_next : Entries → Entries
 counted_next e = record e { running = count_next e.running }
 
--- units of a bucket were counted, by a call that began with them or went on
-pub record HasCounted (known : Known) (bucket units : ℕ) (old new : Actor) : Type 0 where
+-- the units of an entry were counted, by a call that began with it or went on
+pub record HasCounted (entry : Entry) (old new : Actor) : Type 0 where
   pub proceeds : Proceeds old new
-  pub units_are : new.units ≡ (noted_by old (bucket_notes old known bucket units)).units
-  pub entries_are : new.entries ≡ counted_next (noted_by old (bucket_notes old known bucket units)).entries
+  pub units_are : new.units ≡ (noted_by old (entry_notes old entry)).units
+  pub entries_are : new.entries ≡ counted_next (noted_by old (entry_notes old entry)).entries
   pub filled : new.done.filled ≡ old.done.filled
 
 -- a single word that it saw since, which is not off and cannot take units of a bucket
@@ -85,10 +92,10 @@ CannotPack known bucket units old new =
 
 -- How an attempt to pack units ended. They are packed; or they are not counted, and the single word that it loaded last is off or cannot take them.
 abbrev pub Tries : Known → ℕ → ℕ → Actor → Packing → Actor → Type 0
-Tries known bucket units old Packed new = HasCounted known bucket units old new
+Tries known bucket units old Packed new = HasCounted (bucket_entry known bucket units) old new
 Tries known bucket units old Off new =
-    LooksFor known bucket units old new × (new.done ≡ old.done) × (new.seen.counts ≡ old.seen.counts)
+    LooksFor (bucket_entry known bucket units) old new × (new.done ≡ old.done) × (new.seen.counts ≡ old.seen.counts)
     × ((word counts : ℕ) × LooksAt new known.reference (Some word) counts × (is_off word ≡ true)
     × Contains new.seen.singles (record { at = known.reference + HISTOGRAM_SINGLE; word = word }))
 Tries known bucket units old Passed new =
-    LooksFor known bucket units old new × (new.done ≡ old.done) × (new.seen.counts ≡ old.seen.counts) × CannotPack known bucket units old new
+    LooksFor (bucket_entry known bucket units) old new × (new.done ≡ old.done) × (new.seen.counts ≡ old.seen.counts) × CannotPack known bucket units old new

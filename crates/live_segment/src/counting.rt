@@ -26,7 +26,7 @@ impl Segment {
     ghost use Rattle.live_segment.specs.Rule.{IsOf};
     ghost use Rattle.live_segment.specs.Steps.{IsSame};
     ghost use Rattle.segment_image.specs.declared.layout.TheConstants.{BLOCK_HEADER};
-    ghost use Rattle.live_segment.specs.Telling.{HasAddedTo, MayAddTo};
+    ghost use Rattle.live_segment.specs.Telling.{HasAddedTo, MayAddTo, bucket_entry};
     ghost use Rattle.live_segment.specs.Working.{HasCounted, MayCount, Tries};
 
     // Packs units of a bucket of a histogram, where its single word can take them.
@@ -73,7 +73,7 @@ impl Segment {
         requires bucket { bucket < buckets_of histogram.now.spec }
         requires may { MayCount seat.old.me.0 (known_view histogram.now) bucket units }
         ensures same { IsSame seat.old seat.new }
-        ensures outcome { MatchResult result (λ _. HasCounted (known_view histogram.now) bucket units seat.old.me.0 seat.new.me.0) (λ why. IsTurnedAway why (known_view histogram.now) bucket units seat.old.me.0 seat.new.me.0) }
+        ensures outcome { MatchResult result (λ _. HasCounted (bucket_entry (known_view histogram.now) bucket units) seat.old.me.0 seat.new.me.0) (λ why. IsTurnedAway why (known_view histogram.now) bucket units seat.old.me.0 seat.new.me.0) }
     {
         match self.pack_units(seat, histogram, bucket, units) {
             Packing::Packed => {}

@@ -1,7 +1,7 @@
 use Rattle.std.proofs.Common.{◌∙◌, rules}
 use Rattle.std.proofs.lemmas.Result.{err_from_is_err_and}
 use Rattle.live_segment.specs.Known.{known_view}
-use Rattle.live_segment.proofs.Counted.{may_mount, may_give_up, room_here, may_add_here, same_here, counted_here, counts_off, stands_off, looks_off_on, filled_off, may_passed, looks_passed_on, filled_passed, turned}
+use Rattle.live_segment.proofs.Counted.{may_mount, may_do_without, room_here, may_add_here, same_here, counted_here, counts_off, stands_off, looks_off_on, filled_off, may_passed, looks_passed_on, filled_passed, turned}
 use Rattle.live_segment.proofs.Mounted.{may_load_counts, mounts_on}
 use Rattle.live_segment.proofs.segment.Segment.count_in_bucket.Goals as goal
 
@@ -19,7 +19,7 @@ counts_of-requires-clause-may c =
 pub counts_of-requires-clause-closes : goal.counts_of-requires-clause-closes
 counts_of-requires-clause-closes c =
     let k = known_view c.args.histogram.now in
-    may_give_up _ k c.args.bucket c.args.units (may_passed k c.args.bucket c.args.units c.args.seat.now c.pack_units.new.seat c.requires.may c.in-Passed.ensures.outcome)
+    may_do_without _ k c.args.bucket c.args.units (may_passed k c.args.bucket c.args.units c.args.seat.now c.pack_units.new.seat c.requires.may c.in-Passed.ensures.outcome)
 
 pub returns-in_err-counts-in-Passed-clause-outcome : goal.returns-in_err-counts-in-Passed-clause-outcome
 returns-in_err-counts-in-Passed-clause-outcome c =

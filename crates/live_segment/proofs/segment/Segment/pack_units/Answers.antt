@@ -1,10 +1,11 @@
 use Rattle.std.proofs.Common.{refl, arith}
 use Rattle.live_segment.specs.Known.{known_view}
+use Rattle.live_segment.specs.Telling.{bucket_entry}
 use Rattle.live_segment.proofs.Attempts.{may_load, tries_off, tries_passed, formed, may_pack, same_after, tries_packed, looks_after, done_after, counts_after, falls, begun_not}
 use Rattle.live_segment.proofs.segment.Segment.pack_units.Goals as goal
 
 pub loop-bucket-init : goal.loop-bucket-init
-loop-bucket-init c = record { same = (refl, refl, refl); looks = begun_not (known_view c.args.histogram.now) c.args.bucket c.args.units c.args.seat.now.me.0 c.requires.may.free; done = refl; counts = refl }
+loop-bucket-init c = record { same = (refl, refl, refl); looks = begun_not (bucket_entry (known_view c.args.histogram.now) c.args.bucket c.args.units) c.args.seat.now.me.0 c.requires.may.counts.free; done = refl; counts = refl }
 
 pub load_single-word-requires-clause-may : goal.load_single-word-requires-clause-may
 load_single-word-requires-clause-may c =

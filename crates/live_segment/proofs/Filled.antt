@@ -34,7 +34,7 @@ last_there [] x = refl
 last_there (y ∷ rest) x = last_there rest x
 
 -- no two begin at one word
-abbrev Apart : List Own → Type 0
+abbrev pub Apart : List Own → Type 0
 Apart list = (i j : ℕ) (x y : Own) → get_elem? list i ≡ some x → get_elem? list j ≡ some y → x.at ≡ y.at → i ≡ j
 
 apart_behind : (y : Own) (rest : List Own) → Apart (y ∷ rest) → Apart rest
@@ -46,14 +46,14 @@ not_first y rest x at apart is same =
     let e : 0 ≡ suc (length rest) = apart 0 (suc (length rest)) y x refl (last_there rest x) (same ∙ sym is) in omega (arith, e)
 
 -- so a change at its word is one of the last, and it is what is found there
-changed_there : (front : List Own) (x : Own) (at : ℕ) (f : Own → Own) → Apart (front ++ x ∷ []) → x.at ≡ at
+pub changed_there : (front : List Own) (x : Own) (at : ℕ) (f : Own → Own) → Apart (front ++ x ∷ []) → x.at ≡ at
     → change_own at f (front ++ x ∷ []) ≡ front ++ f x ∷ []
 changed_there [] x at f apart is = ap (λ (b : Bool). if b then f x ∷ [] else x ∷ []) (eq-eqb x.at at is)
 changed_there (y ∷ rest) x at f apart is =
     ap (λ (b : Bool). if b then f y ∷ (rest ++ x ∷ []) else y ∷ change_own at f (rest ++ x ∷ [])) (ne_eqb y.at at (not_first y rest x at apart is))
     ∙ ap (λ l. y ∷ l) (changed_there rest x at f (apart_behind y (rest ++ x ∷ []) apart) is)
 
-found_there : (front : List Own) (x z : Own) (at : ℕ) → Apart (front ++ x ∷ []) → x.at ≡ at → z.at ≡ at → own_at (front ++ z ∷ []) at ≡ Some z
+pub found_there : (front : List Own) (x z : Own) (at : ℕ) → Apart (front ++ x ∷ []) → x.at ≡ at → z.at ≡ at → own_at (front ++ z ∷ []) at ≡ Some z
 found_there [] x z at apart is there = ap (λ (b : Bool). if b then Some z else own_at [] at) (eq-eqb z.at at there)
 found_there (y ∷ rest) x z at apart is there =
     ap (λ (b : Bool). if b then Some y else own_at (rest ++ z ∷ []) at) (ne_eqb y.at at (not_first y rest x at apart is))

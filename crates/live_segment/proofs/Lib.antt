@@ -23,7 +23,9 @@ mod Refusing
 mod Packed
 mod Sightings
 mod BucketsSeen
+mod Claimed
 mod Mounted
+mod SampleMade
 mod Answering
 mod SampleWords
 mod SampleCounts

@@ -42,6 +42,7 @@ use Rattle.live_segment.specs.Rule.{opened_of, Runs}
 use Rattle.live_segment.specs.Steps.{Pass, Sat, Stepped}
 use Rattle.live_segment.specs.Working.{CountsWithin, LooksOn}
 use Rattle.live_segment.proofs.Allowed.{does_at}
+use Rattle.live_segment.proofs.Claimed.{looks_claimed, looks_refused}
 use Rattle.live_segment.proofs.Proceeding.{does_not, grows_by, grows_not, looks_on, looks_there}
 use Rattle.live_segment.proofs.Refusing.{only_given_up}
 
@@ -212,36 +213,8 @@ module _ (segment : Segment) (known : Known) (old : Pass) (table : old.table_id 
     -- there are none, and a block is claimed
     module _ (at size : ℕ) (new : Pass) (words : size ≡ 4 + 2 * buckets_of known.spec) (unspoiled : seat.me.0.done.spoiled ≡ false)
         (made : Allocates size 2 seat.me.0 (Ok at) new.me.0) where
-      looks_claimed : LooksOn seat.me.0 new.me.0
-      looks_claimed =
-          let (to, view, behind, enough, few, place) = made in
-          subst (LooksOn seat.me.0) (sym view) (record {
-            proceeds = record {
-              same = refl;
-              free = refl;
-              done = record {
-                same = refl;
-                claimed = grows_by seat.me.0.done.claimed _;
-                published = grows_not seat.me.0.done.published;
-                filled = λ e. e;
-                spoiled = λ e. absurd (true≢false (sym e ∙ unspoiled));
-              };
-              seen = record {
-                free = omega (arith, behind, enough);
-                chain = grows_not seat.me.0.seen.chain;
-                tails = grows_not seat.me.0.seen.tails;
-                singles = grows_not seat.me.0.seen.singles;
-                counts = grows_not seat.me.0.seen.counts;
-                words = grows_not seat.me.0.seen.words;
-                cursors = grows_not seat.me.0.seen.cursors;
-              };
-            };
-            units = refl;
-            entries = refl;
-          })
-
       pub looks_with_block : LooksOn first new.me.0
-      looks_with_block = looks_on first seat.me.0 new.me.0 looks_loaded looks_claimed
+      looks_with_block = looks_on first seat.me.0 new.me.0 looks_loaded (looks_claimed size 2 at seat.me.0 new.me.0 unspoiled made)
 
       pub mounts_next : MayMount new.me.0 known
       mounts_next = mounts_on first new.me.0 known may looks_with_block
@@ -294,30 +267,7 @@ module _ (segment : Segment) (known : Known) (old : Pass) (table : old.table_id 
           (is : last ≡ record seat.me.0 { hand = record seat.me.0.hand { place = Idle }; done = record seat.me.0.done { filled = filled }; seen = record seat.me.0.seen { free = free } })
           (later : seat.me.0.seen.free ≤ free) (still : seat.me.0.done.filled ≡ true → filled ≡ true) where
         looks_last : LooksOn first last
-        looks_last = looks_on first seat.me.0 last looks_loaded (subst (LooksOn seat.me.0) (sym is) (record {
-          proceeds = record {
-            same = refl;
-            free = refl;
-            done = record {
-              same = refl;
-              claimed = grows_not seat.me.0.done.claimed;
-              published = grows_not seat.me.0.done.published;
-              filled = still;
-              spoiled = λ e. refl;
-            };
-            seen = record {
-              free = later;
-              chain = grows_not seat.me.0.seen.chain;
-              tails = grows_not seat.me.0.seen.tails;
-              singles = grows_not seat.me.0.seen.singles;
-              counts = grows_not seat.me.0.seen.counts;
-              words = grows_not seat.me.0.seen.words;
-              cursors = grows_not seat.me.0.seen.cursors;
-            };
-          };
-          units = refl;
-          entries = refl;
-        }))
+        looks_last = looks_on first seat.me.0 last looks_loaded (looks_refused seat.me.0 last free filled is later still)
 
         turned : (why : Refusal) (new : Actor) → new ≡ given_up last → HasNoRoom why (block_words known) new → HasNotMounted why known first new
         turned why new ends room =

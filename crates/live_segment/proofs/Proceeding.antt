@@ -1,5 +1,5 @@
 -- A call of a recorder goes on, step by step.
-use Rattle.std.proofs.Common.{◌≡◌, ℕ, ◌==◌, Bool, true, false, if◌then◌else◌, List, [], ◌∷◌, ◌++◌, refl, ap, ◌∙◌, arith}
+use Rattle.std.proofs.Common.{◌≡◌, ℕ, ◌==◌, Bool, true, false, if◌then◌else◌, List, [], ◌∷◌, ◌++◌, refl, sym, ap, subst, ◌∙◌, arith}
 use Rattle.std.proofs.lemmas.Bool.{eqb-true, eq-eqb}
 use Rattle.std.proofs.lemmas.List.{append_assoc}
 use Rattle.segment_machine.specs.declared.actor.Actor.{Actor}
@@ -20,6 +20,9 @@ grows_by list more = (more, refl)
 pub grows_not : {X : Type 0} (list : List X) → Grows list list
 grows_not [] = ([], refl)
 grows_not (x ∷ list) = let (more, is) = grows_not list in (more, ap (λ l. x ∷ l) is)
+
+pub grows_same : {X : Type 0} (old new : List X) → new ≡ old → Grows old new
+grows_same old new same = subst (Grows old) (sym same) (grows_not old)
 
 pub grows_on : {X : Type 0} (a b c : List X) → Grows a b → Grows b c → Grows a c
 grows_on a b c (more, first) (rest, second) = (more ++ rest, second ∙ (ap (λ l. l ++ rest) first ∙ append_assoc a more rest))

@@ -27,16 +27,13 @@ use Rattle.live_segment.specs.Allocation.{Allocates, filled, saw_free}
 use Rattle.live_segment.specs.Answering.{HaveOneName}
 use Rattle.live_segment.specs.Making.{HasMade, Makes}
 use Rattle.live_segment.specs.Settling.{IsRefusedBy, LooksAround, LooksUp, Owes, OwesAs, Settles}
-use Rattle.live_segment.specs.Onward.{DoesOn, Grows}
+use Rattle.live_segment.specs.Onward.{DoesOn}
 use Rattle.live_segment.specs.Searching.{HasMadeNone, HasSearched, Searches, WalksAt, asked_at}
-use Rattle.live_segment.proofs.Proceeding.{does_not, does_on, grows_not, sees_on}
+use Rattle.live_segment.proofs.Proceeding.{does_not, does_on, grows_not, grows_same, sees_on}
 use Rattle.live_segment.proofs.Refusing.{at_rest}
 use Rattle.live_segment.proofs.Searching.{others_still}
 
 -- ---- what each part leaves as it was
-
-grows_same : {X : Type 0} (old new : List X) → new ≡ old → Grows old new
-grows_same old new same = subst (Grows old) (sym same) (grows_not old)
 
 does_same : (old new : Done) → new ≡ old → DoesOn old new
 does_same old new same = subst (DoesOn old) (sym same) (does_not old)

@@ -1,14 +1,22 @@
--- How a recorder finds the sample of a value of a sparse histogram: it walks along the list, on from the histogram's record.
+-- How a recorder finds the sample of a value of a sparse histogram: it walks along the list, on from the histogram's record. Where there is
+-- none, it makes one.
 use Rattle.std.specs.Prelude.{◌≡◌, Bool, true, false, ℕ, ◌+◌, ◌≤◌, ℤ, List, ◌∷◌, ◌++◌}
 use Rattle.std.specs.List.{All, Contains}
 use Rattle.segment_image.specs.declared.layout.TheConstants.{SAMPLE_LEAST}
 use Rattle.segment_machine.specs.declared.actor.Actor.{Actor}
 use Rattle.segment_machine.specs.declared.actor.Made.TheVariants.{Sample}
+use Rattle.segment_machine.specs.declared.place.Place.TheVariants.{Idle}
+use Rattle.hist_core.specs.declared.refusal.Refusal.{Refusal}
 use Rattle.segment_machine.specs.Calls.{MayTurn}
 use Rattle.segment_machine.specs.Made.{IsFirstSample, SawOther, SawSample}
 use Rattle.live_segment.specs.declared.sampling.SampleSearch.{SampleSearch}
 use Rattle.live_segment.specs.declared.sampling.SampleSearch.TheVariants.{Met, End}
+use Rattle.live_segment.specs.Adding.{HasNoRoom}
+use Rattle.live_segment.specs.Refusing.{given_up}
 use Rattle.live_segment.specs.Walks.{IsOnWay}
+use Rattle.live_segment.specs.Working.{LooksOn}
+
+-- ---- one that is found
 
 -- it saw that a record is the sample of a value, which lies within the segment, or that it is another record
 abbrev pub ShowsValue : ℕ → ℤ → ℕ → Bool → Actor → Type 0
@@ -36,3 +44,24 @@ FindsSample histogram value (Met reference) a =
     MayTurn a × IsFirstSample a.seen histogram value reference × (reference + SAMPLE_LEAST ≤ a.segment.shape.size)
 FindsSample histogram value (End at) a =
     WalksBehind histogram value at a × SawNone histogram value a × HasMadeNoSample histogram value a
+
+-- ---- one that is made
+
+-- It has made a sample of the value, and has put it on the list. It has seen no more of that, nor of the words of records.
+pub record HasMadeSample (histogram : ℕ) (value : ℤ) (old new : Actor) : Type 0 where
+  pub looks : LooksOn old new
+  pub chain : new.seen.chain ≡ old.seen.chain
+  pub words : new.seen.words ≡ old.seen.words
+  pub counts : new.seen.counts ≡ old.seen.counts
+  pub filled : new.done.filled ≡ old.done.filled
+  pub at : ℕ
+  pub published : Contains new.done.published (record { reference = at; made = Sample histogram value })
+
+-- no block could be claimed for one, and its call ends
+pub record HasNotMadeSample (why : Refusal) (old new : Actor) : Type 0 where
+  pub last : Actor
+  pub looks : LooksOn old last
+  pub seen : last.seen ≡ record old.seen { free = last.seen.free }
+  pub ends : new ≡ given_up last
+  pub idle : new.hand.place ≡ Idle
+  pub room : HasNoRoom why SAMPLE_LEAST new

@@ -1,15 +1,20 @@
-//! How a recorder finds the sample of a value of a sparse histogram.
+//! How a recorder finds the sample of a value of a sparse histogram, and makes one where there is none.
 
-ghost use Rattle.std.specs.Prelude.{◌≡◌, ◌+◌, ◌≤◌, false};
-ghost use Rattle.segment_machine.specs.Actor.{is_opener};
+ghost use Rattle.std.specs.Prelude.{◌≡◌, ◌+◌, ◌≤◌, false, MatchResult};
+ghost use Rattle.segment_machine.specs.declared.actor.Known.{Known};
+ghost use Rattle.segment_machine.specs.Actor.{is_bound, is_opener};
+ghost use Rattle.segment_machine.specs.Actor.{Sparse as KnowsSparse};
 ghost use Rattle.live_segment.specs.Rule.{IsOf};
 ghost use Rattle.live_segment.specs.Finding.{Meets, SeesWords};
 ghost use Rattle.live_segment.specs.Searching.{HasSearched};
-ghost use Rattle.live_segment.specs.Sampling.{ShowsValue, WalksBehind, FindsSample};
+ghost use Rattle.live_segment.specs.Sampling.{ShowsValue, WalksBehind, FindsSample, HasMadeSample, HasNotMadeSample};
 
-use crate::rule::Pass;
+use crate::rule::{Announcement, Pass};
 use crate::segment::Segment;
-use segment_image::layout::QUEUE;
+use hist_core::Refusal;
+use segment_image::layout::{
+    BLOCK_HEADER, QUEUE, SAMPLE_HISTOGRAM, SAMPLE_LEAST, SAMPLE_VALUE, TYPE_SAMPLE,
+};
 
 // How a walk behind the record of a sparse histogram ended.
 pub(crate) enum SampleSearch {
@@ -21,7 +26,30 @@ pub(crate) enum SampleSearch {
 
 impl Segment {
     ghost use Rattle.live_segment.specs.Holders.{table_of};
+    ghost use Rattle.live_segment.specs.Refusing.{MayGiveUp};
     ghost use Rattle.live_segment.specs.Steps.{IsSame};
+
+    // Makes a sample of a value of a sparse histogram, and puts it on the list.
+    //
+    // `Corrupt` or `Full` where no block could be claimed for it: a call that counts ends with that.
+    fn make_sample(&self, seat: &mut Pass, histogram: u64, value: i32) -> Result<(), Refusal>
+        requires seat { (seat.old.table_id ≡ table_of self.now) × (is_opener seat.old.me.0.role ≡ false) × IsOf self.now.setting seat.old.me.0 }
+        requires free { is_bound seat.old.me.0.hand.place ≡ false }
+        requires sparse { (known : Known) × KnowsSparse seat.old.me.0 histogram known }
+        requires page { 8 ≤ self.now.setting.shape.page }
+        requires closes { MayGiveUp seat.old.me.0 }
+        ensures same { IsSame seat.old seat.new }
+        ensures outcome { MatchResult result (λ _. HasMadeSample histogram value seat.old.me.0 seat.new.me.0) (λ why. HasNotMadeSample why seat.old.me.0 seat.new.me.0) }
+    {
+        let at = self.allocate(seat, SAMPLE_LEAST as u64, TYPE_SAMPLE)?;
+        self.store_payload(seat, at, SAMPLE_HISTOGRAM - BLOCK_HEADER, histogram);
+        let word = i64::from(value).cast_unsigned();
+        if word != 0 {
+            self.store_payload(seat, at, SAMPLE_VALUE - BLOCK_HEADER, word);
+        }
+        self.publish(seat, at, &Announcement::Sample { histogram, value });
+        Ok(())
+    }
 
     // Walks along the list, on from where a walk behind the histogram's record stands, up to the first sample of the value.
     pub(crate) fn find_sample(

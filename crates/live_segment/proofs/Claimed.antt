@@ -1,0 +1,64 @@
+-- A call that claims a block, or is refused one, has looked: what that leaves as it was.
+use Rattle.std.proofs.Common.{◌≡◌, ◌∙◌, ℕ, ◌≤◌, Bool, true, false, true≢false, refl, sym, subst, arith}
+use Rattle.std.specs.Prelude.{Ok}
+use Rattle.segment_machine.specs.declared.actor.Actor.{Actor}
+use Rattle.segment_machine.specs.declared.place.Place.TheVariants.{Idle}
+use Rattle.segment_machine.specs.declared.seen.Seen.{Seen}
+use Rattle.live_segment.specs.Allocation.{Allocates}
+use Rattle.live_segment.specs.Onward.{SeesOn}
+use Rattle.live_segment.specs.Working.{LooksOn}
+use Rattle.live_segment.proofs.Proceeding.{grows_by, grows_not}
+
+-- it has seen a free pointer that is no earlier
+sees_free : (a : Seen) (free : ℕ) → a.free ≤ free → SeesOn a (record a { free = free })
+sees_free a free later = record {
+  free = later;
+  chain = grows_not a.chain;
+  tails = grows_not a.tails;
+  singles = grows_not a.singles;
+  counts = grows_not a.counts;
+  words = grows_not a.words;
+  cursors = grows_not a.cursors;
+}
+
+-- a block is claimed
+pub looks_claimed : (size tag at : ℕ) (old new : Actor) → old.done.spoiled ≡ false → Allocates size tag old (Ok at) new → LooksOn old new
+looks_claimed size tag at old new unspoiled (behind, view, later, enough, few, place) =
+    subst (LooksOn old) (sym view) (record {
+      proceeds = record {
+        same = refl;
+        free = refl;
+        done = record {
+          same = refl;
+          claimed = grows_by old.done.claimed _;
+          published = grows_not old.done.published;
+          filled = λ e. e;
+          spoiled = λ e. absurd (true≢false (sym e ∙ unspoiled));
+        };
+        seen = sees_free old.seen behind (omega (arith, later, enough));
+      };
+      units = refl;
+      entries = refl;
+    })
+
+-- none is; the full flag may be set
+pub looks_refused : (old last : Actor) (free : ℕ) (filled : Bool)
+    → last ≡ record old { hand = record old.hand { place = Idle }; done = record old.done { filled = filled }; seen = record old.seen { free = free } }
+    → old.seen.free ≤ free → (old.done.filled ≡ true → filled ≡ true) → LooksOn old last
+looks_refused old last free filled is later still =
+    subst (LooksOn old) (sym is) (record {
+      proceeds = record {
+        same = refl;
+        free = refl;
+        done = record {
+          same = refl;
+          claimed = grows_not old.done.claimed;
+          published = grows_not old.done.published;
+          filled = still;
+          spoiled = λ e. refl;
+        };
+        seen = sees_free old.seen free later;
+      };
+      units = refl;
+      entries = refl;
+    })

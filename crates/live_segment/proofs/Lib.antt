@@ -26,6 +26,7 @@ mod BucketsSeen
 mod Claimed
 mod Mounted
 mod SampleMade
+mod SampleOf
 mod Answering
 mod SampleWords
 mod SampleCounts

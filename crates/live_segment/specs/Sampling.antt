@@ -4,6 +4,7 @@ use Rattle.std.specs.Prelude.{◌≡◌, Bool, true, false, ℕ, ◌+◌, ◌≤
 use Rattle.std.specs.List.{All, Contains}
 use Rattle.segment_image.specs.declared.layout.TheConstants.{SAMPLE_LEAST}
 use Rattle.segment_machine.specs.declared.actor.Actor.{Actor}
+use Rattle.segment_machine.specs.declared.actor.Known.{Known}
 use Rattle.segment_machine.specs.declared.actor.Made.TheVariants.{Sample}
 use Rattle.segment_machine.specs.declared.place.Place.TheVariants.{Idle}
 use Rattle.hist_core.specs.declared.refusal.Refusal.{Refusal}
@@ -64,4 +65,24 @@ pub record HasNotMadeSample (why : Refusal) (old new : Actor) : Type 0 where
   pub seen : last.seen ≡ record old.seen { free = last.seen.free }
   pub ends : new ≡ given_up last
   pub idle : new.hand.place ≡ Idle
+  pub room : HasNoRoom why SAMPLE_LEAST new
+
+-- ---- one that is found or made
+
+-- It met the first sample of the value, within the segment. No allocation was refused, and it came to no count.
+pub record HasSampleOf (known : Known) (value : ℤ) (sample : ℕ) (old new : Actor) : Type 0 where
+  pub looks : LooksOn old new
+  pub first : IsFirstSample new.seen known.reference value sample
+  pub within : sample + SAMPLE_LEAST ≤ new.segment.shape.size
+  pub filled : new.done.filled ≡ old.done.filled
+  pub untouched : new.seen.counts ≡ old.seen.counts
+
+-- There was none up to the end of the list, and no block could be claimed for one. It came to no count, and its call ends.
+pub record LacksSampleOf (why : Refusal) (known : Known) (value : ℤ) (old new : Actor) : Type 0 where
+  pub last : Actor
+  pub looks : LooksOn old last
+  pub untouched : last.seen.counts ≡ old.seen.counts
+  pub ends : new ≡ given_up last
+  pub idle : new.hand.place ≡ Idle
+  pub none : SawNone known.reference value new
   pub room : HasNoRoom why SAMPLE_LEAST new

@@ -7,8 +7,9 @@ ghost use Rattle.segment_machine.specs.Actor.{Sparse as KnowsSparse};
 ghost use Rattle.live_segment.specs.Rule.{IsOf};
 ghost use Rattle.live_segment.specs.Finding.{Meets, SeesWords};
 ghost use Rattle.live_segment.specs.Searching.{HasSearched};
-ghost use Rattle.live_segment.specs.Sampling.{ShowsValue, WalksBehind, FindsSample, HasMadeSample, HasNotMadeSample};
+ghost use Rattle.live_segment.specs.Sampling.{ShowsValue, WalksBehind, FindsSample, HasMadeSample, HasNotMadeSample, HasSampleOf, LacksSampleOf};
 
+use crate::recorder::KnownHistogram;
 use crate::rule::{Announcement, Pass};
 use crate::segment::Segment;
 use hist_core::Refusal;
@@ -25,9 +26,40 @@ pub(crate) enum SampleSearch {
 }
 
 impl Segment {
+    ghost use Rattle.bucket_ranges.specs.declared.spec.Spec.TheVariants.{Sparse};
     ghost use Rattle.live_segment.specs.Holders.{table_of};
+    ghost use Rattle.live_segment.specs.Known.{known_view, KnowsRight};
     ghost use Rattle.live_segment.specs.Refusing.{MayGiveUp};
     ghost use Rattle.live_segment.specs.Steps.{IsSame};
+
+    /// The first sample of a value of a sparse histogram. Where the list has none, one is made and put on it.
+    ///
+    /// `Corrupt` or `Full` where no block could be claimed for it: a call that counts ends with that.
+    pub(crate) fn sample_of(
+        &self,
+        seat: &mut Pass,
+        histogram: &KnownHistogram,
+        value: i32,
+    ) -> Result<u64, Refusal>
+        requires seat { (seat.old.table_id ≡ table_of self.now) × (is_opener seat.old.me.0.role ≡ false) × IsOf self.now.setting seat.old.me.0 }
+        requires free { is_bound seat.old.me.0.hand.place ≡ false }
+        requires right { KnowsRight self.now.setting seat.old.me.0 histogram.now }
+        requires sparse { histogram.now.spec ≡ Sparse }
+        requires closes { MayGiveUp seat.old.me.0 }
+        ensures same { IsSame seat.old seat.new }
+        ensures outcome { MatchResult result (λ sample. HasSampleOf (known_view histogram.now) value sample seat.old.me.0 seat.new.me.0) (λ why. LacksSampleOf why (known_view histogram.now) value seat.old.me.0 seat.new.me.0) }
+    {
+        let record = histogram.reference;
+        let end = match self.find_sample(seat, record, record, value) {
+            SampleSearch::Met(sample) => return Ok(sample),
+            SampleSearch::End(at) => at,
+        };
+        self.make_sample(seat, record, value)?;
+        match self.find_sample(seat, end, record, value) {
+            SampleSearch::Met(sample) => Ok(sample),
+            SampleSearch::End(_) => unreachable!(),
+        }
+    }
 
     // Makes a sample of a value of a sparse histogram, and puts it on the list.
     //

@@ -34,7 +34,6 @@ use Rattle.segment_machine.specs.declared.place.Place.TheVariants.{Spent}
 use Rattle.segment_machine.specs.Actor.{is_bound}
 use Rattle.segment_invariant.specs.Consistent.{IsHistogram}
 use Rattle.segment_invariant.proofs.Lists.Maps.{contains_map}
-use Rattle.hist_core.specs.declared.hist.Known.{Known}
 use Rattle.hist_core.specs.declared.runner.Runner.{Runner}
 use Rattle.hist_core.specs.declared.board.Board.{Board}
 use Rattle.hist_core.specs.Goes.{AreApart}

@@ -8,4 +8,5 @@ mod NewBoards
 mod Parts
 mod Payloads
 mod Runners
+mod Takes
 mod Worlds

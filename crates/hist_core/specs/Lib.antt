@@ -7,3 +7,5 @@ pub mod Runner
 pub mod Add
 pub mod Board
 pub mod World
+pub mod Mounted
+pub mod Taker

@@ -1,6 +1,6 @@
 //! What calls do to the words that count.
 
-ghost use Rattle.std.specs.Prelude.{◌≡◌, ◌+◌, ◌%◌, ◌^◌, ◌<◌, length, slice_set};
+ghost use Rattle.std.specs.Prelude.{◌≡◌, ◌+◌, ◌%◌, ◌^◌, ◌<◌, length, max, slice_set};
 ghost use Rattle.segment_image.specs.Words.{word_at};
 
 // Adds a number to the word `at`, modulo 2^64.
@@ -9,4 +9,26 @@ pub(crate) fn fetch_add(words: &mut [u64], at: usize, amount: u64)
     ensures { words.new ≡ slice_set words.old at ((word_at words.old at + amount) % 2 ^ 64) }
 {
     words[at] = words[at].wrapping_add(amount);
+}
+
+// Raises the word `at` to a number where it is below that. It gives the number that was there.
+pub(crate) fn fetch_max(words: &mut [u64], at: usize, least: u64) -> u64
+    requires { at < length words.old }
+    ensures words { words.new ≡ slice_set words.old at (max (word_at words.old at) least) }
+    ensures found { result ≡ word_at words.old at }
+{
+    let found = words[at];
+    words[at] = found.max(least);
+    found
+}
+
+// Puts a number in the place of the word `at`. It gives the number that was there.
+pub(crate) fn swap(words: &mut [u64], at: usize, value: u64) -> u64
+    requires { at < length words.old }
+    ensures words { words.new ≡ slice_set words.old at value }
+    ensures found { result ≡ word_at words.old at }
+{
+    let found = words[at];
+    words[at] = value;
+    found
 }

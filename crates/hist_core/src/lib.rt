@@ -11,9 +11,11 @@ mod counting;
 mod entry;
 mod fault;
 mod hist;
+mod mounted;
 pub mod packing;
 mod refusal;
 mod runner;
+mod taker;
 #[cfg(test)]
 mod tests;
 mod world;

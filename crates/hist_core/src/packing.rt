@@ -2,7 +2,9 @@
 
 ghost use Rattle.std.specs.Prelude.{◌≡◌, ◌⊎◌, ◌/◌, ◌%◌, ◌^◌, ◌<◌, ◌≤◌, MatchOption};
 ghost use Rattle.segment_machine.specs.Form.{IsPacking, off_word};
+ghost use Rattle.hist_core.specs.Mounted.{SaysPacked};
 
+use bucket_ranges::SingleWord;
 use bucket_ranges::limits::MAX_PACKED;
 use segment_image::layout::VERSION_FROZEN;
 
@@ -53,4 +55,19 @@ pub fn unpacked(word: u64) -> (usize, u64)
     ensures { result ≡ (word / 2 ^ 32, word % 2 ^ 32) }
 {
     ((word / UNITS) as usize, word % UNITS)
+}
+
+/// The bucket whose units a single word of a version holds or held, where there is one, and the units that it holds. A word
+/// without a lawful form has none.
+pub fn packed_in(version: u64, word: u64, buckets: usize) -> (Option<usize>, u64)
+    requires few { buckets ≤ 65535 }
+    ensures says { SaysPacked version buckets word result.0 result.1 }
+    ensures small { result.1 ≤ 65535 }
+{
+    match SingleWord::of(version, word, buckets) {
+        Some(SingleWord::Packed { bucket, units }) => (Some(bucket), units),
+        Some(SingleWord::Frozen { bucket, units }) => (Some(bucket), units),
+        Some(SingleWord::Disabled { packed }) => (packed, 0),
+        _ => (None, 0),
+    }
 }

@@ -1,0 +1,8 @@
+-- A delta, event by event.
+pub mod Counts
+pub mod Going
+pub mod Lists
+pub mod Marks
+pub mod Sights
+pub mod Singles
+pub mod Sums

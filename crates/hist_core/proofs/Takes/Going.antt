@@ -1,0 +1,168 @@
+-- A delta goes on by one event of its actor.
+use Rattle.std.proofs.Common.{◌≡◌, ℕ, ◌+◌, ◌-◌, ◌≤◌, true≢false, List, [], length, refl, sym, ap, ◌∙◌, subst, arith}
+use Rattle.std.specs.Prelude.{vec_capacity}
+use Rattle.std.proofs.Props.{props}
+use Rattle.std.proofs.Math.Logic.{∥∥₁_elim}
+use Rattle.std.specs.List.{Contains}
+use Rattle.std.proofs.lemmas.List.{append-nil}
+use Rattle.bucket_ranges.specs.Ranges.{IsSplit, boundaries_of}
+use Rattle.bucket_ranges.specs.Spec.{buckets_of}
+use Rattle.bucket_ranges.proofs.Ascent.{boundaries_of-split}
+use Rattle.segment_image.specs.Shape.{Dimensions}
+use Rattle.segment_image.specs.Words.{word_at}
+use Rattle.segment_invariant.proofs.Packing.OffForms.{few_buckets}
+use Rattle.segment_machine.specs.declared.actor.Actor.{Actor}
+use Rattle.segment_machine.specs.declared.actor.Known.{Known}
+use Rattle.segment_machine.specs.declared.actor.Taken.{Taken}
+use Rattle.segment_machine.specs.Actor.{Buckets, has_buckets, is_opener, known_at}
+use Rattle.segment_machine.specs.Calls.{MayTurn, sight}
+use Rattle.segment_machine.specs.Event.{Event, spot, after, next, Ready, Learned, taking_event}
+use Rattle.segment_machine.specs.Taking.{TakingEvent, Takes, load_count, raise_mark, raise_single_mark, load_sum, swap_sum_mark, load_redundant}
+use Rattle.hist_core.specs.declared.taker.Stage.{Stage}
+use Rattle.hist_core.specs.declared.taker.Taker.{Taker}
+use Rattle.hist_core.specs.Goes.{Goes}
+use Rattle.hist_core.specs.Taker.{AreUnits, IsSomeTaker, IsTaker, IsUnderWay, StandsAtStage, TakesAside}
+use Rattle.hist_core.proofs.Takes.Sights.{Grows, SeesMore}
+
+-- ---- what stays as it was
+
+grows_not : {X : Type 0} (list : List X) → Grows list list
+grows_not list = ([], sym (append-nil list))
+
+pub taking_aside : (a : Actor) (e : TakingEvent) (found : ℕ) → TakesAside a (next a (taking_event e) found)
+taking_aside a e found = by e
+  where
+    by : (e : TakingEvent) → TakesAside a (next a (taking_event e) found)
+    by (load_count at) = record { role = refl; segment = refl; units = refl; entries = refl; names = refl; snapshots = refl; first = refl; chain = grows_not a.seen.chain; words = grows_not a.seen.words }
+    by (raise_mark at least) = record { role = refl; segment = refl; units = refl; entries = refl; names = refl; snapshots = refl; first = refl; chain = grows_not a.seen.chain; words = grows_not a.seen.words }
+    by (raise_single_mark histogram least) = record { role = refl; segment = refl; units = refl; entries = refl; names = refl; snapshots = refl; first = refl; chain = grows_not a.seen.chain; words = grows_not a.seen.words }
+    by (load_sum histogram) = record { role = refl; segment = refl; units = refl; entries = refl; names = refl; snapshots = refl; first = refl; chain = grows_not a.seen.chain; words = grows_not a.seen.words }
+    by (swap_sum_mark histogram sum) = record { role = refl; segment = refl; units = refl; entries = refl; names = refl; snapshots = refl; first = refl; chain = grows_not a.seen.chain; words = grows_not a.seen.words }
+    by (load_redundant histogram) = record { role = refl; segment = refl; units = refl; entries = refl; names = refl; snapshots = refl; first = refl; chain = grows_not a.seen.chain; words = grows_not a.seen.words }
+
+pub taking_sees : (a : Actor) (e : TakingEvent) (found : ℕ) → SeesMore a (next a (taking_event e) found)
+taking_sees a (load_count at) found = record { segment = refl; since = refl; singles = grows_not a.seen.singles; counts = (sight at found, refl); words = grows_not a.seen.words }
+taking_sees a (raise_mark at least) found = record { segment = refl; since = refl; singles = grows_not a.seen.singles; counts = (_, refl); words = grows_not a.seen.words }
+taking_sees a (raise_single_mark histogram least) found = record { segment = refl; since = refl; singles = grows_not a.seen.singles; counts = (_, refl); words = grows_not a.seen.words }
+taking_sees a (load_sum histogram) found = record { segment = refl; since = refl; singles = grows_not a.seen.singles; counts = grows_not a.seen.counts; words = grows_not a.seen.words }
+taking_sees a (swap_sum_mark histogram sum) found = record { segment = refl; since = refl; singles = grows_not a.seen.singles; counts = grows_not a.seen.counts; words = grows_not a.seen.words }
+taking_sees a (load_redundant histogram) found = record { segment = refl; since = refl; singles = grows_not a.seen.singles; counts = (_, refl); words = grows_not a.seen.words }
+
+-- ---- a step
+
+-- another that lists the same is under way as well
+pub same_way : (known : Known) (earlier : List Taken) (old new : Taker) (a : Actor) → new.counts ≡ old.counts → IsUnderWay known earlier old a
+    → IsUnderWay known earlier new a
+same_way known earlier old new a same way = record {
+  taking = way.taking;
+  last = way.last;
+  taken = way.taken;
+  name = way.name;
+  counts = way.counts ∙ ap (λ l. l.items) (sym same);
+  sum = way.sum;
+}
+
+-- it takes of the same histogram, with as much room
+pub record IsSame (old new : Taker) : Type 0 where
+  pub version : new.version ≡ old.version
+  pub histogram : new.histogram ≡ old.histogram
+  pub ranges : new.ranges ≡ old.ranges
+  pub room : vec_capacity new.counts ≡ vec_capacity old.counts
+
+module _ (shape : Dimensions) (known : Known) (earlier : List Taken) (taker : Taker) (a : Actor) (is : IsTaker shape known earlier taker a) where
+  -- its record lies in the words
+  pub is_inside : (n : ℕ) → n ≡ shape.size → (taker.histogram + 15 ≤ n) × (n ≤ 1048576)
+  is_inside n long =
+      let within = is.within in let many = is.lawful_shape.many in (omega (arith, long, within), omega (arith, long, many))
+
+  pub knows_it : Buckets a known.reference known
+  knows_it = (is.knows, refl, is.bucketed)
+
+  pub split : IsSplit (buckets_of known.spec) (boundaries_of known.spec)
+  split = boundaries_of-split known.spec is.lawful (λ sparse. true≢false (sym is.bucketed ∙ ap has_buckets sparse))
+
+  pub buckets_are : length taker.ranges - 1 ≡ buckets_of known.spec
+  buckets_are = let count = split.count in let long = ap length is.ranges in omega (arith, count, long)
+
+  pub long_ranges : length taker.ranges ≡ buckets_of known.spec + 1
+  long_ranges = let count = split.count in let long = ap length is.ranges in omega (arith, count, long)
+
+  pub few : buckets_of known.spec ≤ 1000
+  few = few_buckets known.spec is.lawful
+
+  -- it takes the histogram
+  pub takes_it : IsUnderWay known earlier taker a → Takes a known.reference known
+  takes_it way = (way.taking, is.knows, refl, (earlier, way.last, way.taken, way.name))
+
+  -- it goes on from another stage, and may have taken more
+  pub goes_still : (new : Taker) (b : Actor) → IsSame taker new → TakesAside a b → MayTurn b → AreUnits new.counts.items
+      → StandsAtStage known earlier new b new.stage → IsTaker shape known earlier new b
+  goes_still new b same aside turns units stands = record {
+    segment = ap (λ s. s.shape) aside.segment ∙ is.segment;
+    version = ap (λ s. s.version) aside.segment ∙ (is.version ∙ sym same.version);
+    lawful_shape = is.lawful_shape;
+    recorder = ap is_opener aside.role ∙ is.recorder;
+    counts_nothing = ap (λ e. e.running) aside.entries ∙ is.counts_nothing;
+    turns = turns;
+    reference = is.reference ∙ sym same.histogram;
+    within = subst (λ (h : ℕ). h + 15 ≤ shape.size) (sym same.histogram) is.within;
+    lawful = is.lawful;
+    bucketed = is.bucketed;
+    ranges = same.ranges ∙ is.ranges;
+    knows = subst (λ (l : List Known). Contains l known) (sym aside.names) is.knows;
+    alone = ap (λ (l : List Known). known_at l known.reference) aside.names ∙ is.alone;
+    units = units;
+    room = subst (λ (n : ℕ). buckets_of known.spec ≤ n) (sym same.room) is.room;
+    stands = stands;
+  }
+
+  -- by an event that it may do
+  module _ (words new_words : List ℕ) (e : TakingEvent) (new : Taker) (same : IsSame taker new) where
+    abbrev event : Event
+    event = taking_event e
+
+    abbrev found : ℕ
+    found = word_at words (spot shape.size event)
+
+    abbrev acted : Actor
+    acted = next a event found
+
+    pub acts_on : Ready a event → new_words ≡ after shape.size taker.version event words → MayTurn acted → AreUnits new.counts.items
+        → (Learned a event found → StandsAtStage known earlier new acted new.stage)
+        → Goes shape.size taker.version a words new_words (λ b. TakesAside a b × IsTaker shape known earlier new b)
+    acts_on ready are turns units stands = record {
+      before = [];
+      at = a;
+      told = refl;
+      event = event;
+      ready = ready;
+      words_are = are;
+      goes = λ learned apart. ([], acted, refl, (taking_aside a e found, goes_still new acted same (taking_aside a e found) turns units (stands learned)));
+    }
+
+-- the record of a delta that stands somewhere lies in so many words, which are few
+pub some_inside : (taker : Taker) (words : List ℕ) → ∥ IsSomeTaker (length words) taker ∥₁
+    → (taker.histogram + 15 ≤ length words) × (length words ≤ 1048576) × (length taker.ranges ≤ 1001)
+some_inside taker words stands = ∥∥₁_elim stands (hlevel props) (λ (shape, known, earlier, a, long, is).
+    let inside = is_inside shape known earlier taker a is (length words) long in
+    let ranges = long_ranges shape known earlier taker a is in
+    let some = few shape known earlier taker a is in
+    (inside.0, inside.1, omega (arith, ranges, some)))
+
+-- it goes on with another stage, with what it lists as it was or with more
+pub same_still : (old : Taker) (stage : Stage) (new : Taker) → new ≡ record old { stage = stage } → IsSame old new
+same_still old stage new same = record {
+  version = ap (λ (t : Taker). t.version) same;
+  histogram = ap (λ (t : Taker). t.histogram) same;
+  ranges = ap (λ (t : Taker). t.ranges) same;
+  room = ap (λ (t : Taker). vec_capacity t.counts) same;
+}
+
+pub same_taken : (old : Taker) (stage : Stage) (new : Taker) → new ≡ record old { stage = stage; counts = new.counts } → vec_capacity new.counts ≡ vec_capacity old.counts
+    → IsSame old new
+same_taken old stage new same room = record {
+  version = ap (λ (t : Taker). t.version) same;
+  histogram = ap (λ (t : Taker). t.histogram) same;
+  ranges = ap (λ (t : Taker). t.ranges) same;
+  room = room;
+}

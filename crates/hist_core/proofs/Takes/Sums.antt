@@ -1,0 +1,127 @@
+-- A delta takes what is new of the sum, and ends.
+use Rattle.std.proofs.Common.{◌≡◌, ℕ, ◌+◌, ◌*◌, ◌-◌, ◌%◌, ◌^◌, ◌<◌, FitsSigned, ◌≤◌, ℤ, List, [], ◌∷◌, ◌++◌, refl, sym, ap, ◌∙◌, subst, true≢false, arith}
+use Rattle.std.specs.Prelude.{◌-ℤ◌, ◌+ℤ◌, slice_set, unsigned_abs}
+use Rattle.std.specs.Int.{cast_signed, cast_unsigned, int_wrap, w64}
+use Rattle.std.proofs.lemmas.Int.{fits_signed_from_abs, int_wrap_fits, wrapping_sub_onto}
+use lib.Seq.{set-get_or}
+use Rattle.std.proofs.Math.IntN.{+ℤ_idl}
+use Rattle.segment_image.specs.Shape.{Dimensions}
+use Rattle.segment_image.specs.Words.{word_at}
+use Rattle.segment_invariant.proofs.Notes.Amounts.{last_changed}
+use Rattle.segment_machine.specs.declared.actor.Actor.{Actor}
+use Rattle.segment_machine.specs.declared.actor.Known.{Known}
+use Rattle.segment_machine.specs.declared.actor.Taken.{Taken}
+use Rattle.segment_machine.specs.Actor.{has_buckets}
+use Rattle.segment_machine.specs.declared.place.Place.TheVariants.{SumLoaded}
+use Rattle.segment_machine.specs.Calls.{change_last}
+use Rattle.segment_machine.specs.Event.{Event, next, taking_event, Learned}
+use Rattle.segment_machine.specs.Note.{TookAll, has_taken, noted}
+use Rattle.segment_machine.specs.Taking.{load_sum, swap_sum, swap_sum_mark}
+use Rattle.hist_core.specs.declared.taker.Stage.TheVariants.{LoadingSum, Swapping}
+use Rattle.hist_core.specs.declared.taker.Taker.{Taker}
+use Rattle.hist_core.specs.declared.taker.TakerStep.TheVariants.{More, Done}
+use Rattle.hist_core.specs.Goes.{Goes}
+use Rattle.hist_core.specs.Taker.{HasEnded, IsTaker, IsUnderWay, StandsAtStage, TakerGives, TakesAside}
+use Rattle.hist_core.proofs.Takes.Going.{acts_on, takes_it, taking_aside}
+
+-- a difference that fits is what is left of it in 64 bits
+pub difference : (sum found mark : ℤ) → cast_signed w64 (cast_unsigned w64 sum) ≡ sum → cast_unsigned w64 sum < 2 ^ 64 → FitsSigned w64 found → found ≡ mark
+    → unsigned_abs (sum -ℤ mark) ≤ 2147483648 * 4294967295
+    → cast_signed w64 ((cast_unsigned w64 sum + (2 ^ 64 - cast_unsigned w64 found)) % 2 ^ 64) ≡ sum -ℤ mark
+difference sum found mark whole low fits same few =
+    wrapping_sub_onto w64 (cast_unsigned w64 sum) found low fits
+    ∙ (ap (λ (z : ℤ). int_wrap w64 (z -ℤ found)) whole
+    ∙ (ap (λ (z : ℤ). int_wrap w64 (sum -ℤ z)) same
+    ∙ int_wrap_fits w64 (sum -ℤ mark) (fits_signed_from_abs w64 (sum -ℤ mark) (omega (arith, few)))))
+
+module _ (shape : Dimensions) (known : Known) (earlier : List Taken) (taker : Taker) (a : Actor) (words : List ℕ) (is : IsTaker shape known earlier taker a) where
+  -- ---- the sum is loaded
+  module _ (loads : taker.stage ≡ LoadingSum) where
+    before_sum : StandsAtStage known earlier taker a LoadingSum
+    before_sum = subst (StandsAtStage known earlier taker a) loads is.stands
+
+    pub loads_sum : (sum : ℤ) → sum ≡ cast_signed w64 (word_at words (taker.histogram + 11))
+        → Goes shape.size taker.version a words words (TakerGives shape known earlier (record taker { stage = Swapping sum }) More a)
+    loads_sum sum is_sum =
+        acts_on shape known earlier taker a is words words (load_sum known.reference) (record taker { stage = Swapping sum })
+        (record { version = refl; histogram = refl; ranges = refl; room = refl })
+        (is.turns, (known, is.knows, refl)) (sym (set-get_or words (known.reference + 11) 0)) refl is.units
+        (λ learned. (
+          (let way = before_sum.0 in record { taking = way.taking; last = way.last; taken = way.taken; name = way.name; counts = way.counts; sum = way.sum }),
+          before_sum.1,
+          ap (λ (h : ℕ). SumLoaded known.reference (cast_signed w64 (word_at words (h + 11)))) is.reference ∙ ap (SumLoaded known.reference) (sym is_sum),
+        ))
+
+  -- ---- it is swapped into the sum mark
+  module _ (sum : ℤ) (swaps : taker.stage ≡ Swapping sum) where
+    stands : StandsAtStage known earlier taker a (Swapping sum)
+    stands = subst (StandsAtStage known earlier taker a) swaps is.stands
+
+    abbrev way : IsUnderWay known earlier taker a
+    way = stands.0
+
+    abbrev mark : ℤ
+    mark = cast_signed w64 (word_at words (known.reference + 12))
+
+    abbrev event : Event
+    event = taking_event (swap_sum_mark known.reference sum)
+
+    abbrev acted : Actor
+    acted = next a event (word_at words (known.reference + 12))
+
+    abbrev last : Taken
+    last = swap_sum sum mark way.last
+
+    taken_is : acted.deltas.taken ≡ earlier ++ last ∷ []
+    taken_is = ap (change_last (swap_sum sum mark)) way.taken ∙ last_changed (swap_sum sum mark) earlier way.last
+
+    took_all : TookAll acted known
+    took_all = record {
+      buckets = λ bucketed. stands.1;
+      samples = λ sparse. absurd (true≢false (sym is.bucketed ∙ ap has_buckets sparse));
+      summed = (earlier, last, taken_is, way.name, refl);
+    }
+
+    ended : (amount : ℤ) → amount ≡ sum -ℤ mark → HasEnded known earlier taker amount (noted acted has_taken)
+    ended amount is_amount = record {
+      taking = refl;
+      last = last;
+      taken = taken_is;
+      name = way.name;
+      counts = way.counts;
+      sum_is = ap (λ (s : ℤ). s +ℤ (sum -ℤ mark)) way.sum ∙ (+ℤ_idl (sum -ℤ mark) ∙ sym is_amount);
+      swapped = refl;
+      all = record { buckets = took_all.buckets; samples = took_all.samples; summed = took_all.summed };
+      units = is.units;
+    }
+
+    aside : TakesAside a (noted acted has_taken)
+    aside = let first = taking_aside a (swap_sum_mark known.reference sum) (word_at words (known.reference + 12)) in record {
+      role = first.role;
+      segment = first.segment;
+      units = first.units;
+      entries = first.entries;
+      names = first.names;
+      snapshots = first.snapshots;
+      first = first.first;
+      chain = first.chain;
+      words = first.words;
+    }
+
+    pub swaps_so : (amount : ℤ) → (Learned a event (word_at words (known.reference + 12)) → amount ≡ sum -ℤ mark) → (new_words : List ℕ)
+        → new_words ≡ slice_set words (taker.histogram + 12) (cast_unsigned w64 sum)
+        → Goes shape.size taker.version a words new_words (TakerGives shape known earlier taker (Done amount) a)
+    swaps_so amount is_amount new_words are = record {
+      before = [];
+      at = a;
+      told = refl;
+      event = event;
+      ready = (known, takes_it shape known earlier taker a is way, stands.2);
+      words_are = are ∙ ap (λ (h : ℕ). slice_set words (h + 12) (cast_unsigned w64 sum)) (sym is.reference);
+      goes = λ learned apart. (
+        has_taken ∷ [],
+        noted acted has_taken,
+        ((way.taking, (known, is.knows, took_all)), refl),
+        (aside, refl, ended amount (is_amount learned)),
+      );
+    }

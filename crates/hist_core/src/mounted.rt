@@ -1,0 +1,27 @@
+//! What a delta and a snapshot know of counts that are in use.
+
+ghost use Rattle.std.specs.Prelude.{◌≡◌, ◌%◌, ◌^◌};
+ghost use Rattle.hist_core.specs.Mounted.{total_at};
+
+/// The counts of a histogram, as they were found in use.
+#[derive(Clone, Copy, Debug, PartialEq, Eq)]
+pub(crate) struct Mounted {
+    // Where they stand.
+    pub(crate) counts: u64,
+    // The bucket whose units were packed, where there was one, and the units of it that the single word keeps.
+    pub(crate) packed: Option<usize>,
+    pub(crate) kept: u64,
+}
+
+impl Mounted {
+    // The units of a bucket whose count this is: those of the packed bucket are also the ones that the single word keeps.
+    pub(crate) fn total(self, bucket: usize, count: u64) -> u64
+        ensures { result ≡ total_at self bucket count }
+    {
+        if self.packed == Some(bucket) {
+            count.wrapping_add(self.kept)
+        } else {
+            count
+        }
+    }
+}

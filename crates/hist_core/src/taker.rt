@@ -1,0 +1,254 @@
+//! A delta that is going on: it takes of each bucket of a histogram the units that no delta has taken yet, and of the sum what
+//! is new.
+
+use crate::counting::{fetch_max, swap};
+use crate::mounted::Mounted;
+use crate::packing::{DISABLED_BIT, packed_in};
+use bucket_ranges::Ranges;
+use segment_image::layout::{
+    BLOCK_HEADER, HISTOGRAM_COUNTS, HISTOGRAM_SINGLE, HISTOGRAM_SINGLE_MARK, HISTOGRAM_SUM,
+    HISTOGRAM_SUM_MARK,
+};
+
+/// What a delta does next.
+#[derive(Clone, Copy, Debug, PartialEq, Eq)]
+pub(crate) enum Stage {
+    /// It loads the single word.
+    LoadingSingle,
+    /// It raises the single mark to the packed units of a bucket.
+    TakingPacked {
+        bucket: usize,
+        units: u64,
+    },
+    /// It loads the counts reference. The counts are in use.
+    LoadingCounts {
+        packed: Option<usize>,
+        kept: u64,
+    },
+    /// It loads the count of a bucket.
+    LoadingCount {
+        mounted: Mounted,
+        bucket: usize,
+    },
+    /// It raises the mark of a bucket to the units that it has.
+    Raising {
+        mounted: Mounted,
+        bucket: usize,
+        total: u64,
+    },
+    /// It loads the sum.
+    LoadingSum,
+    /// It swaps the sum into the sum mark.
+    Swapping {
+        sum: i64,
+    },
+}
+
+/// What a step of a delta says.
+#[derive(Clone, Copy, Debug, PartialEq, Eq)]
+pub(crate) enum TakerStep {
+    /// It goes on.
+    More,
+    /// It has taken so many units of a key, and goes on.
+    Took(i32, u64),
+    /// It has taken this of the sum, and has ended.
+    Done(i64),
+}
+
+/// A delta of a histogram with buckets that is going on.
+#[derive(Debug, Drop)]
+pub(crate) struct Taker {
+    pub(crate) version: u64,
+    // The histogram's record, and the ranges of its buckets.
+    pub(crate) histogram: u64,
+    pub(crate) ranges: Ranges,
+    // The keys of which it took units so far, each with how many. There is room for all buckets.
+    pub(crate) counts: Vec<(i32, u64)>,
+    pub(crate) stage: Stage,
+}
+
+impl Taker {
+    ghost use Rattle.std.specs.Prelude.{◌≡◌, ◌≤◌, ◌<◌, ◌+◌, ◌⊎◌, length, vec_len, vec_capacity};
+    ghost use Rattle.hist_core.specs.declared.taker.Stage.TheVariants.{LoadingSingle, TakingPacked, LoadingCounts, LoadingCount, Raising, LoadingSum, Swapping};
+    ghost use Rattle.hist_core.specs.Taker.{IsSomeTaker, TakerSteps, Lists, IsBehindSingle, behind_bucket, IsTaken, mark_of};
+
+    // What a single word leads to.
+    fn behind_single(&self, word: u64) -> Stage
+        requires { length self.now.ranges ≤ 65535 }
+        ensures { IsBehindSingle self.now word result }
+    {
+        let (packed, kept) = packed_in(self.version, word, self.ranges.len());
+        if word >= DISABLED_BIT {
+            return Stage::LoadingCounts { packed, kept };
+        }
+        match packed {
+            Some(bucket) => Stage::TakingPacked {
+                bucket,
+                units: kept,
+            },
+            None => Stage::LoadingSum,
+        }
+    }
+
+    // It loads the single word.
+    fn load_single(&mut self, words: &[u64]) -> TakerStep
+        requires loads { self.old.stage ≡ LoadingSingle }
+        requires stands { ∥ IsSomeTaker (length words.now) self.old ∥₁ }
+        ensures steps { TakerSteps self.old words.now self.new words.now result }
+        ensures lists { Lists self.old self.new result }
+    {
+        let word = words[self.histogram as usize + HISTOGRAM_SINGLE];
+        self.stage = self.behind_single(word);
+        TakerStep::More
+    }
+
+    // It lists the units of a bucket that stood between its mark and what that was raised to.
+    fn take(&mut self, bucket: usize, total: u64, mark: u64) -> TakerStep
+        requires inside { bucket + 1 < length self.old.ranges }
+        requires room { vec_len self.old.counts < vec_capacity self.old.counts }
+        ensures { IsTaken bucket total mark self.old self.new result }
+    {
+        if mark >= total {
+            return TakerStep::More;
+        }
+        let key = self.ranges.low(bucket);
+        self.counts.push_reserved((key, total - mark));
+        TakerStep::Took(key, total - mark)
+    }
+
+    // It raises the single mark to the packed units.
+    fn take_packed(&mut self, words: &mut [u64], bucket: usize, units: u64) -> TakerStep
+        requires takes { self.old.stage ≡ TakingPacked bucket units }
+        requires stands { ∥ IsSomeTaker (length words.old) self.old ∥₁ }
+        ensures steps { TakerSteps self.old words.old self.new words.new result }
+        ensures lists { Lists self.old self.new result }
+    {
+        let at = self.histogram as usize + HISTOGRAM_SINGLE_MARK;
+        let mark = fetch_max(words, at, units);
+        self.stage = Stage::LoadingSum;
+        self.take(bucket, units, mark)
+    }
+
+    // It loads the counts reference. The counts are in use, so they lie within the segment.
+    fn load_counts(&mut self, words: &[u64], packed: Option<usize>, kept: u64) -> TakerStep
+        requires loads { self.old.stage ≡ LoadingCounts packed kept }
+        requires stands { ∥ IsSomeTaker (length words.now) self.old ∥₁ }
+        ensures steps { TakerSteps self.old words.now self.new words.now result }
+        ensures lists { Lists self.old self.new result }
+    {
+        let counts = words[self.histogram as usize + HISTOGRAM_COUNTS];
+        let mounted = Mounted {
+            counts,
+            packed,
+            kept,
+        };
+        self.stage = Stage::LoadingCount { mounted, bucket: 0 };
+        TakerStep::More
+    }
+
+    // What it does behind a bucket: it goes on to the next, or to the sum.
+    fn behind_bucket(&self, mounted: Mounted, bucket: usize) -> Stage
+        requires { bucket ≤ 65535 }
+        ensures { result ≡ behind_bucket self.now mounted bucket }
+    {
+        if bucket + 1 < self.ranges.len() {
+            Stage::LoadingCount {
+                mounted,
+                bucket: bucket + 1,
+            }
+        } else {
+            Stage::LoadingSum
+        }
+    }
+
+    // It loads the count of a bucket, and raises its mark next where the bucket has units.
+    fn load_count(&mut self, words: &[u64], mounted: Mounted, bucket: usize) -> TakerStep
+        requires loads { self.old.stage ≡ LoadingCount mounted bucket }
+        requires stands { ∥ IsSomeTaker (length words.now) self.old ∥₁ }
+        ensures steps { TakerSteps self.old words.now self.new words.now result }
+        ensures lists { Lists self.old self.new result }
+    {
+        let count = words[mounted.counts as usize + (BLOCK_HEADER + bucket)];
+        let total = mounted.total(bucket, count);
+        self.stage = if total == 0 {
+            self.behind_bucket(mounted, bucket)
+        } else {
+            Stage::Raising {
+                mounted,
+                bucket,
+                total,
+            }
+        };
+        TakerStep::More
+    }
+
+    // Where the mark of a bucket stands: the packed one has the single mark, each other its own behind the counts.
+    fn mark_of(&self, mounted: Mounted, bucket: usize) -> usize
+        requires few { (length self.now.ranges ≤ 65535) × (bucket ≤ 65535) }
+        requires inside { (self.now.histogram ≤ 1048576) × (mounted.counts ≤ 1048576) }
+        ensures { result ≡ mark_of self.now mounted bucket }
+    {
+        if mounted.packed == Some(bucket) {
+            self.histogram as usize + HISTOGRAM_SINGLE_MARK
+        } else {
+            mounted.counts as usize + BLOCK_HEADER + self.ranges.len() + bucket
+        }
+    }
+
+    // It raises the mark of a bucket.
+    fn raise(&mut self, words: &mut [u64], mounted: Mounted, bucket: usize, total: u64) -> TakerStep
+        requires raises { self.old.stage ≡ Raising mounted bucket total }
+        requires stands { ∥ IsSomeTaker (length words.old) self.old ∥₁ }
+        ensures steps { TakerSteps self.old words.old self.new words.new result }
+        ensures lists { Lists self.old self.new result }
+    {
+        let mark = fetch_max(words, self.mark_of(mounted, bucket), total);
+        self.stage = self.behind_bucket(mounted, bucket);
+        self.take(bucket, total, mark)
+    }
+
+    // It loads the sum.
+    fn load_sum(&mut self, words: &[u64]) -> TakerStep
+        requires loads { self.old.stage ≡ LoadingSum }
+        requires stands { ∥ IsSomeTaker (length words.now) self.old ∥₁ }
+        ensures steps { TakerSteps self.old words.now self.new words.now result }
+        ensures lists { Lists self.old self.new result }
+    {
+        let sum = words[self.histogram as usize + HISTOGRAM_SUM].cast_signed();
+        self.stage = Stage::Swapping { sum };
+        TakerStep::More
+    }
+
+    // It swaps the sum into the sum mark, and has ended.
+    fn swap_sum(&mut self, words: &mut [u64], sum: i64) -> TakerStep
+        requires swaps { self.old.stage ≡ Swapping sum }
+        requires stands { ∥ IsSomeTaker (length words.old) self.old ∥₁ }
+        ensures steps { TakerSteps self.old words.old self.new words.new result }
+        ensures lists { Lists self.old self.new result }
+    {
+        let at = self.histogram as usize + HISTOGRAM_SUM_MARK;
+        let mark = swap(words, at, sum.cast_unsigned());
+        TakerStep::Done(sum.wrapping_sub(mark.cast_signed()))
+    }
+
+    // Goes on by one event.
+    pub(crate) fn step(&mut self, words: &mut [u64]) -> TakerStep
+        requires stands { ∥ IsSomeTaker (length words.old) self.old ∥₁ }
+        ensures steps { TakerSteps self.old words.old self.new words.new result }
+        ensures lists { Lists self.old self.new result }
+    {
+        match self.stage {
+            Stage::LoadingSingle => self.load_single(words),
+            Stage::TakingPacked { bucket, units } => self.take_packed(words, bucket, units),
+            Stage::LoadingCounts { packed, kept } => self.load_counts(words, packed, kept),
+            Stage::LoadingCount { mounted, bucket } => self.load_count(words, mounted, bucket),
+            Stage::Raising {
+                mounted,
+                bucket,
+                total,
+            } => self.raise(words, mounted, bucket, total),
+            Stage::LoadingSum => self.load_sum(words),
+            Stage::Swapping { sum } => self.swap_sum(words, sum),
+        }
+    }
+}

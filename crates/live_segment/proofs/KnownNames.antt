@@ -11,12 +11,6 @@ use Rattle.live_segment.specs.declared.recorder.KnownHistogram.{KnownHistogram}
 pub is_there : {A : Type 0} (l : List A) (n i : ℕ) (x : A) → n ≡ length l → i < n → x ≡ get_or l i x → get_elem? l i ≡ some x
 is_there l n i x count near read = element_at l i x (omega (arith, count, near)) ∙ ap some (sym read)
 
--- what stands at a place stands within the list
-pub place_below : {A : Type 0} (l : List A) (i : ℕ) (x : A) → get_elem? l i ≡ some x → i < length l
-place_below [] i x at = absurd (some-ne-none x (sym at))
-place_below (y ∷ l) zero x at = omega arith
-place_below (y ∷ l) (suc i) x at = let below = place_below l i x at in omega (arith, below)
-
 -- the next has another name, too
 pub none_further : (list : List KnownHistogram) (name : List ℕ) (i : ℕ) (next : KnownHistogram)
     → ((j : ℕ) (known : KnownHistogram) → j < i → get_elem? list j ≡ some known → known.name.items ≢ name) → get_elem? list i ≡ some next

@@ -44,6 +44,7 @@ mod Searching
 mod HistSaid
 mod Settled
 mod KnownNames
+mod HistAnswered
 mod Knowing
 mod Filled
 mod Recorded

@@ -10,8 +10,10 @@ use Rattle.segment_machine.specs.Note.{knows, MayNote}
 use Rattle.hist_core.specs.declared.asked.Asked.{Asked}
 use Rattle.hist_core.specs.declared.refusal.Refusal.{Refusal}
 use Rattle.hist_core.specs.declared.refusal.Refusal.TheVariants.{OtherSpec}
+use Rattle.live_segment.specs.declared.recorder.KnownHistogram.{KnownHistogram}
 use Rattle.live_segment.specs.Adding.{HasNoRoom}
 use Rattle.live_segment.specs.Answering.{HaveOneName}
+use Rattle.live_segment.specs.Known.{known_view}
 use Rattle.live_segment.specs.Onward.{DoesOn, SeesOn, StaysApart}
 use Rattle.live_segment.specs.Searching.{asked_at, SawOther}
 
@@ -63,3 +65,13 @@ pub record ComesToKnow (asked : Asked) (reference : ℕ) (old new : Actor) : Typ
 abbrev pub Settles : Asked → Actor → Result ℕ Refusal → Actor → Type 0
 Settles asked old (Ok reference) new = ComesToKnow asked reference old new
 Settles asked old (Err why) new = LooksAround old new × (new.answers.owed ≡ []) × IsRefusedBy asked why new
+
+-- what it asked for, as the record that was found
+pub record IsKnownAs (asked : Asked) (known : KnownHistogram) : Type 0 where
+  pub view : known_view known ≡ asked_at asked known.reference
+  pub ranges : known.ranges ≡ asked.ranges
+
+-- and has what it knows then
+abbrev pub IsToldOf : Asked → Actor → Result KnownHistogram Refusal → Actor → Type 0
+IsToldOf asked old (Ok known) new = IsKnownAs asked known × Settles asked old (Ok known.reference) new
+IsToldOf asked old (Err why) new = Settles asked old (Err why) new

@@ -10,7 +10,7 @@ ghost use Rattle.std.specs.List.{All};
 ghost use Rattle.std.proofs.Props.{props};
 
 use crate::records::WalkPlace;
-use crate::rule::{Announcement, Pass};
+use crate::rule::Pass;
 use crate::segment::Segment;
 use bucket_ranges::{Ranges, Spec};
 use hist_core::{Asked, Refusal};
@@ -36,7 +36,7 @@ impl KnownHistogram {
     ghost use Rattle.live_segment.specs.Searching.{asked_at};
 
     // What was asked for, with its record.
-    fn of(asked: Asked, reference: u64) -> KnownHistogram
+    pub(crate) fn of(asked: Asked, reference: u64) -> KnownHistogram
         ensures view { known_view result ≡ asked_at asked reference }
         ensures ranges { result.ranges ≡ asked.ranges }
     {
@@ -143,6 +143,32 @@ impl<'a> Recorder<'a> {
             }
         }
         None
+    }
+
+    /// The histogram of a name: that of the first record of the name on the list, which is made where there is none. One of a
+    /// name that it knows needs no event, and is the same each time.
+    ///
+    /// `BadName`, then `BadSpec`, then `TooLarge` where its record or its counts do not fit in a page, and `NoMemory` where there
+    /// is none, before anything has happened. Then `OtherSpec` where the histogram of the name has another spec; or, where the
+    /// list has no record of the name, `Corrupt` or `Full` where no block could be claimed for one. It knows what it knew then.
+    pub fn hist(&mut self, name: &[u8], spec: &Spec) -> Result<Hist, Refusal>
+        ensures same { KnowsOn self.old self.new }
+        ensures named { IfOk result (IsNamed name.now spec.now self.new) }
+        ensures answer { MatchResult result (λ histogram. IsAnsweredWith name.now spec.now histogram (view_of_recorder self.old) (view_of_recorder self.new)) (λ why. IsRefusedWith name.now spec.now why (view_of_recorder self.old) (view_of_recorder self.new)) }
+    {
+        let asked = Asked::of(self.alloc, self.segment.setting.shape, name, spec)?;
+        if let Some(index) = self.index_of(name) {
+            return if self.known[index].spec.is_same(spec) {
+                Ok(Hist { index })
+            } else {
+                Err(Refusal::OtherSpec)
+            };
+        }
+        self.known.reserve(1)?;
+        let known = self.segment.ask(&mut self.seat, asked)?;
+        let index = self.known.len();
+        self.known.push_reserved(known);
+        Ok(Hist { index })
     }
 
     /// Marks the segment as corrupt for good: from then on no block is claimed in it. It is never refused.

@@ -27,6 +27,22 @@ pub(crate) enum Announcement {
     Answer { histogram: u64, snapshot: Snapshot },
 }
 
+impl Announcement {
+    ghost use Rattle.std.specs.Prelude.{◌≡◌};
+    ghost use Rattle.live_segment.specs.declared.rule.Announcement.TheVariants.{Histogram};
+
+    // What a `hist` asks for, of which this is said.
+    pub(crate) fn into_asked(self) -> Asked
+        requires { (asked : Asked) × (self ≡ Histogram asked) }
+        ensures { self ≡ Histogram result }
+    {
+        let Announcement::Histogram(asked) = self else {
+            unreachable!()
+        };
+        asked
+    }
+}
+
 /// What holds between any two steps.
 pub(crate) struct SegmentRule;
 

@@ -6,9 +6,10 @@ ghost use Rattle.segment_machine.specs.Calls.{MayTurn};
 ghost use Rattle.live_segment.specs.Rule.{IsOf};
 ghost use Rattle.live_segment.specs.Finding.{IsAsked};
 ghost use Rattle.live_segment.specs.Making.{SaysAsked};
-ghost use Rattle.live_segment.specs.Settling.{LooksUp, Settles};
+ghost use Rattle.live_segment.specs.Settling.{IsToldOf, LooksUp, Settles};
 
 use crate::finding::Search;
+use crate::recorder::KnownHistogram;
 use crate::rule::{Announcement, Pass};
 use crate::segment::Segment;
 use hist_core::{Asked, Refusal};
@@ -74,5 +75,24 @@ impl Segment {
                 Err(why)
             }
         }
+    }
+
+    /// The histogram that is asked for, as a recorder knows it from then on.
+    ///
+    /// `Corrupt` or `Full` where no block could be claimed for its record, `OtherSpec` where the first record of the name has
+    /// another spec.
+    pub(crate) fn ask(&self, seat: &mut Pass, asked: Asked) -> Result<KnownHistogram, Refusal>
+        requires seat { (seat.old.table_id ≡ table_of self.now) × (is_opener seat.old.me.0.role ≡ false) × IsOf self.now.setting seat.old.me.0 }
+        requires rests { MayTurn seat.old.me.0 × (seat.old.me.0.entries.running ≡ []) × (seat.old.me.0.answers.owed ≡ []) }
+        requires asked { IsAsked self.now.setting.shape asked }
+        ensures same { IsSame seat.old seat.new }
+        ensures outcome { IsToldOf asked seat.old.me.0 result seat.new.me.0 }
+    {
+        let said = Announcement::Histogram(asked);
+        let Announcement::Histogram(asked) = &said else {
+            unreachable!()
+        };
+        let reference = self.settle(seat, asked, &said)?;
+        Ok(KnownHistogram::of(said.into_asked(), reference))
     }
 }

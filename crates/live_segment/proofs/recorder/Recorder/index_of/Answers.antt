@@ -3,7 +3,8 @@ use mathlib.Core.Option.{some}
 use Rattle.std.proofs.lemmas.Slice.Eq.{bytes_eq-Decides}
 use lib.ListN.{get_elem?}
 use Rattle.live_segment.specs.declared.recorder.KnownHistogram.{KnownHistogram}
-use Rattle.live_segment.proofs.KnownNames.{is_there, place_below, none_further}
+use Rattle.segment_invariant.proofs.Lists.Elements.{below_length}
+use Rattle.live_segment.proofs.KnownNames.{is_there, none_further}
 use Rattle.live_segment.proofs.recorder.Recorder.index_of.Goals as goal
 
 pub loop-index-init : goal.loop-index-init
@@ -28,5 +29,5 @@ loop-index-preserved c =
 
 pub returns : goal.returns
 returns c = λ i known at.
-    let below = place_below c.args.self.now.known.items i known at in let many = ap length c.deref-known-items.ensures.value in let end = c.loop-index-test.false in
+    let below = below_length c.args.self.now.known.items i known at in let many = ap length c.deref-known-items.ensures.value in let end = c.loop-index-test.false in
     c.loop-index.invariant i known (omega (arith, below, many, end)) at

@@ -1,0 +1,99 @@
+use Rattle.std.proofs.Common.{◌≡◌, List, [], ◌∷◌, ◌++◌, length, map, ap, subst, sym, ◌∙◌, arith, refl, inl, inr, true≢false}
+use Rattle.std.specs.List.{All}
+use Rattle.std.proofs.lemmas.Result.{err_from_is_err_and}
+use Rattle.segment_invariant.proofs.Lists.Elements.{below_length}
+use Rattle.live_segment.specs.Known.{known_view, KnowsRight}
+use Rattle.live_segment.proofs.Walked.{all_right, come_still}
+use Rattle.live_segment.proofs.HistAnswered.{read_known, none_known, names_still, of_still, rests_still, share_still, chain_grew, of_then, rests_then, share_same, right_then, listed_then, named_then, count_of, asked_here}
+use Rattle.live_segment.proofs.recorder.Recorder.hist.Goals as goal
+use Rattle.live_segment.proofs.recorder.Recorder.hist.Goals.{then-is_same, else-is_same}
+
+pub index-requires : goal.index-requires
+index-requires c =
+    let known = c.args.self.now.known in let below = below_length known.items c.in-Some.index _ c.in-Some.ensures.1 in let count = known.ok.0 in omega (arith, below, count)
+
+pub returns-in-Some-clause-named : goal.returns-in-Some-clause-named
+returns-in-Some-clause-named c =
+    let me = c.args.self.now in
+    let (at, named) =
+    read_known me.known.items me.seat.me.0.answers.names c.args.name.now me.known.len c.in-Some.index c.index.result.now me.listed me.known.ok.0 c.in-Some.ensures c.index.ensures in
+    elim c.if-is_same.branch [
+      | then-is_same w ↦ rw w.result-is (below_length me.seat.me.0.answers.names c.in-Some.index _ at, (known_view c.index.result.now, at, named, c.is_same.ensures.0 w.if-is_same.true))
+      | else-is_same w ↦ rw w.result-is tt
+    ]
+
+pub returns-in-Some-clause-answer : goal.returns-in-Some-clause-answer
+returns-in-Some-clause-answer c =
+    let me = c.args.self.now in
+    let (at, named) =
+    read_known me.known.items me.seat.me.0.answers.names c.args.name.now me.known.len c.in-Some.index c.index.result.now me.listed me.known.ok.0 c.in-Some.ensures c.index.ensures in
+    elim c.if-is_same.branch [
+      | then-is_same w ↦ rw w.result-is (inl (known_view c.index.result.now, (at, named), c.is_same.ensures.0 w.if-is_same.true, refl))
+      | else-is_same w ↦ rw w.result-is
+          (inr (inl (refl, (c.in-Some.index, known_view c.index.result.now, (at, named), λ same. true≢false (sym (c.is_same.ensures.1 same) ∙ w.if-is_same.false)), refl)))
+    ]
+
+pub invariant_of-self-in-Break-branch-3 : goal.invariant_of-self-in-Break-branch-3
+invariant_of-self-in-Break-branch-3 c =
+    let me = c.args.self.now in
+    let old = me.seat.me.0 in
+    let new = c.ask.new.seat.me.0 in
+    let (looks, owes, why_is) = c.in_err-known.ensures.outcome in record {
+      fits = c.in_err-known.ensures.same.0 ∙ me.fits;
+      set = of_still old new looks me.segment.now.setting me.set;
+      rests = rests_still old new looks me.rests owes;
+      counted = me.counted ∙ sym (share_still old new looks);
+      listed = ap (map known_view) c.in_ok-reserve.ensures.items ∙ (me.listed ∙ sym (names_still old new looks));
+      right = subst (All (KnowsRight me.segment.now.setting new)) (sym c.in_ok-reserve.ensures.items)
+          (all_right me.segment.now.setting old new me.known.items (names_still old new looks) looks.seen.chain me.right);
+      free = c.in_err-known.ensures.same.2 ∙ me.free;
+      come = come_still me.segment.now.setting.shape.size old.seen.chain new.seen.chain me.fresh looks.seen.chain me.come;
+    }
+
+pub invariant_of-self-2 : goal.invariant_of-self-2
+invariant_of-self-2 c =
+    let me = c.args.self.now in
+    let old = me.seat.me.0 in
+    let new = c.ask.new.seat.me.0 in
+    let known = c.in_ok-known.known in
+    let (is, comes) = c.in_ok-known.ensures.outcome in
+    let none = none_known me.known.items old c.args.name.now me.listed c.in_default.ensures in
+    let grew = c.push_reserved.ensures.items ∙ ap (λ l. l ++ known ∷ []) c.in_ok-reserve.ensures.items in record {
+      fits = c.in_ok-known.ensures.same.0 ∙ me.fits;
+      set = of_then _ known.reference old new comes me.segment.now.setting me.set;
+      rests = rests_then _ known.reference old new comes me.rests;
+      counted = me.counted ∙ sym (share_same _ known.reference old new comes);
+      listed = listed_then me.segment.now.setting c.args.name.now c.args.spec.now _ known old new me.set c.in_ok-asked.ensures none is comes me.known.items
+          c.push_reserved.new.self.items grew me.listed;
+      right = right_then me.segment.now.setting c.args.name.now c.args.spec.now _ known old new me.set c.in_ok-asked.ensures none is comes me.known.items
+          c.push_reserved.new.self.items grew me.right;
+      free = c.in_ok-known.ensures.same.2 ∙ me.free;
+      come = come_still me.segment.now.setting.shape.size old.seen.chain new.seen.chain me.fresh (chain_grew _ known.reference old new comes) me.come;
+    }
+
+pub returns-clause-named : goal.returns-clause-named
+returns-clause-named c =
+    let me = c.args.self.now in
+    let old = me.seat.me.0 in
+    let (is, comes) = c.in_ok-known.ensures.outcome in
+    let none = none_known me.known.items old c.args.name.now me.listed c.in_default.ensures in
+    named_then me.segment.now.setting c.args.name.now c.args.spec.now _ c.in_ok-known.known old c.ask.new.seat.me.0 me.set c.in_ok-asked.ensures none is comes c.len-index.result
+    (count_of me.known.items old.answers.names c.len-index.result me.listed (c.len-index.ensures ∙ (c.reserve.new.self.ok.0 ∙ ap length c.in_ok-reserve.ensures.items)))
+
+pub returns-clause-answer : goal.returns-clause-answer
+returns-clause-answer c =
+    let me = c.args.self.now in
+    let old = me.seat.me.0 in
+    inr (
+      none_known me.known.items old c.args.name.now me.listed c.in_default.ensures,
+      count_of me.known.items old.answers.names c.len-index.result me.listed (c.len-index.ensures ∙ (c.reserve.new.self.ok.0 ∙ ap length c.in_ok-reserve.ensures.items)),
+      (c.in_ok-asked.asked, c.in_ok-known.known.reference, asked_here me.segment.now.setting old me.set c.in_ok-asked.ensures, c.in_ok-known.ensures.outcome.1),
+    )
+
+pub returns-in_err-known-clause-answer : goal.returns-in_err-known-clause-answer
+returns-in_err-known-clause-answer c =
+    let me = c.args.self.now in
+    let p = err_from_is_err_and c.from_residual-in_err-known.result c.from_residual-in_err-known.ensures.1 in
+    let (looks, owes, why_is) = c.in_err-known.ensures.outcome in
+    rw (p.1, p.2)
+    (inr (inr (none_known me.known.items me.seat.me.0 c.args.name.now me.listed c.in_default.ensures, (c.in_ok-asked.asked, asked_here me.segment.now.setting me.seat.me.0 me.set c.in_ok-asked.ensures, why_is), looks, owes ∙ sym me.rests.owes)))

@@ -1,5 +1,5 @@
 -- What a `hist` leaves of its recorder: what it knows is right still, and what it has come to know is.
-use Rattle.std.proofs.Common.{◌≡◌, ◌≢◌, ℕ, zero, suc, ◌+◌, ◌*◌, ◌<◌, ◌≤◌, Bool, true, false, List, [], ◌∷◌, ◌++◌, length, map, ◌==◌, if◌then◌else◌, eq-eqb, ne_eqb, All, refl, sym, ap, subst, ◌∙◌, arith, length-append}
+use Rattle.std.proofs.Common.{◌≡◌, ◌≢◌, ℕ, zero, suc, ◌+◌, ◌<◌, ◌≤◌, Bool, true, false, List, [], ◌∷◌, ◌++◌, length, map, ◌==◌, if◌then◌else◌, eq-eqb, ne_eqb, All, refl, sym, ap, subst, ◌∙◌, arith, length-append}
 use Rattle.std.specs.Prelude.{Some, None, ◌||◌, slice_index_or}
 use Rattle.std.specs.List.{list_any}
 use Rattle.std.proofs.lemmas.List.{length-map, map-append}
@@ -10,20 +10,20 @@ use lib.ListN.{get_elem?}
 use Rattle.bucket_ranges.specs.declared.spec.Spec.{Spec}
 use Rattle.bucket_ranges.specs.declared.spec.Spec.TheVariants as spec
 use Rattle.bucket_ranges.specs.Ranges.{boundaries_of}
-use Rattle.bucket_ranges.specs.Spec.{SameSpec, buckets_of, spec_fault, spec_fields, spec_ranges}
+use Rattle.bucket_ranges.specs.Spec.{SameSpec, spec_fault, spec_fields, spec_ranges}
 use Rattle.segment_image.specs.Shape.{Dimensions}
 use Rattle.segment_machine.specs.declared.actor.Actor.{Actor}
 use Rattle.segment_machine.specs.declared.actor.Known.{Known}
-use Rattle.segment_machine.specs.Actor.{has_buckets, is_bound, is_opener, known_at}
+use Rattle.segment_machine.specs.Actor.{is_bound, is_opener, known_at}
 use Rattle.segment_machine.specs.Taking.{is_looking}
 use Rattle.segment_invariant.proofs.Lists.Elements.{below_length, index_at, from_map}
 use Rattle.segment_promises.proofs.Adopting.Opened.Blocks.{test_there}
 use Rattle.hist_core.specs.declared.asked.Asked.{Asked}
-use Rattle.hist_core.specs.Asked.{IsAskedFor, IsPayloadFor, payload_words}
+use Rattle.hist_core.specs.Asked.{IsAskedFor}
 use Rattle.live_segment.specs.declared.recorder.KnownHistogram.{KnownHistogram}
 use Rattle.live_segment.specs.declared.rule.Setting.{Setting}
 use Rattle.live_segment.specs.Adding.{block_words}
-use Rattle.live_segment.specs.Hist.{IsKnownAt, KnowsNamed, KnowsNone, NoneHasName}
+use Rattle.live_segment.specs.Hist.{IsKnownAt, KnowsNone, NoneHasName}
 use Rattle.live_segment.specs.Known.{known_view, KnowsRight}
 use Rattle.live_segment.specs.Onward.{Grows}
 use Rattle.live_segment.specs.Rule.{IsOf}

@@ -1,4 +1,4 @@
-use Rattle.std.proofs.Common.{◌≡◌, List, [], ◌∷◌, ◌++◌, length, map, ap, subst, sym, ◌∙◌, arith, refl, inl, inr, true≢false}
+use Rattle.std.proofs.Common.{[], ◌∷◌, ◌++◌, length, map, ap, subst, sym, ◌∙◌, arith, refl, inl, inr, true≢false}
 use Rattle.std.specs.List.{All}
 use Rattle.std.proofs.lemmas.Result.{err_from_is_err_and}
 use Rattle.segment_invariant.proofs.Lists.Elements.{below_length}

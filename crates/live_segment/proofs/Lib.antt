@@ -31,6 +31,7 @@ mod Answering
 mod SampleWords
 mod SampleCounts
 mod SamplesBehind
+mod FewSamples
 mod Disabled
 mod CountsAlone
 mod Counted

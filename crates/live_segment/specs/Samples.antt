@@ -1,13 +1,13 @@
 -- What a recorder sees of the samples of a sparse histogram, which it meets along the list.
-use Rattle.std.specs.Prelude.{◌≡◌, ◌≢◌, ◌⊎◌, true, false, ℕ, ◌+◌, ◌≤◌, ℤ, List, ◌∷◌, ◌++◌, Option, Some, None}
-use Rattle.std.specs.List.{Contains}
-use Rattle.segment_image.specs.declared.layout.TheConstants.{SAMPLE_COUNT, SAMPLE_LEAST}
+use Rattle.std.specs.Prelude.{◌≡◌, ◌≢◌, ◌⊎◌, true, false, ℕ, ◌+◌, ◌*◌, ◌≤◌, ℤ, List, ◌∷◌, ◌++◌, length, Option, Some, None}
+use Rattle.std.specs.List.{All, AllPairs, Contains}
+use Rattle.segment_image.specs.declared.layout.TheConstants.{HEADER_WORDS, SAMPLE_COUNT, SAMPLE_LEAST}
 use Rattle.bucket_ranges.specs.Reading.{is_i32}
 use Rattle.segment_machine.specs.declared.actor.Actor.{Actor}
 use Rattle.segment_machine.specs.Event.{taking_event}
 use Rattle.segment_machine.specs.Made.{SawSample, SawOther}
 use Rattle.segment_machine.specs.Actor.{SawCount, is_bound}
-use Rattle.segment_machine.specs.Taking.{IsLaterSample, is_looking, load_sum}
+use Rattle.segment_machine.specs.Taking.{IsLaterSample, is_looking, load_count, load_sum}
 use Rattle.live_segment.specs.Onward.{Grows}
 use Rattle.live_segment.specs.Steps.{DoesAt, Sat}
 
@@ -20,6 +20,20 @@ ShowsSample histogram at None a = (value : ℤ) → is_i32 value ≡ true → Sa
 abbrev pub SamplesStandBehind : Actor → Type 0
 SamplesStandBehind a = (histogram sample : ℕ) (value : ℤ) (front behind : List ℕ) → Contains a.seen.chain sample → SawSample a.seen histogram value sample
     → a.seen.chain ≡ front ++ histogram ∷ behind → Contains behind sample
+
+-- it met a record that it saw to be a sample
+abbrev pub MeetsSample : Actor → ℕ → Type 0
+MeetsSample a at = Contains a.seen.chain at × ((histogram : ℕ) × (value : ℤ) × SawSample a.seen histogram value at)
+
+-- the samples that it met are few: each has eight words of its own, behind those of the header
+abbrev pub SamplesAreFew : Actor → Type 0
+SamplesAreFew a =
+    (samples : List ℕ) → AllPairs (λ x y. x ≢ y) samples → All (MeetsSample a) samples
+    → HEADER_WORDS + SAMPLE_LEAST * length samples ≤ a.segment.shape.size
+
+-- the count of a sample is loaded, by a recorder that met few samples
+abbrev pub LoadsCountOfSample : ℕ → Sat → ℕ → Sat → Type 0
+LoadsCountOfSample word me found me' = DoesAt (λ at. taking_event (load_count at)) word me found me' × SamplesAreFew me.0
 
 -- the sum of a sparse histogram is loaded, by a recorder that met its samples there
 abbrev pub LoadsSumOfValues : ℕ → Sat → ℕ → Sat → Type 0

@@ -1,13 +1,13 @@
 //! How a recorder meets the samples of a sparse histogram along the list.
 
-ghost use Rattle.std.specs.Prelude.{◌≡◌, ◌+◌, ◌≤◌, false, length};
+ghost use Rattle.std.specs.Prelude.{◌≡◌, ◌+◌, ◌≤◌, false, length, IfSome};
 ghost use Rattle.bucket_ranges.specs.declared.spec.Spec.TheVariants.{Sparse};
 ghost use Rattle.segment_machine.specs.Actor.{is_opener};
 ghost use Rattle.segment_machine.specs.Taking.{is_looking};
 ghost use Rattle.live_segment.specs.Finding.{Meets, SeesWords};
 ghost use Rattle.live_segment.specs.Known.{known_view};
 ghost use Rattle.live_segment.specs.Rule.{IsOf};
-ghost use Rattle.live_segment.specs.Samples.{CountsSample, SeesSample, ShowsSample};
+ghost use Rattle.live_segment.specs.Samples.{CountsSample, SamplesAreFew, SeesSample, ShowsSample};
 ghost use Rattle.live_segment.specs.Telling.{KnowsAlone};
 
 use crate::recorder::KnownHistogram;
@@ -60,9 +60,10 @@ impl Segment {
         ensures same { IsSame seat.old seat.new }
         ensures view { SeesSample seat.old.me.0 seat.new.me.0 }
         ensures counts { CountsSample histogram.now.reference at result seat.new.me.0 }
+        ensures few { IfSome result (λ count. SamplesAreFew seat.new.me.0) }
     {
         let value = self.shows_sample(seat, at, histogram.reference)?;
-        let count = self.load_count(seat, at + SAMPLE_COUNT as u64);
+        let count = self.load_count_of_sample(seat, at + SAMPLE_COUNT as u64);
         if count == 0 {
             return None;
         }

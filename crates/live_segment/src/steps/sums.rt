@@ -1,9 +1,9 @@
-//! The step that loads the sum of a sparse histogram, once its samples were met.
+//! The steps that load the count of a sample of a sparse histogram, and the sum once its samples were met.
 
-ghost use Rattle.std.specs.Prelude.{◌+◌, ◌≤◌};
+ghost use Rattle.std.specs.Prelude.{◌+◌, ◌<◌, ◌≤◌};
 ghost use Rattle.segment_machine.specs.Event.{taking_event};
-ghost use Rattle.segment_machine.specs.Taking.{load_sum};
-ghost use Rattle.live_segment.specs.Samples.{LoadsSumOfValues, SamplesStandBehind};
+ghost use Rattle.segment_machine.specs.Taking.{load_count, load_sum};
+ghost use Rattle.live_segment.specs.Samples.{LoadsCountOfSample, LoadsSumOfValues, SamplesAreFew, SamplesStandBehind};
 
 use crate::rule::{Announcement, Pass};
 use crate::segment::Segment;
@@ -11,6 +11,12 @@ use crate::steps::FIRST;
 use atomic_table::Play;
 use segment_image::layout::HISTOGRAM_SUM;
 use segment_machine::Actor;
+
+pub(crate) struct LoadCountOfSample;
+
+impl Play<Announcement, Actor> for LoadCountOfSample {
+    ghost then = { λ st. LoadsCountOfSample st.word };
+}
 
 pub(crate) struct LoadSumOfValues;
 
@@ -21,6 +27,18 @@ impl Play<Announcement, Actor> for LoadSumOfValues {
 impl Segment {
     ghost use Rattle.live_segment.specs.Holders.{MayStep};
     ghost use Rattle.live_segment.specs.Steps.{Stepped};
+
+    // The samples that were met have room in the segment.
+    pub(crate) fn load_count_of_sample(&self, seat: &mut Pass, at: u64) -> u64
+        requires may { MayStep self.now seat.old (taking_event (load_count at)) }
+        requires room { at < self.now.setting.shape.size }
+        ensures step { Stepped seat.old (taking_event (load_count at)) result seat.new }
+        ensures few { SamplesAreFew seat.old.me.0 }
+    {
+        self.table
+            .shared
+            .load::<LoadCountOfSample>(seat, FIRST + at as usize)
+    }
 
     // No sample of a histogram stands before its record.
     pub(crate) fn load_sum_of_values(&self, seat: &mut Pass, histogram: u64) -> u64

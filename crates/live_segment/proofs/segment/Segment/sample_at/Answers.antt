@@ -3,11 +3,12 @@ use Rattle.std.proofs.lemmas.Int.{to_z-of_z}
 use Rattle.segment_machine.specs.Actor.{SawCount}
 use Rattle.segment_machine.specs.Made.{SawSample}
 use Rattle.live_segment.specs.Known.{known_view}
+use Rattle.live_segment.specs.Samples.{SamplesAreFew}
 use Rattle.live_segment.proofs.SampleCounts.{may_count, saw_sample, saw_found, not_later}
 use Rattle.live_segment.proofs.segment.Segment.sample_at.Goals as goal
 
-pub load_count-count-requires-clause-may : goal.load_count-count-requires-clause-may
-load_count-count-requires-clause-may c =
+pub load_count_of_sample-count-requires-clause-may : goal.load_count_of_sample-count-requires-clause-may
+load_count_of_sample-count-requires-clause-may c =
     may_count c.args.self.now (known_view c.args.histogram.now) c.args.seat.now c.shows_sample.new.seat c.args.at c.in_ok-value.value c.requires.seat.0 c.requires.seat.1
     c.requires.sparse.0 c.requires.sparse.1 c.requires.apart c.requires.since c.requires.met c.in_ok-value.ensures.same c.in_ok-value.ensures.view c.in_ok-value.ensures.shown.0
 
@@ -15,26 +16,29 @@ pub returns-then-count-eq0-clause-counts : goal.returns-then-count-eq0-clause-co
 returns-then-count-eq0-clause-counts c =
     let saw = saw_sample c.args.self.now (known_view c.args.histogram.now) c.args.seat.now c.shows_sample.new.seat c.args.at c.in_ok-value.value c.requires.seat.0 c.requires.seat.1
     c.requires.sparse.0 c.requires.sparse.1 c.requires.apart c.requires.since c.requires.met c.in_ok-value.ensures.same c.in_ok-value.ensures.view c.in_ok-value.ensures.shown.0
-    _ _ c.load_count-count.ensures in
+    _ _ c.load_count_of_sample-count.ensures.step in
     let found = saw_found c.args.self.now (known_view c.args.histogram.now) c.args.seat.now c.shows_sample.new.seat c.args.at c.in_ok-value.value c.requires.seat.0 c.requires.seat.1
     c.requires.sparse.0 c.requires.sparse.1 c.requires.apart c.requires.since c.requires.met c.in_ok-value.ensures.same c.in_ok-value.ensures.view c.in_ok-value.ensures.shown.0
-    _ _ c.load_count-count.ensures in
-    inr (c.in_ok-value.value, saw, subst (λ (n : ℕ). SawCount c.load_count-count.new.seat.me.0 (c.args.at + 6) n) c.if-count-eq0.true found)
+    _ _ c.load_count_of_sample-count.ensures.step in
+    inr (c.in_ok-value.value, saw, subst (λ (n : ℕ). SawCount c.load_count_of_sample-count.new.seat.me.0 (c.args.at + 6) n) c.if-count-eq0.true found)
 
 pub returns-clause-counts : goal.returns-clause-counts
 returns-clause-counts c =
     let saw = saw_sample c.args.self.now (known_view c.args.histogram.now) c.args.seat.now c.shows_sample.new.seat c.args.at c.in_ok-value.value c.requires.seat.0 c.requires.seat.1
     c.requires.sparse.0 c.requires.sparse.1 c.requires.apart c.requires.since c.requires.met c.in_ok-value.ensures.same c.in_ok-value.ensures.view c.in_ok-value.ensures.shown.0
-    _ _ c.load_count-count.ensures in
+    _ _ c.load_count_of_sample-count.ensures.step in
     let found = saw_found c.args.self.now (known_view c.args.histogram.now) c.args.seat.now c.shows_sample.new.seat c.args.at c.in_ok-value.value c.requires.seat.0 c.requires.seat.1
     c.requires.sparse.0 c.requires.sparse.1 c.requires.apart c.requires.since c.requires.met c.in_ok-value.ensures.same c.in_ok-value.ensures.view c.in_ok-value.ensures.shown.0
-    _ _ c.load_count-count.ensures in
+    _ _ c.load_count_of_sample-count.ensures.step in
     let fits : FitsSigned w32 c.in_ok-value.value = search rules in
     let some = c.if-count-eq0.false in (
-      subst (λ (n : ℤ). SawSample c.load_count-count.new.seat.me.0.seen c.args.histogram.now.reference n c.args.at) (sym (to_z-of_z w32 c.in_ok-value.value fits)) saw,
+      subst (λ (n : ℤ). SawSample c.load_count_of_sample-count.new.seat.me.0.seen c.args.histogram.now.reference n c.args.at) (sym (to_z-of_z w32 c.in_ok-value.value fits)) saw,
       found,
       some,
       not_later c.args.self.now (known_view c.args.histogram.now) c.args.seat.now c.shows_sample.new.seat c.args.at c.in_ok-value.value c.requires.seat.0 c.requires.seat.1
           c.requires.sparse.0 c.requires.sparse.1 c.requires.apart c.requires.since c.requires.met c.in_ok-value.ensures.same c.in_ok-value.ensures.view c.in_ok-value.ensures.shown.0
-          _ _ c.load_count-count.ensures some,
+          _ _ c.load_count_of_sample-count.ensures.step some,
     )
+
+pub returns-clause-few : goal.returns-clause-few
+returns-clause-few c = subst SamplesAreFew (sym c.load_count_of_sample-count.ensures.step.view) c.load_count_of_sample-count.ensures.few

@@ -1,12 +1,12 @@
 -- The bucket of a value has the value's key, and it alone.
-use Rattle.std.proofs.Common.{◌≡◌, ◌≢◌, ℕ, zero, suc, ◌<◌, ◌≤◌, true, true≢false, ℤ, pos, List, subst, w32, of_z, to_z, FitsSigned, length, refl, sym, ap, ◌∙◌, arith, None}
+use Rattle.std.proofs.Common.{◌≡◌, ◌≢◌, ℕ, zero, suc, ◌-◌, ◌<◌, ◌≤◌, Bool, true, false, true≢false, ℤ, pos, List, subst, w32, of_z, to_z, FitsSigned, length, refl, sym, ap, ◌∙◌, arith, None}
 use mathlib.Core.Logic.{dite}
 use native.Mathlib.Decide.{dec_le}
 use Rattle.std.proofs.lemmas.Int.{to_z-of_z}
 use Rattle.std.proofs.lemmas.List.{get_or_past}
 use Rattle.std.specs.Prelude.{slice_index}
 use Rattle.bucket_ranges.specs.declared.spec.Spec.{Spec}
-use Rattle.bucket_ranges.specs.declared.spec.Spec.TheVariants.{Sparse}
+use Rattle.bucket_ranges.specs.declared.spec.Spec.TheVariants.{Linear, Boolean, Custom, Sparse}
 use Rattle.bucket_ranges.specs.Ranges.{boundaries_of, clamped, AreBoundaries, IsBucketOf, IsSplit}
 use Rattle.bucket_ranges.specs.Spec.{buckets_of, spec_fault}
 use Rattle.bucket_ranges.proofs.Ascent.{boundaries_of-split}
@@ -77,3 +77,26 @@ pub found_is : (spec : Spec) (ranges : List ℕ) (value : ℤ) (bucket : ℕ) �
     → IsBucketOf ranges (clamped (to_z w32 (of_z w32 value))) bucket → IsBucketOf (boundaries_of spec) (clamped value) bucket
 found_is spec ranges value bucket are fits is =
     subst (λ (p : List ℕ × ℤ). IsBucketOf p.0 (clamped p.1) bucket) (λ i. (are i, to_z-of_z w32 value fits i)) is
+
+-- ---- which histograms have buckets
+
+sparse_without : (spec : Spec) → has_buckets spec ≡ false → spec ≡ Sparse
+sparse_without (Linear min max n) none = absurd (true≢false none)
+sparse_without Boolean none = absurd (true≢false none)
+sparse_without (Custom values) none = absurd (true≢false none)
+sparse_without Sparse none = refl
+
+-- those that have no ranges are sparse, and the others have buckets
+pub is_sparse : (spec : Spec) (ranges : List ℕ) → spec_fault spec ≡ None → ranges ≡ boundaries_of spec → length ranges - 1 ≡ 0 → spec ≡ Sparse
+is_sparse spec ranges lawful are none = by (has_buckets spec) refl
+  where
+    by : (b : Bool) → has_buckets spec ≡ b → spec ≡ Sparse
+    by true has = let some = are_some spec lawful has in let long = ap length are in absurd (omega (arith, some, long, none))
+    by false has = sparse_without spec has
+
+pub is_bucketed : (spec : Spec) (ranges : List ℕ) → ranges ≡ boundaries_of spec → length ranges - 1 ≢ 0 → has_buckets spec ≡ true
+is_bucketed spec ranges are some = by (has_buckets spec) refl
+  where
+    by : (b : Bool) → has_buckets spec ≡ b → b ≡ true
+    by true has = refl
+    by false has = let long = ap length are ∙ ap (λ (x : Spec). length (boundaries_of x)) (sparse_without spec has) in absurd (some (omega (arith, long)))

@@ -35,6 +35,7 @@ mod FewSamples
 mod Disabled
 mod CountsAlone
 mod Counted
+mod ValueCounted
 mod Walked
 mod Seeing
 mod OneBucket
@@ -57,4 +58,5 @@ mod OneSample
 mod BucketKeys
 mod TurnedAway
 mod Added
+mod Adds
 mod FirstValues

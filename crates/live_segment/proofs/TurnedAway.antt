@@ -20,9 +20,11 @@ use Rattle.bucket_ranges.specs.Ranges.{boundaries_of}
 use Rattle.segment_machine.specs.Note.{Note, refused}
 use Rattle.segment_machine.specs.Taking.{is_looking}
 use Rattle.segment_promises.specs.Follows.{noted_by}
-use Rattle.live_segment.specs.Adding.{IsRefused, LacksBlock}
+use Rattle.live_segment.specs.Adding.{IsRefused}
+use Rattle.live_segment.specs.Finishing.{item_of}
+use Rattle.live_segment.specs.Telling.{bucket_entry}
 use Rattle.live_segment.specs.Onward.{DoesOn, GoesOn, SeesOn}
-use Rattle.live_segment.specs.Refusing.{given_up, how_many_ended, refusing_notes, IsTurnedAway}
+use Rattle.live_segment.specs.Refusing.{given_up, how_many_ended, refusing_notes, IsNotCounted, IsTurnedAway}
 use Rattle.live_segment.specs.Steps.{IsAtRest}
 use Rattle.live_segment.specs.Working.{HasBegun, LooksFor}
 use Rattle.live_segment.proofs.Beginning.{notes_new}
@@ -125,16 +127,25 @@ module _ (entry : Entry) (old last new : Actor) (rest : IsAtRest old) (some : 1 
     onward = turned_onward;
   }
 
--- it lacks a block: the single word that it loaded could not take the units of its bucket, and no other bucket has the value
-pub lacks : (why : Refusal) (known : Known) (bucket : ℕ) (value : ℤ) (units : ℕ) (old new : Actor) → has_buckets known.spec ≡ true
+-- units of a bucket are units of a value, which are not counted: the single word that was loaded could not take them, and no other bucket has
+-- the value
+pub turned_not_counted : (why : Refusal) (known : Known) (bucket : ℕ) (value : ℤ) (units : ℕ) (old new : Actor) → has_buckets known.spec ≡ true
     → ((other : ℕ) → IsKeyOfBucket known other (key_of (boundaries_of known.spec) value) → other ≡ bucket)
-    → IsTurnedAway why known bucket units old new → LacksBlock why known value units old new
-lacks why known bucket value units old new bucketed one turned = (
-  record {
-    buckets = λ has.
-        let (word, saw, on, none) = turned.cannot in
-        ((word, saw, on, λ other packed key packs. none packed (subst (λ (b : ℕ). IsPacking b units word packed) (one other key) packs)), turned.none);
-    values = λ sparse. absurd (true≢false (sym bucketed ∙ ap has_buckets sparse));
-  },
-  turned.room,
-)
+    → bucket_entry known bucket units ≡ item_of known value units → IsTurnedAway why known bucket units old new
+    → IsNotCounted why known value units old new
+turned_not_counted why known bucket value units old new bucketed one is_of turned = record {
+  last = turned.last;
+  looks = subst (λ (e : Entry). LooksFor e old turned.last) is_of turned.looks;
+  untouched = turned.untouched;
+  ends = turned.ends;
+  idle = turned.idle;
+  lacks = (
+    record {
+      buckets = λ has.
+          let (word, saw, on, none) = turned.cannot in
+          ((word, saw, on, λ other packed key packs. none packed (subst (λ (b : ℕ). IsPacking b units word packed) (one other key) packs)), turned.none);
+      values = λ sparse. absurd (true≢false (sym bucketed ∙ ap has_buckets sparse));
+    },
+    turned.room,
+  );
+}

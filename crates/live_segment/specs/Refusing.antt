@@ -1,5 +1,5 @@
 -- How a call that counts ends where it is refused: the step that refused it notes so.
-use Rattle.std.specs.Prelude.{◌≡◌, true, false, ◌==◌, ℕ, ◌+◌, if◌then◌else◌, List, [], ◌∷◌, take, drop, length, bit_and, None}
+use Rattle.std.specs.Prelude.{◌≡◌, true, false, ◌==◌, ℕ, ◌+◌, ℤ, if◌then◌else◌, List, [], ◌∷◌, take, drop, length, bit_and, None}
 use Rattle.std.specs.List.{All, filter}
 use Rattle.segment_image.specs.declared.layout.TheConstants.{FLAG_CORRUPT, FLAG_FULL, HISTOGRAM_COUNTS}
 use Rattle.hist_core.specs.declared.refusal.Refusal.{Refusal}
@@ -13,7 +13,8 @@ use Rattle.segment_machine.specs.Entry.{has_ended}
 use Rattle.segment_machine.specs.Event.{allocating_event}
 use Rattle.segment_machine.specs.Note.{Note, refused, is_untouched}
 use Rattle.segment_promises.specs.Follows.{noted_by, Told}
-use Rattle.live_segment.specs.Adding.{HasNoRoom, block_words}
+use Rattle.live_segment.specs.Adding.{HasNoRoom, LacksBlock, block_words}
+use Rattle.live_segment.specs.Finishing.{item_of}
 use Rattle.live_segment.specs.Steps.{Sat}
 use Rattle.live_segment.specs.Telling.{bucket_entry}
 use Rattle.live_segment.specs.Working.{CannotPack, LooksFor}
@@ -68,3 +69,12 @@ pub record IsTurnedAway (why : Refusal) (known : Known) (bucket units : ℕ) (ol
   pub cannot : CannotPack known bucket units old new
   pub none : word_seen new.seen.words (known.reference + HISTOGRAM_COUNTS) ≡ None
   pub room : HasNoRoom why (block_words known) new
+
+-- Units of a value were not counted: a block was needed for them, and could not be claimed. The call has come to no count, and has ended.
+pub record IsNotCounted (why : Refusal) (known : Known) (value : ℤ) (units : ℕ) (old new : Actor) : Type 0 where
+  pub last : Actor
+  pub looks : LooksFor (item_of known value units) old last
+  pub untouched : last.seen.counts ≡ old.seen.counts
+  pub ends : new ≡ given_up last
+  pub idle : new.hand.place ≡ Idle
+  pub lacks : LacksBlock why known value units old new

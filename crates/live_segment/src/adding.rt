@@ -1,6 +1,6 @@
-//! How a sample is added.
+//! How a sample is added: it is counted in its bucket, or in the sample of its value, and finished.
 
-ghost use Rattle.std.specs.Prelude.{◌≡◌, ◌≤◌, true};
+ghost use Rattle.std.specs.Prelude.{◌≡◌, ◌≤◌, MatchResult};
 
 use crate::recorder::KnownHistogram;
 use crate::rule::Pass;
@@ -8,15 +8,20 @@ use crate::segment::Segment;
 use hist_core::Refusal;
 
 impl Segment {
-    ghost use Rattle.segment_machine.specs.Actor.{has_buckets};
+    ghost use Rattle.bucket_ranges.specs.declared.spec.Spec.TheVariants.{Sparse};
     ghost use Rattle.live_segment.specs.Adding.{AnswersSample};
+    ghost use Rattle.live_segment.specs.Finishing.{item_of};
     ghost use Rattle.live_segment.specs.Holders.{table_of};
     ghost use Rattle.live_segment.specs.Known.{known_view, KnowsRight};
+    ghost use Rattle.live_segment.specs.Refusing.{IsNotCounted};
     ghost use Rattle.live_segment.specs.Rule.{IsOf};
     ghost use Rattle.live_segment.specs.Steps.{IsAtRest, IsSame};
+    ghost use Rattle.live_segment.specs.Working.{CountsAlone, HasCounted};
 
-    // Adds a sample of a histogram with buckets.
-    pub(crate) fn add_to_bucket(
+    // Adds a sample.
+    //
+    // `Corrupt` or `Full` where a block was needed for it and none could be claimed.
+    pub(crate) fn add_sample(
         &self,
         seat: &mut Pass,
         histogram: &KnownHistogram,
@@ -25,16 +30,57 @@ impl Segment {
     ) -> Result<(), Refusal>
         requires seat { (seat.old.table_id ≡ table_of self.now) × IsOf self.now.setting seat.old.me.0 }
         requires right { KnowsRight self.now.setting seat.old.me.0 histogram.now }
-        requires bucketed { has_buckets histogram.now.spec ≡ true }
         requires rests { IsAtRest seat.old.me.0 }
         requires units { (1 ≤ units) × (units ≤ seat.old.me.0.units.share) }
         ensures same { IsSame seat.old seat.new }
         ensures rests { IsAtRest seat.new.me.0 }
         ensures outcome { AnswersSample (known_view histogram.now) value units seat.old.me.0 result seat.new.me.0 }
     {
-        let bucket = histogram.ranges.bucket(value);
-        self.count_in_bucket(seat, histogram, bucket, units)?;
+        self.count_value(seat, histogram, value, units)?;
         self.finish_sample(seat, histogram, value, units);
+        Ok(())
+    }
+
+    // Counts units of a value.
+    //
+    // `Corrupt` or `Full` where a block was needed for them and none could be claimed: then the call has ended.
+    fn count_value(
+        &self,
+        seat: &mut Pass,
+        histogram: &KnownHistogram,
+        value: i32,
+        units: u32,
+    ) -> Result<(), Refusal>
+        requires seat { (seat.old.table_id ≡ table_of self.now) × IsOf self.now.setting seat.old.me.0 }
+        requires right { KnowsRight self.now.setting seat.old.me.0 histogram.now }
+        requires may { CountsAlone seat.old.me.0 (known_view histogram.now) (item_of (known_view histogram.now) value units) }
+        ensures same { IsSame seat.old seat.new }
+        ensures outcome { MatchResult result (λ _. HasCounted (item_of (known_view histogram.now) value units) seat.old.me.0 seat.new.me.0) (λ why. IsNotCounted why (known_view histogram.now) value units seat.old.me.0 seat.new.me.0) }
+    {
+        if histogram.ranges.len() == 0 {
+            return self.count_in_sample(seat, histogram, value, units);
+        }
+        let bucket = histogram.ranges.bucket(value);
+        self.count_in_bucket(seat, histogram, bucket, units)
+    }
+
+    // Counts units of a value of a sparse histogram: in the first sample of the value, which it makes where there is none.
+    fn count_in_sample(
+        &self,
+        seat: &mut Pass,
+        histogram: &KnownHistogram,
+        value: i32,
+        units: u32,
+    ) -> Result<(), Refusal>
+        requires seat { (seat.old.table_id ≡ table_of self.now) × IsOf self.now.setting seat.old.me.0 }
+        requires right { KnowsRight self.now.setting seat.old.me.0 histogram.now }
+        requires sparse { histogram.now.spec ≡ Sparse }
+        requires may { CountsAlone seat.old.me.0 (known_view histogram.now) (item_of (known_view histogram.now) value units) }
+        ensures same { IsSame seat.old seat.new }
+        ensures outcome { MatchResult result (λ _. HasCounted (item_of (known_view histogram.now) value units) seat.old.me.0 seat.new.me.0) (λ why. IsNotCounted why (known_view histogram.now) value units seat.old.me.0 seat.new.me.0) }
+    {
+        let sample = self.sample_of(seat, histogram, value)?;
+        self.add_to_sample(seat, sample, u64::from(units));
         Ok(())
     }
 }

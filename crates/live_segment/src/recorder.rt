@@ -77,10 +77,13 @@ pub struct Recorder<'a> {
 }
 
 impl<'a> Recorder<'a> {
-    ghost use Rattle.std.specs.Prelude.{◌↔◌, IsTrue, ◌<◌, ◌++◌, length, IfOk, MatchOption, MatchResult};
+    ghost use Rattle.std.specs.Prelude.{◌↔◌, IsTrue, Err, ◌<◌, ◌++◌, length, IfOk, MatchOption, MatchResult};
+    ghost use Rattle.segment_image.specs.Checks.{first_fault};
+    ghost use Rattle.segment_machine.specs.declared.actor.Known.{Known};
+    ghost use Rattle.live_segment.specs.Adding.{add_checks, AnswersSample};
     ghost use Rattle.live_segment.specs.Allocation.{spoiled};
     ghost use Rattle.live_segment.specs.Cursors.{AnswersNext, gift};
-    ghost use Rattle.live_segment.specs.Holders.{view_of_recorder, IsSameRecorder, Knows};
+    ghost use Rattle.live_segment.specs.Holders.{view_of_recorder, IsSameRecorder, Knows, Means};
     ghost use Rattle.live_segment.specs.Records.{HasWalked};
     ghost use Rattle.live_segment.specs.Fresh.{GivesFresh, given_fresh};
     ghost use Rattle.live_segment.specs.Hist.{IsAnsweredWith, IsKnownAt, IsNamed, IsRefusedWith, KnowsOn, NoneHasName};
@@ -170,6 +173,30 @@ impl<'a> Recorder<'a> {
         let index = self.known.len();
         self.known.push_reserved(known);
         Ok(Hist { index })
+    }
+
+    /// Adds a sample: so many units of a value of a histogram that it knows. Where they are counted, the one entry of the sample stands
+    /// at the end of the log, and they are taken from the share.
+    ///
+    /// `ZeroCount` where there are none and `NoUnits` where the share has fewer, both before anything has happened; then `Corrupt` or
+    /// `Full` where a block was needed for them and none could be claimed. Log, share and deltas are then as before, and no count, sum,
+    /// mark or redundant count has changed. It takes no memory.
+    pub fn add(&mut self, histogram: Hist, value: i32, count: u32) -> Result<(), Refusal>
+        requires { Knows self.old histogram }
+        ensures same { IsSameRecorder self.old self.new }
+        ensures answer { MatchOption (first_fault (add_checks (view_of_recorder self.old) count)) ((known : Known) → Means self.old histogram known → AnswersSample known value count (view_of_recorder self.old) result (view_of_recorder self.new)) (λ why. (result ≡ Err why) × (self.new ≡ self.old)) }
+    {
+        if count == 0 {
+            return Err(Refusal::ZeroCount);
+        }
+        if count > self.units {
+            return Err(Refusal::NoUnits);
+        }
+        let known = &self.known[histogram.index];
+        self.segment
+            .add_sample(&mut self.seat, known, value, count)?;
+        self.units -= count;
+        Ok(())
     }
 
     /// Marks the segment as corrupt for good: from then on no block is claimed in it. It is never refused.

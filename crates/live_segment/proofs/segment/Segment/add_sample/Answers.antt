@@ -1,0 +1,65 @@
+use Rattle.std.proofs.Common.{ℤ, ◌∷◌, [], refl, sym, subst, w32}
+use Rattle.std.proofs.lemmas.Int.{to_z-of_z}
+use Rattle.std.proofs.lemmas.Result.{err_from_is_err_and}
+use Rattle.live_segment.specs.Finishing.{HasEnded, HasSample, item_of, sample_of}
+use Rattle.live_segment.specs.Known.{known_view}
+use Rattle.live_segment.specs.Refusing.{IsNotCounted}
+use Rattle.live_segment.specs.Working.{CountsAlone, HasCounted}
+use Rattle.live_segment.proofs.TurnedAway.{turned_rests, turned_refused}
+use Rattle.live_segment.proofs.Added.{counts_alone, has_sample, added, added_rests}
+use Rattle.live_segment.proofs.segment.Segment.add_sample.Goals as goal
+
+pub count_value-requires-clause-may : goal.count_value-requires-clause-may
+count_value-requires-clause-may c =
+    let known = known_view c.args.histogram.now in
+    subst (λ (v : ℤ). CountsAlone c.args.seat.now.me.0 known (item_of known v c.args.units)) (sym (to_z-of_z w32 c.args.value c.ranges.value))
+    (counts_alone known (item_of known c.args.value c.args.units) c.args.seat.now.me.0 c.requires.rests c.requires.right.alone refl refl c.requires.units.0 c.requires.units.1)
+
+pub returns-in_err-count_value-clause-rests : goal.returns-in_err-count_value-clause-rests
+returns-in_err-count_value-clause-rests c =
+    let known = known_view c.args.histogram.now in
+    let not = subst (λ (v : ℤ). IsNotCounted c.in_err-count_value.field-0.0 known v c.args.units c.args.seat.now.me.0 c.count_value.new.seat.me.0)
+    (to_z-of_z w32 c.args.value c.ranges.value) c.in_err-count_value.ensures.outcome in
+    turned_rests (item_of known c.args.value c.args.units) c.args.seat.now.me.0 not.last c.count_value.new.seat.me.0
+    c.requires.rests c.requires.units.0 c.requires.units.1 not.looks not.ends not.idle
+
+pub returns-in_err-count_value-clause-outcome : goal.returns-in_err-count_value-clause-outcome
+returns-in_err-count_value-clause-outcome c =
+    let known = known_view c.args.histogram.now in
+    let not = subst (λ (v : ℤ). IsNotCounted c.in_err-count_value.field-0.0 known v c.args.units c.args.seat.now.me.0 c.count_value.new.seat.me.0)
+    (to_z-of_z w32 c.args.value c.ranges.value) c.in_err-count_value.ensures.outcome in
+    let p = err_from_is_err_and c.from_residual.result c.from_residual.ensures.1 in
+    rw (p.1, p.2) (
+      turned_refused (item_of known c.args.value c.args.units) c.args.seat.now.me.0 not.last c.count_value.new.seat.me.0
+          c.requires.rests c.requires.units.0 c.requires.units.1 not.looks not.ends not.untouched,
+      not.lacks,
+    )
+
+pub finish_sample-requires-clause-counted : goal.finish_sample-requires-clause-counted
+finish_sample-requires-clause-counted c =
+    let known = known_view c.args.histogram.now in
+    let has = subst (λ (v : ℤ). HasCounted (item_of known v c.args.units) c.args.seat.now.me.0 c.count_value.new.seat.me.0)
+    (to_z-of_z w32 c.args.value c.ranges.value) c.in_ok-count_value.ensures.outcome in
+    subst (λ (v : ℤ). HasSample known v c.args.units c.count_value.new.seat.me.0) (sym (to_z-of_z w32 c.args.value c.ranges.value))
+    (has_sample known c.args.value c.args.units c.args.seat.now.me.0 c.count_value.new.seat.me.0 c.requires.rests c.requires.right.alone
+    c.requires.units.0 c.requires.units.1 has)
+
+pub returns-clause-rests : goal.returns-clause-rests
+returns-clause-rests c =
+    let known = known_view c.args.histogram.now in
+    let has = subst (λ (v : ℤ). HasCounted (item_of known v c.args.units) c.args.seat.now.me.0 c.count_value.new.seat.me.0)
+    (to_z-of_z w32 c.args.value c.ranges.value) c.in_ok-count_value.ensures.outcome in
+    let ended = subst (λ (v : ℤ). HasEnded (sample_of known v c.args.units ∷ []) c.count_value.new.seat.me.0 c.finish_sample.new.seat.me.0)
+    (to_z-of_z w32 c.args.value c.ranges.value) c.finish_sample.ensures.ended in
+    added_rests known c.args.value c.args.units c.args.seat.now.me.0 c.count_value.new.seat.me.0 c.requires.rests c.requires.right.alone
+    c.requires.units.0 c.requires.units.1 has c.finish_sample.new.seat.me.0 ended
+
+pub returns-clause-outcome : goal.returns-clause-outcome
+returns-clause-outcome c =
+    let known = known_view c.args.histogram.now in
+    let has = subst (λ (v : ℤ). HasCounted (item_of known v c.args.units) c.args.seat.now.me.0 c.count_value.new.seat.me.0)
+    (to_z-of_z w32 c.args.value c.ranges.value) c.in_ok-count_value.ensures.outcome in
+    let ended = subst (λ (v : ℤ). HasEnded (sample_of known v c.args.units ∷ []) c.count_value.new.seat.me.0 c.finish_sample.new.seat.me.0)
+    (to_z-of_z w32 c.args.value c.ranges.value) c.finish_sample.ensures.ended in
+    added known c.args.value c.args.units c.args.seat.now.me.0 c.count_value.new.seat.me.0 c.requires.rests c.requires.right.alone
+    c.requires.units.0 c.requires.units.1 has c.finish_sample.new.seat.me.0 ended

@@ -8,5 +8,6 @@ mod NewBoards
 mod Parts
 mod Payloads
 mod Runners
+mod Snapshots
 mod Takes
 mod Worlds

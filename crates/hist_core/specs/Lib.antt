@@ -9,3 +9,4 @@ pub mod Board
 pub mod World
 pub mod Mounted
 pub mod Taker
+pub mod Looker

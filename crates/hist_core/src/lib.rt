@@ -11,6 +11,7 @@ mod counting;
 mod entry;
 mod fault;
 mod hist;
+mod looker;
 mod mounted;
 pub mod packing;
 mod refusal;

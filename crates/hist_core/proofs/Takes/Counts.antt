@@ -345,7 +345,7 @@ some_count taker words mounted bucket loads stands = ∥∥₁_elim stands (hlev
     (inside.0, omega (arith, long, many), inside.1))
 
 -- where the count of a bucket stands
-where_count : (words : List ℕ) (counts bucket : ℕ) → word_at words (counts + (4 + bucket)) ≡ word_at words (counts + 4 + bucket)
+pub where_count : (words : List ℕ) (counts bucket : ℕ) → word_at words (counts + (4 + bucket)) ≡ word_at words (counts + 4 + bucket)
 where_count words counts bucket = let same : counts + (4 + bucket) ≡ counts + 4 + bucket = omega arith in ap (word_at words) same
 
 -- whatever it finds, it goes on

@@ -1,0 +1,470 @@
+-- A snapshot, event by event.
+use Rattle.std.proofs.Common.{◌≡◌, ℕ, zero, suc, ◌+◌, ◌*◌, ◌<◌, ◌≤◌, ℤ, Bool, true, false, true≢false, if◌then◌else◌, nat_lt, List, [], ◌∷◌, ◌++◌, drop, length, map, slice_index, Option, Some, inl, ⊎_elim, refl, sym, ap, subst, ◌∙◌, arith}
+use Rattle.std.specs.List.{All, Contains}
+use Rattle.std.specs.Int.{cast_signed, w64}
+use Rattle.std.proofs.Props.{props}
+use Rattle.std.proofs.Math.Logic.{∥∥₁_elim}
+use Rattle.std.proofs.lemmas.Bool.{ltb-true, ltb-false}
+use Rattle.std.proofs.lemmas.List.{append-nil, drop-append-le, length-append}
+use Rattle.std.proofs.lemmas.List.Elements.{All-contains}
+use lib.Seq.{set-get_or}
+use Rattle.bucket_ranges.specs.Spec.{buckets_of}
+use Rattle.bucket_ranges.specs.Ranges.{IsSplit, boundaries_of}
+use Rattle.bucket_ranges.specs.Single.{single_of, units_packed}
+use Rattle.bucket_ranges.proofs.Ascent.{boundaries_of-split}
+use Rattle.segment_image.specs.Shape.{Dimensions}
+use Rattle.segment_image.specs.Words.{word_at}
+use Rattle.segment_invariant.proofs.Lists.Elements.{below_length, contains_at}
+use Rattle.segment_invariant.proofs.Packing.OffForms.{few_buckets}
+use Rattle.segment_machine.specs.declared.actor.Actor.{Actor}
+use Rattle.segment_machine.specs.declared.actor.Answered.{Answered}
+use Rattle.segment_machine.specs.declared.actor.Known.{Known}
+use Rattle.segment_machine.specs.declared.place.Place.TheVariants.{Looking, SumLoaded}
+use Rattle.segment_machine.specs.Actor.{Buckets, has_buckets, is_bound, is_opener, known_at}
+use Rattle.segment_machine.specs.Calls.{MayTurn, look_of, sight, sight_counts}
+use Rattle.segment_machine.specs.Counting.{load_counts}
+use Rattle.segment_machine.specs.Event.{Event, next, counting_event, packing_event, taking_event}
+use Rattle.segment_machine.specs.Note.{SawAll, SawBucket, answers, looks, moment_of, noted}
+use Rattle.segment_machine.specs.Packing.{IsSingleOf, load_single}
+use Rattle.segment_machine.specs.Taking.{load_count, load_redundant, load_sum}
+use Rattle.hist_core.specs.declared.looker.Looker.{Looker}
+use Rattle.hist_core.specs.declared.looker.LookerStep.TheVariants.{More, Done}
+use Rattle.hist_core.specs.declared.looker.Stage.{Stage}
+use Rattle.hist_core.specs.declared.looker.Stage.TheVariants.{LoadingSingle, LoadingCounts, LoadingCount, LoadingSum, LoadingRedundant}
+use Rattle.hist_core.specs.declared.mounted.Mounted.{Mounted}
+use Rattle.hist_core.specs.Goes.{Beside, Goes}
+use Rattle.hist_core.specs.Looker.{IsBehindSingle, IsLooker, IsPut, IsSomeLooker, LookerGives, SawBefore, StandsAtStage, behind_bucket}
+use Rattle.hist_core.specs.Mounted.{AreMounted, HasWord, SaysPacked, total_at}
+use Rattle.hist_core.proofs.Looks.{looks_there}
+use Rattle.hist_core.proofs.Takes.Counts.{are_mounted, count_placed, may_load, saw_total, still_mounted, total_is}
+use Rattle.hist_core.proofs.Takes.Going.{taking_sees}
+use Rattle.hist_core.proofs.Takes.Sights.{began_still, saw_bucket, seen_here}
+use Rattle.hist_core.proofs.Takes.Singles.{none_packed}
+
+-- it looks at the same histogram, with a total beside each key
+record IsSame (old new : Looker) : Type 0 where
+  pub version : new.version ≡ old.version
+  pub histogram : new.histogram ≡ old.histogram
+  pub keys : map (λ total. total.0) new.totals.items ≡ map (λ total. total.0) old.totals.items
+  pub long : length new.totals.items ≡ length old.totals.items
+
+module _ (shape : Dimensions) (known : Known) (looker : Looker) (a : Actor) (words : List ℕ) (is : IsLooker shape known looker a) where
+  is_inside : (n : ℕ) → n ≡ shape.size → (looker.histogram + 15 ≤ n) × (n ≤ 1048576)
+  is_inside n long =
+      let within = is.within in let many = is.lawful_shape.many in (omega (arith, long, within), omega (arith, long, many))
+
+  knows_it : Buckets a known.reference known
+  knows_it = (is.knows, refl, is.bucketed)
+
+  few : buckets_of known.spec ≤ 1000
+  few = few_buckets known.spec is.lawful
+
+  split : IsSplit (buckets_of known.spec) (boundaries_of known.spec)
+  split = boundaries_of-split known.spec is.lawful (λ sparse. true≢false (sym is.bucketed ∙ ap has_buckets sparse))
+
+  -- it goes on from another stage, and may have seen more
+  goes_still : (new : Looker) (b : Actor) → IsSame looker new → Beside a b → MayTurn b → StandsAtStage known new b new.stage → IsLooker shape known new b
+  goes_still new b same beside turns stands = record {
+    segment = ap (λ s. s.shape) beside.segment ∙ is.segment;
+    version = ap (λ s. s.version) beside.segment ∙ (is.version ∙ sym same.version);
+    lawful_shape = is.lawful_shape;
+    recorder = ap is_opener beside.role ∙ is.recorder;
+    counts_nothing = ap (λ e. e.running) beside.entries ∙ is.counts_nothing;
+    takes_nothing = ap (λ d. d.taking) beside.deltas ∙ is.takes_nothing;
+    turns = turns;
+    reference = is.reference ∙ sym same.histogram;
+    within = subst (λ (h : ℕ). h + 15 ≤ shape.size) (sym same.histogram) is.within;
+    lawful = is.lawful;
+    bucketed = is.bucketed;
+    knows = subst (λ (l : List Known). Contains l known) (sym beside.names) is.knows;
+    alone = ap (λ (l : List Known). known_at l known.reference) beside.names ∙ is.alone;
+    keys = same.keys ∙ is.keys;
+    buckets = same.long ∙ is.buckets;
+    stands = stands;
+  }
+
+  -- ---- the single word is loaded
+  module _ (loads : looker.stage ≡ LoadingSingle) where
+    blank : All (λ total. total.1 ≡ 0) looker.totals.items
+    blank = subst (StandsAtStage known looker a) loads is.stands
+
+    abbrev found : ℕ
+    found = word_at words (known.reference + 9)
+
+    abbrev event : Event
+    event = packing_event (load_single known.reference)
+
+    abbrev acted : Actor
+    acted = next (noted a looks) event found
+
+    beside : Beside a acted
+    beside = record {
+      role = refl;
+      segment = refl;
+      units = refl;
+      entries = refl;
+      deltas = refl;
+      names = refl;
+      chain = ([], sym (append-nil a.seen.chain));
+      words = ([], sym (append-nil a.seen.words));
+    }
+
+    module _ (learned : IsSingleOf (noted a looks) known.reference found) (new : Looker) where
+      has_word : HasWord known found acted
+      has_word = record {
+        began = record {
+          singles = let long = length-append a.seen.singles (sight (known.reference + 9) found) in omega (arith, long);
+          counts = omega arith;
+        };
+        saw = seen_here (length a.seen.singles) a.seen.singles (known.reference + 9) found (omega arith);
+        formed = (learned known knows_it).0;
+        counts = (look_of a.hand.place known.reference).counts;
+        stands = ap (λ (n : ℕ). Looking (record { histogram = n; single = Some found; counts = (look_of a.hand.place known.reference).counts })) (looks_there a.hand.place known.reference);
+      }
+
+      stands_behind : (stage : Stage) → IsBehindSingle looker found new stage → StandsAtStage known new acted stage
+      stands_behind (LoadingCounts packed kept) (off, says, small, same) = (
+        small,
+        (
+          found,
+          has_word,
+          off,
+          subst (λ (p : ℕ × ℕ). SaysPacked p.0 p.1 found packed kept) (λ i. (sym (ap (λ (l : Looker). l.version) same) i, is.buckets i)) says,
+        ),
+      )
+      stands_behind LoadingSum (on, packed, same) = (
+        λ i total there. (
+          found,
+          has_word.saw,
+          inl (
+            on,
+            ⊎_elim
+                (λ is_units. is_units ∙ ap (λ (p : ℕ × ℕ). units_packed (single_of p.0 p.1 found) i) (λ j. (sym is.version j, is.buckets j)))
+                (λ (apart, was).
+                All-contains (λ (t : ℤ × ℕ). t.1 ≡ 0) looker.totals.items total blank (contains_at looker.totals.items i total was)
+                ∙ (sym (none_packed (single_of looker.version (length looker.totals.items) found) i apart)
+                ∙ ap (λ (p : ℕ × ℕ). units_packed (single_of p.0 p.1 found) i) (λ j. (sym is.version j, is.buckets j))))
+                (packed.units i total there),
+          ),
+        ),
+        has_word.began,
+      )
+      stands_behind LoadingSingle none = absurd none
+      stands_behind (LoadingCount mounted bucket) none = absurd none
+      stands_behind (LoadingRedundant sum) none = absurd none
+
+      same_behind : (stage : Stage) → IsBehindSingle looker found new stage → IsSame looker new
+      same_behind (LoadingCounts packed kept) (off, says, small, same) = record {
+        version = ap (λ (l : Looker). l.version) same;
+        histogram = ap (λ (l : Looker). l.histogram) same;
+        keys = ap (λ (l : Looker). map (λ total. total.0) l.totals.items) same;
+        long = ap (λ (l : Looker). length l.totals.items) same;
+      }
+      same_behind LoadingSum (on, packed, same) = record {
+        version = ap (λ (l : Looker). l.version) same;
+        histogram = ap (λ (l : Looker). l.histogram) same;
+        keys = packed.keys;
+        long = packed.long;
+      }
+      same_behind LoadingSingle none = absurd none
+      same_behind (LoadingCount mounted bucket) none = absurd none
+      same_behind (LoadingRedundant sum) none = absurd none
+
+    pub loads_single : (new : Looker) → IsBehindSingle looker (word_at words (looker.histogram + 9)) new new.stage
+        → Goes shape.size looker.version a words words (LookerGives shape known new More a)
+    loads_single new behind = record {
+      before = looks ∷ [];
+      at = noted a looks;
+      told = ((λ e. true≢false (sym (ap is_bound e) ∙ is.turns), is.recorder, is.counts_nothing, is.takes_nothing), refl);
+      event = event;
+      ready = (is.turns, (known, knows_it));
+      words_are = sym (set-get_or words (known.reference + 9) 0);
+      goes = λ learned apart.
+          let there : IsBehindSingle looker found new new.stage = subst (λ (h : ℕ). IsBehindSingle looker (word_at words (h + 9)) new new.stage) (sym is.reference) behind in
+          ([], acted, refl, (beside, goes_still new acted (same_behind learned new new.stage there) beside refl (stands_behind learned new new.stage there)));
+    }
+
+  -- ---- the counts reference is loaded
+  module _ (packed : Option ℕ) (kept : ℕ) (loads : looker.stage ≡ LoadingCounts packed kept) where
+    before_counts : StandsAtStage known looker a (LoadingCounts packed kept)
+    before_counts = subst (StandsAtStage known looker a) loads is.stands
+
+    some_buckets : 0 < buckets_of known.spec
+    some_buckets = by (buckets_of known.spec) refl split.first split.last
+      where
+        by : (n : ℕ) → buckets_of known.spec ≡ n → slice_index (boundaries_of known.spec) 0 ≡ 0
+            → slice_index (boundaries_of known.spec) (buckets_of known.spec) ≡ 2147483647 → 0 < n
+        by zero none first last = let same = ap (slice_index (boundaries_of known.spec)) none in absurd (omega (arith, first, last, same))
+        by (suc n) e first last = omega arith
+
+    pub loads_counts : (counts : ℕ) → counts ≡ word_at words (looker.histogram + 8)
+        → let new : Looker = record looker { stage = LoadingCount (record { counts = counts; packed = packed; kept = kept }) 0 } in
+        Goes shape.size looker.version a words words (LookerGives shape known new More a)
+    loads_counts counts is_counts =
+        let found : ℕ = word_at words (known.reference + 8) in
+        let same : found ≡ counts = ap (λ (h : ℕ). word_at words (h + 8)) is.reference ∙ sym is_counts in
+        let event : Event = counting_event (load_counts known.reference) in
+        let acted : Actor = next a event found in
+        let new : Looker = record looker { stage = LoadingCount (record { counts = counts; packed = packed; kept = kept }) 0 } in
+        let beside : Beside a acted = record {
+          role = refl;
+          segment = refl;
+          units = refl;
+          entries = refl;
+          deltas = refl;
+          names = refl;
+          chain = ([], sym (append-nil a.seen.chain));
+          words = (sight_counts known.reference found, refl);
+        } in record {
+          before = [];
+          at = a;
+          told = refl;
+          event = event;
+          ready = (is.turns, (known, knows_it));
+          words_are = sym (set-get_or words (known.reference + 8) 0);
+          goes = λ learned apart. (
+            [],
+            acted,
+            refl,
+            (
+              beside,
+              goes_still new acted (record { version = refl; histogram = refl; keys = refl; long = refl }) beside refl (
+                (λ i total lt there. absurd (omega (arith, lt))),
+                some_buckets,
+                (
+                  before_counts.1.0,
+                  subst (λ (n : ℕ). AreMounted known (record { counts = n; packed = packed; kept = kept }) before_counts.1.0 acted) same
+                      (are_mounted known before_counts.1.0 a before_counts.1.1 before_counts.1.2 knows_it found packed kept
+                      (subst (λ (v : ℕ). SaysPacked v (buckets_of known.spec) before_counts.1.0 packed kept) (sym is.version) before_counts.1.3) before_counts.0 learned),
+                ),
+              ),
+            ),
+          );
+        }
+
+  -- ---- the count of a bucket is loaded
+  module _ (mounted : Mounted) (bucket : ℕ) (loads : looker.stage ≡ LoadingCount mounted bucket) where
+    stands : StandsAtStage known looker a (LoadingCount mounted bucket)
+    stands = subst (StandsAtStage known looker a) loads is.stands
+
+    abbrev word : ℕ
+    word = stands.2.0
+
+    abbrev are : AreMounted known mounted word a
+    are = stands.2.1
+
+    abbrev at : ℕ
+    at = mounted.counts + 4 + bucket
+
+    abbrev count : ℕ
+    count = word_at words at
+
+    abbrev counted : Actor
+    counted = next a (taking_event (load_count at)) count
+
+    count_inside : (n : ℕ) → n ≡ shape.size → (mounted.counts + (4 + bucket) < n) × (bucket < length looker.totals.items)
+    count_inside n long =
+        let inside = stands.1 in
+        let within = subst (λ s. mounted.counts + (4 + 2 * buckets_of known.spec) ≤ s.size) is.segment are.within in
+        let buckets = is.buckets in (omega (arith, inside, within, long), omega (arith, inside, buckets))
+
+    module _ (total : ℕ) (is_total : total ≡ total_at mounted bucket count) (new : Looker)
+        (put : IsPut bucket total (record looker { stage = behind_bucket (length looker.totals.items) mounted bucket }) new) where
+      saw_these : count ≤ 4294967295 → SawBefore known new.totals.items (bucket + 1) counted
+      saw_these small i x lt there =
+          ⊎_elim
+          (λ (here, same).
+          subst (λ (p : ℕ × ℕ). SawBucket counted known p.0 p.1) (λ j. (sym here j, sym (same ∙ (is_total ∙ total_is known mounted word a are bucket stands.1 count small)) j))
+          (saw_total known mounted word a are bucket stands.1 count))
+          (λ (apart, was). saw_bucket a counted (taking_sees a (load_count at) count) are.began known i x.1 (stands.0 i x (omega (arith, lt, apart)) was))
+          (put.units i x there)
+
+      stands_then : count ≤ 4294967295 → StandsAtStage known new counted (behind_bucket (length looker.totals.items) mounted bucket)
+      stands_then small = by (nat_lt (bucket + 1) (length looker.totals.items)) refl
+        where
+          by : (test : Bool) → nat_lt (bucket + 1) (length looker.totals.items) ≡ test
+              → StandsAtStage known new counted (if test then LoadingCount mounted (bucket + 1) else LoadingSum)
+          by true lt = (
+            saw_these small,
+            (let under = ltb-true (bucket + 1) (length looker.totals.items) lt in let buckets = is.buckets in omega (arith, under, buckets)),
+            (word, still_mounted known mounted word a are bucket stands.1 count),
+          )
+          by false ge = (
+            (λ i x there.
+                saw_these small i x
+                (let over = ltb-false (bucket + 1) (length looker.totals.items) ge in let long = put.long in let below = below_length new.totals.items i x there in
+                omega (arith, over, long, below)) there),
+            began_still a counted (taking_sees a (load_count at) count) are.began,
+          )
+
+      pub puts_count : Goes shape.size looker.version a words words (LookerGives shape known new More a)
+      puts_count =
+          let beside : Beside a counted = record {
+            role = refl;
+            segment = refl;
+            units = refl;
+            entries = refl;
+            deltas = refl;
+            names = refl;
+            chain = ([], sym (append-nil a.seen.chain));
+            words = ([], sym (append-nil a.seen.words));
+          } in
+          let same : IsSame looker new = record {
+            version = ap (λ (l : Looker). l.version) put.same;
+            histogram = ap (λ (l : Looker). l.histogram) put.same;
+            keys = put.keys;
+            long = put.long;
+          } in record {
+            before = [];
+            at = a;
+            told = refl;
+            event = taking_event (load_count at);
+            ready = may_load known mounted word a are bucket stands.1 count;
+            words_are = sym (set-get_or words at 0);
+            goes = λ learned apart. (
+              [],
+              counted,
+              refl,
+              (
+                beside,
+                goes_still new counted same beside (ap is_bound (count_placed known mounted word a are bucket stands.1 count))
+                    (subst (StandsAtStage known new counted) (sym (ap (λ (l : Looker). l.stage) put.same)) (stands_then learned.0)),
+              ),
+            );
+          }
+
+  -- ---- the sum is loaded
+  module _ (loads : looker.stage ≡ LoadingSum) where
+    before_sum : StandsAtStage known looker a LoadingSum
+    before_sum = subst (StandsAtStage known looker a) loads is.stands
+
+    pub loads_sum : (sum : ℤ) → sum ≡ cast_signed w64 (word_at words (looker.histogram + 11))
+        → Goes shape.size looker.version a words words (LookerGives shape known (record looker { stage = LoadingRedundant sum }) More a)
+    loads_sum sum is_sum =
+        let found : ℕ = word_at words (known.reference + 11) in
+        let event : Event = taking_event (load_sum known.reference) in
+        let acted : Actor = next a event found in
+        let beside : Beside a acted = record {
+          role = refl;
+          segment = refl;
+          units = refl;
+          entries = refl;
+          deltas = refl;
+          names = refl;
+          chain = ([], sym (append-nil a.seen.chain));
+          words = ([], sym (append-nil a.seen.words));
+        } in record {
+          before = [];
+          at = a;
+          told = refl;
+          event = event;
+          ready = (is.turns, (known, is.knows, refl));
+          words_are = sym (set-get_or words (known.reference + 11) 0);
+          goes = λ learned apart. (
+            [],
+            acted,
+            refl,
+            (
+              beside,
+              goes_still (record looker { stage = LoadingRedundant sum }) acted (record { version = refl; histogram = refl; keys = refl; long = refl }) beside refl (
+                before_sum.0,
+                record { singles = before_sum.1.singles; counts = before_sum.1.counts },
+                ap (λ (h : ℕ). SumLoaded known.reference (cast_signed w64 (word_at words (h + 11)))) is.reference ∙ ap (SumLoaded known.reference) (sym is_sum),
+              ),
+            ),
+          );
+        }
+
+  -- ---- the redundant count is loaded, and the snapshot is answered
+  module _ (sum : ℤ) (loads : looker.stage ≡ LoadingRedundant sum) (redundant : ℕ) (is_redundant : redundant ≡ word_at words (looker.histogram + 13)) where
+    before_last : StandsAtStage known looker a (LoadingRedundant sum)
+    before_last = subst (StandsAtStage known looker a) loads is.stands
+
+    abbrev last : ℕ
+    last = word_at words (known.reference + 13)
+
+    last_is : last ≡ redundant
+    last_is = ap (λ (h : ℕ). word_at words (h + 13)) is.reference ∙ sym is_redundant
+
+    abbrev loading : Event
+    loading = taking_event (load_redundant known.reference)
+
+    abbrev loaded : Actor
+    loaded = next a loading last
+
+    abbrev answered : Answered
+    answered = record { name = known.name; counts = looker.totals.items; sum = sum; redundant = redundant; moment = moment_of a }
+
+    saw_all : SawAll loaded known answered
+    saw_all = record {
+      buckets = λ bucketed.
+          (is.keys, λ bucket count there. saw_bucket a loaded (taking_sees a (load_redundant known.reference) last) before_last.1 known bucket count.1 (before_last.0 bucket count there));
+      samples = λ sparse. absurd (true≢false (sym is.bucketed ∙ ap has_buckets sparse));
+      once = λ sparse. absurd (true≢false (sym is.bucketed ∙ ap has_buckets sparse));
+      values = λ sparse. absurd (true≢false (sym is.bucketed ∙ ap has_buckets sparse));
+      sum = before_last.2;
+      redundant = (
+        drop a.since.counts a.seen.counts,
+        drop-append-le a.since.counts a.seen.counts (sight (known.reference + 13) last) before_last.1.counts
+            ∙ ap (λ (n : ℕ). drop a.since.counts a.seen.counts ++ record { at = known.reference + 13; word = n } ∷ []) last_is,
+      );
+    }
+
+    pub answers_so : Goes shape.size looker.version a words words (LookerGives shape known looker (Done sum redundant) a)
+    answers_so = record {
+      before = [];
+      at = a;
+      told = refl;
+      event = loading;
+      ready = (is.turns, (known, is.knows, refl));
+      words_are = sym (set-get_or words (known.reference + 13) 0);
+      goes = λ learned apart. (
+        answers answered ∷ [],
+        noted loaded (answers answered),
+        ((known, is.knows, refl, saw_all, refl), refl),
+        (
+          is.turns,
+          record {
+            beside = record {
+              role = refl;
+              segment = refl;
+              units = refl;
+              entries = refl;
+              deltas = refl;
+              names = refl;
+              chain = ([], sym (append-nil a.seen.chain));
+              words = ([], sym (append-nil a.seen.words));
+            };
+            answered = answered;
+            deltas = refl;
+            name = refl;
+            counts = refl;
+            sum_is = refl;
+            redundant_is = refl;
+            saw = record {
+              buckets = saw_all.buckets;
+              samples = saw_all.samples;
+              once = saw_all.once;
+              values = saw_all.values;
+              sum = saw_all.sum;
+              redundant = saw_all.redundant;
+            };
+          },
+        ),
+      );
+    }
+
+-- the record of a snapshot that stands somewhere lies in so many words, which are few, and so are its buckets
+pub some_inside : (looker : Looker) (words : List ℕ) → ∥ IsSomeLooker (length words) looker ∥₁
+    → (looker.histogram + 15 ≤ length words) × (length words ≤ 1048576) × (length looker.totals.items ≤ 1000)
+some_inside looker words stands = ∥∥₁_elim stands (hlevel props) (λ (shape, known, a, long, is).
+    let inside = is_inside shape known looker a words is (length words) long in
+    let buckets = is.buckets in
+    let few = few shape known looker a words is in
+    (inside.0, inside.1, omega (arith, buckets, few)))
+
+-- the count of a bucket lies within the words
+pub some_count : (looker : Looker) (words : List ℕ) (mounted : Mounted) (bucket : ℕ) → looker.stage ≡ LoadingCount mounted bucket → ∥ IsSomeLooker (length words) looker ∥₁
+    → (mounted.counts + (4 + bucket) < length words) × (bucket < length looker.totals.items)
+some_count looker words mounted bucket loads stands = ∥∥₁_elim stands (hlevel props) (λ (shape, known, a, long, is).
+    count_inside shape known looker a words is mounted bucket loads (length words) long)

@@ -1,0 +1,161 @@
+//! A snapshot that is going on: it looks at all that is counted of a histogram, and changes nothing.
+
+use crate::mounted::Mounted;
+use crate::packing::{DISABLED_BIT, packed_in};
+use segment_image::layout::{
+    BLOCK_HEADER, HISTOGRAM_COUNTS, HISTOGRAM_REDUNDANT, HISTOGRAM_SINGLE, HISTOGRAM_SUM,
+};
+
+/// What a snapshot does next.
+#[derive(Clone, Copy, Debug, PartialEq, Eq)]
+pub(crate) enum Stage {
+    /// It loads the single word.
+    LoadingSingle,
+    /// It loads the counts reference. The counts are in use.
+    LoadingCounts { packed: Option<usize>, kept: u64 },
+    /// It loads the count of a bucket.
+    LoadingCount { mounted: Mounted, bucket: usize },
+    /// It loads the sum.
+    LoadingSum,
+    /// It loads the redundant count.
+    LoadingRedundant { sum: i64 },
+}
+
+/// What a step of a snapshot says.
+#[derive(Clone, Copy, Debug, PartialEq, Eq)]
+pub(crate) enum LookerStep {
+    /// It goes on.
+    More,
+    /// It has ended, with this sum and this redundant count.
+    Done { sum: i64, redundant: u64 },
+}
+
+/// A snapshot of a histogram with buckets that is going on.
+#[derive(Debug, Drop)]
+pub(crate) struct Looker {
+    pub(crate) version: u64,
+    // The histogram's record.
+    pub(crate) histogram: u64,
+    // The key of each bucket, in order, with the units that it saw there, 0 so far as it did not look.
+    pub(crate) totals: Vec<(i32, u64)>,
+    pub(crate) stage: Stage,
+}
+
+impl Looker {
+    ghost use Rattle.std.specs.Prelude.{◌≡◌, ◌≤◌, ◌<◌, length, vec_len};
+    ghost use Rattle.hist_core.specs.declared.looker.Stage.TheVariants.{LoadingSingle, LoadingCounts, LoadingCount, LoadingSum, LoadingRedundant};
+    ghost use Rattle.hist_core.specs.Looker.{IsSomeLooker, LookerSteps, IsPut, IsBehindSingle, behind_bucket};
+
+    // The units of a bucket that it saw.
+    fn put(&mut self, bucket: usize, total: u64)
+        requires { bucket < length self.old.totals.items }
+        ensures { IsPut bucket total self.old self.new }
+    {
+        self.totals[bucket].1 = total;
+    }
+
+    // What a single word leads to. Its units are all that there are, where the counts are not in use.
+    fn behind_single(&mut self, word: u64)
+        requires { length self.old.totals.items ≤ 65535 }
+        ensures { IsBehindSingle self.old word self.new self.new.stage }
+    {
+        let (packed, kept) = packed_in(self.version, word, self.totals.len());
+        if word >= DISABLED_BIT {
+            self.stage = Stage::LoadingCounts { packed, kept };
+            return;
+        }
+        self.stage = Stage::LoadingSum;
+        if let Some(bucket) = packed {
+            self.put(bucket, kept);
+        }
+    }
+
+    // It loads the single word.
+    fn load_single(&mut self, words: &[u64]) -> LookerStep
+        requires loads { self.old.stage ≡ LoadingSingle }
+        requires stands { ∥ IsSomeLooker (length words.now) self.old ∥₁ }
+        ensures { LookerSteps self.old words.now self.new words.now result }
+    {
+        let word = words[self.histogram as usize + HISTOGRAM_SINGLE];
+        self.behind_single(word);
+        LookerStep::More
+    }
+
+    // It loads the counts reference. The counts are in use, so they lie within the segment.
+    fn load_counts(&mut self, words: &[u64], packed: Option<usize>, kept: u64) -> LookerStep
+        requires loads { self.old.stage ≡ LoadingCounts packed kept }
+        requires stands { ∥ IsSomeLooker (length words.now) self.old ∥₁ }
+        ensures { LookerSteps self.old words.now self.new words.now result }
+    {
+        let counts = words[self.histogram as usize + HISTOGRAM_COUNTS];
+        let mounted = Mounted {
+            counts,
+            packed,
+            kept,
+        };
+        self.stage = Stage::LoadingCount { mounted, bucket: 0 };
+        LookerStep::More
+    }
+
+    // What it does behind a bucket: it goes on to the next, or to the sum.
+    fn behind_bucket(&self, mounted: Mounted, bucket: usize) -> Stage
+        requires { bucket ≤ 65535 }
+        ensures { result ≡ behind_bucket (length self.now.totals.items) mounted bucket }
+    {
+        if bucket + 1 < self.totals.len() {
+            Stage::LoadingCount {
+                mounted,
+                bucket: bucket + 1,
+            }
+        } else {
+            Stage::LoadingSum
+        }
+    }
+
+    // It loads the count of a bucket.
+    fn load_count(&mut self, words: &[u64], mounted: Mounted, bucket: usize) -> LookerStep
+        requires loads { self.old.stage ≡ LoadingCount mounted bucket }
+        requires stands { ∥ IsSomeLooker (length words.now) self.old ∥₁ }
+        ensures { LookerSteps self.old words.now self.new words.now result }
+    {
+        let count = words[mounted.counts as usize + (BLOCK_HEADER + bucket)];
+        self.stage = self.behind_bucket(mounted, bucket);
+        self.put(bucket, mounted.total(bucket, count));
+        LookerStep::More
+    }
+
+    // It loads the sum.
+    fn load_sum(&mut self, words: &[u64]) -> LookerStep
+        requires loads { self.old.stage ≡ LoadingSum }
+        requires stands { ∥ IsSomeLooker (length words.now) self.old ∥₁ }
+        ensures { LookerSteps self.old words.now self.new words.now result }
+    {
+        let sum = words[self.histogram as usize + HISTOGRAM_SUM].cast_signed();
+        self.stage = Stage::LoadingRedundant { sum };
+        LookerStep::More
+    }
+
+    // It loads the redundant count, and has ended.
+    fn load_redundant(&mut self, words: &[u64], sum: i64) -> LookerStep
+        requires loads { self.old.stage ≡ LoadingRedundant sum }
+        requires stands { ∥ IsSomeLooker (length words.now) self.old ∥₁ }
+        ensures { LookerSteps self.old words.now self.new words.now result }
+    {
+        let redundant = words[self.histogram as usize + HISTOGRAM_REDUNDANT];
+        LookerStep::Done { sum, redundant }
+    }
+
+    // Goes on by one event.
+    pub(crate) fn step(&mut self, words: &[u64]) -> LookerStep
+        requires stands { ∥ IsSomeLooker (length words.now) self.old ∥₁ }
+        ensures { LookerSteps self.old words.now self.new words.now result }
+    {
+        match self.stage {
+            Stage::LoadingSingle => self.load_single(words),
+            Stage::LoadingCounts { packed, kept } => self.load_counts(words, packed, kept),
+            Stage::LoadingCount { mounted, bucket } => self.load_count(words, mounted, bucket),
+            Stage::LoadingSum => self.load_sum(words),
+            Stage::LoadingRedundant { sum } => self.load_redundant(words, sum),
+        }
+    }
+}

@@ -7,7 +7,9 @@ use Rattle.std.proofs.Math.IntN.{+ℤ_idl}
 use Rattle.segment_machine.specs.declared.actor.Actor.{Actor}
 use Rattle.segment_machine.specs.declared.actor.Known.{Known}
 use Rattle.segment_machine.specs.declared.actor.Taken.{Taken}
+use Rattle.segment_machine.specs.declared.place.Place.{Place}
 use Rattle.segment_machine.specs.declared.place.Place.TheVariants.{Idle, SumLoaded}
+use Rattle.segment_machine.specs.declared.seen.Seen.{Seen}
 use Rattle.segment_machine.specs.Actor.{has_buckets, is_opener, looking}
 use Rattle.segment_machine.specs.Calls.{change_last}
 use Rattle.segment_machine.specs.Event.{Event, next, packing_event, taking_event}
@@ -16,7 +18,7 @@ use Rattle.segment_machine.specs.Packing.{load_single}
 use Rattle.segment_machine.specs.Taking.{Takes, load_sum, swap_sum, swap_sum_mark}
 use Rattle.segment_invariant.proofs.Notes.Amounts.{last_changed}
 use Rattle.live_segment.specs.declared.segment.Segment.{Segment}
-use Rattle.live_segment.specs.Deltas.{HasTaken, HasTakenBuckets, HasTakenSum, MayTakeSum, TakesWord, taken_as, with_sum, with_units}
+use Rattle.live_segment.specs.Deltas.{HasTaken, HasTakenBuckets, HasTakenSum, MayTakeSum, TakesOn, TakesWord, taken_as, with_sum, with_units}
 use Rattle.live_segment.specs.Holders.{MayStep}
 use Rattle.live_segment.specs.Onward.{SeesOn}
 use Rattle.live_segment.specs.Steps.{IsSame, Pass, Stepped}
@@ -86,6 +88,52 @@ module _ (segment : Segment) (known : Known) (old : Pass) (may : MayTakeSum segm
 
 -- ---- all of it
 
+-- what its recorder keeps, wherever it stood and whatever it had seen since it began
+module _ (known : Known) (first one two : Actor) (place : Place) (seen : Seen)
+    (view : one ≡ record (noted first (takes known.name)) { hand = record first.hand { place = place }; seen = seen }) (sees : SeesOn first.seen seen)
+    (units : List (ℤ × ℕ)) (on : TakesOn units one two) (amount : ℤ) (new : Actor) (ends : HasTakenSum known amount two new) where
+  abbrev ending : Actor → Actor
+  ending a = record a {
+    hand = record a.hand { place = Idle };
+    deltas = record a.deltas { taking = false; taken = change_last (with_sum amount) a.deltas.taken };
+  }
+
+  abbrev going : Actor → Actor
+  going a = record a {
+    hand = record a.hand { place = two.hand.place };
+    deltas = record a.deltas { taken = change_last (with_units units) a.deltas.taken };
+    seen = two.seen;
+  }
+
+  abbrev keeping : List Taken → Actor
+  keeping taken = record (looking first) {
+    hand = record first.hand { place = Idle };
+    seen = two.seen;
+    deltas = record first.deltas { taking = false; taken = taken };
+  }
+
+  taken_is : change_last (with_sum amount) (change_last (with_units units) (first.deltas.taken ++ nothing_taken first known.name ∷ []))
+      ≡ first.deltas.taken ++ taken_as first known units amount ∷ []
+  taken_is =
+      let before : List Taken = first.deltas.taken in
+      let nothing : Taken = nothing_taken first known.name in
+      ap (change_last (with_sum amount)) (last_changed (with_units units) before nothing)
+      ∙ (last_changed (with_sum amount) before (with_units units nothing)
+      ∙ ap (λ (sum : ℤ). before ++ record (taken_as first known units amount) { sum = sum } ∷ []) (+ℤ_idl amount))
+
+  seen_is : new.seen ≡ two.seen
+  seen_is = ap (λ (a : Actor). a.seen) ends.view
+
+  view_is : new ≡ keeping (first.deltas.taken ++ taken_as first known units amount ∷ [])
+  view_is = ends.view ∙ (ap ending on.view ∙ (ap (λ (a : Actor). ending (going a)) view ∙ ap keeping taken_is))
+
+  pub kept_all : new ≡ record (keeping (first.deltas.taken ++ taken_as first known units amount ∷ [])) { seen = new.seen }
+  kept_all = view_is ∙ ap (λ seen. record (keeping (first.deltas.taken ++ taken_as first known units amount ∷ [])) { seen = seen }) (sym seen_is)
+
+  pub sees_all : SeesOn first.seen new.seen
+  sees_all = subst (SeesOn first.seen) (sym seen_is)
+      (sees_on first.seen one.seen two.seen (subst (λ (a : Actor). SeesOn first.seen a.seen) (sym view) sees) on.seen)
+
 module _ (segment : Segment) (known : Known) (first one two : Pass) (word : ℕ) (takes_word : TakesWord segment known word one)
     (view : one.me.0 ≡ next (noted first.me.0 (takes known.name)) (packing_event (load_single known.reference)) word)
     (units : List (ℤ × ℕ)) (same : IsSame one two) (took : HasTakenBuckets known units one.me.0 two.me.0) where
@@ -103,49 +151,14 @@ module _ (segment : Segment) (known : Known) (first one two : Pass) (word : ℕ)
     abbrev at_word : Actor
     at_word = next (noted first.me.0 (takes known.name)) (packing_event (load_single known.reference)) word
 
-    abbrev ending : Actor → Actor
-    ending a = record a {
-      hand = record a.hand { place = Idle };
-      deltas = record a.deltas { taking = false; taken = change_last (with_sum amount) a.deltas.taken };
-    }
-
-    abbrev going : Actor → Actor
-    going a = record a {
-      hand = record a.hand { place = two.me.0.hand.place };
-      deltas = record a.deltas { taken = change_last (with_units units) a.deltas.taken };
-      seen = two.me.0.seen;
-    }
-
-    abbrev keeping : List Taken → Actor
-    keeping taken = record (looking first.me.0) {
-      hand = record first.me.0.hand { place = Idle };
-      seen = two.me.0.seen;
-      deltas = record first.me.0.deltas { taking = false; taken = taken };
-    }
-
-    taken_is : change_last (with_sum amount) (change_last (with_units units) (first.me.0.deltas.taken ++ nothing_taken first.me.0 known.name ∷ []))
-        ≡ first.me.0.deltas.taken ++ taken_as first.me.0 known units amount ∷ []
-    taken_is =
-        let before : List Taken = first.me.0.deltas.taken in
-        let nothing : Taken = nothing_taken first.me.0 known.name in
-        ap (change_last (with_sum amount)) (last_changed (with_units units) before nothing)
-        ∙ (last_changed (with_sum amount) before (with_units units nothing)
-        ∙ ap (λ (sum : ℤ). before ++ record (taken_as first.me.0 known units amount) { sum = sum } ∷ []) (+ℤ_idl amount))
-
-    seen_is : new.seen ≡ two.me.0.seen
-    seen_is = ap (λ (a : Actor). a.seen) ends.view
-
-    view_is : new ≡ keeping (first.me.0.deltas.taken ++ taken_as first.me.0 known units amount ∷ [])
-    view_is =
-        ends.view ∙ (ap ending took.on.view ∙ (ap (λ (a : Actor). ending (going a)) view ∙ ap keeping taken_is))
+    sees_word : SeesOn first.me.0.seen at_word.seen
+    sees_word = sees_single first.me.0.seen (record { at = known.reference + 9; word = word } ∷ [])
 
     pub has_taken_all : HasTaken known units amount first.me.0 new
     has_taken_all = record {
       counts = units;
-      same = view_is ∙ ap (λ seen. record (keeping (first.me.0.deltas.taken ++ taken_as first.me.0 known units amount ∷ [])) { seen = seen }) (sym seen_is);
-      seen = subst (SeesOn first.me.0.seen) (sym seen_is)
-          (sees_on first.me.0.seen one.me.0.seen two.me.0.seen
-          (subst (λ (a : Actor). SeesOn first.me.0.seen a.seen) (sym view) (sees_single first.me.0.seen (record { at = known.reference + 9; word = word } ∷ []))) took.on.seen);
+      same = kept_all known first.me.0 one.me.0 two.me.0 at_word.hand.place at_word.seen view sees_word units took.on amount new ends;
+      seen = sees_all known first.me.0 one.me.0 two.me.0 at_word.hand.place at_word.seen view sees_word units took.on amount new ends;
       all = ends.all;
       units = took.units;
       each = λ key. refl;

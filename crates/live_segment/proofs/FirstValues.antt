@@ -23,7 +23,7 @@ module _ (seen : Seen) (reference : ℕ) where
   Shows at = ((value : ℤ) × SawSample seen reference value at) ⊎ ((value : ℤ) → is_i32 value ≡ true → SawOther seen reference value at)
 
   -- a sample of one value is none of another
-  other_value : (value beside : ℤ) (at : ℕ) → SawSample seen reference value at → is_i32 beside ≡ true → value ≢ beside → SawOther seen reference beside at
+  pub other_value : (value beside : ℤ) (at : ℕ) → SawSample seen reference value at → is_i32 beside ≡ true → value ≢ beside → SawOther seen reference beside at
   other_value value beside at (tag, of, word, fits) fit apart =
       inr (inr (
         cast_unsigned w64 value,
@@ -32,7 +32,7 @@ module _ (seen : Seen) (reference : ℕ) where
       ))
 
   -- a record is not both
-  not_both : (value : ℤ) (at : ℕ) → SawSample seen reference value at → SawOther seen reference value at → ⊥
+  pub not_both : (value : ℤ) (at : ℕ) → SawSample seen reference value at → SawOther seen reference value at → ⊥
   not_both value at (tag, of, word, fits) (inl (t, is, apart)) = let same : Some t ≡ Some 3 = sym is ∙ tag in let one : t ≡ 3 = cc in apart one
   not_both value at (tag, of, word, fits) (inr (inl (o, is, apart))) = let same : Some o ≡ Some reference = sym is ∙ of in let one : o ≡ reference = cc in apart one
   not_both value at (tag, of, word, fits) (inr (inr (w, is, apart))) =

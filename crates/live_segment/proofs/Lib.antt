@@ -12,9 +12,11 @@ mod Beginning
 mod Apart
 mod Attempts
 mod Listed
+mod ListedValues
 mod Owned
 mod Published
 mod OnWay
+mod Once
 mod OwnSamples
 mod SampleSearches
 mod Answered
@@ -32,10 +34,12 @@ mod SampleWords
 mod SampleCounts
 mod SamplesBehind
 mod FewSamples
+mod SortedKeys
 mod Disabled
 mod CountsAlone
 mod Counted
 mod ValueCounted
+mod ValueWalks
 mod Walked
 mod Seeing
 mod OneBucket
@@ -55,8 +59,12 @@ mod Naming
 mod OneDelta
 mod DeltaEnds
 mod OneSample
+mod OneValue
 mod BucketKeys
 mod TurnedAway
 mod Added
 mod Adds
 mod FirstValues
+mod ValuesListed
+mod ValuesTaken
+mod ValuesDelta

@@ -79,6 +79,7 @@ module _ (segment : Segment) (known : Known) (value : ℤ) (sample count : ℕ) 
     took_units units is = record {
       takes = values_on segment known old may.takes new (units_of_key value (count - found)) raise.same raised (ap is_bound idle) (ap is_looking idle);
       on = subst (λ (n : ℕ). TakesOn (units_of_key value n) old.me.0 new.me.0) (sym is) raised;
+      seen = ap (λ (a : Actor). a.seen) raise.view ∙ (λ i. record old.me.0.seen { counts = sym (ap (λ (a : Actor). a.seen.counts) raise.view) i });
       took = (
         count,
         saw_count old.me.0 new.me.0 (ap (λ (a : Actor). a.since) raised.view) raised.seen may.takes.singles may.takes.counts (sample + 6) count may.counted,

@@ -1,5 +1,5 @@
 -- The count of a sample that was met is loaded.
-use Rattle.std.proofs.Common.{◌≡◌, ◌≢◌, ℕ, ◌+◌, ◌≤◌, false, ℤ, List, [], ◌++◌, drop, length, inr, refl, sym, ap, ◌∙◌, subst, arith}
+use Rattle.std.proofs.Common.{◌≡◌, ◌≢◌, ℕ, ◌+◌, ◌-◌, ◌≤◌, false, ℤ, List, [], ◌++◌, drop, length, inr, refl, sym, ap, ◌∙◌, subst, arith}
 use Rattle.std.specs.List.{Contains}
 use Rattle.std.proofs.lemmas.List.{append-nil, drop-append-le}
 use Rattle.std.proofs.lemmas.List.Elements.{Contains-append_right}
@@ -8,6 +8,7 @@ use Rattle.segment_machine.specs.declared.actor.Actor.{Actor}
 use Rattle.segment_machine.specs.declared.actor.Known.{Known}
 use Rattle.segment_machine.specs.declared.place.Place.{Place}
 use Rattle.segment_machine.specs.declared.place.Place.TheVariants as place
+use Rattle.segment_machine.specs.declared.place.Place.TheVariants.{SampleLoaded}
 use Rattle.segment_machine.specs.declared.seen.Sighting.{Sighting}
 use Rattle.segment_machine.specs.Actor.{SawCount, is_bound, is_opener}
 use Rattle.segment_machine.specs.Calls.{MayTurn, sight}
@@ -28,6 +29,11 @@ loads_sample : (p : Place) (at found : ℕ) → is_looking p ≡ false → (is_l
 loads_sample (place.Looking look) at found apart = absurd (cc apart)
 loads_sample (place.CountLoaded look bucket count) at found apart = absurd (cc apart)
 loads_sample p at found apart = (refl, refl)
+
+at_sample : (p : Place) (at found : ℕ) → is_looking p ≡ false → at_count p (at + 6) found ≡ SampleLoaded at found
+at_sample (place.Looking look) at found apart = absurd (cc apart)
+at_sample (place.CountLoaded look bucket count) at found apart = absurd (cc apart)
+at_sample p at found apart = let same : at + 6 - 6 ≡ at = omega arith in ap (λ (n : ℕ). SampleLoaded n found) same
 
 -- it has only seen words
 pub sees_no_count : (a b : Actor) → MayTurn a → is_looking a.hand.place ≡ false → SeesWords a b → SeesSample a b
@@ -102,6 +108,10 @@ module _ (segment : Segment) (known : Known) (first old : Pass) (at : ℕ) (valu
         subst (λ (l : List Sighting). Contains l seen)
         (sym ((λ i. drop (began i) (counts_are i)) ∙ drop-append-le first.me.0.since.counts first.me.0.seen.counts (sight (at + 6) found) since))
         (Contains-append_right (drop first.me.0.since.counts first.me.0.seen.counts) (sight (at + 6) found) seen (0, omega arith, refl))
+
+    -- it stands at it
+    pub loaded : new.me.0.hand.place ≡ SampleLoaded at found
+    loaded = ap (λ (x : Actor). x.hand.place) step.view ∙ at_sample old.me.0.hand.place at found apart_old
 
     -- a later one of its value has none
     pub not_later : found ≢ 0 → ¬ (IsLaterSample new.me.0 at)

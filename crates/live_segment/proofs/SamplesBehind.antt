@@ -27,6 +27,7 @@ use Rattle.live_segment.specs.Rule.{Runs}
 use Rattle.live_segment.specs.Samples.{LoadsSumOfValues, SamplesStandBehind}
 use Rattle.live_segment.specs.Steps.{Sat}
 use Rattle.live_segment.proofs.Allowed.{does_at}
+use Rattle.live_segment.proofs.Once.{once_in}
 
 -- ---- lists on which nothing stands twice
 
@@ -103,4 +104,14 @@ module _ (setting : Setting) (slots id : ℕ) (me : Sat) (word : ℕ) (records :
       does_at setting slots id me word records (λ (x : ℕ). taking_event (load_sum x)) at (omega (arith, is)) (λ y e. omega (arith, is, e)) ready s run wide mine small in
       let live : me.0.hand.place ≢ Spent = λ e. true≢false (sym (ap is_bound e) ∙ ready.0) in
       let there = ap (λ list. get_elem? list id) (sym run.views) ∙ mine in
-      (view, act, valid, holds, (told, stand_behind setting.shape _ run.segment run.kept id me.0 there live))
+      let walked = (run.kept.each id me.0 there live).sees.walked in (
+        view,
+        act,
+        valid,
+        holds,
+        (
+          told,
+          stand_behind setting.shape _ run.segment run.kept id me.0 there live,
+          once_in run.segment.words me.0.seen.chain _ walked run.kept.list.linked,
+        ),
+      )

@@ -3,7 +3,6 @@ use Rattle.std.proofs.Common.{◌≡◌, ◌≢◌, ℕ, suc, ◌+◌, ◌*◌, 
 use Rattle.std.specs.Prelude.{◌==◌, ◌||◌, if◌then◌else◌, take, drop}
 use Rattle.std.specs.List.{All, Contains, list_any}
 use Rattle.std.proofs.lemmas.List.Folds.{list_any-append}
-use Rattle.std.proofs.Math.ListN.{get_or}
 use Rattle.std.proofs.lemmas.List.{append-nil, get_or_append_left, get_or_push, length_push, length-take-le, take-append-drop, take-append-le}
 use Rattle.std.proofs.Math.Seq.{drop-append_seam, take-length}
 use Rattle.std.proofs.lemmas.List.Elements.{All-push}
@@ -12,8 +11,8 @@ use lib.ListN.{get_elem?}
 use Rattle.atomic_table.specs.Table.{Allows}
 use Rattle.segment_image.specs.Shape.{Dimensions}
 use Rattle.list_core.specs.declared.walk.WalkStep.TheVariants.{Record, End, Stray}
-use Rattle.list_core.specs.Chain.{is_reference, stops, IsLinked}
-use Rattle.list_core.specs.Walk.{IsPrefix, given_after, said_of, stands_behind}
+use Rattle.list_core.specs.Chain.{is_reference, stops}
+use Rattle.list_core.specs.Walk.{given_after, said_of, stands_behind}
 use Rattle.list_core.proofs.Walks.{place_of}
 use Rattle.segment_machine.specs.declared.actor.Actor.{Actor}
 use Rattle.segment_machine.specs.declared.place.Place.{Place}
@@ -38,19 +37,12 @@ use Rattle.live_segment.specs.Records.{StandOnce, LoadsNext, HasWalked}
 use Rattle.live_segment.specs.Walks.{HasCome, WalksOn}
 use Rattle.live_segment.proofs.Allowed.{does_at}
 use Rattle.live_segment.proofs.Apart.{behind_apart}
+use Rattle.live_segment.proofs.Once.{once_in}
 use Rattle.live_segment.proofs.OwnNames.{knows_own_names}
 use Rattle.live_segment.proofs.OwnSamples.{knows_own_samples}
 use Rattle.live_segment.proofs.Sharing.{extended_end, extended_grows, grows_on, reference_behind}
 
 -- ---- its step
-
--- no block stands twice in the front of a list
-once_in : (words chain order : List ℕ) → IsPrefix chain order → IsLinked words order → StandOnce chain
-once_in words chain order (rest, is) linked i j before within same =
-    let long : length order ≡ length chain + length rest = ap length is ∙ length-append chain rest in
-    let stop : (k : ℕ) → k ≤ length chain → slice_index (stops order) k ≡ slice_index (stops chain) k =
-    λ k low. ap (λ (l : List ℕ). get_or (stops l) k 0) is ∙ get_or_append_left (stops chain) rest 0 k (omega arith) in
-    linked.distinct i j before (omega (arith, within, long)) (stop i (omega (arith, before, within)) ∙ (same ∙ sym (stop j within)))
 
 module _ (setting : Setting) (slots id : ℕ) (me : Sat) (word : ℕ) (records : is_opener me.0.role ≡ false) where
   -- a next is loaded by a recorder that has met no block twice

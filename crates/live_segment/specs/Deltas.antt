@@ -116,11 +116,12 @@ pub record MayTakeSample (segment : Segment) (known : Known) (value : ℤ) (samp
   pub counted : SawCount seat.me.0 (sample + SAMPLE_COUNT) count
   pub some : count ≢ 0
 
--- and has taken units of it, which are all that it saw
+-- and has taken units of it, which are all that it saw; of the list and of records it has seen no more
 pub record HasTakenSample (segment : Segment) (known : Known) (value : ℤ) (sample units : ℕ) (old new : Pass) : Type 0 where
   pub takes : TakesValues segment known new
   pub on : TakesOn (units_of_key value units) old.me.0 new.me.0
   pub took : TookSample new.me.0 sample
+  pub seen : new.me.0.seen ≡ record old.me.0.seen { counts = new.me.0.seen.counts }
 
 -- ---- what was taken
 

@@ -29,5 +29,6 @@ pub mod Snapshots
 pub mod Samples
 pub mod Sampling
 pub mod Deltas
+pub mod Values
 pub mod Mounting
 pub mod Finishing

@@ -4,11 +4,13 @@ use Rattle.std.specs.List.{All, AllPairs, Contains}
 use Rattle.segment_image.specs.declared.layout.TheConstants.{HEADER_WORDS, SAMPLE_COUNT, SAMPLE_LEAST}
 use Rattle.bucket_ranges.specs.Reading.{is_i32}
 use Rattle.segment_machine.specs.declared.actor.Actor.{Actor}
+use Rattle.segment_machine.specs.declared.place.Place.TheVariants.{SampleLoaded}
 use Rattle.segment_machine.specs.Event.{taking_event}
 use Rattle.segment_machine.specs.Made.{SawSample, SawOther}
 use Rattle.segment_machine.specs.Actor.{SawCount, is_bound}
 use Rattle.segment_machine.specs.Taking.{IsLaterSample, is_looking, load_count, load_sum}
 use Rattle.live_segment.specs.Onward.{Grows}
+use Rattle.live_segment.specs.Records.{StandOnce}
 use Rattle.live_segment.specs.Steps.{DoesAt, Sat}
 
 -- it saw that a record is a sample of this value of a histogram, and lies within the segment; or that it is a sample of no value of it
@@ -35,9 +37,10 @@ SamplesAreFew a =
 abbrev pub LoadsCountOfSample : ℕ → Sat → ℕ → Sat → Type 0
 LoadsCountOfSample word me found me' = DoesAt (λ at. taking_event (load_count at)) word me found me' × SamplesAreFew me.0
 
--- the sum of a sparse histogram is loaded, by a recorder that met its samples there
+-- the sum of a sparse histogram is loaded, by a recorder that met its samples there, and no block twice
 abbrev pub LoadsSumOfValues : ℕ → Sat → ℕ → Sat → Type 0
 LoadsSumOfValues word me found me' = DoesAt (λ histogram. taking_event (load_sum histogram)) word me found me' × SamplesStandBehind me.0
+    × StandOnce me.0.seen.chain
 
 -- It has seen more words of published records and more counts, and looks at no histogram with buckets; otherwise it is as it was.
 pub record SeesSample (old new : Actor) : Type 0 where
@@ -50,11 +53,18 @@ pub record SeesSample (old new : Actor) : Type 0 where
   pub free : is_bound new.hand.place ≡ false
   pub apart : is_looking new.hand.place ≡ false
 
--- A record is a sample of a value of a histogram, and has these units, so it is not a later one of its value. Or it is a sample of none, or
--- of a value and has no units.
+-- It saw that a record is a sample of a value of a histogram and has units, which it loaded last. So it is not a later sample of its value.
+pub record HasUnits (histogram at : ℕ) (value : ℤ) (units : ℕ) (a : Actor) : Type 0 where
+  pub saw : SawSample a.seen histogram value at
+  pub counted : SawCount a (at + SAMPLE_COUNT) units
+  pub some : units ≢ 0
+  pub first : ¬ (IsLaterSample a at)
+  pub within : at + SAMPLE_LEAST ≤ a.segment.shape.size
+  pub loaded : a.hand.place ≡ SampleLoaded at units
+
+-- A record is a sample of a value of a histogram and has these units. Or it is a sample of none, or of a value and has no units.
 abbrev pub CountsSample : ℕ → ℕ → Option (ℤ × ℕ) → Actor → Type 0
-CountsSample histogram at (Some count) a =
-    SawSample a.seen histogram count.0 at × SawCount a (at + SAMPLE_COUNT) count.1 × (count.1 ≢ 0) × ¬ (IsLaterSample a at)
+CountsSample histogram at (Some count) a = HasUnits histogram at count.0 count.1 a
 CountsSample histogram at None a =
     ((value : ℤ) → is_i32 value ≡ true → SawOther a.seen histogram value at)
     ⊎ ((value : ℤ) × SawSample a.seen histogram value at × SawCount a (at + SAMPLE_COUNT) 0)

@@ -1,20 +1,25 @@
 //! How a recorder takes a delta of a histogram: of each bucket the units that no delta has taken yet, and of the sum what is new.
 
-ghost use Rattle.std.specs.Prelude.{◌≡◌, ◌<◌, ◌+◌, ◌≤◌, true, false, ℕ, ℤ, [], Some, length, vec_capacity};
+ghost use Rattle.std.specs.Prelude.{◌≡◌, ◌<◌, ◌+◌, ◌-◌, ◌/◌, ◌≤◌, true, false, ℕ, ℤ, List, [], Some, length, vec_capacity};
+ghost use Rattle.std.specs.List.{Contains};
+ghost use Rattle.bucket_ranges.specs.declared.spec.Spec.TheVariants.{Sparse};
 ghost use Rattle.bucket_ranges.specs.Spec.{buckets_of};
 ghost use Rattle.segment_machine.specs.declared.actor.Known.{Known};
 ghost use Rattle.segment_machine.specs.Actor.{bucket_key, has_buckets};
 ghost use Rattle.segment_machine.specs.Form.{is_off};
 ghost use Rattle.segment_machine.specs.Note.{TookBucket};
-ghost use Rattle.live_segment.specs.Deltas.{AreUnits, HasTaken, HasTakenBuckets, HasTakenSample, HasTakenSum, MayTakeSample, MayTakeSum, SaysPacked, TakesAt, TakesOn, TakesWord, units_of_key};
+ghost use Rattle.live_segment.specs.Deltas.{AreUnits, HasTaken, HasTakenBuckets, HasTakenSample, HasTakenSum, MayTakeSample, MayTakeSum, SaysPacked, TakesAt, TakesOn, TakesValues, TakesWord, units_of_key};
 ghost use Rattle.live_segment.specs.Known.{known_view, KnowsRight};
+ghost use Rattle.live_segment.specs.Values.{ComesTo, HasTakenValues, TakesAlong, TakesValue};
+ghost use Rattle.segment_image.specs.declared.layout.TheConstants.{QUEUE};
 
 use crate::recorder::KnownHistogram;
 use crate::rule::Pass;
+use crate::samples::sort_by_key;
 use crate::segment::Segment;
 use bucket_ranges::SingleWord;
 use hist_core::packing::DISABLED_BIT;
-use segment_image::layout::{BLOCK_HEADER, SAMPLE_MARK};
+use segment_image::layout::{BLOCK_HEADER, QUEUE, SAMPLE_MARK};
 
 // The counts of a histogram, as a delta found them in use.
 #[derive(Drop)]
@@ -193,5 +198,81 @@ impl Segment {
         ensures taken { (known : Known) (value : ℤ) → MayTakeSample self.now known value sample count seat.old → HasTakenSample self.now known value sample result seat.old seat.new }
     {
         count.saturating_sub(self.raise_mark(seat, sample + SAMPLE_MARK as u64, count))
+    }
+
+    // What the delta takes of a record that was met, where it is a sample of the histogram with new units: the value and these.
+    fn take_value(&self, seat: &mut Pass, histogram: &KnownHistogram, at: u64) -> Option<(i32, u64)>
+        requires takes { TakesValues self.now (known_view histogram.now) seat.old }
+        requires met { Contains seat.old.me.0.seen.chain at }
+        requires room { at + 5 ≤ self.now.setting.shape.size }
+        ensures same { IsSame seat.old seat.new }
+        ensures takes { TakesValue self.now (known_view histogram.now) at result seat.old seat.new }
+    {
+        let (value, count) = self.sample_at(seat, histogram, at)?;
+        let units = self.take_sample(seat, at, count);
+        if units == 0 {
+            return None;
+        }
+        Some((value, units))
+    }
+
+    // The delta takes what is new of all samples, from the first record behind the histogram's on to the end of the list, and lists the
+    // values in their order there. There is room for as many as fit in a segment.
+    fn take_values(
+        &self,
+        seat: &mut Pass,
+        histogram: &KnownHistogram,
+        first: u64,
+        taken: &mut Vec<(i32, u64)>,
+    )
+        requires takes { TakesValues self.now (known_view histogram.now) seat.old }
+        requires comes { ComesTo histogram.now.reference [] first seat.old.me.0 }
+        requires room { (taken.old.items ≡ []) × ((self.now.setting.shape.size - 16) / 5 ≤ vec_capacity taken.old) }
+        ensures { (passed : List ℕ) × TakesAlong self.now (known_view histogram.now) passed QUEUE taken.new.items seat.old seat.new }
+    {
+        let mut at = first;
+        while at != QUEUE {
+            if let Some(count) = self.take_value(seat, histogram, at) {
+                taken.push_reserved(count);
+            }
+            at = self.load_next(seat, at);
+        }
+    }
+
+    // The delta takes what is new of the sum, once it has taken of all samples, and ends.
+    fn take_sum_of_values(&self, seat: &mut Pass, histogram: &KnownHistogram) -> i64
+        requires may { HasTakenValues self.now (known_view histogram.now) seat.old }
+        requires room { histogram.now.reference + 15 ≤ self.now.setting.shape.size }
+        ensures same { IsSame seat.old seat.new }
+        ensures taken { HasTakenSum (known_view histogram.now) result seat.old.me.0 seat.new.me.0 }
+    {
+        let sum = self
+            .load_sum_of_values(seat, histogram.reference)
+            .cast_signed();
+        let mark = self
+            .swap_sum_mark(seat, histogram.reference, sum)
+            .cast_signed();
+        sum - mark
+    }
+
+    // A delta of a sparse histogram. There is room for as many values as fit in a segment. It answers what it took of the sum.
+    pub(crate) fn delta_of_values(
+        &self,
+        seat: &mut Pass,
+        histogram: &KnownHistogram,
+        taken: &mut Vec<(i32, u64)>,
+    ) -> i64
+        requires seat { (seat.old.table_id ≡ table_of self.now) × IsOf self.now.setting seat.old.me.0 }
+        requires rests { IsAtRest seat.old.me.0 }
+        requires right { KnowsRight self.now.setting seat.old.me.0 histogram.now }
+        requires sparse { histogram.now.spec ≡ Sparse }
+        requires room { (taken.old.items ≡ []) × ((self.now.setting.shape.size - 16) / 5 ≤ vec_capacity taken.old) }
+        ensures same { IsSame seat.old seat.new }
+        ensures taken { HasTaken (known_view histogram.now) taken.new.items result seat.old.me.0 seat.new.me.0 }
+    {
+        let first = self.take_next(seat, histogram.reference);
+        self.take_values(seat, histogram, first, taken);
+        sort_by_key(taken);
+        self.take_sum_of_values(seat, histogram)
     }
 }

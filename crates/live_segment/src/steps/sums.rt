@@ -4,6 +4,7 @@ ghost use Rattle.std.specs.Prelude.{◌+◌, ◌<◌, ◌≤◌};
 ghost use Rattle.segment_machine.specs.Event.{taking_event};
 ghost use Rattle.segment_machine.specs.Taking.{load_count, load_sum};
 ghost use Rattle.live_segment.specs.Samples.{LoadsCountOfSample, LoadsSumOfValues, SamplesAreFew, SamplesStandBehind};
+ghost use Rattle.live_segment.specs.Records.{StandOnce};
 
 use crate::rule::{Announcement, Pass};
 use crate::segment::Segment;
@@ -46,6 +47,7 @@ impl Segment {
         requires room { histogram + 15 ≤ self.now.setting.shape.size }
         ensures step { Stepped seat.old (taking_event (load_sum histogram)) result seat.new }
         ensures behind { SamplesStandBehind seat.old.me.0 }
+        ensures once { StandOnce seat.old.me.0.seen.chain }
     {
         self.table
             .shared

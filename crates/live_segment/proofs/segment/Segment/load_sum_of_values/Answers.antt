@@ -18,3 +18,6 @@ returns-clause-step c = let told = c.load.ensures.2.0 c.args.histogram (omega ar
 
 pub returns-clause-behind : goal.returns-clause-behind
 returns-clause-behind c = c.load.ensures.2.1
+
+pub returns-clause-once : goal.returns-clause-once
+returns-clause-once c = c.load.ensures.2.2

@@ -1,10 +1,11 @@
-use Rattle.std.proofs.Common.{ℕ, ◌+◌, ℤ, w32, FitsSigned, rules, inr, sym, subst}
+use Rattle.std.proofs.Common.{ℕ, ◌≡◌, ◌+◌, ℤ, w32, FitsSigned, rules, arith, inr, sym, ap, subst}
 use Rattle.std.proofs.lemmas.Int.{to_z-of_z}
+use Rattle.segment_machine.specs.declared.actor.Actor.{Actor}
 use Rattle.segment_machine.specs.Actor.{SawCount}
 use Rattle.segment_machine.specs.Made.{SawSample}
 use Rattle.live_segment.specs.Known.{known_view}
 use Rattle.live_segment.specs.Samples.{SamplesAreFew}
-use Rattle.live_segment.proofs.SampleCounts.{may_count, saw_sample, saw_found, not_later}
+use Rattle.live_segment.proofs.SampleCounts.{may_count, saw_sample, saw_found, not_later, loaded}
 use Rattle.live_segment.proofs.segment.Segment.sample_at.Goals as goal
 
 pub load_count_of_sample-count-requires-clause-may : goal.load_count_of_sample-count-requires-clause-may
@@ -31,14 +32,21 @@ returns-clause-counts c =
     c.requires.sparse.0 c.requires.sparse.1 c.requires.apart c.requires.since c.requires.met c.in_ok-value.ensures.same c.in_ok-value.ensures.view c.in_ok-value.ensures.shown.0
     _ _ c.load_count_of_sample-count.ensures.step in
     let fits : FitsSigned w32 c.in_ok-value.value = search rules in
-    let some = c.if-count-eq0.false in (
-      subst (λ (n : ℤ). SawSample c.load_count_of_sample-count.new.seat.me.0.seen c.args.histogram.now.reference n c.args.at) (sym (to_z-of_z w32 c.in_ok-value.value fits)) saw,
-      found,
-      some,
-      not_later c.args.self.now (known_view c.args.histogram.now) c.args.seat.now c.shows_sample.new.seat c.args.at c.in_ok-value.value c.requires.seat.0 c.requires.seat.1
+    let some = c.if-count-eq0.false in
+    let size : c.load_count_of_sample-count.new.seat.me.0.segment.shape.size ≡ c.shows_sample.new.seat.me.0.segment.shape.size =
+    ap (λ (a : Actor). a.segment.shape.size) c.load_count_of_sample-count.ensures.step.view in
+    let within = c.in_ok-value.ensures.shown.1 in record {
+      saw = subst (λ (n : ℤ). SawSample c.load_count_of_sample-count.new.seat.me.0.seen c.args.histogram.now.reference n c.args.at) (sym (to_z-of_z w32 c.in_ok-value.value fits)) saw;
+      counted = found;
+      some = some;
+      first = not_later c.args.self.now (known_view c.args.histogram.now) c.args.seat.now c.shows_sample.new.seat c.args.at c.in_ok-value.value c.requires.seat.0 c.requires.seat.1
           c.requires.sparse.0 c.requires.sparse.1 c.requires.apart c.requires.since c.requires.met c.in_ok-value.ensures.same c.in_ok-value.ensures.view c.in_ok-value.ensures.shown.0
-          _ _ c.load_count_of_sample-count.ensures.step some,
-    )
+          _ _ c.load_count_of_sample-count.ensures.step some;
+      within = omega (arith, size, within);
+      loaded = loaded c.args.self.now (known_view c.args.histogram.now) c.args.seat.now c.shows_sample.new.seat c.args.at c.in_ok-value.value c.requires.seat.0 c.requires.seat.1
+          c.requires.sparse.0 c.requires.sparse.1 c.requires.apart c.requires.since c.requires.met c.in_ok-value.ensures.same c.in_ok-value.ensures.view c.in_ok-value.ensures.shown.0
+          _ _ c.load_count_of_sample-count.ensures.step;
+    }
 
 pub returns-clause-few : goal.returns-clause-few
 returns-clause-few c = subst SamplesAreFew (sym c.load_count_of_sample-count.ensures.step.view) c.load_count_of_sample-count.ensures.few

@@ -1,0 +1,128 @@
+-- How a recorder goes along the samples of a sparse histogram, and which values it lists.
+use Rattle.std.specs.Prelude.{◌≡◌, ◌≢◌, ◌⊎◌, true, false, ℕ, ◌+◌, ◌*◌, ◌≤◌, ℤ, List, [], ◌∷◌, ◌++◌, length, map, sum_by, if◌then◌else◌, Option, Some, None}
+use Rattle.std.specs.List.{All, AllByRecursion, Contains}
+use Rattle.std.specs.List.Sorted.{IsPermutation, IsStrictlySortedBy}
+use Rattle.std.specs.Ordering.{int_cmp, int_eq}
+use Rattle.segment_image.specs.declared.layout.TheConstants.{BLOCK_LEAST, HEADER_WORDS, QUEUE, SAMPLE_COUNT}
+use Rattle.bucket_ranges.specs.declared.spec.Spec.TheVariants.{Sparse}
+use Rattle.bucket_ranges.specs.Reading.{is_i32}
+use Rattle.segment_machine.specs.declared.actor.Actor.{Actor}
+use Rattle.segment_machine.specs.declared.actor.Known.{Known}
+use Rattle.segment_machine.specs.declared.seen.Seen.{Seen}
+use Rattle.segment_machine.specs.Actor.{SawCount, is_bound, is_opener}
+use Rattle.segment_machine.specs.Firsts.{ComesFirst}
+use Rattle.segment_machine.specs.Made.{SawOther, SawSample}
+use Rattle.segment_machine.specs.Note.{TookSample}
+use Rattle.segment_machine.specs.Taking.{IsLaterSample, is_looking}
+use Rattle.live_segment.specs.declared.segment.Segment.{Segment}
+use Rattle.live_segment.specs.Deltas.{TakesOn, TakesValues}
+use Rattle.live_segment.specs.Holders.{table_of}
+use Rattle.live_segment.specs.Onward.{SeesOn}
+use Rattle.live_segment.specs.Rule.{IsOf}
+use Rattle.live_segment.specs.Steps.{IsSame, Pass}
+use Rattle.live_segment.specs.Telling.{KnowsAlone}
+
+-- ---- along the list
+
+-- the first of these records, or the queue block where there is none
+abbrev pub first_of : List ℕ → ℕ
+first_of [] = QUEUE
+first_of (at ∷ rest) = at
+
+-- Behind the record of a histogram it has passed these records, and comes to the next one that it saw there, or to the end of the list.
+pub record ComesTo (histogram : ℕ) (passed : List ℕ) (at : ℕ) (a : Actor) : Type 0 where
+  pub front : List ℕ
+  pub behind : List ℕ
+  pub chain : a.seen.chain ≡ front ++ histogram ∷ (passed ++ behind)
+  pub stands : at ≡ first_of behind
+  pub within : at ≢ QUEUE → at + BLOCK_LEAST ≤ a.segment.shape.size
+  pub few : BLOCK_LEAST * length a.seen.chain + HEADER_WORDS ≤ a.segment.shape.size
+
+-- ---- what it lists
+
+-- it saw of a record that it is a sample of a value, and did this with it; or that it is a sample of none
+abbrev pub Passes : (ℤ → ℕ → Type 0) → Seen → ℕ → ℕ → Type 0
+Passes Does seen histogram at =
+    ((value : ℤ) × SawSample seen histogram value at × Does value at) ⊎ ((value : ℤ) → is_i32 value ≡ true → SawOther seen histogram value at)
+
+-- no key stands twice
+abbrev pub KeysStandOnce : List (ℤ × ℕ) → Type 0
+KeysStandOnce counts = (key : ℤ) → sum_by (λ count. if int_eq count.0 key then 1 else 0) counts ≤ 1
+
+-- Of each record that it passed it saw which sample it is, and did something with each sample. What it listed are values, each once, with units
+-- that the first sample of the value has.
+pub record ListsValues (Does : ℤ → ℕ → Type 0) (Has : ℕ → ℕ → Type 0) (histogram : ℕ) (passed : List ℕ) (listed : List (ℤ × ℕ)) (seen : Seen) : Type 0 where
+  pub passes : AllByRecursion (Passes Does seen histogram) passed
+  pub firsts : All (λ count. (sample : ℕ) × ComesFirst (SawOther seen histogram count.0) (SawSample seen histogram count.0) passed sample × Has sample count.1) listed
+  pub once : KeysStandOnce listed
+  pub few : length listed ≤ length passed
+
+-- these keys with units in ascending order
+pub record AreSorted (old new : List (ℤ × ℕ)) : Type 0 where
+  pub moved : IsPermutation old new
+  pub ascending : KeysStandOnce old → IsStrictlySortedBy int_cmp (map (λ count. count.0) new)
+
+-- What it listed of a record that is a sample, which is not a later one of its value; or it listed nothing of it.
+abbrev pub ListsOf : (ℤ → ℕ → Type 0) → (ℕ → ℕ → Type 0) → ℕ → ℕ → Option (ℤ × ℕ) → Actor → Type 0
+ListsOf Does Has histogram at (Some count) a = SawSample a.seen histogram count.0 at × Does count.0 at × Has at count.1 × ¬ (IsLaterSample a at)
+ListsOf Does Has histogram at None a = Passes Does a.seen histogram at
+
+-- a list of one, or of none
+abbrev pub listed_of : Option (ℤ × ℕ) → List (ℤ × ℕ)
+listed_of (Some count) = count ∷ []
+listed_of None = []
+
+-- ---- a delta
+
+-- it takes of a record that it met; of the list it has seen no more
+pub record TakesValue (segment : Segment) (known : Known) (at : ℕ) (taken : Option (ℤ × ℕ)) (old new : Pass) : Type 0 where
+  pub takes : TakesValues segment known new
+  pub on : TakesOn (listed_of taken) old.me.0 new.me.0
+  pub chain : new.me.0.seen.chain ≡ old.me.0.seen.chain
+  pub lists : ListsOf (λ value sample. TookSample new.me.0 sample) (λ sample units. 1 ≤ units) known.reference at taken new.me.0
+
+-- It has taken of all samples up to the end of the list.
+pub record HasTakenValues (segment : Segment) (known : Known) (seat : Pass) : Type 0 where
+  pub takes : TakesValues segment known seat
+  pub passed : List ℕ
+  pub comes : ComesTo known.reference passed QUEUE seat.me.0
+  pub took : AllByRecursion (Passes (λ value sample. TookSample seat.me.0 sample) seat.me.0.seen known.reference) passed
+
+-- A delta of a sparse histogram has passed records behind its own, took what it saw of each sample, and comes to the next.
+pub record TakesAlong (segment : Segment) (known : Known) (passed : List ℕ) (at : ℕ) (taken : List (ℤ × ℕ)) (old new : Pass) : Type 0 where
+  pub same : IsSame old new
+  pub takes : TakesValues segment known new
+  pub on : TakesOn taken old.me.0 new.me.0
+  pub comes : ComesTo known.reference passed at new.me.0
+  pub lists : ListsValues (λ value sample. TookSample new.me.0 sample) (λ sample units. 1 ≤ units) known.reference passed taken new.me.0.seen
+
+-- ---- a snapshot
+
+-- It has seen more, stands elsewhere, and at no single word and no counts of a histogram. All else is as it was.
+pub record SeesMore (old new : Actor) : Type 0 where
+  pub view : new ≡ record old { hand = record old.hand { place = new.hand.place }; seen = new.seen }
+  pub seen : SeesOn old.seen new.seen
+
+-- A recorder's seat looks at the samples of a sparse histogram.
+pub record LooksAtValues (segment : Segment) (known : Known) (seat : Pass) : Type 0 where
+  pub table : seat.table_id ≡ table_of segment
+  pub recorder : is_opener seat.me.0.role ≡ false
+  pub of : IsOf segment.setting seat.me.0
+  pub alone : KnowsAlone seat.me.0 known
+  pub sparse : known.spec ≡ Sparse
+  pub free : is_bound seat.me.0.hand.place ≡ false
+  pub apart : is_looking seat.me.0.hand.place ≡ false
+  pub counts : seat.me.0.since.counts ≤ length seat.me.0.seen.counts
+
+-- it saw the count of a sample, and has listed it where that is not 0
+abbrev pub HasListed : List (ℤ × ℕ) → Actor → ℤ → ℕ → Type 0
+HasListed listed a value sample =
+    (count : ℕ) × SawCount a (sample + SAMPLE_COUNT) count × ((count ≡ 0) ⊎ Contains (map (λ count. count.0) listed) value)
+
+-- A snapshot of a sparse histogram has passed records behind its own, listed what it saw of the first sample of each value, and comes to the next.
+pub record LooksAlong (segment : Segment) (known : Known) (passed : List ℕ) (at : ℕ) (listed : List (ℤ × ℕ)) (old new : Pass) : Type 0 where
+  pub same : IsSame old new
+  pub looks : LooksAtValues segment known new
+  pub on : SeesMore old.me.0 new.me.0
+  pub comes : ComesTo known.reference passed at new.me.0
+  pub lists : ListsValues (HasListed listed new.me.0) (λ sample units. SawCount new.me.0 (sample + SAMPLE_COUNT) units) known.reference passed listed new.me.0.seen

@@ -22,7 +22,7 @@ use Rattle.live_segment.specs.Steps.{IsAtRest}
 use Rattle.live_segment.specs.Telling.{bucket_entry, entry_notes, KnowsAlone}
 use Rattle.live_segment.specs.Working.{counted_next, CountsAlone, HasCounted, MayCount}
 use Rattle.live_segment.proofs.Beginning.{notes_new}
-use Rattle.live_segment.proofs.Finished.{still_open, changed_behind}
+use Rattle.live_segment.proofs.Ended.{still_open, changed_behind}
 use Rattle.live_segment.proofs.Proceeding.{grows_on}
 
 none_before : (n : ℕ) → 0 + n ≡ n

@@ -5,11 +5,13 @@ use Rattle.std.specs.List.{Contains}
 use Rattle.std.specs.Ordering.{int_eq}
 use Rattle.std.specs.Str.{bytes_eq}
 use Rattle.std.proofs.lemmas.Bool.{eqb-true, ne_eqb}
+use Rattle.std.proofs.lemmas.List.Elements.{All-nil}
 use Rattle.segment_machine.specs.declared.entry.Counting.{Counting}
 use Rattle.segment_machine.specs.declared.entry.Entry.{Entry}
 use Rattle.segment_machine.specs.declared.actor.Actor.{Actor}
 use Rattle.segment_machine.specs.declared.actor.Entries.{Entries}
 use Rattle.segment_machine.specs.declared.actor.Hand.{Hand}
+use Rattle.segment_machine.specs.declared.actor.Cost.{Cost}
 use Rattle.segment_machine.specs.declared.actor.Known.{Known}
 use Rattle.segment_machine.specs.declared.actor.Units.{Units}
 use Rattle.segment_machine.specs.declared.place.Place.{Place}
@@ -24,7 +26,8 @@ use Rattle.segment_invariant.proofs.Lists.Elements.{all_from, each_of_one}
 use Rattle.segment_invariant.proofs.Lists.Maps.{contains_map}
 use Rattle.live_segment.specs.Onward.{SeesOn}
 use Rattle.live_segment.specs.Telling.{bucket_entry, entry_notes, opening_notes}
-use Rattle.live_segment.specs.Working.{CountsAlone, LooksOn, MayCount, HasNotBegun, Waits, HasBegun, LooksFor, HasCounted, counted_next}
+use Rattle.live_segment.specs.Working.{CountsAlone, HaveEnded, IsOpenTo, LooksOn, MayCount, MayGoOn, HasNotBegun, Waits, HasBegun, LooksFor, HasCounted, counted_next}
+use Rattle.live_segment.proofs.Ended.{goes_on_with, next_behind, notes_nothing}
 use Rattle.live_segment.proofs.Proceeding.{does_not, grows_by, grows_not, proceeds_on}
 
 -- ---- what is known
@@ -90,8 +93,12 @@ open_still entry some = falls (int_eq entry.amount (pos 0))
 -- one that waits notes nothing
 notes_waiting : (a : Actor) (entry : Entry) → 1 ≤ entry.units → Waits a entry → entry_notes a entry ≡ []
 notes_waiting a entry some waits =
-    ap (λ (r : List Counting). opening_notes r entry entry.units) waits
-    ∙ ap (λ (b : Bool). if b && true then goes_on entry entry.units ∷ [] else []) (open_still entry some)
+    ap (λ (r : List Counting). opening_notes r entry entry.units) waits.runs
+    ∙ notes_nothing (fresh entry) (open_still entry some) waits.before entry entry.units waits.ended.ended
+
+-- one with which a call goes on is noted beside those that have ended
+notes_going : (a : Actor) (entry : Entry) → MayGoOn a entry → entry_notes a entry ≡ goes_on entry entry.units ∷ []
+notes_going a entry may = goes_on_with a.entries.running entry entry.units may.runs may.ended.ended
 
 within : (entry : Entry) → entry.amount ≡ pos 0 → AreWithin entry.name entry.units (entry ∷ [])
 within entry none = record {
@@ -113,7 +120,7 @@ within entry none = record {
 pub may_tell : (a : Actor) (known : Known) (entry : Entry) → CountsAlone a known entry → MayTell a (entry_notes a entry)
 may_tell a known entry may = by may.begun
   where
-    by : HasNotBegun a entry.units ⊎ Waits a entry → MayTell a (entry_notes a entry)
+    by : IsOpenTo a entry → MayTell a (entry_notes a entry)
     by (inl new) = subst (MayTell a) (sym (notes_new a entry new)) (
       (
         λ e. true≢false (sym (ap is_bound e) ∙ may.free),
@@ -128,24 +135,35 @@ may_tell a known entry may = by may.begun
       ),
       refl,
     )
-    by (inr waits) = subst (MayTell a) (sym (notes_waiting a entry may.some waits)) refl
+    by (inr (inl going)) = subst (MayTell a) (sym (notes_going a entry going)) (
+      (going.runs, going.ended.ended, going.enough, (entry.name, going.spent, going.holds, going.within)),
+      refl,
+    )
+    by (inr (inr waits)) = subst (MayTell a) (sym (notes_waiting a entry may.some waits)) refl
 
 -- the entry then waits
 pub then_waits : (a : Actor) (known : Known) (entry : Entry) → CountsAlone a known entry → Waits (noted_by a (entry_notes a entry)) entry
 then_waits a known entry may = by may.begun
   where
-    by : HasNotBegun a entry.units ⊎ Waits a entry → Waits (noted_by a (entry_notes a entry)) entry
-    by (inl new) = ap (λ (ns : List Note). (noted_by a ns).entries.running) (notes_new a entry new)
-    by (inr waits) = ap (λ (ns : List Note). (noted_by a ns).entries.running) (notes_waiting a entry may.some waits) ∙ waits
+    same : (ns : List Note) → entry_notes a entry ≡ ns → (noted_by a (entry_notes a entry)).entries.running ≡ (noted_by a ns).entries.running
+    same ns is = ap (λ (n : List Note). (noted_by a n).entries.running) is
+
+    by : IsOpenTo a entry → Waits (noted_by a (entry_notes a entry)) entry
+    by (inl new) = record {
+      before = [];
+      ended = record { ended = All-nil (λ c. has_ended c ≡ true); unsummed = All-nil (λ c. c.summed ≡ false) };
+      runs = same _ (notes_new a entry new);
+    }
+    by (inr (inl going)) = record { before = a.entries.running; ended = going.ended; runs = same _ (notes_going a entry going) }
+    by (inr (inr waits)) = record { before = waits.before; ended = waits.ended; runs = same _ (notes_waiting a entry may.some waits) ∙ waits.runs }
 
 -- and is next
 pub is_next : (a : Actor) (known : Known) (entry : Entry) → CountsAlone a known entry
     → IsNext (noted_by a (entry_notes a entry)) (fresh entry)
 is_next a known entry may =
-    let c = fresh entry in (
+    let waits = then_waits a known entry may in (
       [],
-      ap (filter (λ (x : Counting). not (has_ended x))) (then_waits a known entry may)
-          ∙ ap (λ (b : Bool). if not b then c ∷ [] else []) (open_still entry may.some),
+      ap (filter (λ (x : Counting). not (has_ended x))) waits.runs ∙ next_behind (fresh entry) (open_still entry may.some) waits.before waits.ended.ended,
     )
 
 -- nothing else changes
@@ -157,9 +175,10 @@ only_begun a known entry may = by may.begun
     Same : List Note → Type 0
     Same ns = noted_by a ns ≡ record a { units = (noted_by a ns).units; entries = (noted_by a ns).entries }
 
-    by : HasNotBegun a entry.units ⊎ Waits a entry → Same (entry_notes a entry)
+    by : IsOpenTo a entry → Same (entry_notes a entry)
     by (inl new) = subst Same (sym (notes_new a entry new)) refl
-    by (inr waits) = subst Same (sym (notes_waiting a entry may.some waits)) refl
+    by (inr (inl going)) = subst Same (sym (notes_going a entry going)) refl
+    by (inr (inr waits)) = subst Same (sym (notes_waiting a entry may.some waits)) refl
 
 pub knows : (a : Actor) (known : Known) (bucket units : ℕ) → MayCount a known bucket units → Buckets a known.reference known
 knows a known bucket units may = ((known_there a.answers.names known.reference known may.counts.alone).0, refl, may.bucketed)
@@ -184,16 +203,28 @@ may_still a b known entry may looks =
       amount = may.amount;
     }
   where
-    by : ((b.units ≡ a.units) × (b.entries ≡ a.entries)) ⊎ HasBegun entry a b → HasNotBegun a entry.units ⊎ Waits a entry
-        → HasNotBegun b entry.units ⊎ Waits b entry
+    by : ((b.units ≡ a.units) × (b.entries ≡ a.entries)) ⊎ HasBegun entry a b → IsOpenTo a entry → IsOpenTo b entry
     by (inl (same_units, same_entries)) (inl new) =
         inl (
           ap (λ (e : Entries). e.running) same_entries ∙ new.0,
           ap (λ (u : Units). u.held) same_units ∙ new.1,
           subst (λ (u : Units). entry.units ≤ u.share) (sym same_units) new.2,
         )
-    by (inl (same_units, same_entries)) (inr waits) = inr (ap (λ (e : Entries). e.running) same_entries ∙ waits)
-    by (inr (units_are, entries_are)) begun = inr (ap (λ (e : Entries). e.running) entries_are ∙ then_waits a known entry may)
+    by (inl (same_units, same_entries)) (inr (inl going)) =
+        let same : b.entries.running ≡ a.entries.running = ap (λ (e : Entries). e.running) same_entries in
+        inr (inl (record {
+          runs = λ none. going.runs (sym same ∙ none);
+          ended = subst HaveEnded (sym same) going.ended;
+          enough = subst (λ (u : Units). entry.units ≤ u.share) (sym same_units) going.enough;
+          spent = going.spent;
+          holds = ap (λ (u : Units). u.held) same_units ∙ going.holds;
+          within = subst (λ (l : List Counting). AreWithin entry.name (going.spent + entry.units) (map (λ c. c.entry) l ++ entry ∷ [])) (sym same) going.within;
+        }))
+    by (inl (same_units, same_entries)) (inr (inr waits)) =
+        inr (inr (record { before = waits.before; ended = waits.ended; runs = ap (λ (e : Entries). e.running) same_entries ∙ waits.runs }))
+    by (inr (units_are, entries_are)) begun =
+        let waits = then_waits a known entry may in
+        inr (inr (record { before = waits.before; ended = waits.ended; runs = ap (λ (e : Entries). e.running) entries_are ∙ waits.runs }))
 
 pub may_yet : (a b : Actor) (known : Known) (bucket units : ℕ) → MayCount a known bucket units → LooksFor (bucket_entry known bucket units) a b
     → MayCount b known bucket units
@@ -214,7 +245,7 @@ begins_once a b known entry may looks = by looks.begun may.begun
         let none = notes_waiting b entry may.some waits in
         (ap (λ (ns : List Note). (noted_by b ns).units) none ∙ units_are, ap (λ (ns : List Note). (noted_by b ns).entries) none ∙ entries_are)
 
-    by : ((b.units ≡ a.units) × (b.entries ≡ a.entries)) ⊎ HasBegun entry a b → HasNotBegun a entry.units ⊎ Waits a entry
+    by : ((b.units ≡ a.units) × (b.entries ≡ a.entries)) ⊎ HasBegun entry a b → IsOpenTo a entry
         → ((noted_by b (notes b)).units ≡ (noted_by a (notes a)).units) × ((noted_by b (notes b)).entries ≡ (noted_by a (notes a)).entries)
     by (inl (same_units, same_entries)) (inl new) =
         let mine = notes_new a entry new in
@@ -226,13 +257,24 @@ begins_once a b known entry may looks = by looks.begun may.begun
           ap (λ (ns : List Note). (noted_by b ns).entries) again
               ∙ (ap (λ (e : Entries). record e { running = fresh entry ∷ [] }) same_entries ∙ sym (ap (λ (ns : List Note). (noted_by a ns).entries) mine)),
         )
-    by (inl (same_units, same_entries)) (inr waits) =
+    by (inl (same_units, same_entries)) (inr (inl going)) =
+        let mine = notes_going a entry going in
+        let again : notes b ≡ goes_on entry entry.units ∷ [] =
+        ap (λ (e : Entries). opening_notes e.running entry entry.units) same_entries ∙ mine in (
+          ap (λ (ns : List Note). (noted_by b ns).units) again
+              ∙ (ap (λ (u : Units). record u { share = u.share - entry.units; held = map (λ (h : Cost). record h { units = h.units + entry.units }) u.held }) same_units
+              ∙ sym (ap (λ (ns : List Note). (noted_by a ns).units) mine)),
+          ap (λ (ns : List Note). (noted_by b ns).entries) again
+              ∙ (ap (λ (e : Entries). record e { running = e.running ++ fresh entry ∷ [] }) same_entries ∙ sym (ap (λ (ns : List Note). (noted_by a ns).entries) mine)),
+        )
+    by (inl (same_units, same_entries)) (inr (inr waits)) =
         let mine = notes_waiting a entry may.some waits in
-        waiting (ap (λ (e : Entries). e.running) same_entries ∙ waits)
+        waiting (record { before = waits.before; ended = waits.ended; runs = ap (λ (e : Entries). e.running) same_entries ∙ waits.runs })
         (same_units ∙ sym (ap (λ (ns : List Note). (noted_by a ns).units) mine))
         (same_entries ∙ sym (ap (λ (ns : List Note). (noted_by a ns).entries) mine))
     by (inr (units_are, entries_are)) begun =
-        waiting (ap (λ (e : Entries). e.running) entries_are ∙ then_waits a known entry may) units_are entries_are
+        let waits = then_waits a known entry may in
+        waiting (record { before = waits.before; ended = waits.ended; runs = ap (λ (e : Entries). e.running) entries_are ∙ waits.runs }) units_are entries_are
 
 pub looks_for_on : (a b c : Actor) (known : Known) (entry : Entry) → CountsAlone a known entry → LooksFor entry a b
     → LooksFor entry b c → LooksFor entry a c

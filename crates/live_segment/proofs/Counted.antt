@@ -1,5 +1,5 @@
 -- Units of a bucket are counted in the counts, once these are in use: what a call that may count them knows behind each of its parts.
-use Rattle.std.proofs.Common.{◌≡◌, ◌≢◌, ◌⊎◌, ℕ, ◌+◌, ◌<◌, ◌||◌, not, Bool, false, if◌then◌else◌, List, [], ◌∷◌, ◌++◌, filter, length, drop, Some, inl, inr, refl, sym, ap, ◌∙◌, subst, arith}
+use Rattle.std.proofs.Common.{◌≡◌, ◌≢◌, ℕ, ◌+◌, ◌<◌, ◌||◌, not, Bool, false, List, [], ◌∷◌, ◌++◌, filter, length, drop, Some, inl, inr, refl, sym, ap, ◌∙◌, subst, arith}
 use Rattle.std.specs.List.{Contains}
 use Rattle.std.proofs.lemmas.Bool.{ne_eqb}
 use Rattle.std.proofs.lemmas.List.Elements.{Contains-append_left}
@@ -28,8 +28,9 @@ use Rattle.live_segment.specs.Rule.{IsOf}
 use Rattle.live_segment.specs.declared.segment.Segment.{Segment}
 use Rattle.segment_image.specs.Shape.{Dimensions}
 use Rattle.live_segment.specs.Telling.{HasAddedTo, MayAddTo, Noted, bucket_entry, bucket_notes}
-use Rattle.live_segment.specs.Working.{HasCounted, HasNotBegun, LooksFor, LooksOn, MayCount, Tries, Waits}
+use Rattle.live_segment.specs.Working.{HasCounted, IsOpenTo, LooksFor, LooksOn, MayCount, Tries}
 use Rattle.live_segment.proofs.Beginning.{counted_behind, knows, looks_for, looks_for_on, may_yet, may_tell, only_begun}
+use Rattle.live_segment.proofs.Ended.{next_behind, none_open}
 use Rattle.live_segment.proofs.CountsAlone.{counted_at, counts_next, goes, may_give_up}
 use Rattle.live_segment.proofs.Mounted.{with_words}
 use Rattle.live_segment.proofs.Proceeding.{looks_again}
@@ -54,12 +55,13 @@ module _ (a : Actor) (known : Known) (bucket units : ℕ) (may : MayCount a know
     counts = (may.counts.takes, λ c next. by may.counts.begun c next);
   }
     where
-      by : HasNotBegun a units ⊎ Waits a entry → (c : Counting) → IsNext a c → (is_counted c ≡ false) × (c.entry.name ≡ known.name)
+      by : IsOpenTo a entry → (c : Counting) → IsNext a c → (is_counted c ≡ false) × (c.entry.name ≡ known.name)
       by (inl new) c (rest, is) = absurd (cc (sym is ∙ ap (filter (λ (x : Counting). not (has_ended x))) new.0))
-      by (inr waits) c (rest, is) =
+      by (inr (inl going)) c (rest, is) = absurd (cc (sym is ∙ none_open a.entries.running going.ended.ended))
+      by (inr (inr waits)) c (rest, is) =
           let both : c ∷ rest ≡ one ∷ [] =
-          sym is ∙ (ap (filter (λ (x : Counting). not (has_ended x))) waits ∙ ap (λ (b : Bool). if not b then one ∷ [] else []) (goes a known entry may.counts)) in
-          let same : c ≡ one = cc in (
+          sym is ∙ (ap (filter (λ (x : Counting). not (has_ended x))) waits.runs ∙ next_behind one (goes a known entry may.counts) waits.before waits.ended.ended) in
+          let same : c ≡ one = cc both in (
             ap is_counted same ∙ ap (λ (b : Bool). false || b) (ne_eqb units 0 (let some_units = may.counts.some in λ e. omega (arith, e, some_units))),
             ap (λ (x : Counting). x.entry.name) same,
           )

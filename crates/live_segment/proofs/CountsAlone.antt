@@ -1,7 +1,8 @@
 -- An entry that a call counts alone, in a bucket or in a sample: the call may end before, and goes on once its units are added to a count.
-use Rattle.std.proofs.Common.{◌≡◌, ◌⊎◌, ℕ, ◌+◌, ◌||◌, Bool, true, false, if◌then◌else◌, List, [], ◌∷◌, ◌++◌, length, take, drop, All, inl, inr, refl, sym, ap, subst, arith}
+use Rattle.std.proofs.Common.{◌≡◌, ℕ, ◌+◌, ◌≤◌, ◌∙◌, ◌||◌, Bool, true, false, List, [], ◌∷◌, ◌++◌, take, drop, All, inl, inr, refl, sym, ap, subst, arith}
 use Rattle.std.proofs.lemmas.Bool.{ne_eqb}
 use Rattle.std.proofs.lemmas.List.Elements.{All-nil, All-cons}
+use Rattle.std.proofs.Math.Seq.{drop-append_seam, drop-length, take-append_seam, take-length}
 use Rattle.segment_machine.specs.declared.actor.Actor.{Actor}
 use Rattle.segment_machine.specs.declared.actor.Known.{Known}
 use Rattle.segment_machine.specs.declared.entry.Counting.{Counting}
@@ -19,9 +20,9 @@ use Rattle.live_segment.specs.Onward.{SeesOn}
 use Rattle.live_segment.specs.Refusing.{MayEnd, MayGiveUp, how_many_ended}
 use Rattle.live_segment.specs.Steps.{Pass}
 use Rattle.live_segment.specs.Telling.{Noted, entry_notes}
-use Rattle.live_segment.specs.Working.{CountsAlone, HasCounted, HasNotBegun, Waits}
+use Rattle.live_segment.specs.Working.{CountsAlone, HasCounted, HaveEnded, IsOpenTo}
 use Rattle.live_segment.proofs.Beginning.{counted, is_next, only_begun}
-use Rattle.live_segment.proofs.Finished.{still_open}
+use Rattle.live_segment.proofs.Ended.{how_many, how_many_before, still_open}
 use Rattle.live_segment.proofs.Proceeding.{grows_by, grows_not}
 use Rattle.live_segment.proofs.Refusing.{may_at_rest}
 
@@ -37,6 +38,30 @@ sees_count a more = record {
   cursors = grows_not a.cursors;
 }
 
+-- where all that runs has ended
+may_end_ended : (running : List Counting) → HaveEnded running → MayEnd running
+may_end_ended running ended =
+    let all = how_many running ended.ended in record {
+      ended = subst (λ (l : List Counting). All (λ c. has_ended c ≡ true) l) (sym (ap (λ (n : ℕ). take n running) all ∙ take-length running)) ended.ended;
+      unsummed = subst (λ (l : List Counting). All (λ c. c.summed ≡ false) l) (sym (ap (λ (n : ℕ). take n running) all ∙ take-length running)) ended.unsummed;
+      untouched = subst (λ (l : List Counting). All (λ c. is_untouched c ≡ true) l) (sym (ap (λ (n : ℕ). drop n running) all ∙ drop-length running)) (All-nil _);
+    }
+
+-- where one waits behind what has ended
+may_end_waiting : (entry : Entry) → 1 ≤ entry.units → (before : List Counting) → HaveEnded before → MayEnd (before ++ fresh entry ∷ [])
+may_end_waiting entry some before ended =
+    let one = fresh entry in
+    let all = how_many_before one (still_open one refl some) before ended.ended in
+    let first : take (how_many_ended (before ++ one ∷ [])) (before ++ one ∷ []) ≡ before =
+    ap (λ (n : ℕ). take n (before ++ one ∷ [])) all ∙ take-append_seam before (one ∷ []) in
+    let rest : drop (how_many_ended (before ++ one ∷ [])) (before ++ one ∷ []) ≡ one ∷ [] =
+    ap (λ (n : ℕ). drop n (before ++ one ∷ [])) all ∙ drop-append_seam before (one ∷ []) in record {
+      ended = subst (λ (l : List Counting). All (λ c. has_ended c ≡ true) l) (sym first) ended.ended;
+      unsummed = subst (λ (l : List Counting). All (λ c. c.summed ≡ false) l) (sym first) ended.unsummed;
+      untouched = subst (λ (l : List Counting). All (λ c. is_untouched c ≡ true) l) (sym rest)
+          (All-cons (λ c. is_untouched c ≡ true) one [] refl (All-nil (λ c. is_untouched c ≡ true)));
+    }
+
 module _ (a : Actor) (known : Known) (entry : Entry) (may : CountsAlone a known entry) where
   abbrev one : Counting
   one = fresh entry
@@ -48,16 +73,10 @@ module _ (a : Actor) (known : Known) (entry : Entry) (may : CountsAlone a known 
   pub may_give_up : MayGiveUp a
   may_give_up = by may.begun
     where
-      by : HasNotBegun a entry.units ⊎ Waits a entry → MayGiveUp a
+      by : IsOpenTo a entry → MayGiveUp a
       by (inl new) = may_at_rest a new.0
-      by (inr waits) =
-          let none : how_many_ended (one ∷ []) ≡ 0 = ap (λ (b : Bool). length (if b then one ∷ [] else [])) goes in
-          subst MayEnd (sym waits) (record {
-            ended = subst (λ (n : ℕ). All (λ c. has_ended c ≡ true) (take n (one ∷ []))) (sym none) (All-nil (λ c. has_ended c ≡ true));
-            unsummed = subst (λ (n : ℕ). All (λ c. c.summed ≡ false) (take n (one ∷ []))) (sym none) (All-nil (λ c. c.summed ≡ false));
-            untouched = subst (λ (n : ℕ). All (λ c. is_untouched c ≡ true) (drop n (one ∷ []))) (sym none)
-                (All-cons (λ c. is_untouched c ≡ true) one [] refl (All-nil (λ c. is_untouched c ≡ true)));
-          })
+      by (inr (inl going)) = may_end_ended a.entries.running going.ended
+      by (inr (inr waits)) = subst MayEnd (sym waits.runs) (may_end_waiting entry may.some waits.before waits.ended)
 
   -- its units are the next to be counted
   pub counts_next : CountsNext (noted_by a (entry_notes a entry)) one

@@ -1,11 +1,10 @@
 -- A sample that is counted is finished: its amount is told and added to the sum, its units are noted, and its call ends.
-use Rattle.std.proofs.Common.{◌≡◌, ◌≢◌, ℕ, ◌+◌, ◌*◌, ◌≤◌, ◌==◌, not, ◌||◌, ◌&&◌, Bool, true, false, cond, ℤ, pos, List, [], ◌∷◌, ◌++◌, map, filter, All, Some, refl, sym, ap, ◌∙◌, subst, arith}
+use Rattle.std.proofs.Common.{◌≡◌, ◌≢◌, ℕ, ◌+◌, ◌*◌, ◌≤◌, not, ◌&&◌, Bool, true, false, ℤ, pos, List, [], ◌∷◌, ◌++◌, map, filter, All, Some, refl, sym, ap, ◌∙◌, subst, arith}
 use Rattle.std.specs.Prelude.{unsigned_abs}
 use Rattle.std.specs.Ordering.{int_eq}
-use Rattle.std.proofs.lemmas.Bool.{ne_eqb}
 use Rattle.std.proofs.lemmas.Bool.Decides.{Decides-int_eq}
 use Rattle.std.proofs.lemmas.List.{map-append}
-use Rattle.std.proofs.lemmas.List.Elements.{All-nil, All-cons, All-head, All-tail, All-append}
+use Rattle.std.proofs.lemmas.List.Elements.{All-nil, All-cons, All-append}
 use Rattle.segment_machine.specs.declared.entry.Counting.{Counting}
 use Rattle.segment_machine.specs.declared.entry.Entry.{Entry}
 use Rattle.segment_machine.specs.declared.actor.Actor.{Actor}
@@ -15,7 +14,7 @@ use Rattle.segment_machine.specs.declared.place.Place.TheVariants.{Idle}
 use Rattle.segment_machine.specs.Actor.{cost_total, is_opener, known_at}
 use Rattle.segment_machine.specs.Calls.{change_last, change_next, sight}
 use Rattle.segment_machine.specs.Counting.{add_redundant}
-use Rattle.segment_machine.specs.Entry.{has_ended, is_counted, is_summed, is_noted}
+use Rattle.segment_machine.specs.Entry.{has_ended}
 use Rattle.segment_machine.specs.Event.{counting_event, next, Ready}
 use Rattle.segment_machine.specs.Note.{amounts, ends}
 use Rattle.segment_promises.specs.Follows.{noted_by}
@@ -23,37 +22,7 @@ use Rattle.live_segment.specs.Finishing.{counted_entry, item_of, IsCounted, HasS
 use Rattle.live_segment.specs.Steps.{IsSame, Pass}
 use Rattle.live_segment.specs.Telling.{MayAmount, HasAmount, MayDo, Noted}
 use Rattle.live_segment.proofs.Beginning.{known_there}
-
--- ---- the last entry that runs
-
--- it has not ended while it is not noted
-pub still_open : (c : Counting) → c.noted ≡ false → 1 ≤ c.entry.units → has_ended c ≡ false
-still_open c noted some = falls (is_counted c) (is_summed c) (is_noted c) (λ i. noted i || none i)
-  where
-    none : (c.entry.units == 0) ≡ false
-    none = ne_eqb c.entry.units 0 (λ e. omega (arith, e, some))
-
-    falls : (x y z : Bool) → z ≡ false → (x && y && z) ≡ false
-    falls true true z is = is
-    falls true false z is = refl
-    falls false true z is = refl
-    falls false false z is = refl
-
--- it is next, and changes alone
-module _ (c : Counting) (goes : has_ended c ≡ false) where
-  pub next_behind : (before : List Counting) → All (λ x. has_ended x ≡ true) before → filter (λ x. not (has_ended x)) (before ++ c ∷ []) ≡ c ∷ []
-  next_behind [] all = ap (λ (b : Bool). cond (not b) (c ∷ []) []) goes
-  next_behind (x ∷ xs) all =
-      let rest = filter (λ y. not (has_ended y)) (xs ++ c ∷ []) in
-      ap (λ (b : Bool). cond (not b) (x ∷ rest) rest) (All-head (λ y. has_ended y ≡ true) x xs all)
-      ∙ next_behind xs (All-tail (λ y. has_ended y ≡ true) x xs all)
-
-  pub changed_behind : (f : Counting → Counting) (before : List Counting) → All (λ x. has_ended x ≡ true) before
-      → change_next f (before ++ c ∷ []) ≡ before ++ f c ∷ []
-  changed_behind f [] all = ap (λ (b : Bool). cond (not b) (f c ∷ []) (c ∷ [])) goes
-  changed_behind f (x ∷ xs) all =
-      ap (λ (b : Bool). cond (not b) (f x ∷ (xs ++ c ∷ [])) (x ∷ change_next f (xs ++ c ∷ []))) (All-head (λ y. has_ended y ≡ true) x xs all)
-      ∙ ap (λ (l : List Counting). x ∷ l) (changed_behind f xs (All-tail (λ y. has_ended y ≡ true) x xs all))
+use Rattle.live_segment.proofs.Ended.{changed_behind, next_behind, still_open}
 
 -- ---- its amount
 

@@ -8,6 +8,7 @@ mod Seated
 mod Tries
 mod Ranks
 mod Proceeding
+mod Ended
 mod Beginning
 mod Apart
 mod Attempts

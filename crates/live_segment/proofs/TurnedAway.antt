@@ -28,7 +28,7 @@ use Rattle.live_segment.specs.Refusing.{given_up, how_many_ended, refusing_notes
 use Rattle.live_segment.specs.Steps.{IsAtRest}
 use Rattle.live_segment.specs.Working.{HasBegun, LooksFor}
 use Rattle.live_segment.proofs.Beginning.{notes_new}
-use Rattle.live_segment.proofs.Finished.{still_open}
+use Rattle.live_segment.proofs.Ended.{still_open}
 
 nothing : (b : Bool) → ◌≡◌ {A = ℕ} (if b then 0 else 0) 0
 nothing true = refl

@@ -1,16 +1,17 @@
 -- What becomes of a recorder while a call of it counts: it looks at a histogram, packs units, or makes room for them and adds them to a count.
-use Rattle.std.specs.Prelude.{◌⊎◌, ◌≡◌, ◌≢◌, true, false, ℕ, ◌+◌, ◌*◌, ◌≤◌, pos, [], ◌∷◌, drop, length, Option, Some}
-use Rattle.std.specs.List.{Contains}
+use Rattle.std.specs.Prelude.{◌⊎◌, ◌≡◌, ◌≢◌, true, false, ℕ, ◌+◌, ◌*◌, ◌≤◌, pos, List, [], ◌∷◌, ◌++◌, map, drop, length, Option, Some}
+use Rattle.std.specs.List.{All, Contains}
 use Rattle.segment_image.specs.declared.layout.TheConstants.{BLOCK_HEADER, HISTOGRAM_SINGLE}
 use Rattle.bucket_ranges.specs.Spec.{buckets_of}
 use Rattle.segment_machine.specs.declared.actor.Actor.{Actor}
 use Rattle.segment_machine.specs.declared.actor.Known.{Known}
 use Rattle.segment_machine.specs.declared.actor.Entries.{Entries}
+use Rattle.segment_machine.specs.declared.entry.Counting.{Counting}
 use Rattle.segment_machine.specs.declared.entry.Entry.{Entry}
 use Rattle.segment_machine.specs.declared.place.Place.TheVariants.{Looking}
 use Rattle.segment_machine.specs.Actor.{has_buckets, is_bound, is_opener}
 use Rattle.segment_machine.specs.Calls.{count_next}
-use Rattle.segment_machine.specs.Entry.{fresh}
+use Rattle.segment_machine.specs.Entry.{AreWithin, fresh, has_ended}
 use Rattle.segment_machine.specs.Form.{is_off, IsPacking}
 use Rattle.segment_promises.specs.Follows.{noted_by}
 use Rattle.live_segment.specs.declared.counting.Packing.{Packing}
@@ -35,17 +36,36 @@ pub record LooksOn (old new : Actor) : Type 0 where
 abbrev pub HasNotBegun : Actor → ℕ → Type 0
 HasNotBegun a units = (a.entries.running ≡ []) × (a.units.held ≡ []) × (units ≤ a.units.share)
 
--- this entry alone runs, and nothing has happened of it
-abbrev pub Waits : Actor → Entry → Type 0
-Waits a entry = a.entries.running ≡ fresh entry ∷ []
+-- entries have ended that had no amounts to add, or whose amounts are left out
+pub record HaveEnded (entries : List Counting) : Type 0 where
+  pub ended : All (λ c. has_ended c ≡ true) entries
+  pub unsummed : All (λ c. c.summed ≡ false) entries
 
--- A recorder whose call may count an entry of a histogram that it knows, and no other: it has not begun, or has begun with it and it waits.
--- The amount of the entry is not known yet.
+-- All that runs has ended, and its call may go on with this entry: it holds units for those of the same name, and the share has more.
+pub record MayGoOn (a : Actor) (entry : Entry) : Type 0 where
+  pub runs : a.entries.running ≢ []
+  pub ended : HaveEnded a.entries.running
+  pub enough : entry.units ≤ a.units.share
+  pub spent : ℕ
+  pub holds : a.units.held ≡ record { name = entry.name; units = spent } ∷ []
+  pub within : AreWithin entry.name (spent + entry.units) (map (λ c. c.entry) a.entries.running ++ entry ∷ [])
+
+-- this entry runs, alone or behind some that have ended, and nothing has happened of it
+pub record Waits (a : Actor) (entry : Entry) : Type 0 where
+  pub before : List Counting
+  pub ended : HaveEnded before
+  pub runs : a.entries.running ≡ before ++ fresh entry ∷ []
+
+-- a call may begin with an entry, may go on with it, or has begun with it and it waits
+abbrev pub IsOpenTo : Actor → Entry → Type 0
+IsOpenTo a entry = HasNotBegun a entry.units ⊎ MayGoOn a entry ⊎ Waits a entry
+
+-- A recorder whose call may count an entry of a histogram that it knows, and no other. The amount of the entry is not known yet.
 pub record CountsAlone (a : Actor) (known : Known) (entry : Entry) : Type 0 where
   pub recorder : is_opener a.role ≡ false
   pub free : is_bound a.hand.place ≡ false
   pub takes : a.deltas.taking ≡ false
-  pub begun : HasNotBegun a entry.units ⊎ Waits a entry
+  pub begun : IsOpenTo a entry
   pub alone : KnowsAlone a known
   pub named : known.name ≡ entry.name
   pub some : 1 ≤ entry.units

@@ -1,6 +1,6 @@
 -- A `hist` of an actor goes on, and what its actor knows then.
-use Rattle.std.proofs.Common.{◌≡◌, ◌≢◌, ◌<◌, ◌+◌, ℕ, zero, suc, ◌≤◌, List, [], ◌∷◌, ◌++◌, length, map, All, inl, inr, refl, sym, ap, subst, ◌∙◌, vec_len, arith}
-use Rattle.std.specs.Prelude.{Option, Some, None, Result, Ok, Err, vec_capacity}
+use Rattle.std.proofs.Common.{◌≡◌, ◌≢◌, ◌<◌, ◌+◌, ℕ, zero, suc, ◌≤◌, List, [], ◌∷◌, ◌++◌, length, map, take, drop, All, inl, inr, refl, sym, ap, subst, ◌∙◌, vec_len, arith}
+use Rattle.std.specs.Prelude.{⊤, Option, Some, None, Result, Ok, Err, vec_capacity}
 use Rattle.std.specs.declared.alloc.AllocError.{AllocError}
 use Rattle.bucket_ranges.specs.declared.spec.Spec.{Spec}
 use Rattle.alloc_core.specs.Layout.{IsShape}
@@ -26,11 +26,13 @@ use Rattle.hist_core.specs.declared.hist.HistStep.{HistStep}
 use Rattle.hist_core.specs.declared.hist.HistStep.TheVariants.{More, Done, Refused}
 use Rattle.hist_core.specs.declared.hist.Known.{Known}
 use Rattle.hist_core.specs.declared.runner.Running.{Running}
-use Rattle.hist_core.specs.declared.runner.Running.TheVariants.{Hist}
+use Rattle.hist_core.specs.declared.runner.Running.TheVariants.{Hist, Add}
+use Rattle.hist_core.specs.declared.entry.Entry.{Entry}
+use Rattle.hist_core.proofs.Quiet.{quiet_on, gives_none, begun_there}
 use Rattle.hist_core.specs.declared.runner.Runner.{Runner}
 use Rattle.hist_core.specs.Goes.{Beside, Goes}
 use Rattle.hist_core.specs.Hist.{IsSomeHist, HistSteps, asked_of}
-use Rattle.hist_core.specs.Runner.{known_of, IsKnown, NoneHasName, HaveOwnNames, StandsIn, HasRoom, IsRun, IsSomeRun, IsHistSaid, BeginsHist, Advances, Answers}
+use Rattle.hist_core.specs.Runner.{known_of, IsKnown, NoneHasName, HaveOwnNames, StandsIn, HasRoom, IsRun, IsSomeRun, IsHistSaid, BeginsHist, IsAsItWas, IsQuiet, Advances, Answers, held_by, entry_of, ended_by, begun_by, pending_by}
 use Rattle.hist_core.proofs.Parts.Walks.{goes_with}
 
 -- ---- a note more
@@ -69,7 +71,7 @@ own_more (first ∷ rest) known own none =
 
 module _ (shape : Dimensions) (version : ℕ) (old : Runner) (a : Actor) (run : IsRun shape version old a) where
   -- its call is another, or none, and of what it has counted and knows nothing has changed
-  pub runs_on : (b : Actor) (running : Option Running) → Beside a b → StandsIn shape old.known.items running b
+  pub runs_on : (b : Actor) (running : Option Running) → Beside a b → StandsIn shape old.known.items (pending_by old) running b
       → HasRoom running (vec_len old.known) (vec_capacity old.known) → IsRun shape version (record old { running = running }) b
   runs_on b running beside stands room = record {
     records = ap is_opener beside.role ∙ run.records;
@@ -87,10 +89,10 @@ module _ (shape : Dimensions) (version : ℕ) (old : Runner) (a : Actor) (run : 
   }
 
   -- it knows one histogram more
-  pub knows_more : (b : Actor) (new : Runner) (known : Known) → Beside a b → MayTurn b → b.entries.running ≡ []
+  pub knows_more : (b : Actor) (new : Runner) (known : Known) → Beside a b → MayTurn b → IsQuiet (pending_by old) b
       → new ≡ record old { known = new.known; running = None } → new.known.items ≡ old.known.items ++ known ∷ [] → IsKnown shape known
       → NoneHasName old.known.items known.name.items → IsRun shape version new (noted b (knows (known_of known)))
-  knows_more b new known beside may rests new_is items lawful none =
+  knows_more b new known beside may quiet new_is items lawful none =
       subst (λ (r : Runner). IsRun shape version r (noted b (knows (known_of known)))) (sym new_is) (record {
         records = ap is_opener beside.role ∙ run.records;
         segment = beside.segment ∙ run.segment;
@@ -103,7 +105,7 @@ module _ (shape : Dimensions) (version : ℕ) (old : Runner) (a : Actor) (run : 
             ∙ (map-append known_of old.known.items (known ∷ []) ∙ ap (λ l. l ++ known_of known ∷ []) (run.names ∙ sym beside.names));
         lawful = subst (All (IsKnown shape)) (sym items) (All-push (IsKnown shape) old.known.items known run.lawful lawful);
         once = subst HaveOwnNames (sym items) (own_more old.known.items known run.once none);
-        stands = (may, rests);
+        stands = (may, quiet_on (pending_by old) b (noted b (knows (known_of known))) refl refl refl quiet);
         room = tt;
       })
 
@@ -115,7 +117,7 @@ asked_by d running = d
 
 pub some_hist : (n : ℕ) (runner : Runner) (h : HistCall) → runner.running ≡ Some (Hist h) → IsSomeRun n runner → IsSomeHist n h
 some_hist n runner h is (shape, version, a, long, wide, run) =
-    (shape, a, long, (subst (λ running. StandsIn shape runner.known.items running a) is run.stands).0)
+    (shape, a, long, (subst (λ running. StandsIn shape runner.known.items (pending_by runner) running a) is run.stands).0)
 
 pub some_words : (n : ℕ) (runner : Runner) → IsSomeRun n runner → 16 ≤ n
 some_words n runner (shape, version, a, long, wide, run) = wide
@@ -125,8 +127,8 @@ some_room n runner (shape, version, a, long, wide, run) = run.room
 
 module _ (shape : Dimensions) (version : ℕ) (old : Runner) (a : Actor) (run : IsRun shape version old a) (h now : HistCall)
     (is : old.running ≡ Some (Hist h)) (same : now.asked ≡ h.asked) (words new_words : List ℕ) (long : length words ≡ shape.size) where
-  stands : StandsIn shape old.known.items (Some (Hist h)) a
-  stands = subst (λ running. StandsIn shape old.known.items running a) is run.stands
+  stands : StandsIn shape old.known.items (pending_by old) (Some (Hist h)) a
+  stands = subst (λ running. StandsIn shape old.known.items (pending_by old) running a) is run.stands
 
   room : HasRoom (Some (Hist now)) (vec_len old.known) (vec_capacity old.known)
   room = subst (λ running. HasRoom running (vec_len old.known) (vec_capacity old.known)) is run.room
@@ -134,48 +136,77 @@ module _ (shape : Dimensions) (version : ℕ) (old : Runner) (a : Actor) (run : 
   none : NoneHasName old.known.items now.asked.name.items
   none = subst (λ (k : Known). NoneHasName old.known.items k.name.items) (sym same) stands.2
 
-  still_rests : (b : Actor) → Beside a b → b.entries.running ≡ []
-  still_rests b beside = ap (λ e. e.running) beside.entries ∙ stands.1
+  still_quiet : (b : Actor) → Beside a b → IsQuiet (pending_by old) b
+  still_quiet b beside = quiet_on (pending_by old) a b beside.units beside.entries beside.deltas stands.1
 
   -- what the machine's actor does, and what becomes of that at run time
   pub hist_goes : (said : HistStep) (new : Runner) (result : Stepped) → HistSteps h words now new_words said
-      → IsHistSaid (record old { running = Some (Hist now) }) said new result → Advances shape version old words new new_words a
-  hist_goes More new result steps (new_is, result_is) = goes_with (steps shape version a long stands.0) (λ b (beside, is_hist).
+      → IsHistSaid (record old { running = Some (Hist now) }) said new result → Advances shape version old words new new_words result a
+  hist_goes More new result steps (new_is, result_is) =
+      subst (λ said. Advances shape version old words new new_words said a) (sym result_is) (goes_with (steps shape version a long stands.0) (λ b (beside, is_hist).
       subst (λ (r : Runner). IsRun shape version r b) (sym new_is)
-      (runs_on shape version old a run b (Some (Hist now)) beside (is_hist, still_rests b beside, none) room))
+      (runs_on shape version old a run b (Some (Hist now)) beside (is_hist, still_quiet b beside, none) room)))
   hist_goes Done new result steps (asked, is_asked, new_is, items, result_is) =
       let here : asked ≡ now = sym (ap (asked_by now) is_asked) in
       let then_items : new.known.items ≡ old.known.items ++ (let k = now.asked in record k { reference = now.reference }) ∷ [] =
       items ∙ ap (λ (x : HistCall). old.known.items ++ (let k = x.asked in record k { reference = x.reference }) ∷ []) here in
-      goes_noting (steps shape version a long stands.0) (λ b (beside, may, may_note, asking, within). (
+      subst (λ said. Advances shape version old words new new_words said a) (sym result_is) (goes_noting (steps shape version a long stands.0) (λ b (beside, may, may_note, asking, within). (
         knows (asked_of now),
         may_note,
-        knows_more shape version old a run b new (let k = now.asked in record k { reference = now.reference }) beside may (still_rests b beside) new_is then_items
+        knows_more shape version old a run b new (let k = now.asked in record k { reference = now.reference }) beside may (still_quiet b beside) new_is then_items
             (record { name = asking.name; lawful = asking.lawful; ranges = asking.ranges; fits = asking.fits; within = within }) none,
-      ))
-  hist_goes (Refused why) new result steps (new_is, result_is) = goes_with (steps shape version a long stands.0) (λ b (beside, may, cause).
-      subst (λ (r : Runner). IsRun shape version r b) (sym new_is) (runs_on shape version old a run b None beside (may, still_rests b beside) tt))
+      )))
+  hist_goes (Refused why) new result steps (new_is, result_is) =
+      subst (λ said. Advances shape version old words new new_words said a) (sym result_is) (goes_with (steps shape version a long stands.0) (λ b (beside, may, cause).
+      gives_none shape version new b (held_by old.running) (ap held_by is) may (subst (λ (r : Runner). IsRun shape version r b) (sym new_is)
+      (runs_on shape version old a run b None beside (may, still_quiet b beside) tt))))
+
+-- what it asks for, where it asks for something
+abbrev adds_not : Option Running → Type 0
+adds_not (Some (Add add)) = ⊥
+adds_not running = ⊤
 
 -- what is answered
-module _ (old : Runner) (h now : HistCall) (is : old.running ≡ Some (Hist h)) (same : now.asked ≡ h.asked) (words new_words : List ℕ) where
+module _ (old : Runner) (h now : HistCall) (is : old.running ≡ Some (Hist h)) (same : now.asked ≡ h.asked) (words new_words : List ℕ)
+    (all : length old.entries.items ≡ old.ended) (unbegun : old.begun ≡ old.ended) where
+  ended_on : (new : Runner) → new.entries ≡ old.entries → new.ended ≡ old.ended → ended_by new ≡ ended_by old
+  ended_on new entries ended i = take (ended i) (entries i).items
+
+  begun_on : (new : Runner) → new.entries ≡ old.entries → new.ended ≡ old.ended → new.begun ≡ old.begun → begun_by new ≡ ended_by new
+  begun_on new entries ended begun = ap (λ n. take n new.entries.items) (begun ∙ unbegun ∙ sym ended)
+
   pub hist_answers : (said : HistStep) (new : Runner) (result : Stepped) → IsHistSaid (record old { running = Some (Hist now) }) said new result
       → Answers old words new new_words result
   hist_answers More new result (new_is, result_is) =
       subst (Answers old words new new_words) (sym result_is) (
-        ap (λ (r : Runner). r.known.items) new_is,
-        λ asked is_asked. (now, ap (λ (r : Runner). r.running) new_is, same ∙ ap (λ (y : HistCall). y.asked) (ap (asked_by h) (sym is ∙ is_asked))),
+        (
+          ap (λ (r : Runner). r.known.items) new_is,
+          (λ asked is_asked. (now, ap (λ (r : Runner). r.running) new_is, same ∙ ap (λ (y : HistCall). y.asked) (ap (asked_by h) (sym is ∙ is_asked)))),
+          (λ add is_add. absurd (subst adds_not (sym is ∙ is_add) tt)),
+        ),
+        (
+          ap ended_by new_is,
+          ap begun_by new_is ∙ begun_there old all unbegun,
+          ap pending_by new_is,
+        ),
       )
   hist_answers Done new result (asked, is_asked, new_is, items, result_is) =
       let then_same : asked.asked ≡ h.asked = ap (λ (y : HistCall). y.asked) (sym (ap (asked_by now) is_asked)) ∙ same in
       subst (Answers old words new new_words) (sym result_is) (
-        (let k = asked.asked in record k { reference = asked.reference }),
-        (h, is, (ap (λ (k : Known). k.name) then_same, ap (λ (k : Known). k.spec) then_same)),
-        refl,
-        items,
-        ap (λ (r : Runner). r.running) new_is,
+        (
+          (let k = asked.asked in record k { reference = asked.reference }),
+          (h, is, (ap (λ (k : Known). k.name) then_same, ap (λ (k : Known). k.spec) then_same)),
+          refl,
+          items,
+          ap (λ (r : Runner). r.running) new_is,
+        ),
+        (ap ended_by new_is, begun_on new (ap (λ (r : Runner). r.entries) new_is) (ap (λ (r : Runner). r.ended) new_is) (ap (λ (r : Runner). r.begun) new_is)),
       )
   hist_answers (Refused why) new result (new_is, result_is) =
-      subst (Answers old words new new_words) (sym result_is) (ap (λ (r : Runner). r.running) new_is, ap (λ (r : Runner). r.known.items) new_is)
+      subst (Answers old words new new_words) (sym result_is) (
+        (ap (λ (r : Runner). r.running) new_is, ap (λ (r : Runner). r.known.items) new_is),
+        (ap ended_by new_is, begun_on new (ap (λ (r : Runner). r.entries) new_is) (ap (λ (r : Runner). r.ended) new_is) (ap (λ (r : Runner). r.begun) new_is)),
+      )
 
 -- ---- what it begins with
 
@@ -185,11 +216,30 @@ place_below [] i x at = absurd (some-ne-none x (sym at))
 place_below (y ∷ l) zero x at = omega arith
 place_below (y ∷ l) (suc i) x at = let below = place_below l i x at in omega (arith, below)
 
+-- where it is as it was but for room, the machine's actor stands as before
+pub as_it_stood : (shape : Dimensions) (version : ℕ) (old new : Runner) (a : Actor) → old.running ≡ None → IsAsItWas old new → IsRun shape version old a
+    → IsRun shape version new a
+as_it_stood shape version old new a rests (new_is, entries, items) run =
+    subst (λ (r : Runner). IsRun shape version r a) (sym new_is) (record {
+      records = run.records;
+      segment = run.segment;
+      first = run.first;
+      within = subst (λ (l : List Entry). (old.ended ≤ old.begun) × (old.begun ≤ length l)) (sym entries) run.within;
+      ended = ap (λ (l : List Entry). map entry_of (take old.ended l)) entries ∙ run.ended;
+      begun = ap (λ (l : List Entry). map entry_of (take old.begun l)) entries ∙ run.begun;
+      untaken = run.untaken;
+      names = ap (map known_of) items ∙ run.names;
+      lawful = subst (All (IsKnown shape)) (sym items) run.lawful;
+      once = subst HaveOwnNames (sym items) run.once;
+      stands = subst (λ (p : List Known × List Entry). StandsIn shape p.0 (drop old.ended p.1) old.running a) (λ i. (sym items i, sym entries i)) run.stands;
+      room = subst (λ running. HasRoom running (vec_len new.known) (vec_capacity new.known)) (sym rests) tt;
+    })
+
 -- it begins a `hist`, or there was no memory for it: the machine's actor stands as before
 pub begins_hist : (shape : Dimensions) (version : ℕ) (name : List ℕ) (spec : Spec) (asked : Asked) (old new : Runner) (result : Result Begun AllocError) (a : Actor)
     → IsAskedFor shape name spec asked → IsShape shape → old.running ≡ None → BeginsHist shape asked old new result → IsRun shape version old a → IsRun shape version new a
 begins_hist shape version name spec asked old new (Ok Going) a asks lawful rests (hist, begun, new_is, items, room, none) run =
-    let stands = subst (λ running. StandsIn shape old.known.items running a) rests run.stands in
+    let stands = subst (λ running. StandsIn shape old.known.items (pending_by old) running a) rests run.stands in
     subst (λ (r : Runner). IsRun shape version r a) (sym new_is) (record {
       records = run.records;
       segment = run.segment;
@@ -210,21 +260,7 @@ begins_hist shape version name spec asked old new (Ok Going) a asks lawful rests
       room = room;
     })
 begins_hist shape version name spec asked old new (Ok (Ended answered)) a asks lawful rests (new_is, known) run = subst (λ (r : Runner). IsRun shape version r a) (sym new_is) run
-begins_hist shape version name spec asked old new (Err error) a asks lawful rests (new_is, items) run =
-    subst (λ (r : Runner). IsRun shape version r a) (sym new_is) (record {
-      records = run.records;
-      segment = run.segment;
-      first = run.first;
-      within = run.within;
-      ended = run.ended;
-      begun = run.begun;
-      untaken = run.untaken;
-      names = ap (map known_of) items ∙ run.names;
-      lawful = subst (All (IsKnown shape)) (sym items) run.lawful;
-      once = subst HaveOwnNames (sym items) run.once;
-      stands = subst (λ (p : List Known × Option Running). StandsIn shape p.0 p.1 a) (λ i. (sym items i, old.running)) run.stands;
-      room = subst (λ running. HasRoom running (vec_len new.known) (vec_capacity new.known)) (sym rests) tt;
-    })
+begins_hist shape version name spec asked old new (Err error) a asks lawful rests same run = as_it_stood shape version old new a rests same run
 
 -- the next has another name, too
 pub none_further : (list : List Known) (name : List ℕ) (i : ℕ) (next : Known)

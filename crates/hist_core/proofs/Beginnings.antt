@@ -28,8 +28,9 @@ as_it_was board = record {
   shape = refl;
   version = refl;
   words = refl;
+  units = refl;
   count = refl;
-  runners = λ i before behind was is. subst (IsAsItWas before) (some-injective before behind (sym was ∙ is)) (refl, refl);
+  runners = λ i before behind was is. subst (IsAsItWas before) (some-injective before behind (sym was ∙ is)) (refl, refl, refl);
 }
 
 -- what a `hist` of a known name is answered, it is answered at once
@@ -54,23 +55,24 @@ at_once shape known name spec (answer.BatchRefused refused) is = absurd is
 
 -- one actor has become another
 module _ (old new : Board) (actor : ℕ) (r now : Runner) (at : get_elem? old.runners.items actor ≡ some r) (shaped : new.shape ≡ old.shape)
-    (versioned : new.version ≡ old.version) (worded : new.words ≡ old.words) (counted : vec_len new.runners ≡ vec_len old.runners)
+    (versioned : new.version ≡ old.version) (worded : new.words ≡ old.words) (pooled : new.units ≡ old.units) (counted : vec_len new.runners ≡ vec_len old.runners)
     (runners : new.runners.items ≡ set old.runners.items actor now) where
-  is_now : get_elem? new.runners.items actor ≡ some now
+  pub is_now : get_elem? new.runners.items actor ≡ some now
   is_now = ap (λ (l : List Runner). get_elem? l actor) runners ∙ set_here old.runners.items actor now (place_below old.runners.items actor r at)
 
-  as_before : IsAsItWas r now → IsAsBefore old new
+  pub as_before : IsAsItWas r now → IsAsBefore old new
   as_before same = record {
     shape = shaped;
     version = versioned;
     words = worded;
+    units = pooled;
     count = counted;
     runners = λ i before behind was is. dite (ℕ_discrete i actor)
         (λ here. subst (λ (p : Runner × Runner). IsAsItWas p.0 p.1)
         (λ k. (some-injective r before (sym at ∙ (ap (get_elem? old.runners.items) (sym here) ∙ was)) k, some-injective now behind (sym is_now ∙ (ap (get_elem? new.runners.items) (sym here) ∙ is)) k))
         same)
         (λ apart. subst (IsAsItWas before)
-        (some-injective before behind (sym was ∙ (sym (set_else old.runners.items actor i now apart) ∙ (sym (ap (λ (l : List Runner). get_elem? l i) runners) ∙ is)))) (refl, refl));
+        (some-injective before behind (sym was ∙ (sym (set_else old.runners.items actor i now apart) ∙ (sym (ap (λ (l : List Runner). get_elem? l i) runners) ∙ is)))) (refl, refl, refl));
   }
 
   pub hist_begins : (name : List ℕ) (spec : Spec) (asked : Asked) (result : Result Begun AllocError) → IsAskedFor old.shape name spec asked
@@ -81,7 +83,7 @@ module _ (old new : Board) (actor : ℕ) (r now : Runner) (at : get_elem? old.ru
     subst (AsksFor name spec) (sym (ap (λ (x : Runner). x.running) now_is)) (ap (λ n. n.items) begun.named ∙ asks.named, begun.specified ∙ asks.specified),
   )
   hist_begins name spec asked (Ok (Ended answered)) asks (now_is, known) = (
-    as_before (subst (IsAsItWas r) (sym now_is) (refl, refl)),
+    as_before (subst (IsAsItWas r) (sym now_is) (refl, refl, refl)),
     λ runner is. at_once old.shape runner.known.items name spec answered
         (subst (λ (p : Runner × List ℕ × Spec). let x : Runner = p.0 in IsKnownAnswer x.known.items p.1 p.2 answered)
         (λ i. (some-injective r runner (sym at ∙ is) i, asks.named i, asks.specified i)) known),

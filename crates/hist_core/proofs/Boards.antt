@@ -1,7 +1,7 @@
 -- A step of a world is one event of the machine.
-use Rattle.std.proofs.Common.{◌≡◌, ◌≢◌, false, true≢false, ℕ, zero, suc, ◌+◌, ◌<◌, ◌≤◌, List, [], ◌∷◌, ◌++◌, length, get_or, set, take, refl, sym, ap, ◌∙◌, subst, arith, length-set}
+use Rattle.std.proofs.Common.{◌≡◌, ◌≢◌, false, ℕ, zero, suc, ◌+◌, ◌<◌, ◌≤◌, List, [], ◌∷◌, ◌++◌, length, get_or, set, take, inl, inr, refl, sym, ap, ◌∙◌, subst, arith, length-set}
 use Rattle.std.proofs.Math.Numerals.{add-one}
-use Rattle.std.proofs.lemmas.List.{append-nil, length-take-le}
+use Rattle.std.proofs.lemmas.List.{append-nil, length-take-le, set-set}
 use Rattle.std.proofs.Math.Logic.{∥∥₁_elim}
 use Rattle.std.proofs.Props.{props}
 use mathlib.Core.Option.{some, some-injective, some-ne-none}
@@ -13,7 +13,11 @@ use Rattle.segment_machine.specs.declared.actor.Actor.{Actor}
 use Rattle.segment_machine.specs.Event.{Event, spot, after, next, Learned}
 use Rattle.segment_machine.specs.Note.{Notes}
 use Rattle.segment_machine.specs.State.{State, memory, IsStep}
-use Rattle.segment_machine.specs.Reached.{IsState, stepped}
+use Rattle.segment_machine.specs.Reached.{IsState, IsLent, IsReturned, new_state, stepped, lent, returned}
+use Rattle.segment_machine.specs.Reached as machine
+use Rattle.segment_machine.specs.Seats.{giver, getter}
+use Rattle.segment_machine.specs.Actor.{is_opener, units_of}
+use Rattle.segment_invariant.proofs.Lists.Elements.{all_at, sum_at_least}
 use Rattle.alloc_core.proofs.Layouts.{length_shown}
 use Rattle.alloc_core.proofs.Owners.{set_at}
 use Rattle.segment_invariant.specs.Body.{blank, layout_of}
@@ -29,17 +33,23 @@ use Rattle.bucket_ranges.specs.Spec.{SameSpec}
 use Rattle.list_core.specs.Chain.{IsChain}
 use Rattle.segment_image.specs.Head.{head_of}
 use Rattle.segment_machine.specs.declared.actor.Known.{Known as MachineKnown}
-use Rattle.segment_machine.specs.declared.place.Place.{Place}
 use Rattle.segment_machine.specs.declared.place.Place.TheVariants.{Spent}
-use Rattle.segment_machine.specs.Actor.{is_bound}
 use Rattle.segment_invariant.specs.Consistent.{IsHistogram}
 use Rattle.segment_invariant.proofs.Lists.Maps.{contains_map}
+use Rattle.hist_core.specs.declared.hist.Known.{Known}
 use Rattle.hist_core.specs.declared.runner.Runner.{Runner}
 use Rattle.hist_core.specs.declared.board.Board.{Board}
-use Rattle.hist_core.specs.Goes.{AreApart}
-use Rattle.hist_core.specs.Runner.{IsRun, IsSomeRun, Advances, StandsIn, known_of}
-use Rattle.hist_core.specs.Board.{AreRun, IsReachedAs, IsReached, IsConsistentAs, IsReadAs, AreKnownFirst, StepsTo}
+use Rattle.hist_core.specs.declared.call.Stepped.{Stepped}
+use Rattle.hist_core.specs.declared.call.Stepped.TheVariants.{More, Done}
+use Rattle.hist_core.specs.declared.call.Answer.TheVariants as answer
+use Rattle.hist_core.specs.Goes.{AreApart, Goes}
+use Rattle.hist_core.specs.Runner.{IsKnown, IsRun, IsSomeRun, Lands, Advances, held_by, returned_by, StandsIn, known_of, pending_by}
+use Rattle.hist_core.specs.Board.{AreRun, IsReachedAs, IsReached, IsConsistentAs, IsReadAs, AreKnownFirst, StepsTo, BeginsFrom}
+use Rattle.bucket_ranges.specs.Ranges.{boundaries_of}
+use Rattle.bucket_ranges.specs.Spec.{spec_fault}
+use Rattle.std.specs.Prelude.{None}
 use Rattle.hist_core.specs.World.{of_actor}
+use Rattle.hist_core.proofs.Quiet.{not_spent, counts_none, some_quiet}
 
 -- ---- actors and those that they stand for
 
@@ -93,77 +103,203 @@ module _ (old : Board) (state : State) (reach : IsReachedAs old state) (size : l
   becomes : (event : Event) → after (length state.words) old.version event (memory state) ≡ after old.shape.size old.version event words
   becomes event i = after (as_long i) old.version event (in_memory i)
 
-  -- an actor that goes on by an event leads to the next state
-  pub steps : (actor : ℕ) (r r' : Runner) (new : Board) → get_elem? old.runners.items actor ≡ some r
-      → ((a : Actor) → IsRun old.shape old.version r a → Advances old.shape old.version r words r' new.words.items a)
-      → new.shape ≡ old.shape → new.version ≡ old.version → new.runners.items ≡ set old.runners.items actor r'
-      → StepsTo old actor state new
-  steps actor r r' new at advances shaped versioned runners =
-      let shows = reach.shows in
-      let found = recorder_at old.shape old.version old.runners.items shows.recorders actor r shows.runs at in
-      let a : Actor = found.0 in
-      let run = found.2 in
-      let e = advances a run in
-      let event : Event = e.event in
-      let there : get_elem? state.actors (actor + 1) ≡ some a =
-      ap (λ actors. get_elem? actors (actor + 1)) shows.actors ∙ behind_first shows.opener shows.recorders actor ∙ found.1 in
-      let kept = states_are_kept old.shape old.version reach.id 0 state reach.reached in
-      let acted : Actor = next e.at event (found_at state event) in
-      let did = happens old.shape (blank old.version reach.id old.shape.size) state (actor + 1) a e.at e.before event kept there run.records e.told
-      e.ready [] acted (λ learned. refl) in
-      let learned = subst (Learned e.at event) (finds event) did.1 in
-      let stood = set_at state.actors (actor + 1) a (next e.at event (found_at state event)) there in
-      let apart = subst (λ (n : ℕ). AreApart (next e.at event n)) (finds event) (λ living. (did.0.each (actor + 1) (next e.at event (found_at state event)) stood living).apart) in
-      let goes = e.goes learned apart in
-      let b : Actor = goes.1 in
-      let then_is : State = record { words = new.words.items; cursors = []; actors = set state.actors (actor + 1) b } in
-      let word : ℕ = word_at words (spot old.shape.size event) in
-      let long : length new.words.items ≡ length state.words =
-      ap length e.words_are ∙ length-set words (spot old.shape.size event) _ ∙ sym (ap length shows.words) in
-      let step : IsStep old.version state (actor + 1) event then_is = record {
-        actor = a;
-        there = there;
-        is_recorder = run.records;
-        before = e.before;
-        at = e.at;
-        notes_before = e.told;
-        ready = e.ready;
-        behind = goes.0;
-        then_is = b;
-        notes_behind = subst (λ (n : ℕ). Notes (next e.at event n) goes.0 b) (sym (finds event)) goes.2;
-        size = long;
-        memory_is = append-nil new.words.items ∙ e.words_are ∙ sym (becomes event);
-        actors_are = refl {a = set state.actors (actor + 1) b};
-      } in (
-        event,
-        then_is,
-        step,
+  -- ---- an actor goes on
+
+  module _ (actor : ℕ) (r r' : Runner) (new : Board) (at : get_elem? old.runners.items actor ≡ some r) (shaped : new.shape ≡ old.shape)
+      (versioned : new.version ≡ old.version) (runners : new.runners.items ≡ set old.runners.items actor r') where
+    its : (a : Actor) × (get_elem? reach.shows.recorders actor ≡ some a) × IsRun old.shape old.version r a
+    its = recorder_at old.shape old.version old.runners.items reach.shows.recorders actor r reach.shows.runs at
+
+    there : get_elem? state.actors (actor + 1) ≡ some its.0
+    there = ap (λ actors. get_elem? actors (actor + 1)) reach.shows.actors ∙ behind_first reach.shows.opener reach.shows.recorders actor ∙ its.1
+
+    -- the state where its actor is another
+    abbrev changed : Actor → State
+    changed b = record { words = new.words.items; cursors = []; actors = set state.actors (actor + 1) b }
+
+    -- the actors stand for those of that state, of which its actor and its opener may have given each other units
+    runs_there : (b : Actor) → IsRun old.shape old.version r' b → AreRun new.shape new.version new.runners.items (set reach.shows.recorders actor b)
+    runs_there b run = subst (λ (p : Dimensions × ℕ × List Runner). AreRun p.0 p.1 p.2 (set reach.shows.recorders actor b))
+        (λ i. (sym shaped i, sym versioned i, sym runners i))
+        (one_goes_on old.shape old.version old.runners.items reach.shows.recorders actor r' b reach.shows.runs run)
+
+    reaches : (then_is : State) → machine.IsReached old.version (new_state old.shape old.version reach.id 0) then_is
+        → IsState new.shape new.version reach.id 0 then_is
+    reaches then_is led = subst (λ (p : Dimensions × ℕ). IsState p.0 p.1 reach.id 0 then_is) (λ i. (sym shaped i, sym versioned i))
+        (reach.reached.0, reach.reached.1, reach.reached.2, led)
+
+    -- what it does is a step of the machine
+    does_step : {holds : Actor → Type 0} → Goes old.shape.size old.version its.0 words new.words.items holds
+        → (event : Event) × (b : Actor) × IsStep old.version state (actor + 1) event (changed b) × holds b
+    does_step {holds = holds} e =
+        let run = its.2 in
+        let event : Event = e.event in
+        let kept = states_are_kept old.shape old.version reach.id 0 state reach.reached in
+        let acted : Actor = next e.at event (found_at state event) in
+        let did = happens old.shape (blank old.version reach.id old.shape.size) state (actor + 1) its.0 e.at e.before event kept there run.records e.told
+        e.ready [] acted (λ learned. refl) in
+        let learned = subst (Learned e.at event) (finds event) did.1 in
+        let stood = set_at state.actors (actor + 1) its.0 (next e.at event (found_at state event)) there in
+        let apart = subst (λ (n : ℕ). AreApart (next e.at event n)) (finds event) (λ living. (did.0.each (actor + 1) (next e.at event (found_at state event)) stood living).apart) in
+        let goes = e.goes learned apart in
+        let long : length new.words.items ≡ length state.words =
+        ap length e.words_are ∙ length-set words (spot old.shape.size event) _ ∙ sym (ap length reach.shows.words) in (
+          event,
+          goes.1,
+          record {
+            actor = its.0;
+            there = there;
+            is_recorder = run.records;
+            before = e.before;
+            at = e.at;
+            notes_before = e.told;
+            ready = e.ready;
+            behind = goes.0;
+            then_is = goes.1;
+            notes_behind = subst (λ (n : ℕ). Notes (next e.at event n) goes.0 goes.1) (sym (finds event)) goes.2;
+            size = long;
+            memory_is = append-nil new.words.items ∙ e.words_are ∙ sym (becomes event);
+            actors_are = refl {a = set state.actors (actor + 1) goes.1};
+          },
+          goes.3,
+        )
+
+    -- it lands there, where no units come back
+    lands : (event : Event) (b : Actor) → IsStep old.version state (actor + 1) event (changed b) → new.units ≡ old.units → IsRun old.shape old.version r' b
+        → StepsTo old actor state new
+    lands event b step pooled run = (
+      event,
+      changed b,
+      step,
+      (
+        changed b,
+        inl refl,
         record {
           id = reach.id;
-          reached = subst (λ (p : Dimensions × ℕ). IsState p.0 p.1 reach.id 0 then_is) (λ i. (sym shaped i, sym versioned i))
-              (reach.reached.0, reach.reached.1, reach.reached.2, stepped state then_is (actor + 1) event reach.reached.3 step);
+          reached = reaches (changed b) (stepped state (changed b) (actor + 1) event reach.reached.3 step);
           shows = record {
             words = refl;
             cursors = refl;
-            opener = shows.opener;
-            recorders = set shows.recorders actor b;
-            actors = ap (λ actors. set actors (actor + 1) b) shows.actors ∙ set_behind_first shows.opener shows.recorders actor b;
-            opens = shows.opens;
-            waits = shows.waits;
-            offers = shows.offers;
-            runs = subst (λ (p : Dimensions × ℕ × List Runner). AreRun p.0 p.1 p.2 (set shows.recorders actor b))
-                (λ i. (sym shaped i, sym versioned i, sym runners i))
-                (one_goes_on old.shape old.version old.runners.items shows.recorders actor r' b shows.runs goes.3);
+            opener = reach.shows.opener;
+            recorders = set reach.shows.recorders actor b;
+            actors = ap (λ actors. set actors (actor + 1) b) reach.shows.actors ∙ set_behind_first reach.shows.opener reach.shows.recorders actor b;
+            opens = reach.shows.opens;
+            waits = reach.shows.waits;
+            offers = reach.shows.offers;
+            pool = reach.shows.pool ∙ sym pooled;
+            runs = runs_there b run;
           };
         },
-      )
+      ),
+    )
+
+    -- the opener and its actor, once one has given the other units
+    abbrev traded : Actor → Actor → Actor → State
+    traded b opener c = record (changed b) { actors = set (set (set state.actors (actor + 1) b) 0 opener) (actor + 1) c }
+
+    traded_are : (b opener c : Actor) → (traded b opener c).actors ≡ opener ∷ set reach.shows.recorders actor c
+    traded_are b opener c =
+        (λ i. set (set (set (reach.shows.actors i) (actor + 1) b) 0 opener) (actor + 1) c)
+        ∙ ((λ i. set (set (set_behind_first reach.shows.opener reach.shows.recorders actor b i) 0 opener) (actor + 1) c)
+        ∙ (set_behind_first opener (set reach.shows.recorders actor b) actor c ∙ ap (λ l. opener ∷ l) (set-set reach.shows.recorders actor b c)))
+
+    first_is : (b : Actor) → get_elem? (set state.actors (actor + 1) b) 0 ≡ some reach.shows.opener
+    first_is b = ap (λ l. get_elem? l 0) (ap (λ actors. set actors (actor + 1) b) reach.shows.actors ∙ set_behind_first reach.shows.opener reach.shows.recorders actor b)
+
+    not_first : 0 ≢ actor + 1
+    not_first same = omega (arith, same)
+
+    -- it lands there once its units have come back
+    lands_back : (event : Event) (b : Actor) (units : ℕ) → IsStep old.version state (actor + 1) event (changed b) → new.units ≡ old.units + units
+        → b.hand.place ≢ Spent → is_opener b.role ≡ false → units ≤ b.units.share → IsRun old.shape old.version r' (giver b units) → StepsTo old actor state new
+    lands_back event b units step pooled living recorder fits run =
+        let opener : Actor = reach.shows.opener in
+        let last : State = traded b (getter opener units) (giver b units) in
+        let back : IsReturned (changed b) 0 (actor + 1) units last =
+        (opener, b, not_first, first_is b, set_at state.actors (actor + 1) its.0 b there, (reach.shows.opens, recorder, living, fits), refl) in (
+          event,
+          changed b,
+          step,
+          (
+            last,
+            inr (units, back),
+            record {
+              id = reach.id;
+              reached = reaches last (returned (changed b) last 0 (actor + 1) units (stepped state (changed b) (actor + 1) event reach.reached.3 step) back);
+              shows = record {
+                words = refl;
+                cursors = refl;
+                opener = getter opener units;
+                recorders = set reach.shows.recorders actor (giver b units);
+                actors = traded_are b (getter opener units) (giver b units);
+                opens = reach.shows.opens;
+                waits = reach.shows.waits;
+                offers = reach.shows.offers;
+                pool = ap (λ n. n + units) reach.shows.pool ∙ sym pooled;
+                runs = runs_there (giver b units) run;
+              };
+            },
+          ),
+        )
+
+    -- where its actor lands by what its call says
+    lands_so : (event : Event) (b : Actor) → IsStep old.version state (actor + 1) event (changed b) → (said : Stepped)
+        → new.units ≡ old.units + returned_by said (held_by r.running) → Lands old.shape old.version r r' said b → StepsTo old actor state new
+    lands_so event b step More pooled run = lands event b step (omega (arith, pooled)) run
+    lands_so event b step (Done answer.Added) pooled run = lands event b step (omega (arith, pooled)) run
+    lands_so event b step (Done answer.Flagged) pooled run = lands event b step (omega (arith, pooled)) run
+    lands_so event b step (Done (answer.Hist reference)) pooled run = lands event b step (omega (arith, pooled)) run
+    lands_so event b step (Done (answer.Delta delta)) pooled run = lands event b step (omega (arith, pooled)) run
+    lands_so event b step (Done (answer.Snapshot snapshot)) pooled run = lands event b step (omega (arith, pooled)) run
+    lands_so event b step (Done (answer.BatchRefused why)) pooled run = lands event b step (omega (arith, pooled)) run
+    lands_so event b step (Done (answer.Refused why)) pooled (living, fits, run) =
+        lands_back event b (held_by r.running) step pooled living run.records fits run
+
+    -- an actor that goes on by an event leads to the next state
+    pub steps : (said : Stepped) → ((a : Actor) → IsRun old.shape old.version r a → Advances old.shape old.version r words r' new.words.items said a)
+        → new.units ≡ old.units + returned_by said (held_by r.running) → StepsTo old actor state new
+    steps said advances pooled = let did = does_step (advances its.0 its.2) in lands_so did.0 did.1 did.2 said pooled did.3
+
+    -- its actor is lent units, and may begin a call with them
+    pub lends : (units : ℕ) → new.words.items ≡ old.words.items → new.units + units ≡ old.units
+        → ((a : Actor) → get_elem? state.actors (actor + 1) ≡ some a → IsRun old.shape old.version r a
+        → (a.hand.place ≢ Spent) × IsRun old.shape old.version r' (getter a units)) → BeginsFrom state actor new
+    lends units worded pooled begins =
+        let opener : Actor = reach.shows.opener in
+        let a : Actor = its.0 in
+        let may = begins a there its.2 in
+        let b : Actor = getter a units in
+        let then_is : State = record state { actors = set (set state.actors 0 (giver opener units)) (actor + 1) b } in
+        let offered = reach.shows.offers in let pool = reach.shows.pool in
+        let lent_so : IsLent state 0 (actor + 1) units then_is =
+        (opener, a, not_first, ap (λ l. get_elem? l 0) reach.shows.actors, there, (reach.shows.opens, its.2.records, may.0, omega (arith, offered, pool, pooled)), refl) in (
+          then_is,
+          inr (units, lent_so),
+          record {
+            id = reach.id;
+            reached = reaches then_is (lent state then_is 0 (actor + 1) units reach.reached.3 lent_so);
+            shows = record {
+              words = reach.shows.words ∙ sym worded;
+              cursors = reach.shows.cursors;
+              opener = giver opener units;
+              recorders = set reach.shows.recorders actor b;
+              actors = (λ i. set (set (reach.shows.actors i) 0 (giver opener units)) (actor + 1) b)
+                  ∙ set_behind_first (giver opener units) reach.shows.recorders actor b;
+              opens = reach.shows.opens;
+              waits = reach.shows.waits;
+              offers = reach.shows.offers;
+              pool = omega (arith, pool, pooled);
+              runs = runs_there b may.1;
+            };
+          },
+        )
 
 -- an actor changes at run time alone, and stands for the same as before: so does its world
 pub same_state : (old : Board) (state : State) → IsReachedAs old state → (actor : ℕ) (r r' : Runner) (new : Board) → get_elem? old.runners.items actor ≡ some r
     → ((a : Actor) → IsRun old.shape old.version r a → IsRun old.shape old.version r' a)
-    → new.shape ≡ old.shape → new.version ≡ old.version → new.words.items ≡ old.words.items → new.runners.items ≡ set old.runners.items actor r'
+    → new.shape ≡ old.shape → new.version ≡ old.version → new.units ≡ old.units → new.words.items ≡ old.words.items → new.runners.items ≡ set old.runners.items actor r'
     → IsReachedAs new state
-same_state old state reach actor r r' new at same shaped versioned worded runners =
+same_state old state reach actor r r' new at same shaped versioned pooled worded runners =
     let shows = reach.shows in
     let found = recorder_at old.shape old.version old.runners.items shows.recorders actor r shows.runs at in
     let goes = one_goes_on old.shape old.version old.runners.items shows.recorders actor r' found.0 shows.runs (same found.0 found.2) in
@@ -180,6 +316,7 @@ same_state old state reach actor r r' new at same shaped versioned worded runner
         opens = shows.opens;
         waits = shows.waits;
         offers = shows.offers;
+        pool = shows.pool ∙ sym pooled;
         runs = subst (λ (p : Dimensions × ℕ × List Runner × List Actor). AreRun p.0 p.1 p.2 p.3) (λ i. (sym shaped i, sym versioned i, sym runners i, stays i)) goes;
       };
     }
@@ -238,10 +375,6 @@ is_read_now board reached = ∥∥₁_elim reached (hlevel props) (λ (state, re
     let kept = states_are_kept board.shape board.version reach.id 0 state reach.reached in
     ∣ (state, reach, kept, λ reading is. stopped_reads board.shape (blank board.version reach.id board.shape.size) state reading kept is) ∣₁)
 
--- a place that is spent is bound
-not_spent : (place : Place) → is_bound place ≡ false → place ≢ Spent
-not_spent place free spent = true≢false (sym (ap is_bound spent) ∙ free)
-
 -- what a resting actor knows is the first of its name
 pub are_known_first : (board : Board) → ∥ IsReached board ∥₁ → AreKnownFirst board
 are_known_first board reached chain is_chain i r known at rests inside = ∥∥₁_elim reached (hlevel props) (λ (state, reach).
@@ -253,7 +386,35 @@ are_known_first board reached chain is_chain i r known at rests inside = ∥∥�
     ap (λ actors. get_elem? actors (i + 1)) reach.shows.actors ∙ behind_first reach.shows.opener reach.shows.recorders i ∙ found.1 in
     let words = reach.shows.words in
     let knows : Contains a.answers.names (known_of known) = subst (λ (l : List MachineKnown). Contains l (known_of known)) run.names (contains_map known_of r.known.items known inside) in
-    let may = (subst (λ running. StandsIn board.shape r.known.items running a) rests run.stands).0 in
+    let may = (subst (λ running. StandsIn board.shape r.known.items (pending_by r) running a) rests run.stands).0 in
     let first = names_are_first board.shape (blank board.version reach.id board.shape.size) state chain kept
     (subst (λ (l : List ℕ). IsChain l (head_of l) chain) (sym words) is_chain) (i + 1) a there (not_spent a.hand.place may) (known_of known) knows in
     ∣ subst (λ (l : List ℕ). IsHistogram l chain known.name.items known.reference × SameSpec (spec_of l known.reference) known.spec) words first ∣₁)
+
+-- the pool has no more than all units
+pub pool_fits : (board : Board) → ∥ IsReached board ∥₁ → board.units ≤ 4294967295
+pool_fits board reached = ∥∥₁_elim reached (hlevel props) (λ (state, reach).
+    let kept = states_are_kept board.shape board.version reach.id 0 state reach.reached in
+    let opener : Actor = reach.shows.opener in
+    let part = sum_at_least units_of state.actors 0 opener (ap (λ l. get_elem? l 0) reach.shows.actors) in
+    let all = kept.pool in let pool = reach.shows.pool in
+    let least : opener.units.share ≤ units_of opener = omega arith in
+    omega (arith, part, all, pool, least))
+
+-- what an actor knows is lawful
+module _ (board : Board) (reached : ∥ IsReached board ∥₁) (i : ℕ) (r : Runner) (at : get_elem? board.runners.items i ≡ some r) (place : ℕ) (known : Known)
+    (there : get_elem? r.known.items place ≡ some known) where
+  known_in : (state : State) → IsReachedAs board state → IsKnown board.shape known
+  known_in state reach = all_at (IsKnown board.shape) r.known.items place known (each_runs board state reach i r at).1.lawful there
+
+  pub lawful_now : spec_fault known.spec ≡ None
+  lawful_now = ∥∥₁_elim reached (hlevel props) (λ (state, reach). (known_in state reach).lawful)
+
+  pub ranges_now : known.ranges ≡ boundaries_of known.spec
+  ranges_now = ∥∥₁_elim reached (hlevel props) (λ (state, reach). (known_in state reach).ranges)
+
+-- of an actor that rests all entries have ended
+pub quiet_now : (board : Board) → ∥ IsReached board ∥₁ → (i : ℕ) (r : Runner) → get_elem? board.runners.items i ≡ some r → r.running ≡ None
+    → (length r.entries.items ≡ r.ended) × (r.begun ≡ r.ended)
+quiet_now board reached i r at rests = ∥∥₁_elim (some_run board reached i r at (length board.words.items) refl) (hlevel props)
+    (λ some. some_quiet (length board.words.items) r (subst counts_none (sym rests) tt) some)

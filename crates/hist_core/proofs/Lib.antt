@@ -1,12 +1,16 @@
+mod Adding
 mod Adds
 mod Asking
 mod Beginnings
 mod Boards
+mod Buckets
 mod Letters
 mod Looks
 mod NewBoards
+mod Opening
 mod Parts
 mod Payloads
+mod Quiet
 mod Runners
 mod Snapshots
 mod Takes

@@ -1,8 +1,8 @@
 -- A new world stands for a state of the machine: an opener that has made a recorder for each actor, one after the other.
-use Rattle.std.proofs.Common.{◌≡◌, ◌⊎◌, ℕ, zero, suc, ◌+◌, ◌<◌, ◌≤◌, List, [], ◌∷◌, ◌++◌, map, take, length, All, inl, inr, refl, sym, ap, ◌∙◌, subst, arith, length-append, zero-le, vec_len}
+use Rattle.std.proofs.Common.{◌≡◌, ◌⊎◌, ℕ, zero, suc, ◌+◌, ◌<◌, ◌≤◌, List, [], ◌∷◌, ◌++◌, map, take, drop, length, All, inl, inr, refl, sym, ap, ◌∙◌, subst, arith, length-append, zero-le, vec_len}
 use Rattle.std.specs.Prelude.{vec_capacity}
 use Rattle.std.proofs.Math.Numerals.{add-one}
-use Rattle.std.proofs.Math.Seq.{take-nil}
+use Rattle.std.proofs.Math.Seq.{take-nil, drop-nil}
 use mathlib.Core.Option.{some, some-ne-none}
 use lib.ListN.{get_elem?}
 use Rattle.atomic_table.proofs.Lists.{at_snoc}
@@ -16,7 +16,7 @@ use Rattle.segment_machine.specs.Reached.{new_state, IsReached, IsState, started
 use Rattle.segment_invariant.proofs.Lists.Elements.{all_at, all_from}
 use Rattle.hist_core.specs.declared.runner.Runner.{Runner}
 use Rattle.hist_core.specs.declared.board.Board.{Board}
-use Rattle.hist_core.specs.Runner.{entry_of, known_of, IsFresh, IsKnown, HaveOwnNames, StandsIn, HasRoom, IsRun}
+use Rattle.hist_core.specs.Runner.{entry_of, known_of, IsFresh, IsKnown, HaveOwnNames, StandsIn, HasRoom, IsRun, pending_by}
 use Rattle.hist_core.specs.Board as board
 use Rattle.hist_core.specs.Board.{AreRun, IsNewBoard}
 
@@ -59,7 +59,10 @@ module _ (shape : Dimensions) (version id : ℕ) where
         names = ap (map known_of) fresh.known;
         lawful = subst (All (IsKnown shape)) (sym fresh.known) (λ k d inside. absurd (omega (arith, inside)));
         once = subst HaveOwnNames (sym fresh.known) tt;
-        stands = subst (λ running. StandsIn shape runner.known.items running (newcomer (opener n))) (sym fresh.rests) (refl, refl);
+        stands = subst (λ running. StandsIn shape runner.known.items (pending_by runner) running (newcomer (opener n))) (sym fresh.rests) (
+          refl,
+          record { none = ap (drop runner.ended) fresh.entries ∙ drop-nil runner.ended; runs = refl; holds = refl; share = refl; takes = refl },
+        );
         room = subst (λ running. HasRoom running (vec_len runner.known) (vec_capacity runner.known)) (sym fresh.rests) tt;
       }
 
@@ -104,6 +107,7 @@ new_is_reached shape version id actors new made_so lawful versions few =
           opens = refl;
           waits = refl;
           offers = refl;
+          pool = sym made_so.units;
           runs = subst (λ (p : Dimensions × ℕ). AreRun p.0 p.1 new.runners.items (recorders shape version id actors)) (λ i. (sym made_so.shaped i, sym made_so.versioned i)) runs;
         };
       },

@@ -10,14 +10,17 @@ use Rattle.segment_machine.specs.Event.{allocating_event, next}
 use Rattle.segment_machine.specs.Allocating.{set_flag}
 use Rattle.hist_core.specs.declared.runner.Running.TheVariants.{SetCorrupt}
 use Rattle.hist_core.specs.declared.runner.Runner.{Runner}
-use Rattle.hist_core.specs.Runner.{IsRun, StandsIn, Advances}
+use Rattle.hist_core.specs.Runner.{IsRun, StandsIn, Advances, pending_by}
+use Rattle.hist_core.specs.declared.call.Answer.TheVariants.{Flagged}
+use Rattle.hist_core.specs.declared.call.Stepped.TheVariants.{Done}
+use Rattle.hist_core.proofs.Quiet.{quiet_on}
 
 -- the one event of `set_corrupt`
 pub sets_corrupt : (shape : Dimensions) (version : ℕ) (a : Actor) (old : Runner) (words new_words : List ℕ) → HEADER_WORDS ≤ shape.size
     → IsRun shape version old a → old.running ≡ Some SetCorrupt → new_words ≡ atomic.after (atomic.set_flag 1) words
-    → Advances shape version old words (record old { running = None }) new_words a
+    → Advances shape version old words (record old { running = None }) new_words (Done Flagged) a
 sets_corrupt shape version a old words new_words long run is stored =
-    let stands = subst (λ running. StandsIn shape old.known.items running a) is run.stands in
+    let stands = subst (λ running. StandsIn shape old.known.items (pending_by old) running a) is run.stands in
     record {
       before = [];
       at = a;
@@ -40,7 +43,7 @@ sets_corrupt shape version a old words new_words long run is stored =
           names = run.names;
           lawful = run.lawful;
           once = run.once;
-          stands = (refl, stands.1);
+          stands = (refl, quiet_on (pending_by old) a (next a (allocating_event (set_flag 1)) (word_at words 6)) refl refl refl stands.1);
           room = tt;
         },
       );
@@ -61,5 +64,5 @@ begins_set_corrupt shape version r a rests run = record {
   lawful = run.lawful;
   once = run.once;
   room = tt;
-  stands = subst (λ running. StandsIn shape r.known.items running a) rests run.stands;
+  stands = subst (λ running. StandsIn shape r.known.items (pending_by r) running a) rests run.stands;
 }

@@ -1,6 +1,7 @@
 -- An `add` that is going on.
 use Rattle.std.specs.Prelude.{◌≡◌, ◌≢◌, Bool, true, false, ◌⊎◌, ◌||◌, ◌==◌, if◌then◌else◌, ℕ, ◌+◌, ◌*◌, ◌/◌, ◌%◌, ◌^◌, ◌&&◌, nat_lt, ◌<◌, ◌≤◌, ℤ, pos, List, [], ◌∷◌, ◌++◌, length, Option, Some, None, is_some, ⊤}
 use Rattle.std.specs.List.{Contains}
+use Rattle.std.specs.Int.RustNames.{unsigned_abs}
 use Rattle.std.specs.Ordering.{int_eq}
 use Rattle.bucket_ranges.specs.Ranges.{boundaries_of}
 use Rattle.bucket_ranges.specs.Single.{single_of}
@@ -56,6 +57,19 @@ pub record IsCounting (shape : Dimensions) (known : Known) (add : Add) : Type 0 
   pub buckets : add.buckets ≡ buckets_of known.spec
   pub fits : BLOCK_HEADER + 2 * add.buckets ≤ shape.page
   pub bucket : has_buckets known.spec ≡ true → IsKeyOfBucket known add.bucket (key_of (boundaries_of known.spec) add.value)
+
+-- It begins: it counts so many units of a value in a histogram with buckets, and loads the single word.
+pub record IsStarted (shape : Dimensions) (version : ℕ) (known : Known) (value : ℤ) (units : ℕ) (add : Add) : Type 0 where
+  pub shaped : add.shape ≡ shape
+  pub versioned : add.version ≡ version
+  pub reference : add.histogram ≡ known.reference
+  pub buckets : add.buckets ≡ buckets_of known.spec
+  pub bucket : IsKeyOfBucket known add.bucket (key_of (boundaries_of known.spec) value)
+  pub counts : add.value ≡ value
+  pub holds : add.units ≡ units
+  pub amount : add.amount ≡ amount_of (boundaries_of known.spec) (value, units)
+  pub small : unsigned_abs add.amount ≤ 2147483648 * units
+  pub stage : add.stage ≡ LoadingSingle
 
 -- ---- where it stands
 

@@ -1,5 +1,5 @@
 -- The words of a segment with its actors, and the states of the machine that they stand for.
-use Rattle.std.specs.Prelude.{◌≡◌, ◌≢◌, ℕ, ◌+◌, true, List, [], ◌∷◌, IsSome, Option, Some, None, Result, Ok, Err, All, vec_len, ⊤}
+use Rattle.std.specs.Prelude.{◌≡◌, ◌≢◌, ◌⊎◌, ◌<◌, ◌≤◌, ℕ, ℤ, ◌+◌, true, List, [], ◌∷◌, IsSome, Option, Some, None, Result, Ok, Err, All, vec_len, ⊤}
 use mathlib.Core.Option.{some}
 use lib.ListN.{get_elem?}
 use Rattle.std.specs.List.{Contains}
@@ -12,7 +12,7 @@ use Rattle.segment_machine.specs.declared.actor.Actor.{Actor}
 use Rattle.segment_machine.specs.Actor.{is_opener, offered_of}
 use Rattle.segment_machine.specs.Event.{Event}
 use Rattle.segment_machine.specs.State.{State, IsStep}
-use Rattle.segment_machine.specs.Reached.{IsState}
+use Rattle.segment_machine.specs.Reached.{IsState, IsLent, IsReturned}
 use Rattle.segment_invariant.specs.Body.{blank}
 use Rattle.bucket_ranges.specs.Reading.{spec_of}
 use Rattle.bucket_ranges.specs.Spec.{SameSpec}
@@ -32,9 +32,12 @@ use Rattle.hist_core.specs.declared.call.Begun.TheVariants.{Going, Ended}
 use Rattle.hist_core.specs.declared.hist.Known.{Known}
 use Rattle.hist_core.specs.declared.refusal.Refusal.TheVariants as refusal
 use Rattle.hist_core.specs.declared.runner.Running.{Running}
-use Rattle.hist_core.specs.declared.runner.Running.TheVariants.{Hist}
+use Rattle.hist_core.specs.declared.runner.Running.TheVariants.{Hist, Add}
+use Rattle.hist_core.specs.declared.entry.Entry.{Entry}
 use Rattle.hist_core.specs.Asked.{IsRefusedFor}
-use Rattle.hist_core.specs.Runner.{IsFresh, IsRun, IsAsItWas, IsKnownAnswer, Answers}
+use Rattle.hist_core.specs.Runner.{IsFresh, IsRun, IsAsItWas, IsKnownAnswer, NoneHasName, Answers, entry_of, pending_by, ended_by, begun_by}
+use Rattle.segment_machine.specs.Entry.{sample_entry}
+use Rattle.bucket_ranges.specs.Ranges.{boundaries_of}
 
 -- a new segment with so many actors, which have done nothing
 pub record IsNewBoard (shape : Dimensions) (version id actors : ℕ) (board : Board) : Type 0 where
@@ -43,6 +46,7 @@ pub record IsNewBoard (shape : Dimensions) (version id actors : ℕ) (board : Bo
   pub words : board.words.items ≡ render shape (fresh shape version id)
   pub count : vec_len board.runners ≡ actors
   pub rest : All IsFresh board.runners.items
+  pub units : board.units ≡ 4294967295
 
 -- ---- the state of the machine
 
@@ -64,6 +68,7 @@ pub record Shows (board : Board) (state : State) : Type 0 where
   pub opens : is_opener opener.role ≡ true
   pub waits : opener.hand.place ≡ Idle
   pub offers : offered_of opener.role ≡ 0
+  pub pool : opener.units.share ≡ board.units
   pub runs : AreRun board.shape board.version board.runners.items recorders
 
 -- a state that the machine reaches, and that these words and actors stand for
@@ -86,10 +91,23 @@ IsBusy board actor = (runner : Runner) → get_elem? board.runners.items actor �
 abbrev pub Rests : Board → ℕ → Type 0
 Rests board actor = (runner : Runner) → get_elem? board.runners.items actor ≡ some runner → runner.running ≡ None
 
--- one event of the actor leads from a state to another
+-- the opener lends units to the actor, or nothing happens
+abbrev pub Lends : ℕ → State → State → Type 0
+Lends actor old new = (new ≡ old) ⊎ ((units : ℕ) × IsLent old 0 (actor + 1) units new)
+
+-- units of the actor come back to the opener, or nothing happens
+abbrev pub GivesBack : ℕ → State → State → Type 0
+GivesBack actor old new = (new ≡ old) ⊎ ((units : ℕ) × IsReturned old 0 (actor + 1) units new)
+
+-- the begin of a call takes its units from the pool, where it has any; no word changes
+abbrev pub BeginsFrom : State → ℕ → Board → Type 0
+BeginsFrom state actor new = (then_is : State) × Lends actor state then_is × IsReachedAs new then_is
+
+-- one event of the actor leads from a state to another; then the units of a call that is refused come back
 abbrev pub StepsTo : Board → ℕ → State → Board → Type 0
 StepsTo old actor state new =
-    (event : Event) × (then_is : State) × IsStep old.version state (actor + 1) event then_is × IsReachedAs new then_is
+    (event : Event) × (then_is : State) × IsStep old.version state (actor + 1) event then_is
+    × ((last : State) × GivesBack actor then_is last × IsReachedAs new last)
 
 -- the shape and the version stay, and so do all other actors
 pub record OthersStay (actor : ℕ) (old new : Board) : Type 0 where
@@ -98,14 +116,29 @@ pub record OthersStay (actor : ℕ) (old new : Board) : Type 0 where
   pub count : vec_len new.runners ≡ vec_len old.runners
   pub others : (other : ℕ) → other ≢ actor → get_elem? new.runners.items other ≡ get_elem? old.runners.items other
 
--- all is as it was, but for the room for histograms that actors may know
+-- all is as it was, but for the room for entries and for histograms that actors may know
 pub record IsAsBefore (old new : Board) : Type 0 where
+  pub units : new.units ≡ old.units
   pub shape : new.shape ≡ old.shape
   pub version : new.version ≡ old.version
   pub words : new.words ≡ old.words
   pub count : vec_len new.runners ≡ vec_len old.runners
   pub runners : (i : ℕ) (before behind : Runner) → get_elem? old.runners.items i ≡ some before → get_elem? new.runners.items i ≡ some behind
       → IsAsItWas before behind
+
+-- ---- what an actor knows
+
+-- an actor knows a histogram, at a place
+abbrev pub IsKnownBy : Board → ℕ → ℕ → Known → Type 0
+IsKnownBy board actor place known =
+    (runner : Runner) × (get_elem? board.runners.items actor ≡ some runner) × (get_elem? runner.known.items place ≡ some known)
+
+-- an actor knows the histogram of a name at a place, or knows none of it
+abbrev pub IsPlaceOf : Board → ℕ → List ℕ → ℕ → Type 0
+IsPlaceOf board actor name place = (known : Known) × IsKnownBy board actor place known × (known.name.items ≡ name)
+
+abbrev pub LacksName : Board → ℕ → List ℕ → Type 0
+LacksName board actor name = (runner : Runner) → get_elem? board.runners.items actor ≡ some runner → NoneHasName runner.known.items name
 
 -- ---- how a `hist` begins
 
@@ -128,6 +161,38 @@ HistBegins actor name spec old new (Ok Going) = (runner : Runner) × (get_elem? 
 HistBegins actor name spec old new (Ok (Ended answered)) =
     IsAsBefore old new × ((runner : Runner) → get_elem? old.runners.items actor ≡ some runner → IsAnsweredAtOnce old.shape runner.known.items name spec answered)
 HistBegins actor name spec old new (Err error) = IsAsBefore old new
+
+-- ---- how an `add` begins
+
+-- a running call counts so many units of a value
+abbrev pub CountsValue : ℤ → ℕ → Option Running → Type 0
+CountsValue value units (Some (Add add)) = (add.value ≡ value) × (add.units ≡ units)
+CountsValue value units running = ⊥
+
+-- The call goes on, its units are out of the pool, and its entry is pending, of which nothing has begun.
+pub record IsAddBegun (actor : ℕ) (name : List ℕ) (value : ℤ) (units : ℕ) (old new : Board) : Type 0 where
+  pub words : new.words ≡ old.words
+  pub pool : new.units + units ≡ old.units
+  pub before : Runner
+  pub behind : Runner
+  pub was : get_elem? old.runners.items actor ≡ some before
+  pub is : get_elem? new.runners.items actor ≡ some behind
+  pub known : Known
+  pub knows : Contains before.known.items known
+  pub named : known.name.items ≡ name
+  pub runs : CountsValue value units behind.running
+  pub entry : Entry
+  pub entry_is : entry_of entry ≡ sample_entry name (boundaries_of known.spec) (value, units)
+  pub pending : pending_by behind ≡ entry ∷ []
+  pub ended : ended_by behind ≡ ended_by before
+  pub begun : begun_by behind ≡ begun_by before
+
+-- What the begin of an `add` says: it goes on; or it is refused at once, and then all is as it was.
+abbrev pub AddBegins : ℕ → List ℕ → ℤ → ℕ → Board → Board → Begun → Type 0
+AddBegins actor name value units old new Going = (0 < units) × (units ≤ old.units) × IsAddBegun actor name value units old new
+AddBegins actor name value units old new (Ended (answer.Refused refusal.ZeroCount)) = IsAsBefore old new × (units ≡ 0)
+AddBegins actor name value units old new (Ended (answer.Refused refusal.NoUnits)) = IsAsBefore old new × (old.units < units)
+AddBegins actor name value units old new (Ended answered) = ⊥
 
 -- ---- a step
 

@@ -3,8 +3,8 @@ pub mod WorldFault
 pub mod Goes
 pub mod Asked
 pub mod Hist
-pub mod Runner
 pub mod Add
+pub mod Runner
 pub mod Board
 pub mod World
 pub mod Mounted

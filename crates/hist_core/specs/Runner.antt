@@ -1,5 +1,5 @@
 -- An actor of a world at run time, and the actor of the machine that it stands for.
-use Rattle.std.specs.Prelude.{◌≡◌, ◌≢◌, ◌≤◌, ◌<◌, ℕ, ◌+◌, ◌*◌, true, false, List, [], ◌∷◌, ◌++◌, map, take, length, Option, Some, None, bit_or, ⊤, Result, Ok, Err, vec_len, vec_capacity}
+use Rattle.std.specs.Prelude.{◌≡◌, ◌≢◌, ◌≤◌, ◌<◌, ℕ, ℤ, ◌+◌, ◌*◌, ◌⊎◌, true, false, List, [], ◌∷◌, ◌++◌, map, take, drop, length, Option, Some, None, bit_or, ⊤, Result, Ok, Err, vec_len, vec_capacity}
 use Rattle.std.specs.List.{All}
 use mathlib.Core.Option.{some}
 use lib.ListN.{get_elem?}
@@ -12,9 +12,16 @@ use Rattle.segment_image.specs.Shape.{Dimensions}
 use Rattle.segment_image.specs.declared.layout.TheConstants.{BLOCK_HEADER, FLAG_CORRUPT, FLAGS_WORD, HEADER_WORDS, HISTOGRAM_NAME}
 use Rattle.segment_machine.specs.declared.entry.Entry.{Entry as MachineEntry}
 use Rattle.segment_machine.specs.declared.actor.Actor.{Actor}
+use Rattle.segment_machine.specs.declared.place.Place.TheVariants.{Spent}
 use Rattle.segment_machine.specs.Actor.{is_opener, is_bound}
+use Rattle.segment_machine.specs.Note.{MayNote, noted, begins}
+use Rattle.segment_machine.specs.Seats.{giver}
 use Rattle.segment_machine.specs.declared.actor.Known.{Known as MachineKnown}
 use Rattle.hist_core.specs.Goes.{Goes}
+use Rattle.hist_core.specs.Add.{IsAdd, counted_entry, IsStarted}
+use Rattle.hist_core.specs.declared.add.Add.{Add as AddCall}
+use Rattle.hist_core.specs.declared.add.AddStep.{AddStep}
+use Rattle.hist_core.specs.declared.add.AddStep.TheVariants as add
 use Rattle.hist_core.specs.Hist.{IsHist, IsBegun}
 use Rattle.hist_core.specs.declared.asked.Asked.{Asked}
 use Rattle.hist_core.specs.declared.refusal.Refusal.TheVariants as why
@@ -31,7 +38,7 @@ use Rattle.hist_core.specs.declared.call.Answer.TheVariants as answer
 use Rattle.hist_core.specs.declared.call.Stepped.{Stepped}
 use Rattle.hist_core.specs.declared.call.Stepped.TheVariants.{More, Done}
 use Rattle.hist_core.specs.declared.runner.Running.{Running}
-use Rattle.hist_core.specs.declared.runner.Running.TheVariants.{SetCorrupt, Hist}
+use Rattle.hist_core.specs.declared.runner.Running.TheVariants.{SetCorrupt, Hist, Add}
 use Rattle.hist_core.specs.declared.runner.Runner.{Runner}
 
 -- ---- what it shows
@@ -46,6 +53,10 @@ ended_by runner = take runner.ended runner.entries.items
 
 abbrev pub begun_by : Runner → List Entry
 begun_by runner = take runner.begun runner.entries.items
+
+-- what the running call is to count: the entries behind those of ended calls
+abbrev pub pending_by : Runner → List Entry
+pending_by runner = drop runner.ended runner.entries.items
 
 -- one that has done nothing
 pub record IsFresh (runner : Runner) : Type 0 where
@@ -85,11 +96,38 @@ HaveOwnNames (known ∷ rest) = NoneHasName rest known.name.items × HaveOwnName
 
 -- ---- what it stands for
 
+-- A call that counts nothing: no entries are pending, its actor has none that run, holds no units, has no share, and takes nothing.
+pub record IsQuiet (pending : List Entry) (a : Actor) : Type 0 where
+  pub none : pending ≡ []
+  pub runs : a.entries.running ≡ []
+  pub holds : a.units.held ≡ []
+  pub share : a.units.share ≡ 0
+  pub takes : a.deltas.taking ≡ false
+
+-- what its actor notes at the first event of an `add`
+abbrev pub begins_add : MachineKnown → AddCall → Actor → Actor
+begins_add known add a = noted a (begins known.name add.units (counted_entry known add ∷ []))
+
+-- An `add` before its first event: its actor has the units of it, and no more. With that event it may begin to count.
+pub record IsBefore (shape : Dimensions) (known : MachineKnown) (add : AddCall) (a : Actor) : Type 0 where
+  pub share : a.units.share ≡ add.units
+  pub may : MayNote a (begins known.name add.units (counted_entry known add ∷ []))
+  pub stands : IsAdd shape known add (begins_add known add a)
+
+-- An `add` whose first event has happened, or that is before that. Its entry is pending.
+pub record IsAdding (shape : Dimensions) (pending : List Entry) (add : AddCall) (a : Actor) : Type 0 where
+  pub known : MachineKnown
+  pub entry : Entry
+  pub pending_is : pending ≡ entry ∷ []
+  pub entry_is : entry_of entry ≡ counted_entry known add
+  pub stands : IsBefore shape known add a ⊎ ((a.units.share ≡ 0) × IsAdd shape known add a)
+
 -- Where the machine's actor stands whose call is this, or that runs none. A `hist` asks for a histogram that is not known.
-abbrev pub StandsIn : Dimensions → List Known → Option Running → Actor → Type 0
-StandsIn shape known None a = (is_bound a.hand.place ≡ false) × (a.entries.running ≡ [])
-StandsIn shape known (Some SetCorrupt) a = (is_bound a.hand.place ≡ false) × (a.entries.running ≡ [])
-StandsIn shape known (Some (Hist hist)) a = IsHist shape hist a × (a.entries.running ≡ []) × NoneHasName known hist.asked.name.items
+abbrev pub StandsIn : Dimensions → List Known → List Entry → Option Running → Actor → Type 0
+StandsIn shape known pending None a = (is_bound a.hand.place ≡ false) × IsQuiet pending a
+StandsIn shape known pending (Some SetCorrupt) a = (is_bound a.hand.place ≡ false) × IsQuiet pending a
+StandsIn shape known pending (Some (Hist hist)) a = IsHist shape hist a × IsQuiet pending a × NoneHasName known hist.asked.name.items
+StandsIn shape known pending (Some (Add add)) a = IsAdding shape pending add a
 
 -- there is room for the histogram that a `hist` asks for, beside so many that are known
 abbrev pub HasRoom : Option Running → ℕ → ℕ → Type 0
@@ -109,7 +147,7 @@ pub record IsRun (shape : Dimensions) (version : ℕ) (runner : Runner) (a : Act
   pub names : map known_of runner.known.items ≡ a.answers.names
   pub lawful : All (IsKnown shape) runner.known.items
   pub once : HaveOwnNames runner.known.items
-  pub stands : StandsIn shape runner.known.items runner.running a
+  pub stands : StandsIn shape runner.known.items (pending_by runner) runner.running a
   pub room : HasRoom runner.running (vec_len runner.known) (vec_capacity runner.known)
 
 -- an actor that stands for one somewhere, in so many words
@@ -118,9 +156,25 @@ IsSomeRun n runner = (shape : Dimensions) × (version : ℕ) × (a : Actor) × (
 
 -- ---- how it goes on
 
+-- the units that its running call has of the pool
+abbrev pub held_by : Option Running → ℕ
+held_by (Some (Add add)) = add.units
+held_by running = 0
+
+-- those of them that come back
+abbrev pub returned_by : Stepped → ℕ → ℕ
+returned_by (Done (answer.Refused why)) held = held
+returned_by said held = 0
+
+-- where its actor lands: a call that is refused gives the units back that it had
+abbrev pub Lands : Dimensions → ℕ → Runner → Runner → Stepped → Actor → Type 0
+Lands shape version old new (Done (answer.Refused why)) b =
+    let units = held_by old.running in (b.hand.place ≢ Spent) × (units ≤ b.units.share) × IsRun shape version new (giver b units)
+Lands shape version old new said b = IsRun shape version new b
+
 -- It goes on by one event, as the actor does for which it stands.
-abbrev pub Advances : Dimensions → ℕ → Runner → List ℕ → Runner → List ℕ → Actor → Type 0
-Advances shape version old words new new_words a = Goes shape.size version a words new_words (IsRun shape version new)
+abbrev pub Advances : Dimensions → ℕ → Runner → List ℕ → Runner → List ℕ → Stepped → Actor → Type 0
+Advances shape version old words new new_words said a = Goes shape.size version a words new_words (Lands shape version old new said)
 
 -- it asks for the same histogram as before
 abbrev pub AsksOn : Option Running → Option Running → Type 0
@@ -131,16 +185,33 @@ abbrev pub IsAskedBy : Option Running → Known → Type 0
 IsAskedBy running known =
     (call : HistCall) × (running ≡ Some (Hist call)) × let asked = call.asked in (known.name ≡ asked.name) × (known.spec ≡ asked.spec)
 
+-- What becomes of its entries: from the first event of its call on all of them have begun; where the call is accepted, all have ended;
+-- else those that have ended are the same.
+abbrev pub EntriesGo : Runner → Runner → Stepped → Type 0
+EntriesGo old new More = (ended_by new ≡ ended_by old) × (begun_by new ≡ ended_by old ++ pending_by old) × (pending_by new ≡ pending_by old)
+EntriesGo old new (Done answer.Added) = (ended_by new ≡ ended_by old ++ pending_by old) × (begun_by new ≡ ended_by new)
+EntriesGo old new (Done answered) = (ended_by new ≡ ended_by old) × (begun_by new ≡ ended_by new)
+
+-- it goes on with the same `add`
+abbrev pub AddsOn : Option Running → Option Running → Type 0
+AddsOn old new = (add : AddCall) → old ≡ Some (Add add) → (now : AddCall) × (new ≡ Some (Add now)) × (now.units ≡ add.units)
+
 -- What its call says, and what it knows then: it goes on; the corrupt flag is set; a `hist` is answered with the histogram that it asked
--- for, which is the last that is known; or it is refused.
-abbrev pub Answers : Runner → List ℕ → Runner → List ℕ → Stepped → Type 0
-Answers old words new new_words More = (new.known.items ≡ old.known.items) × AsksOn old.running new.running
-Answers old words new new_words (Done answer.Flagged) =
+-- for, which is the last that is known; an `add` is accepted; or it is refused.
+abbrev pub Tells : Runner → List ℕ → Runner → List ℕ → Stepped → Type 0
+Tells old words new new_words More = (new.known.items ≡ old.known.items) × AsksOn old.running new.running × AddsOn old.running new.running
+Tells old words new new_words (Done answer.Flagged) =
     (word_at new_words FLAGS_WORD ≡ bit_or (word_at words FLAGS_WORD) FLAG_CORRUPT) × (new.running ≡ None) × (new.known.items ≡ old.known.items)
-Answers old words new new_words (Done (answer.Hist reference)) =
+Tells old words new new_words (Done (answer.Hist reference)) =
     (known : Known) × IsAskedBy old.running known × (known.reference ≡ reference) × (new.known.items ≡ old.known.items ++ known ∷ []) × (new.running ≡ None)
-Answers old words new new_words (Done (answer.Refused why)) = (new.running ≡ None) × (new.known.items ≡ old.known.items)
-Answers old words new new_words (Done _) = ⊤
+Tells old words new new_words (Done answer.Added) =
+    ((add : AddCall) × (old.running ≡ Some (Add add))) × (new.running ≡ None) × (new.known.items ≡ old.known.items)
+Tells old words new new_words (Done (answer.Refused why)) = (new.running ≡ None) × (new.known.items ≡ old.known.items)
+Tells old words new new_words (Done _) = ⊥
+
+-- both
+abbrev pub Answers : Runner → List ℕ → Runner → List ℕ → Stepped → Type 0
+Answers old words new new_words said = Tells old words new new_words said × EntriesGo old new said
 
 -- it asks for a histogram
 abbrev pub AsksForOne : Option Running → Type 0
@@ -157,6 +228,31 @@ IsHistSaid old hist.Done new result =
     × (result ≡ Done (answer.Hist asked.reference))
 IsHistSaid old (hist.Refused why) new result = (new ≡ record old { running = None }) × (result ≡ Done (answer.Refused why))
 
+-- ---- an `add`
+
+-- it counts
+abbrev pub Adds : Option Running → Type 0
+Adds (Some (Add add)) = ⊤
+Adds running = ⊥
+
+-- what becomes of it by what a step of its `add` said: it goes on; its entry has ended; or it is refused, and the entry is gone
+abbrev pub IsAddSaid : Runner → AddStep → Runner → Stepped → Type 0
+IsAddSaid old add.More new result = (new ≡ record old { begun = length old.entries.items }) × (result ≡ More)
+IsAddSaid old add.Done new result =
+    let all = length old.entries.items in (new ≡ record old { begun = all; ended = all; running = None }) × (result ≡ Done answer.Added)
+IsAddSaid old (add.Refused why) new result =
+    (new ≡ record old { entries = new.entries; begun = old.ended; running = None }) × (new.entries.items ≡ take old.ended old.entries.items)
+    × (result ≡ Done (answer.Refused why))
+
+-- it begins an `add` in a known histogram: the entry is pending
+pub record BeginsAdd (shape : Dimensions) (version : ℕ) (known : Known) (value : ℤ) (units : ℕ) (old new : Runner) : Type 0 where
+  pub add : AddCall
+  pub started : IsStarted shape version (known_of known) value units add
+  pub entry : Entry
+  pub entry_is : entry_of entry ≡ counted_entry (known_of known) add
+  pub entries : new.entries.items ≡ old.entries.items ++ entry ∷ []
+  pub is : new ≡ record old { entries = new.entries; running = Some (Add add) }
+
 -- ---- how it begins a `hist`
 
 -- What a `hist` of a known name is answered: the known reference where the spec is the same, and else that it has another.
@@ -166,9 +262,10 @@ IsKnownAnswer list name spec (answer.Hist reference) =
 IsKnownAnswer list name spec (answer.Refused why.OtherSpec) = (i : ℕ) × (known : IsKnownAt list i name) × (¬ (SameSpec known.0.spec spec))
 IsKnownAnswer list name spec answered = ⊥
 
--- it is as it was, but for the room for histograms that it may know
+-- it is as it was, but for the room for entries and for histograms that it may know
 abbrev pub IsAsItWas : Runner → Runner → Type 0
-IsAsItWas old new = (new ≡ record old { known = new.known }) × (new.known.items ≡ old.known.items)
+IsAsItWas old new =
+    (new ≡ record old { entries = new.entries; known = new.known }) × (new.entries.items ≡ old.entries.items) × (new.known.items ≡ old.known.items)
 
 -- It asks for a histogram that it does not know, with room for it; or is answered at once; or there was no memory for the room.
 abbrev pub BeginsHist : Dimensions → Asked → Runner → Runner → Result Begun AllocError → Type 0

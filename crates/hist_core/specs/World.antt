@@ -1,20 +1,24 @@
 -- What a world shows, and why it takes no move.
-use Rattle.std.specs.Prelude.{Bool, false, not, ◌&&◌, ◌||◌, ◌==◌, nat_lt, nat_le, ℕ, List, [], ◌∷◌, vec_len, is_some, Ok, ⊤}
+use Rattle.std.specs.List.{list_any, Contains}
+use Rattle.std.specs.Str.{bytes_eq}
+use Rattle.segment_machine.specs.Actor.{has_buckets}
+use Rattle.hist_core.specs.declared.hist.Known.{Known}
+use Rattle.std.specs.Prelude.{◌≡◌, Bool, true, false, not, ◌&&◌, ◌||◌, ◌==◌, nat_lt, nat_le, ℕ, List, [], ◌∷◌, vec_len, is_some, Ok, ⊤}
 use mathlib.Core.Option.{Option, some, none}
 use lib.ListN.{get_elem?}
 use Rattle.segment_image.specs.Shape.{is_page, is_size}
 use Rattle.hist_core.specs.declared.entry.Entry.{Entry}
 use Rattle.hist_core.specs.declared.entry.Taken.{Taken}
 use Rattle.hist_core.specs.declared.fault.WorldFault.{WorldFault}
-use Rattle.hist_core.specs.declared.fault.WorldFault.TheVariants.{BadShape, NoActor, Busy, Idle}
+use Rattle.hist_core.specs.declared.fault.WorldFault.TheVariants.{BadShape, NoActor, Busy, Idle, Unknown}
 use Rattle.hist_core.specs.declared.runner.Runner.{Runner}
 use Rattle.hist_core.specs.declared.board.Board.{Board}
 use Rattle.hist_core.specs.Runner.{ended_by, begun_by}
-use Rattle.hist_core.specs.Board.{HistBegins, IsBusy}
+use Rattle.hist_core.specs.Board.{HistBegins, AddBegins, IsBusy}
 use Rattle.hist_core.specs.declared.call.Begun.{Begun}
 use Rattle.hist_core.specs.declared.call.Begun.TheVariants.{Going, Ended}
 use Rattle.hist_core.specs.declared.call.Call.{Call}
-use Rattle.hist_core.specs.declared.call.Call.TheVariants.{Hist, SetCorrupt}
+use Rattle.hist_core.specs.declared.call.Call.TheVariants.{Hist, Add, Delta, Snapshot, Batch, SetCorrupt}
 
 -- ---- what it shows of an actor, where that is there
 
@@ -51,9 +55,31 @@ abbrev pub rests : Option Runner → Bool
 rests none = false
 rests (some runner) = not (is_some runner.running)
 
--- with the begin of a call: there is no such actor, or a call of it is going on
-abbrev pub begin_checks : Board → ℕ → List (Bool × WorldFault)
-begin_checks board actor = (nat_le (vec_len board.runners) actor, NoActor) ∷ (runs (get_elem? board.runners.items actor), Busy) ∷ []
+-- the name of the histogram that a call is of, where its actor has to know that
+abbrev pub named_by : Call → Option (List ℕ)
+named_by (Add name value count) = some name.items
+named_by (Delta name) = some name.items
+named_by (Snapshot name) = some name.items
+named_by (Batch name items sum) = some name.items
+named_by (Hist name spec) = none
+named_by SetCorrupt = none
+
+-- an actor that is there does not know the histogram of that name
+abbrev pub lacks_name : List Known → Option (List ℕ) → Bool
+lacks_name list none = false
+lacks_name list (some name) = not (list_any (λ known. bytes_eq known.name.items name) list)
+
+abbrev pub lacks : Option Runner → Option (List ℕ) → Bool
+lacks none name = false
+lacks (some runner) name = lacks_name runner.known.items name
+
+-- with the begin of a call: there is no such actor, a call of it is going on, or it does not know the histogram of the name
+abbrev pub begin_checks : Board → ℕ → Call → List (Bool × WorldFault)
+begin_checks board actor call =
+    (nat_le (vec_len board.runners) actor, NoActor)
+    ∷ (runs (get_elem? board.runners.items actor), Busy)
+    ∷ (lacks (get_elem? board.runners.items actor) (named_by call), Unknown)
+    ∷ []
 
 -- with a step: there is no such actor, or it runs no call
 abbrev pub step_checks : Board → ℕ → List (Bool × WorldFault)
@@ -61,19 +87,24 @@ step_checks board actor = (nat_le (vec_len board.runners) actor, NoActor) ∷ (r
 
 -- ---- the begin of a call
 
--- the calls that can begin so far
-abbrev pub CanBegin : Call → Type 0
-CanBegin (Hist name spec) = ⊤
-CanBegin SetCorrupt = ⊤
-CanBegin call = ⊥
+-- The calls that can begin so far. An `add` is of a histogram with buckets.
+abbrev pub CanBegin : ℕ → Board → Call → Type 0
+CanBegin actor board (Hist name spec) = ⊤
+CanBegin actor board SetCorrupt = ⊤
+CanBegin actor board (Add name value count) =
+    (runner : Runner) (known : Known) → get_elem? board.runners.items actor ≡ some runner → Contains runner.known.items known → known.name.items ≡ name.items
+    → has_buckets known.spec ≡ true
+CanBegin actor board call = ⊥
 
 -- a call for whose begin there may be no memory
 abbrev pub TakesMemory : Call → Type 0
 TakesMemory (Hist name spec) = ⊤
+TakesMemory (Add name value count) = ⊤
 TakesMemory call = ⊥
 
 -- what the begin of a call says: it goes on, or it is answered at once
 abbrev pub BeginSays : ℕ → Call → Board → Board → Begun → Type 0
 BeginSays actor (Hist name spec) old new said = HistBegins actor name.items spec old new (Ok said)
+BeginSays actor (Add name value count) old new said = AddBegins actor name.items value count old new said
 BeginSays actor call old new Going = IsBusy new actor
 BeginSays actor call old new (Ended answered) = ⊥

@@ -3,8 +3,10 @@
 ghost use Rattle.std.specs.Prelude.{◌≡◌, length};
 
 use crate::counting::fetch_add;
+use crate::hist::Known;
 use crate::packing::{DISABLED_BIT, off_word, packed_with, unpacked};
 use crate::refusal::Refusal;
+use crate::samples::amount_of;
 use alloc_core::event::{exchange, store};
 use alloc_core::{Alloc, AllocStep};
 use segment_image::Shape;
@@ -93,10 +95,34 @@ pub(crate) struct Add {
 }
 
 impl Add {
-    ghost use Rattle.std.specs.Prelude.{◌≤◌, ◌+◌, ◌*◌, ◌^◌, ◌<◌};
+    ghost use Rattle.std.specs.Prelude.{◌≤◌, ◌+◌, ◌*◌, ◌^◌, ◌<◌, true, None};
+    ghost use Rattle.bucket_ranges.specs.Ranges.{boundaries_of};
+    ghost use Rattle.bucket_ranges.specs.Spec.{spec_fault};
+    ghost use Rattle.segment_machine.specs.Actor.{has_buckets};
+    ghost use Rattle.hist_core.specs.Runner.{known_of};
     ghost use Rattle.alloc_core.specs.Layout.{IsShape};
     ghost use Rattle.hist_core.specs.declared.add.Stage.TheVariants.{LoadingSingle, Packing, LoadingCounts, SeekingCounts, Mounting, Purging, LoadingAgain, Disabling, Moving, Counting, Summing, Noting};
-    ghost use Rattle.hist_core.specs.Add.{IsSomeAdd, AddSteps, IsBehindSingle, BeginsToAllocate, IsAllocating, IsAllocated, behind_count, behind_disabling, count_in};
+    ghost use Rattle.hist_core.specs.Add.{IsSomeAdd, AddSteps, IsBehindSingle, BeginsToAllocate, IsAllocating, IsAllocated, IsStarted, behind_count, behind_disabling, count_in};
+
+    // It begins to count so many units of a value in a known histogram with buckets: it loads the single word.
+    pub(crate) fn start(shape: Shape, version: u64, known: &Known, value: i32, units: u32) -> Add
+        requires lawful { spec_fault known.now.spec ≡ None }
+        requires bucketed { has_buckets known.now.spec ≡ true }
+        requires ranges { known.now.ranges ≡ boundaries_of known.now.spec }
+        ensures { IsStarted shape version (known_of known.now) value units result }
+    {
+        Add {
+            shape,
+            version,
+            histogram: known.reference,
+            buckets: known.ranges.len(),
+            bucket: known.ranges.bucket(value),
+            value,
+            units,
+            amount: amount_of(&known.ranges, value, units),
+            stage: Stage::LoadingSingle,
+        }
+    }
 
     // Its units are counted: it adds its amount next, where that is not 0.
     fn counted(&mut self)
@@ -127,7 +153,8 @@ impl Add {
     fn load_single(&mut self, words: &[u64]) -> AddStep
         requires loads { self.old.stage ≡ LoadingSingle }
         requires stands { ∥ IsSomeAdd (length words.now) self.old ∥₁ }
-        ensures { AddSteps self.old words.now self.new words.now result }
+        ensures steps { AddSteps self.old words.now self.new words.now result }
+        ensures same { self.new ≡ record self.old { stage = self.new.stage } }
     {
         let word = words[self.histogram as usize + HISTOGRAM_SINGLE];
         self.stage = self.behind_single(word);
@@ -138,7 +165,8 @@ impl Add {
     fn pack(&mut self, words: &mut [u64], old: u64, new: u64) -> AddStep
         requires packs { self.old.stage ≡ Packing old new }
         requires stands { ∥ IsSomeAdd (length words.old) self.old ∥₁ }
-        ensures { AddSteps self.old words.old self.new words.new result }
+        ensures steps { AddSteps self.old words.old self.new words.new result }
+        ensures same { self.new ≡ record self.old { stage = self.new.stage } }
     {
         let at = self.histogram as usize + HISTOGRAM_SINGLE;
         if exchange(words, at, old, new) == old {
@@ -153,7 +181,8 @@ impl Add {
     fn load_counts(&mut self, words: &[u64]) -> AddStep
         requires loads { self.old.stage ≡ LoadingCounts }
         requires stands { ∥ IsSomeAdd (length words.now) self.old ∥₁ }
-        ensures { AddSteps self.old words.now self.new words.now result }
+        ensures steps { AddSteps self.old words.now self.new words.now result }
+        ensures same { self.new ≡ record self.old { stage = self.new.stage } }
     {
         let counts = words[self.histogram as usize + HISTOGRAM_COUNTS];
         self.stage = Stage::Counting {
@@ -166,7 +195,8 @@ impl Add {
     fn seek_counts(&mut self, words: &[u64]) -> AddStep
         requires seeks { self.old.stage ≡ SeekingCounts }
         requires stands { ∥ IsSomeAdd (length words.now) self.old ∥₁ }
-        ensures { AddSteps self.old words.now self.new words.now result }
+        ensures steps { AddSteps self.old words.now self.new words.now result }
+        ensures same { self.new ≡ record self.old { stage = self.new.stage } }
     {
         let counts = words[self.histogram as usize + HISTOGRAM_COUNTS];
         if counts == 0 {
@@ -210,7 +240,8 @@ impl Add {
     fn allocate(&mut self, words: &mut [u64]) -> AddStep
         requires allocates { IsAllocating self.old.stage }
         requires stands { ∥ IsSomeAdd (length words.old) self.old ∥₁ }
-        ensures { AddSteps self.old words.old self.new words.new result }
+        ensures steps { AddSteps self.old words.old self.new words.new result }
+        ensures same { self.new ≡ record self.old { stage = self.new.stage } }
     {
         match &mut self.stage {
             Stage::Allocating { alloc } => {
@@ -225,7 +256,8 @@ impl Add {
     fn mount(&mut self, words: &mut [u64], at: u64) -> AddStep
         requires mounts { self.old.stage ≡ Mounting at }
         requires stands { ∥ IsSomeAdd (length words.old) self.old ∥₁ }
-        ensures { AddSteps self.old words.old self.new words.new result }
+        ensures steps { AddSteps self.old words.old self.new words.new result }
+        ensures same { self.new ≡ record self.old { stage = self.new.stage } }
     {
         let reference = self.histogram as usize + HISTOGRAM_COUNTS;
         let counts = exchange(words, reference, 0, at);
@@ -241,7 +273,8 @@ impl Add {
     fn purge(&mut self, words: &mut [u64], at: u64, counts: u64) -> AddStep
         requires purges { self.old.stage ≡ Purging at counts }
         requires stands { ∥ IsSomeAdd (length words.old) self.old ∥₁ }
-        ensures { AddSteps self.old words.old self.new words.new result }
+        ensures steps { AddSteps self.old words.old self.new words.new result }
+        ensures same { self.new ≡ record self.old { stage = self.new.stage } }
     {
         store(words, at as usize + BLOCK_TYPE, TYPE_PURGED);
         self.stage = Stage::LoadingAgain { counts };
@@ -260,7 +293,8 @@ impl Add {
     fn load_again(&mut self, words: &[u64], counts: u64) -> AddStep
         requires loads { self.old.stage ≡ LoadingAgain counts }
         requires stands { ∥ IsSomeAdd (length words.now) self.old ∥₁ }
-        ensures { AddSteps self.old words.now self.new words.now result }
+        ensures steps { AddSteps self.old words.now self.new words.now result }
+        ensures same { self.new ≡ record self.old { stage = self.new.stage } }
     {
         let old = words[self.histogram as usize + HISTOGRAM_SINGLE];
         self.stage = if old >= DISABLED_BIT {
@@ -295,7 +329,8 @@ impl Add {
     fn disable(&mut self, words: &mut [u64], counts: u64, old: u64) -> AddStep
         requires disables { self.old.stage ≡ Disabling counts old }
         requires stands { ∥ IsSomeAdd (length words.old) self.old ∥₁ }
-        ensures { AddSteps self.old words.old self.new words.new result }
+        ensures steps { AddSteps self.old words.old self.new words.new result }
+        ensures same { self.new ≡ record self.old { stage = self.new.stage } }
     {
         let at = self.histogram as usize + HISTOGRAM_SINGLE;
         let off = off_word(self.version, old);
@@ -311,7 +346,8 @@ impl Add {
     fn move_units(&mut self, words: &mut [u64], counts: u64, bucket: usize, units: u64) -> AddStep
         requires moves { self.old.stage ≡ Moving counts bucket units }
         requires stands { ∥ IsSomeAdd (length words.old) self.old ∥₁ }
-        ensures { AddSteps self.old words.old self.new words.new result }
+        ensures steps { AddSteps self.old words.old self.new words.new result }
+        ensures same { self.new ≡ record self.old { stage = self.new.stage } }
     {
         fetch_add(words, counts as usize + (BLOCK_HEADER + bucket), units);
         self.stage = Stage::Counting {
@@ -324,7 +360,8 @@ impl Add {
     fn count(&mut self, words: &mut [u64], at: u64) -> AddStep
         requires counts { self.old.stage ≡ Counting at }
         requires stands { ∥ IsSomeAdd (length words.old) self.old ∥₁ }
-        ensures { AddSteps self.old words.old self.new words.new result }
+        ensures steps { AddSteps self.old words.old self.new words.new result }
+        ensures same { self.new ≡ record self.old { stage = self.new.stage } }
     {
         fetch_add(words, at as usize, u64::from(self.units));
         self.counted();
@@ -335,7 +372,8 @@ impl Add {
     fn sum(&mut self, words: &mut [u64]) -> AddStep
         requires sums { self.old.stage ≡ Summing }
         requires stands { ∥ IsSomeAdd (length words.old) self.old ∥₁ }
-        ensures { AddSteps self.old words.old self.new words.new result }
+        ensures steps { AddSteps self.old words.old self.new words.new result }
+        ensures same { self.new ≡ record self.old { stage = self.new.stage } }
     {
         let at = self.histogram as usize + HISTOGRAM_SUM;
         fetch_add(words, at, self.amount.cast_unsigned());
@@ -347,7 +385,8 @@ impl Add {
     fn note(&mut self, words: &mut [u64]) -> AddStep
         requires notes { self.old.stage ≡ Noting }
         requires stands { ∥ IsSomeAdd (length words.old) self.old ∥₁ }
-        ensures { AddSteps self.old words.old self.new words.new result }
+        ensures steps { AddSteps self.old words.old self.new words.new result }
+        ensures same { self.new ≡ record self.old { stage = self.new.stage } }
     {
         let at = self.histogram as usize + HISTOGRAM_REDUNDANT;
         fetch_add(words, at, u64::from(self.units));
@@ -357,7 +396,8 @@ impl Add {
     // Goes on by one event.
     pub(crate) fn step(&mut self, words: &mut [u64]) -> AddStep
         requires stands { ∥ IsSomeAdd (length words.old) self.old ∥₁ }
-        ensures { AddSteps self.old words.old self.new words.new result }
+        ensures steps { AddSteps self.old words.old self.new words.new result }
+        ensures same { self.new ≡ record self.old { stage = self.new.stage } }
     {
         match self.stage {
             Stage::LoadingSingle => self.load_single(words),

@@ -11,6 +11,9 @@ use segment_image::layout::{
 };
 use std::alloc::{AllocError, Global};
 
+// All units of a world.
+const POOL: u64 = 4_294_967_295;
+
 /// The words of a segment, and the actors that call on it.
 #[derive(Debug, Drop)]
 pub(crate) struct Board {
@@ -19,6 +22,8 @@ pub(crate) struct Board {
     pub(crate) version: u64,
     pub(crate) words: Vec<u64>,
     pub(crate) runners: Vec<Runner>,
+    // The units that no ended call has spent and no running call holds.
+    pub(crate) units: u64,
 }
 
 ghost use Rattle.std.specs.Prelude.{◌≡◌, IfOk, All, vec_len};
@@ -66,12 +71,14 @@ fn new_runners(alloc: Global, actors: usize) -> Result<Vec<Runner>, AllocError>
 }
 
 impl Board {
-    ghost use Rattle.std.specs.Prelude.{◌≢◌, ◌≤◌, ◌<◌, ℕ, IsSome, None, length};
+    ghost use Rattle.std.specs.Prelude.{◌≢◌, ◌≤◌, ◌<◌, ℕ, IsSome, None, length, true, List, IfSome, IfNone, OnErr};
     ghost use mathlib.Core.Option.{some};
     ghost use lib.ListN.{get_elem?};
     ghost use Rattle.segment_machine.specs.State.{State};
     ghost use Rattle.hist_core.specs.declared.runner.Runner.{Runner};
-    ghost use Rattle.hist_core.specs.Board.{IsNewBoard, IsReached, IsReachedAs, StepsTo, Rests, IsBusy, OthersStay, HistBegins, Says};
+    ghost use Rattle.hist_core.specs.Board.{IsNewBoard, IsReached, IsReachedAs, StepsTo, Rests, IsBusy, IsAsBefore, OthersStay, BeginsFrom, HistBegins, AddBegins, IsAddBegun, IsKnownBy, IsPlaceOf, LacksName, Says};
+    ghost use Rattle.hist_core.specs.declared.hist.Known.{Known};
+    ghost use Rattle.segment_machine.specs.Actor.{has_buckets};
 
     // A new segment with so many actors.
     pub(crate) fn new(
@@ -89,6 +96,7 @@ impl Board {
             version,
             words: new_words(alloc, shape, version, id)?,
             runners: new_runners(alloc, actors)?,
+            units: POOL,
         })
     }
 
@@ -127,6 +135,69 @@ impl Board {
         }
     }
 
+    // The place of the histogram of a name among those that an actor knows.
+    pub(crate) fn place_of(&self, actor: usize, name: &[u8]) -> Option<usize>
+        requires near { actor < vec_len self.now.runners }
+        ensures found { IfSome result (λ place. IsPlaceOf self.now actor name.now place) }
+        ensures none { IfNone result (LacksName self.now actor name.now) }
+    {
+        self.runners[actor].place_of(name)
+    }
+
+    // An actor that rests begins to count so many units of a value in a histogram that it knows. A count of 0, or of more units
+    // than the pool has, is refused at once.
+    pub(crate) fn begin_add(
+        &mut self,
+        actor: usize,
+        place: usize,
+        value: i32,
+        count: u32,
+    ) -> Result<Begun, AllocError>
+        requires reached { ∥ IsReached self.old ∥₁ }
+        requires near { actor < vec_len self.old.runners }
+        requires rests { Rests self.old actor }
+        requires bucketed { (known : Known) → IsKnownBy self.old actor place known → has_buckets known.spec ≡ true }
+        requires known { (name : List ℕ) × IsPlaceOf self.old actor name place }
+        ensures fault { OnErr result (IsAsBefore self.old self.new) }
+        ensures begins { (state : State) → IsReachedAs self.old state → BeginsFrom state actor self.new }
+        ensures others { OthersStay actor self.old self.new }
+        ensures says { IfOk result (λ said. (name : List ℕ) → IsPlaceOf self.old actor name place → AddBegins actor name value count self.old self.new said) }
+    {
+        if count == 0 {
+            return Ok(Begun::Ended(Answer::Refused(Refusal::ZeroCount)));
+        }
+        if u64::from(count) > self.units {
+            return Ok(Begun::Ended(Answer::Refused(Refusal::NoUnits)));
+        }
+        self.start_add(actor, place, value, count)?;
+        Ok(Begun::Going)
+    }
+
+    // An actor that rests begins to count so many units of a value in a histogram that it knows. They are taken from the pool.
+    fn start_add(
+        &mut self,
+        actor: usize,
+        place: usize,
+        value: i32,
+        count: u32,
+    ) -> Result<(), AllocError>
+        requires reached { ∥ IsReached self.old ∥₁ }
+        requires near { actor < vec_len self.old.runners }
+        requires rests { Rests self.old actor }
+        requires bucketed { (known : Known) → IsKnownBy self.old actor place known → has_buckets known.spec ≡ true }
+        requires known { (name : List ℕ) × IsPlaceOf self.old actor name place }
+        requires some { (0 < count) × (count ≤ self.old.units) }
+        ensures fault { OnErr result (IsAsBefore self.old self.new) }
+        ensures begins { (state : State) → IsReachedAs self.old state → BeginsFrom state actor self.new }
+        ensures others { OthersStay actor self.old self.new }
+        ensures says { IfOk result (λ _. (name : List ℕ) → IsPlaceOf self.old actor name place → IsAddBegun actor name value count self.old self.new) }
+    {
+        let runner = &mut self.runners[actor];
+        runner.begin_add(self.alloc, self.shape, self.version, place, value, count)?;
+        self.units -= u64::from(count);
+        Ok(())
+    }
+
     // An actor goes on with its call by one event.
     pub(crate) fn step(&mut self, actor: usize) -> Stepped
         requires reached { ∥ IsReached self.old ∥₁ }
@@ -137,6 +208,9 @@ impl Board {
         ensures says { Says actor self.old self.new result }
     {
         let runner = &mut self.runners[actor];
-        runner.advance(&mut self.words)
+        let held = runner.held();
+        let said = runner.advance(&mut self.words);
+        self.units += said.returned(held);
+        said
     }
 }

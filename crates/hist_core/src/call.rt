@@ -65,3 +65,19 @@ pub enum Stepped {
     /// The call has ended.
     Done(Answer),
 }
+
+impl Stepped {
+    ghost use Rattle.std.specs.Prelude.{◌≡◌, ◌≤◌};
+    ghost use Rattle.hist_core.specs.Runner.{returned_by};
+
+    // The units that come back of those that the call had: all of them where it is refused.
+    pub(crate) fn returned(&self, held: u64) -> u64
+        ensures units { result ≡ returned_by self.now held }
+        ensures few { result ≤ held }
+    {
+        match self {
+            Stepped::Done(Answer::Refused(_)) => held,
+            _ => 0,
+        }
+    }
+}

@@ -16,6 +16,7 @@ mod mounted;
 pub mod packing;
 mod refusal;
 mod runner;
+mod samples;
 mod taker;
 #[cfg(test)]
 mod tests;

@@ -1,10 +1,12 @@
 //! One actor of a world, with the call that it runs.
 
+use crate::add::{Add, AddStep};
 use crate::asked::Asked;
 use crate::call::{Answer, Begun, Stepped};
 use crate::entry::{Entry, Taken};
 use crate::hist::{Hist, HistStep, Known};
 use crate::refusal::Refusal;
+use crate::samples::key_of;
 use alloc_core::event::set_bits;
 use segment_image::Shape;
 use segment_image::layout::{FLAG_CORRUPT, FLAGS_WORD};
@@ -17,6 +19,8 @@ pub(crate) enum Running {
     SetCorrupt,
     /// It asks for a histogram.
     Hist(Hist),
+    /// It counts a value.
+    Add(Add),
 }
 
 /// An actor: what it has counted and taken, and the call that it runs.
@@ -35,11 +39,17 @@ pub(crate) struct Runner {
 }
 
 impl Runner {
-    ghost use Rattle.std.specs.Prelude.{◌≡◌, ◌≤◌, ℕ, List, length, IsSome, IfSome, IfNone, vec_len, vec_capacity};
+    ghost use Rattle.std.specs.Prelude.{◌≡◌, ◌≤◌, ◌<◌, ◌^◌, ℕ, List, length, true, None, IsSome, IfSome, IfNone, IfOk, OnErr, vec_len, vec_capacity};
+    ghost use mathlib.Core.Option.{some};
+    ghost use lib.ListN.{get_elem?};
+    ghost use Rattle.hist_core.specs.declared.hist.Known.{Known};
+    ghost use Rattle.bucket_ranges.specs.Ranges.{boundaries_of};
+    ghost use Rattle.bucket_ranges.specs.Spec.{spec_fault};
+    ghost use Rattle.segment_machine.specs.Actor.{has_buckets};
     ghost use Rattle.segment_image.specs.Shape.{Dimensions};
     ghost use Rattle.segment_machine.specs.declared.actor.Actor.{Actor};
     ghost use Rattle.hist_core.specs.declared.hist.HistStep.TheVariants.{Done};
-    ghost use Rattle.hist_core.specs.Runner.{IsFresh, IsRun, IsSomeRun, NoneHasName, IsKnownAt, IsKnownAnswer, BeginsHist, HasRoom, AsksForOne, IsHistSaid, Advances, Answers};
+    ghost use Rattle.hist_core.specs.Runner.{IsFresh, IsRun, IsSomeRun, NoneHasName, IsKnownAt, IsKnownAnswer, BeginsHist, HasRoom, AsksForOne, IsHistSaid, IsAddSaid, Adds, BeginsAdd, IsAsItWas, held_by, Advances, Answers};
 
     // An actor that has done nothing.
     pub(crate) fn new(alloc: Global) -> Runner
@@ -56,7 +66,7 @@ impl Runner {
     }
 
     // The place of the histogram of a name among those that it knows.
-    fn place_of(&self, name: &[u8]) -> Option<usize>
+    pub(crate) fn place_of(&self, name: &[u8]) -> Option<usize>
         ensures found { IfSome result (λ i. IsKnownAt self.now.known.items i name.now) }
         ensures none { IfNone result (NoneHasName self.now.known.items name.now) }
     {
@@ -91,6 +101,69 @@ impl Runner {
         self.known.reserve(1)?;
         self.running = Some(Running::Hist(Hist::start(shape, asked)));
         Ok(Begun::Going)
+    }
+
+    // The units that its running call has of the pool.
+    pub(crate) fn held(&self) -> u64
+        ensures units { result ≡ held_by self.now.running }
+        ensures few { result < 2 ^ 32 }
+    {
+        match &self.running {
+            Some(Running::Add(add)) => u64::from(add.units),
+            Some(Running::SetCorrupt | Running::Hist(_)) | None => 0,
+        }
+    }
+
+    // It begins to count so many units of a value in a histogram that it knows.
+    pub(crate) fn begin_add(
+        &mut self,
+        alloc: Global,
+        shape: Shape,
+        version: u64,
+        i: usize,
+        value: i32,
+        units: u32,
+    ) -> Result<(), AllocError>
+        requires near { i < vec_len self.old.known }
+        requires lawful { (known : Known) → get_elem? self.old.known.items i ≡ some known → spec_fault known.spec ≡ None }
+        requires ranges { (known : Known) → get_elem? self.old.known.items i ≡ some known → known.ranges ≡ boundaries_of known.spec }
+        requires bucketed { (known : Known) → get_elem? self.old.known.items i ≡ some known → has_buckets known.spec ≡ true }
+        ensures begins { IfOk result (λ _. (known : Known) → get_elem? self.old.known.items i ≡ some known → BeginsAdd shape version known value units self.old self.new) }
+        ensures fails { OnErr result (IsAsItWas self.old self.new) }
+    {
+        let known = &self.known[i];
+        let add = Add::start(shape, version, known, value, units);
+        let entry = Entry {
+            name: Vec::from_slice(alloc, &known.name)?,
+            key: key_of(&known.ranges, value),
+            units: u64::from(units),
+            amount: add.amount,
+        };
+        self.entries.push(entry)?;
+        self.running = Some(Running::Add(add));
+        Ok(())
+    }
+
+    // What becomes of it by what a step of its `add` said.
+    fn add_said(&mut self, said: AddStep) -> Stepped
+        requires within { self.old.ended ≤ vec_len self.old.entries }
+        ensures { IsAddSaid self.old said self.new result }
+    {
+        self.begun = self.entries.len();
+        match said {
+            AddStep::More => Stepped::More,
+            AddStep::Done => {
+                self.ended = self.entries.len();
+                self.running = None;
+                Stepped::Done(Answer::Added)
+            }
+            AddStep::Refused(why) => {
+                self.entries.truncate(self.ended);
+                self.begun = self.ended;
+                self.running = None;
+                Stepped::Done(Answer::Refused(why))
+            }
+        }
     }
 
     // The histogram that its `hist` asked for is known, and the call has ended.
@@ -143,7 +216,7 @@ impl Runner {
     pub(crate) fn advance(&mut self, words: &mut [u64]) -> Stepped
         requires runs { IsSome self.old.running }
         requires stands { ∥ IsSomeRun (length words.old) self.old ∥₁ }
-        ensures advances { (shape : Dimensions) (version : ℕ) (a : Actor) → shape.size ≡ length words.old → IsRun shape version self.old a → Advances shape version self.old words.old self.new words.new a }
+        ensures advances { (shape : Dimensions) (version : ℕ) (a : Actor) → shape.size ≡ length words.old → IsRun shape version self.old a → Advances shape version self.old words.old self.new words.new result a }
         ensures answers { Answers self.old words.old self.new words.new result }
     {
         match &mut self.running {
@@ -155,6 +228,10 @@ impl Runner {
             Some(Running::Hist(hist)) => {
                 let said = hist.step(words);
                 self.hist_said(said)
+            }
+            Some(Running::Add(add)) => {
+                let said = add.step(words);
+                self.add_said(said)
             }
             None => Stepped::More,
         }

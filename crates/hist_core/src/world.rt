@@ -26,7 +26,7 @@ impl World {
     ghost use Rattle.segment_image.specs.Checks.{first_fault};
     ghost use Rattle.alloc_core.specs.Layout.{IsShape};
     ghost use Rattle.segment_machine.specs.State.{State};
-    ghost use Rattle.hist_core.specs.Board.{IsReachedAs, IsNewBoard, StepsTo, IsAsBefore, OthersStay, Says, IsConsistentAs, IsReadAs, AreKnownFirst};
+    ghost use Rattle.hist_core.specs.Board.{IsReachedAs, IsNewBoard, BeginsFrom, StepsTo, IsAsBefore, OthersStay, Says, IsConsistentAs, IsReadAs, AreKnownFirst};
     ghost use Rattle.hist_core.specs.World.{world_checks, begin_checks, CanBegin, TakesMemory, BeginSays, step_checks, ended_of, begun_of, taken_of};
 
     /// A new segment of `size` words in pages of `page` words, of version 1 or 2, with so many actors that have done nothing.
@@ -102,16 +102,20 @@ impl World {
         &runner.entries[..runner.ended]
     }
 
-    /// An actor begins a call, which asks for a histogram or marks the segment as corrupt. The other calls are to come.
+    /// An actor begins a call, which asks for a histogram, counts a value, or marks the segment as corrupt. The other calls are
+    /// to come, and so is counting in a sparse histogram.
     ///
-    /// `NoActor` where there is no such actor, then `Busy` where a call of it is going on, then `NoMemory`. Where the call needs
-    /// no event it has ended: a `Hist` that is refused `BadName`, `BadSpec` or `TooLarge`, and one of a name that the actor knows.
-    /// No word of the segment changes.
+    /// `NoActor` where there is no such actor, then `Busy` where a call of it is going on, then `Unknown` where the call is of a
+    /// histogram and no `Hist` of the actor was answered with one of that name, then `NoMemory`. Where the call needs no event it
+    /// has ended: a `Hist` that is refused `BadName`, `BadSpec` or `TooLarge`, and one of a name that the actor knows; an `Add`
+    /// that is refused `ZeroCount`, or `NoUnits` where it counts more units than the pool has. All actors draw on one pool of
+    /// 4,294,967,295 units: a call takes its units with its begin, and gives them back where it is refused later. No word of the
+    /// segment changes.
     pub fn begin(&mut self, actor: usize, call: &Call) -> Result<Begun, WorldFault>
-        requires { CanBegin call.now }
-        ensures faults { MatchOption (first_fault (begin_checks self.old.board actor)) (IfErr result (λ fault. (fault ≡ WorldFault.NoMemory) × TakesMemory call.now)) (λ fault. result ≡ Err fault) }
+        requires { CanBegin actor self.old.board call.now }
+        ensures faults { MatchOption (first_fault (begin_checks self.old.board actor call.now)) (IfErr result (λ fault. (fault ≡ WorldFault.NoMemory) × TakesMemory call.now)) (λ fault. result ≡ Err fault) }
         ensures fault { OnErr result (IsAsBefore self.old.board self.new.board) }
-        ensures begins { (state : State) → IsReachedAs self.old.board state → IsReachedAs self.new.board state }
+        ensures begins { (state : State) → IsReachedAs self.old.board state → BeginsFrom state actor self.new.board }
         ensures others { OthersStay actor self.old.board self.new.board }
         ensures says { IfOk result (λ said. BeginSays actor call.now self.old.board self.new.board said) }
     {
@@ -124,6 +128,12 @@ impl World {
         }
         match call {
             Call::Hist(name, spec) => Ok(board.begin_hist(actor, name, spec)?),
+            Call::Add(name, value, count) => {
+                let Some(place) = board.place_of(actor, name) else {
+                    return Err(WorldFault::Unknown);
+                };
+                Ok(board.begin_add(actor, place, *value, *count)?)
+            }
             Call::SetCorrupt => {
                 board.begin_set_corrupt(actor);
                 Ok(Begun::Going)
@@ -132,7 +142,8 @@ impl World {
         }
     }
 
-    /// An actor goes on with its call by one event.
+    /// An actor goes on with its call by one event. `Added` puts what the call counted at the end of `ended`; nothing else
+    /// changes that. Units of a call that is refused come back to the pool.
     ///
     /// `NoActor` where there is no such actor, then `Idle` where no call of it is going on. It takes no memory.
     pub fn step(&mut self, actor: usize) -> Result<Stepped, WorldFault>

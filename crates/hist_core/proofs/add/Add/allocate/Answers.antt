@@ -11,7 +11,7 @@ pub step-said-requires-clause-running : goal.step-said-requires-clause-running
 step-said-requires-clause-running c = ∥∥₁_elim c.requires.stands (hlevel props)
     (λ (shape, known, a, long, is). asks_more shape known c.args.self.now a c.args.words.now is c.in-Allocating.alloc c.in-Allocating.is)
 
-pub returns-in-Allocating : goal.returns-in-Allocating
-returns-in-Allocating c = λ shape known a long is.
+pub returns-in-Allocating-clause-steps : goal.returns-in-Allocating-clause-steps
+returns-in-Allocating-clause-steps c = λ shape known a long is.
     allocates_so shape known c.args.self.now a c.args.words.now is c.in-Allocating.alloc c.in-Allocating.is long c.step-said.new.self c.step-said.new.words
     c.step-said.result c.allocated.new.self c.allocated.result c.step-said.ensures.step c.step-said.ensures.more c.allocated.ensures

@@ -15,8 +15,8 @@ fetch_add-requires c =
     ∥∥₁_elim c.requires.stands (hlevel props)
     (λ (shape, known, a, long, is). count_inside shape known c.args.self.now a c.args.words.now is c.args.at c.requires.counts long)
 
-pub returns : goal.returns
-returns c = λ shape known a long is.
+pub returns-clause-steps : goal.returns-clause-steps
+returns-clause-steps c = λ shape known a long is.
     subst (λ (n : Add). Goes shape.size c.args.self.now.version a c.args.words.now c.fetch_add.new.words (AddGives shape known n More a)) (sym c.counted.ensures)
     (counts_so shape known c.args.self.now a c.args.words.now is c.args.at c.requires.counts c.fetch_add.new.words
     (c.fetch_add.ensures ∙ ap (λ (n : ℕ). slice_set c.args.words.now c.args.at ((word_at c.args.words.now c.args.at + n) % 2 ^ 64)) c.from.ensures))

@@ -28,8 +28,8 @@ behind_disabling-self-requires c =
     let small = small_bucket c.args.self.now _ (λ shape known a is. (subst (StandsAtStage shape known c.args.self.now a) c.requires.disables is.stands).0) c.requires.stands in
     omega (arith, small)
 
-pub returns : goal.returns
-returns c = λ shape known a long is.
+pub returns-clause-steps : goal.returns-clause-steps
+returns-clause-steps c = λ shape known a long is.
     let add = c.args.self.now in
     let gives : Stage → Type 0 = λ stage. Goes shape.size add.version a c.args.words.now c.exchange.new.words (AddGives shape known (record add { stage = stage }) More a) in
     let are = c.exchange.ensures.words ∙ ap (λ (n : ℕ). atomic.after (atomic.exchange (add.histogram + 9) c.args.old n) c.args.words.now) c.off_word-off.ensures in

@@ -25,8 +25,8 @@ count_in-requires c =
     let small = small_bucket c.args.self.now _ (λ shape known a is. (subst (StandsAtStage shape known c.args.self.now a) c.requires.loads is.stands).0) c.requires.stands in
     omega (arith, small)
 
-pub returns : goal.returns
-returns c = λ shape known a long is.
+pub returns-clause-steps : goal.returns-clause-steps
+returns-clause-steps c = λ shape known a long is.
     let add = c.args.self.now in
     let gives : Stage → Type 0 = λ stage. Goes shape.size add.version a c.args.words.now c.args.words.now (AddGives shape known (record add { stage = stage }) More a) in
     elim c.if-old-ge-DISABLED_BIT.branch [

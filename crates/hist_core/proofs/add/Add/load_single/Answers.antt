@@ -18,6 +18,6 @@ behind_single-self-requires c =
     let small = small_bucket c.args.self.now _ (λ shape known a is. (subst (StandsAtStage shape known c.args.self.now a) c.requires.loads is.stands).0) c.requires.stands in
     omega (arith, small)
 
-pub returns : goal.returns
-returns c = λ shape known a long is.
+pub returns-clause-steps : goal.returns-clause-steps
+returns-clause-steps c = λ shape known a long is.
     loads_single_so shape known c.args.self.now a c.args.words.now is c.requires.loads _ c.behind_single-self.ensures

@@ -16,8 +16,8 @@ overflow_add-reference c = let inside = some_inside c.args.self.now c.args.words
 pub exchange-counts-requires : goal.exchange-counts-requires
 exchange-counts-requires c = let inside = some_inside c.args.self.now c.args.words.now c.requires.stands in omega (arith, inside.0)
 
-pub returns : goal.returns
-returns c = λ shape known a long is.
+pub returns-clause-steps : goal.returns-clause-steps
+returns-clause-steps c = λ shape known a long is.
     let add = c.args.self.now in
     let gives : Stage → Type 0 = λ stage. Goes shape.size add.version a c.args.words.now c.exchange-counts.new.words (AddGives shape known (record add { stage = stage }) More a) in
     elim c.if-counts-eq0.branch [

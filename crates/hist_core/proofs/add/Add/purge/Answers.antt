@@ -13,6 +13,6 @@ pub store-requires : goal.store-requires
 store-requires c = ∥∥₁_elim c.requires.stands (hlevel props) (λ (shape, known, a, long, is).
     let inside = purge_inside shape known c.args.self.now a c.args.words.now is c.args.at c.args.counts c.requires.purges long in omega (arith, inside))
 
-pub returns : goal.returns
-returns c = λ shape known a long is.
+pub returns-clause-steps : goal.returns-clause-steps
+returns-clause-steps c = λ shape known a long is.
     purges_so shape known c.args.self.now a c.args.words.now is c.args.at c.args.counts c.requires.purges c.store.new.words c.store.ensures.words

@@ -24,9 +24,9 @@ pub begin_allocating-requires-clause-one_page : goal.begin_allocating-requires-c
 begin_allocating-requires-clause-one_page c = ∥∥₁_elim c.requires.stands (hlevel props)
     (λ (shape, known, a, long, is). subst (λ (d : Dimensions). 4 + 2 * c.args.self.now.buckets ≤ d.page) (sym is.counting.shaped) is.counting.fits)
 
-pub returns-then-counts-eq0 : goal.returns-then-counts-eq0
-returns-then-counts-eq0 c = λ shape known a long is.
+pub returns-then-counts-eq0-clause-steps : goal.returns-then-counts-eq0-clause-steps
+returns-then-counts-eq0-clause-steps c = λ shape known a long is.
     seeks_none shape known c.args.self.now a c.args.words.now is c.requires.seeks c.begin_allocating.new.self c.begin_allocating.result c.begin_allocating.ensures
 
-pub returns : goal.returns
-returns c = λ shape known a long is. seeks_some shape known c.args.self.now a c.args.words.now is c.requires.seeks c.if-counts-eq0.false
+pub returns-clause-steps : goal.returns-clause-steps
+returns-clause-steps c = λ shape known a long is. seeks_some shape known c.args.self.now a c.args.words.now is c.requires.seeks c.if-counts-eq0.false

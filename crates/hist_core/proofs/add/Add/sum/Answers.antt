@@ -13,8 +13,8 @@ overflow_add-at c = let inside = some_inside c.args.self.now c.args.words.now c.
 pub fetch_add-requires : goal.fetch_add-requires
 fetch_add-requires c = let inside = some_inside c.args.self.now c.args.words.now c.requires.stands in omega (arith, inside.0)
 
-pub returns : goal.returns
-returns c = λ shape known a long is.
+pub returns-clause-steps : goal.returns-clause-steps
+returns-clause-steps c = λ shape known a long is.
     let amount = c.args.self.now.amount in
     let whole : cast_signed w64 (cast_unsigned w64 amount) ≡ amount = search rules in
     let is_number : c.cast_unsigned.result ≡ cast_unsigned w64 amount = c.cast_unsigned.ensures ∙ ap (cast_unsigned w64) whole in

@@ -11,7 +11,7 @@ returns-in-Ok-clause-begins c = λ state reach.
     let at = is_there old.runners.items (vec_len old.runners) c.args.actor r old.runners.ok.0 c.requires.near c.index_mut-runner.ensures.value in
     same_state old state reach c.args.actor r c.begin_hist.new.self _ at
     (λ a run. begins_hist old.shape old.version c.args.name.now c.args.spec.now c.in-Ok.asked r c.begin_hist.new.self c.begin_hist.result a c.in-Ok.ensures reach.reached.0
-    (c.requires.rests r at) c.begin_hist.ensures run) refl refl refl refl
+    (c.requires.rests r at) c.begin_hist.ensures run) refl refl refl refl refl
 
 pub returns-in-Ok-clause-others : goal.returns-in-Ok-clause-others
 returns-in-Ok-clause-others c =
@@ -21,5 +21,5 @@ pub returns-in-Ok-clause-says : goal.returns-in-Ok-clause-says
 returns-in-Ok-clause-says c =
     let old = c.args.self.now in let r = c.index_mut-runner.result.now in
     let at = is_there old.runners.items (vec_len old.runners) c.args.actor r old.runners.ok.0 c.requires.near c.index_mut-runner.ensures.value in
-    hist_begins old _ c.args.actor r c.begin_hist.new.self at refl refl refl refl refl c.args.name.now c.args.spec.now c.in-Ok.asked c.begin_hist.result c.in-Ok.ensures
+    hist_begins old _ c.args.actor r c.begin_hist.new.self at refl refl refl refl refl refl c.args.name.now c.args.spec.now c.in-Ok.asked c.begin_hist.result c.in-Ok.ensures
     c.begin_hist.ensures

@@ -13,7 +13,7 @@ returns-clause-begins c = λ state reach.
     let old = c.args.self.now in let r = c.index_mut-runner.result.now in
     let at = is_there old.runners.items (vec_len old.runners) c.args.actor r old.runners.ok.0 c.requires.near c.index_mut-runner.ensures.value in
     same_state old state reach c.args.actor r (record r { running = Some SetCorrupt }) _ at
-    (λ a run. begins_set_corrupt old.shape old.version r a (c.requires.rests r at) run) refl refl refl refl
+    (λ a run. begins_set_corrupt old.shape old.version r a (c.requires.rests r at) run) refl refl refl refl refl
 
 pub returns-clause-others : goal.returns-clause-others
 returns-clause-others c =

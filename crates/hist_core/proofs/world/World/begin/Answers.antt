@@ -1,21 +1,26 @@
-use Rattle.std.proofs.Common.{◌≡◌, ◌∙◌, List, ℕ, refl, sym, subst, vec_len, arith, rules}
+use Rattle.std.proofs.Common.{◌≡◌, ◌∙◌, true, false, ℤ, w32, to_z, of_z, List, ℕ, refl, sym, ap, subst, vec_len, arith, rules}
 use Rattle.std.specs.Prelude.{Ok, IfErr}
-use Rattle.hist_core.specs.Board.{HistBegins}
-use Rattle.hist_core.specs.World.{TakesMemory, BeginSays}
+use Rattle.hist_core.specs.Board.{HistBegins, AddBegins, IsPlaceOf}
+use mathlib.Core.Option.{some, some-injective}
+use lib.ListN.{get_elem?}
+use Rattle.segment_invariant.proofs.Lists.Elements.{contains_at}
+use Rattle.hist_core.specs.declared.runner.Runner.{Runner}
+use Rattle.hist_core.specs.declared.hist.Known.{Known}
+use Rattle.hist_core.specs.World.{TakesMemory, BeginSays, CanBegin, named_by}
 use Rattle.hist_core.specs.declared.call.Call.{Call}
 use Rattle.hist_core.specs.declared.fault.WorldFault.TheVariants.{NoMemory}
 use Rattle.std.proofs.lemmas.Bool.{lt-leb}
 use Rattle.std.proofs.Props.{props}
 use Rattle.std.proofs.Math.Logic.{∥∥₁_elim}
 use Rattle.hist_core.proofs.Boards.{is_there}
-use Rattle.hist_core.proofs.Worlds.{second_fails, none_fails, runs_as, is_resting}
+use Rattle.hist_core.proofs.Worlds.{second_of_three, third_of_three, none_of_three, none_named, by_name, knows_it, lacks_it, runs_as, is_resting}
 use Rattle.hist_core.proofs.world.World.begin.Goals as goal
 
 pub returns-then-is_some-clause-faults : goal.returns-then-is_some-clause-faults
 returns-then-is_some-clause-faults c =
     let board = c.args.self.now.board in let r = c.index.result.now in
     let at = is_there board.runners.items (vec_len board.runners) c.args.actor r board.runners.ok.0 (omega (arith, c.if-actor-len.false, c.len.ensures)) c.index.ensures in
-    second_fails _ _ _ _ _ _ (lt-leb (vec_len board.runners) c.args.actor (omega (arith, c.if-actor-len.false, c.len.ensures)))
+    second_of_three _ _ _ _ _ _ _ _ (lt-leb (vec_len board.runners) c.args.actor (omega (arith, c.if-actor-len.false, c.len.ensures)))
     (runs_as board c.args.actor r at ∙ sym c.is_some.ensures ∙ c.if-is_some.true) refl
 
 pub begin_set_corrupt-requires-clause-rests : goal.begin_set_corrupt-requires-clause-rests
@@ -29,6 +34,63 @@ begin_hist-requires-clause-rests c =
     let board = c.args.self.now.board in let r = c.index.result.now in
     let at = is_there board.runners.items (vec_len board.runners) c.args.actor r board.runners.ok.0 (omega (arith, c.if-actor-len.false, c.len.ensures)) c.index.ensures in
     is_resting board c.args.actor r at (sym c.is_some.ensures ∙ c.if-is_some.false)
+
+pub begin_add-requires-clause-rests : goal.begin_add-requires-clause-rests
+begin_add-requires-clause-rests c =
+    let board = c.args.self.now.board in let r = c.index.result.now in
+    let at = is_there board.runners.items (vec_len board.runners) c.args.actor r board.runners.ok.0 (omega (arith, c.if-actor-len.false, c.len.ensures)) c.index.ensures in
+    is_resting board c.args.actor r at (sym c.is_some.ensures ∙ c.if-is_some.false)
+
+pub begin_add-requires-clause-bucketed : goal.begin_add-requires-clause-bucketed
+begin_add-requires-clause-bucketed c = λ known (r, here, at).
+    let board = c.args.self.now.board in
+    let can = subst (CanBegin c.args.actor board) c.in-Add.is c.requires in
+    let found : IsPlaceOf board c.args.actor c.deref-in-Add.result.now c.in-Some.place = c.in-Some.ensures.found in
+    let one : found.1.0 ≡ r = some-injective found.1.0 r (sym found.1.1 ∙ here) in
+    let same : found.0 ≡ known = some-injective found.0 known (sym found.1.2 ∙ (ap (λ (x : Runner). get_elem? x.known.items c.in-Some.place) one ∙ at)) in
+    can r known here (contains_at r.known.items c.in-Some.place known at) (ap (λ (k : Known). k.name.items) (sym same) ∙ (found.2 ∙ c.deref-in-Add.ensures.value))
+
+pub invariant_of-self-in-Add : goal.invariant_of-self-in-Add
+invariant_of-self-in-Add c = record {
+  reached = ∥∥₁_elim c.args.self.now.reached (hlevel props) (λ (state, reach). let did = c.begin_add.ensures.begins state reach in ∣ (did.0, did.2) ∣₁);
+}
+
+pub returns-in_default-place_of-clause-faults : goal.returns-in_default-place_of-clause-faults
+returns-in_default-place_of-clause-faults c =
+    let board = c.args.self.now.board in let r = c.index.result.now in
+    let at = is_there board.runners.items (vec_len board.runners) c.args.actor r board.runners.ok.0 (omega (arith, c.if-actor-len.false, c.len.ensures)) c.index.ensures in
+    third_of_three _ _ _ _ _ _ _ _ (lt-leb (vec_len board.runners) c.args.actor (omega (arith, c.if-actor-len.false, c.len.ensures)))
+    (runs_as board c.args.actor r at ∙ sym c.is_some.ensures ∙ c.if-is_some.false)
+    (by_name board c.args.actor c.deref-in-Add.result.now c.args.call.now (ap named_by c.in-Add.is ∙ ap some (sym c.deref-in-Add.ensures.value)) true
+    (lacks_it board c.args.actor c.deref-in-Add.result.now r at c.in_default-place_of.ensures.none)) refl
+
+pub returns-in_err-begin_add-in-Add-clause-faults : goal.returns-in_err-begin_add-in-Add-clause-faults
+returns-in_err-begin_add-in-Add-clause-faults c =
+    let board = c.args.self.now.board in let r = c.index.result.now in
+    let at = is_there board.runners.items (vec_len board.runners) c.args.actor r board.runners.ok.0 (omega (arith, c.if-actor-len.false, c.len.ensures)) c.index.ensures in
+    none_of_three _ _ _ _ _ _ _ _ (lt-leb (vec_len board.runners) c.args.actor (omega (arith, c.if-actor-len.false, c.len.ensures)))
+    (runs_as board c.args.actor r at ∙ sym c.is_some.ensures ∙ c.if-is_some.false)
+    (by_name board c.args.actor c.deref-in-Add.result.now c.args.call.now (ap named_by c.in-Add.is ∙ ap some (sym c.deref-in-Add.ensures.value)) false
+    (knows_it board c.args.actor c.deref-in-Add.result.now c.in-Some.place c.in-Some.ensures.found))
+    (subst (λ (call : Call). IfErr c.from_residual-in_err-begin_add-in-Add.result (λ fault. (fault ≡ NoMemory) × TakesMemory call)) (sym c.in-Add.is) (search rules))
+
+pub returns-in_ok-begin_add-in-Add-clause-faults : goal.returns-in_ok-begin_add-in-Add-clause-faults
+returns-in_ok-begin_add-in-Add-clause-faults c =
+    let board = c.args.self.now.board in let r = c.index.result.now in
+    let at = is_there board.runners.items (vec_len board.runners) c.args.actor r board.runners.ok.0 (omega (arith, c.if-actor-len.false, c.len.ensures)) c.index.ensures in
+    none_of_three _ _ _ _ _ _ _ _ (lt-leb (vec_len board.runners) c.args.actor (omega (arith, c.if-actor-len.false, c.len.ensures)))
+    (runs_as board c.args.actor r at ∙ sym c.is_some.ensures ∙ c.if-is_some.false)
+    (by_name board c.args.actor c.deref-in-Add.result.now c.args.call.now (ap named_by c.in-Add.is ∙ ap some (sym c.deref-in-Add.ensures.value)) false
+    (knows_it board c.args.actor c.deref-in-Add.result.now c.in-Some.place c.in-Some.ensures.found)) tt
+
+pub returns-in_ok-begin_add-in-Add-clause-says : goal.returns-in_ok-begin_add-in-Add-clause-says
+returns-in_ok-begin_add-in-Add-clause-says c =
+    let held : to_z w32 (of_z w32 c.in-Add.value) ≡ c.in-Add.value = search rules in
+    subst (λ (call : Call). BeginSays c.args.actor call c.args.self.now.board c.begin_add.new.self c.in_ok-begin_add-in-Add.field-0) (sym c.in-Add.is)
+    (subst (λ (name : List ℕ). AddBegins c.args.actor name c.in-Add.value c.in-Add.count c.args.self.now.board c.begin_add.new.self c.in_ok-begin_add-in-Add.field-0)
+    c.deref-in-Add.ensures.value
+    (subst (λ (n : ℤ). AddBegins c.args.actor c.deref-in-Add.result.now n c.in-Add.count c.args.self.now.board c.begin_add.new.self c.in_ok-begin_add-in-Add.field-0)
+    held (c.in_ok-begin_add-in-Add.ensures.says c.deref-in-Add.result.now c.in-Some.ensures.found)))
 
 pub invariant_of-self-in-Hist : goal.invariant_of-self-in-Hist
 invariant_of-self-in-Hist c = record {
@@ -44,23 +106,26 @@ pub returns-in-SetCorrupt-clause-faults : goal.returns-in-SetCorrupt-clause-faul
 returns-in-SetCorrupt-clause-faults c =
     let board = c.args.self.now.board in let r = c.index.result.now in
     let at = is_there board.runners.items (vec_len board.runners) c.args.actor r board.runners.ok.0 (omega (arith, c.if-actor-len.false, c.len.ensures)) c.index.ensures in
-    none_fails _ _ _ _ _ _ (lt-leb (vec_len board.runners) c.args.actor (omega (arith, c.if-actor-len.false, c.len.ensures)))
-    (runs_as board c.args.actor r at ∙ sym c.is_some.ensures ∙ c.if-is_some.false) tt
+    none_of_three _ _ _ _ _ _ _ _ (lt-leb (vec_len board.runners) c.args.actor (omega (arith, c.if-actor-len.false, c.len.ensures)))
+    (runs_as board c.args.actor r at ∙ sym c.is_some.ensures ∙ c.if-is_some.false)
+    (none_named board c.args.actor r at _ (ap named_by c.in-SetCorrupt.is)) tt
 
 pub returns-in_err-begin_hist-in-Hist-clause-faults : goal.returns-in_err-begin_hist-in-Hist-clause-faults
 returns-in_err-begin_hist-in-Hist-clause-faults c =
     let board = c.args.self.now.board in let r = c.index.result.now in
     let at = is_there board.runners.items (vec_len board.runners) c.args.actor r board.runners.ok.0 (omega (arith, c.if-actor-len.false, c.len.ensures)) c.index.ensures in
-    none_fails _ _ _ _ _ _ (lt-leb (vec_len board.runners) c.args.actor (omega (arith, c.if-actor-len.false, c.len.ensures)))
+    none_of_three _ _ _ _ _ _ _ _ (lt-leb (vec_len board.runners) c.args.actor (omega (arith, c.if-actor-len.false, c.len.ensures)))
     (runs_as board c.args.actor r at ∙ sym c.is_some.ensures ∙ c.if-is_some.false)
+    (none_named board c.args.actor r at _ (ap named_by c.in-Hist.is))
     (subst (λ (call : Call). IfErr c.from_residual.result (λ fault. (fault ≡ NoMemory) × TakesMemory call)) (sym c.in-Hist.is) (search rules))
 
 pub returns-in_ok-begin_hist-in-Hist-clause-faults : goal.returns-in_ok-begin_hist-in-Hist-clause-faults
 returns-in_ok-begin_hist-in-Hist-clause-faults c =
     let board = c.args.self.now.board in let r = c.index.result.now in
     let at = is_there board.runners.items (vec_len board.runners) c.args.actor r board.runners.ok.0 (omega (arith, c.if-actor-len.false, c.len.ensures)) c.index.ensures in
-    none_fails _ _ _ _ _ _ (lt-leb (vec_len board.runners) c.args.actor (omega (arith, c.if-actor-len.false, c.len.ensures)))
-    (runs_as board c.args.actor r at ∙ sym c.is_some.ensures ∙ c.if-is_some.false) tt
+    none_of_three _ _ _ _ _ _ _ _ (lt-leb (vec_len board.runners) c.args.actor (omega (arith, c.if-actor-len.false, c.len.ensures)))
+    (runs_as board c.args.actor r at ∙ sym c.is_some.ensures ∙ c.if-is_some.false)
+    (none_named board c.args.actor r at _ (ap named_by c.in-Hist.is)) tt
 
 pub returns-in_ok-begin_hist-in-Hist-clause-says : goal.returns-in_ok-begin_hist-in-Hist-clause-says
 returns-in_ok-begin_hist-in-Hist-clause-says c =

@@ -1,0 +1,69 @@
+-- The boundaries of a spec, and the bucket that was found for a value.
+use Rattle.std.proofs.Common.{◌≡◌, ◌≢◌, ℕ, zero, suc, ◌-◌, ◌<◌, ◌≤◌, true, true≢false, ℤ, pos, List, subst, w32, of_z, to_z, FitsSigned, length, refl, sym, ap, ◌∙◌, arith, None}
+use mathlib.Core.Logic.{dite}
+use native.Mathlib.Decide.{dec_le}
+use Rattle.std.proofs.lemmas.Int.{to_z-of_z}
+use Rattle.std.proofs.lemmas.List.{get_or_past}
+use Rattle.std.specs.Prelude.{slice_index}
+use Rattle.bucket_ranges.specs.declared.spec.Spec.{Spec}
+use Rattle.bucket_ranges.specs.declared.spec.Spec.TheVariants.{Sparse}
+use Rattle.bucket_ranges.specs.Ranges.{boundaries_of, clamped, AreBoundaries, IsBucketOf, IsSplit}
+use Rattle.bucket_ranges.specs.Spec.{buckets_of, spec_fault}
+use Rattle.bucket_ranges.proofs.Ascent.{boundaries_of-split}
+use Rattle.bucket_ranges.proofs.Buckets.{ascends}
+use Rattle.segment_machine.specs.declared.actor.Known.{Known}
+use Rattle.segment_machine.specs.Actor.{has_buckets}
+use Rattle.segment_machine.specs.Calls.{IsKeyOfBucket}
+use Rattle.segment_machine.specs.Entry.{key_of}
+use Rattle.segment_machine.proofs.Keys.{keys_are_least}
+use Rattle.segment_invariant.proofs.Packing.OffForms.{few_buckets}
+
+-- what is found for a value at run time is found for the value
+pub found_is : (ranges : List ℕ) (value : ℤ) (bucket : ℕ) → FitsSigned w32 value → IsBucketOf ranges (clamped (to_z w32 (of_z w32 value))) bucket
+    → IsBucketOf ranges (clamped value) bucket
+found_is ranges value bucket fits is = subst (λ (n : ℤ). IsBucketOf ranges (clamped n) bucket) (to_z-of_z w32 value fits) is
+
+module _ (spec : Spec) (lawful : spec_fault spec ≡ None) (bucketed : has_buckets spec ≡ true) where
+  apart : spec ≢ Sparse
+  apart e = true≢false (sym bucketed ∙ ap has_buckets e)
+
+  split : IsSplit (buckets_of spec) (boundaries_of spec)
+  split = boundaries_of-split spec lawful apart
+
+  -- the first boundary is not the last, so there is a bucket
+  some : 1 ≤ buckets_of spec
+  some = by (buckets_of spec) refl
+    where
+      by : (n : ℕ) → buckets_of spec ≡ n → 1 ≤ n
+      by zero none =
+          let first = split.first in let last = split.last in let same = ap (slice_index (boundaries_of spec)) none in
+          absurd (omega (arith, first, last, same))
+      by (suc n) e = omega arith
+
+  pub are_some : 1 < length (boundaries_of spec)
+  are_some = let count = split.count in let least = some in omega (arith, count, least)
+
+  pub count_is : (ranges : List ℕ) → ranges ≡ boundaries_of spec → length ranges - 1 ≡ buckets_of spec
+  count_is ranges is = let count = split.count in let long = ap length is in omega (arith, count, long)
+
+  pub are : AreBoundaries (boundaries_of spec)
+  are = record {
+    few = let count = split.count in let few = few_buckets spec lawful in omega (arith, count, few);
+    small = λ i. dite (within i)
+        (λ inside. let up = ascends (boundaries_of spec) i (buckets_of spec) split.ascending (omega (arith, inside, split.count)) (omega (arith, split.count)) in
+        let last = split.last in omega (arith, up, last))
+        (λ outside. let none = get_or_past (boundaries_of spec) i 0 (omega (arith, outside)) in omega (arith, none));
+    ascending = split.ascending;
+    ends = λ least. (split.first, ap (slice_index (boundaries_of spec)) (let count = split.count in omega (arith, count)) ∙ split.last);
+  }
+    where
+      within : (i : ℕ) → Dec (i < length (boundaries_of spec))
+      within i = dec_le (suc i) (length (boundaries_of spec))
+
+  -- the bucket of a value has the key of the value
+  pub is_its : (known : Known) (value : ℤ) (bucket : ℕ) → known.spec ≡ spec → IsBucketOf (boundaries_of spec) (clamped value) bucket
+      → IsKeyOfBucket known bucket (key_of (boundaries_of known.spec) value)
+  is_its known value bucket same is = subst (λ (s : Spec). (bucket < buckets_of s) × (pos (slice_index (boundaries_of s) bucket) ≡ key_of (boundaries_of s) value)) (sym same) (
+    (let within = is.within in let count = split.count in omega (arith, within, count)),
+    sym (keys_are_least (boundaries_of spec) value bucket are is),
+  )

@@ -1,0 +1,58 @@
+use Rattle.std.proofs.Common.{◌≡◌, refl, sym, ap, subst, ◌∙◌, vec_len, ℤ, w32, w64, to_z, of_z, rules}
+use Rattle.std.proofs.lemmas.Int.{to_z-of_z}
+use Rattle.hist_core.specs.Add.{IsStarted}
+use mathlib.Core.Option.{some-injective}
+use Rattle.bucket_ranges.specs.Ranges.{AreBoundaries, boundaries_of}
+use Rattle.segment_machine.specs.Entry.{key_of}
+use Rattle.bucket_ranges.specs.Tally.{amount_of}
+use Rattle.hist_core.specs.declared.hist.Known.{Known}
+use Rattle.hist_core.specs.Runner.{known_of}
+use Rattle.hist_core.proofs.Boards.{is_there}
+use Rattle.hist_core.proofs.Buckets.{are}
+use Rattle.hist_core.proofs.runner.Runner.begin_add.Goals as goal
+
+pub start-add-requires-clause-lawful : goal.start-add-requires-clause-lawful
+start-add-requires-clause-lawful c =
+    let list = c.args.self.now.known in let known = c.index-known.result.now in
+    c.requires.lawful known (is_there list.items (vec_len list) c.args.i known list.ok.0 c.requires.near c.index-known.ensures)
+
+pub start-add-requires-clause-bucketed : goal.start-add-requires-clause-bucketed
+start-add-requires-clause-bucketed c =
+    let list = c.args.self.now.known in let known = c.index-known.result.now in
+    c.requires.bucketed known (is_there list.items (vec_len list) c.args.i known list.ok.0 c.requires.near c.index-known.ensures)
+
+pub start-add-requires-clause-ranges : goal.start-add-requires-clause-ranges
+start-add-requires-clause-ranges c =
+    let list = c.args.self.now.known in let known = c.index-known.result.now in
+    c.requires.ranges known (is_there list.items (vec_len list) c.args.i known list.ok.0 c.requires.near c.index-known.ensures)
+
+pub key_of-requires : goal.key_of-requires
+key_of-requires c =
+    let list = c.args.self.now.known in let known = c.index-known.result.now in
+    let at = is_there list.items (vec_len list) c.args.i known list.ok.0 c.requires.near c.index-known.ensures in
+    subst AreBoundaries (sym (c.requires.ranges known at)) (are known.spec (c.requires.lawful known at) (c.requires.bucketed known at))
+
+pub returns-clause-begins : goal.returns-clause-begins
+returns-clause-begins c = λ known at.
+    let list = c.args.self.now.known in let here = c.index-known.result.now in let runner = c.args.self.now in let value = c.args.value in let units = c.args.units in
+    let same : here ≡ known = some-injective here known (sym (is_there list.items (vec_len list) c.args.i here list.ok.0 c.requires.near c.index-known.ensures) ∙ at) in
+    let add = c.start-add.result in
+    let started : IsStarted c.args.shape c.args.version (known_of known) value units add =
+    subst (λ (p : Known × ℤ). IsStarted c.args.shape c.args.version (known_of p.0) p.1 units add) (λ i. (same i, to_z-of_z w32 value c.ranges.value i)) c.start-add.ensures in
+    let key : c.key_of.result ≡ key_of (boundaries_of known.spec) add.value =
+    c.key_of.ensures ∙ (λ i. key_of (((λ j. (same j).ranges) ∙ c.requires.ranges known at) i) ((to_z-of_z w32 value c.ranges.value ∙ sym started.counts) i)) in
+    let key_held : to_z w32 (of_z w32 c.key_of.result) ≡ c.key_of.result = search rules in
+    let amount_held : to_z w64 (of_z w64 add.amount) ≡ add.amount = search rules in
+    record {
+      add = add;
+      started = started;
+      entry = record { name = c.in_ok-from_slice.field-0; key = to_z w32 (of_z w32 c.key_of.result); units = c.from.result; amount = to_z w64 (of_z w64 add.amount) };
+      entry_is = λ i. record {
+        name = (c.in_ok-from_slice.ensures.items ∙ (c.deref.ensures.value ∙ ap (λ (k : Known). k.name.items) same)) i;
+        key = (key_held ∙ key) i;
+        units = (c.from.ensures ∙ sym started.holds) i;
+        amount = (amount_held ∙ started.amount ∙ (λ j. amount_of (boundaries_of known.spec) (sym started.counts j, sym started.holds j))) i;
+      };
+      entries = c.in_ok-push.ensures.items;
+      is = refl;
+    }

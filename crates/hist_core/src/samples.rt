@@ -1,0 +1,41 @@
+//! What a sample counts: the key that its units have, and what it adds to the sum.
+
+ghost use Rattle.std.specs.Prelude.{◌≡◌, ◌*◌, ◌≤◌};
+ghost use Rattle.std.specs.Int.RustNames.{unsigned_abs};
+ghost use Rattle.bucket_ranges.specs.Tally.{amount_of as amount_of_sample, counted_value as counted_value_of};
+ghost use Rattle.bucket_ranges.specs.Ranges.{AreBoundaries};
+ghost use Rattle.segment_machine.specs.Entry.{key_of as key_of_value};
+
+use bucket_ranges::Ranges;
+use bucket_ranges::limits::MAX_VALUE;
+
+// A value as it counts for the sum: clamped where there are buckets.
+fn counted_value(ranges: &Ranges, value: i32) -> i32
+    ensures { result ≡ counted_value_of ranges.now value }
+{
+    if ranges.len() > 0 {
+        value.clamp(0, MAX_VALUE as i32)
+    } else {
+        value
+    }
+}
+
+// What a sample adds to the sum: its value as often as it has units.
+pub(crate) fn amount_of(ranges: &Ranges, value: i32, units: u32) -> i64
+    ensures amount { result ≡ amount_of_sample ranges.now (value, units) }
+    ensures small { unsigned_abs result ≤ 2147483648 * units }
+{
+    i64::from(counted_value(ranges, value)) * i64::from(units)
+}
+
+// The key of a value: the least value of its bucket, or the value itself where there are no buckets.
+pub(crate) fn key_of(ranges: &Ranges, value: i32) -> i32
+    requires { AreBoundaries ranges.now }
+    ensures { result ≡ key_of_value ranges.now value }
+{
+    if ranges.len() > 0 {
+        ranges.low(ranges.bucket(value))
+    } else {
+        value
+    }
+}

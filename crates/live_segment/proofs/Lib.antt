@@ -66,6 +66,7 @@ mod TurnedAway
 mod Added
 mod Adds
 mod FirstValues
+mod Given
 mod ValuesListed
 mod ValuesTaken
 mod ValuesDelta

@@ -1,15 +1,16 @@
 -- How a recorder goes along the samples of a sparse histogram, and which values it lists.
-use Rattle.std.specs.Prelude.{◌≡◌, ◌≢◌, ◌⊎◌, true, false, ℕ, ◌+◌, ◌*◌, ◌≤◌, ℤ, List, [], ◌∷◌, ◌++◌, length, map, sum_by, if◌then◌else◌, Option, Some, None}
+use Rattle.std.specs.Prelude.{◌≡◌, ◌≢◌, ◌⊎◌, true, false, ℕ, ◌+◌, ◌-◌, ◌*◌, ◌/◌, ◌≤◌, ℤ, List, [], ◌∷◌, ◌++◌, length, map, sum_by, if◌then◌else◌, Option, Some, None}
 use Rattle.std.specs.List.{All, AllByRecursion, Contains}
 use Rattle.std.specs.List.Sorted.{IsPermutation, IsStrictlySortedBy}
 use Rattle.std.specs.Ordering.{int_cmp, int_eq}
 use Rattle.segment_image.specs.declared.layout.TheConstants.{BLOCK_LEAST, HEADER_WORDS, QUEUE, SAMPLE_COUNT}
 use Rattle.bucket_ranges.specs.declared.spec.Spec.TheVariants.{Sparse}
 use Rattle.bucket_ranges.specs.Reading.{is_i32}
+use Rattle.bucket_ranges.specs.Spec.{buckets_of}
 use Rattle.segment_machine.specs.declared.actor.Actor.{Actor}
 use Rattle.segment_machine.specs.declared.actor.Known.{Known}
 use Rattle.segment_machine.specs.declared.seen.Seen.{Seen}
-use Rattle.segment_machine.specs.Actor.{SawCount, is_bound, is_opener}
+use Rattle.segment_machine.specs.Actor.{SawCount, has_buckets, is_bound, is_opener}
 use Rattle.segment_machine.specs.Firsts.{ComesFirst}
 use Rattle.segment_machine.specs.Made.{SawOther, SawSample}
 use Rattle.segment_machine.specs.Note.{TookSample}
@@ -37,6 +38,12 @@ pub record ComesTo (histogram : ℕ) (passed : List ℕ) (at : ℕ) (a : Actor) 
   pub stands : at ≡ first_of behind
   pub within : at ≢ QUEUE → at + BLOCK_LEAST ≤ a.segment.shape.size
   pub few : BLOCK_LEAST * length a.seen.chain + HEADER_WORDS ≤ a.segment.shape.size
+
+-- so many keys are as many as a histogram may have: its buckets, or as many values as records fit in a segment
+abbrev pub HoldsKeys : Segment → Known → ℕ → Type 0
+HoldsKeys segment known many =
+    (has_buckets known.spec ≡ true → buckets_of known.spec ≤ many)
+    × (known.spec ≡ Sparse → (segment.setting.shape.size - HEADER_WORDS) / BLOCK_LEAST ≤ many)
 
 -- ---- what it lists
 

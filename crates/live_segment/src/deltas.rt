@@ -10,7 +10,7 @@ ghost use Rattle.segment_machine.specs.Form.{is_off};
 ghost use Rattle.segment_machine.specs.Note.{TookBucket};
 ghost use Rattle.live_segment.specs.Deltas.{AreUnits, HasTaken, HasTakenBuckets, HasTakenSample, HasTakenSum, MayTakeSample, MayTakeSum, SaysPacked, TakesAt, TakesOn, TakesValues, TakesWord, units_of_key};
 ghost use Rattle.live_segment.specs.Known.{known_view, KnowsRight};
-ghost use Rattle.live_segment.specs.Values.{ComesTo, HasTakenValues, TakesAlong, TakesValue};
+ghost use Rattle.live_segment.specs.Values.{ComesTo, HasTakenValues, HoldsKeys, TakesAlong, TakesValue};
 ghost use Rattle.segment_image.specs.declared.layout.TheConstants.{QUEUE};
 
 use crate::recorder::KnownHistogram;
@@ -19,7 +19,7 @@ use crate::samples::sort_by_key;
 use crate::segment::Segment;
 use bucket_ranges::SingleWord;
 use hist_core::packing::DISABLED_BIT;
-use segment_image::layout::{BLOCK_HEADER, QUEUE, SAMPLE_MARK};
+use segment_image::layout::{BLOCK_HEADER, BLOCK_LEAST, HEADER_WORDS, QUEUE, SAMPLE_MARK};
 
 // The counts of a histogram, as a delta found them in use.
 #[derive(Drop)]
@@ -45,6 +45,8 @@ fn packed_in(version: u64, word: u64, buckets: usize) -> (Option<usize>, u64)
 }
 
 impl Segment {
+    ghost use Rattle.segment_machine.specs.declared.actor.Actor.{Actor};
+    ghost use Rattle.live_segment.specs.declared.rule.Setting.{Setting};
     ghost use Rattle.live_segment.specs.Holders.{table_of};
     ghost use Rattle.live_segment.specs.Rule.{IsOf};
     ghost use Rattle.live_segment.specs.Steps.{IsAtRest, IsSame};
@@ -274,5 +276,38 @@ impl Segment {
         self.take_values(seat, histogram, first, taken);
         sort_by_key(taken);
         self.take_sum_of_values(seat, histogram)
+    }
+
+    // How many keys a histogram may have: its buckets, or as many values as records fit in a segment.
+    pub(crate) fn most_keys(&self, histogram: &KnownHistogram) -> usize
+        requires right { (setting : Setting) × (a : Actor) × KnowsRight setting a histogram.now }
+        ensures { HoldsKeys self.now (known_view histogram.now) result }
+    {
+        if histogram.ranges.len() == 0 {
+            (self.setting.shape.size() as usize - HEADER_WORDS) / BLOCK_LEAST
+        } else {
+            histogram.ranges.len()
+        }
+    }
+
+    // A delta of a histogram. There is room for as many keys as it may have. It answers what it took of the sum.
+    pub(crate) fn take_delta(
+        &self,
+        seat: &mut Pass,
+        histogram: &KnownHistogram,
+        taken: &mut Vec<(i32, u64)>,
+    ) -> i64
+        requires seat { (seat.old.table_id ≡ table_of self.now) × IsOf self.now.setting seat.old.me.0 }
+        requires rests { IsAtRest seat.old.me.0 }
+        requires right { KnowsRight self.now.setting seat.old.me.0 histogram.now }
+        requires room { (taken.old.items ≡ []) × HoldsKeys self.now (known_view histogram.now) (vec_capacity taken.old) }
+        ensures same { IsSame seat.old seat.new }
+        ensures taken { HasTaken (known_view histogram.now) taken.new.items result seat.old.me.0 seat.new.me.0 }
+    {
+        if histogram.ranges.len() == 0 {
+            self.delta_of_values(seat, histogram, taken)
+        } else {
+            self.delta_of_buckets(seat, histogram, taken)
+        }
     }
 }

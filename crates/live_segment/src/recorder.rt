@@ -13,7 +13,7 @@ use crate::records::WalkPlace;
 use crate::rule::Pass;
 use crate::segment::Segment;
 use bucket_ranges::{Ranges, Spec};
-use hist_core::{Asked, Refusal};
+use hist_core::{Asked, Delta, Refusal};
 use segment_image::layout::{BLOCK_LEAST, FLAG_CORRUPT, HEADER_WORDS};
 use std::alloc::Global;
 
@@ -77,6 +77,10 @@ pub struct Recorder<'a> {
 }
 
 impl<'a> Recorder<'a> {
+    ghost use Rattle.std.specs.Prelude.{slice_index_or};
+    ghost use Rattle.live_segment.specs.declared.recorder.KnownHistogram.{KnownHistogram};
+    ghost use Rattle.live_segment.specs.Deltas.{HasTaken};
+    ghost use Rattle.live_segment.specs.Values.{HoldsKeys};
     ghost use Rattle.std.specs.Prelude.{◌↔◌, IsTrue, Err, ◌<◌, ◌++◌, length, IfOk, MatchOption, MatchResult};
     ghost use Rattle.segment_image.specs.Checks.{first_fault};
     ghost use Rattle.segment_machine.specs.declared.actor.Known.{Known};
@@ -197,6 +201,30 @@ impl<'a> Recorder<'a> {
             .add_sample(&mut self.seat, known, value, count)?;
         self.units -= count;
         Ok(())
+    }
+
+    // How many keys a histogram may have.
+    fn room_for(&self, histogram: Hist) -> usize
+        requires { Knows self.now histogram }
+        ensures { (known : KnownHistogram) → known ≡ slice_index_or self.now.known.items histogram.index known → HoldsKeys self.now.segment.now (known_view known) result }
+    {
+        self.segment.most_keys(&self.known[histogram.index])
+    }
+
+    /// Takes a delta of a histogram that it knows: of each of its keys the units that no delta has taken yet, the keys with such units
+    /// alone and in ascending order, and what is new of the sum. What it takes stands behind what its deltas took before.
+    ///
+    /// `NoMemory` where there is none for as many keys as the histogram may have; then nothing has changed.
+    pub fn delta(&mut self, histogram: Hist) -> Result<Delta, Refusal>
+        requires { Knows self.old histogram }
+        ensures same { IsSameRecorder self.old self.new }
+        ensures taken { MatchResult result (λ delta. (known : Known) → Means self.old histogram known → HasTaken known delta.counts.items delta.sum (view_of_recorder self.old) (view_of_recorder self.new)) (λ why. (why ≡ NoMemory) × (self.new ≡ self.old)) }
+    {
+        let mut counts = Vec::with_capacity(self.alloc, self.room_for(histogram))?;
+        let sum = self
+            .segment
+            .take_delta(&mut self.seat, &self.known[histogram.index], &mut counts);
+        Ok(Delta { counts, sum })
     }
 
     /// Marks the segment as corrupt for good: from then on no block is claimed in it. It is never refused.

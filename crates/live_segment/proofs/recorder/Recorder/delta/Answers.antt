@@ -1,0 +1,32 @@
+use Rattle.std.proofs.Common.{◌≡◌, ℤ, FitsSigned, w64, rules, refl, sym, subst, ◌∙◌}
+use Rattle.std.proofs.lemmas.Int.{to_z-of_z}
+use Rattle.std.proofs.lemmas.Result.{err_from_is_err_and}
+use Rattle.segment_machine.specs.declared.actor.Known.{Known}
+use Rattle.live_segment.specs.Deltas.{HasTaken}
+use Rattle.live_segment.specs.Known.{known_view}
+use Rattle.live_segment.proofs.Adds.{meant}
+use Rattle.live_segment.proofs.Given.{taken_rests, taken_of, taken_names, taken_share}
+use Rattle.live_segment.proofs.Walked.{all_right, come_still}
+use Rattle.live_segment.proofs.recorder.Recorder.delta.Goals as goal
+
+pub invariant_of-self : goal.invariant_of-self
+invariant_of-self c =
+    let old = c.args.self.now in
+    let taken = c.take_delta-sum.ensures.taken in record {
+      fits = c.take_delta-sum.ensures.same.0 ∙ old.fits;
+      set = taken_of _ _ _ _ _ taken _ old.set;
+      rests = taken_rests _ _ _ _ _ taken old.rests;
+      counted = old.counted ∙ sym (taken_share _ _ _ _ _ taken);
+      listed = old.listed ∙ sym (taken_names _ _ _ _ _ taken);
+      right = all_right old.segment.now.setting _ _ old.known.items (taken_names _ _ _ _ _ taken) taken.seen.chain old.right;
+      free = c.take_delta-sum.ensures.same.2 ∙ old.free;
+      come = come_still _ _ _ _ taken.seen.chain old.come;
+    }
+
+pub returns-clause-taken : goal.returns-clause-taken
+returns-clause-taken c = λ known means.
+    let old = c.args.self.now in
+    let fits : FitsSigned w64 c.take_delta-sum.result = search rules in
+    subst (λ (d : ℤ). HasTaken known c.take_delta-sum.new.taken.items d old.seat.me.0 c.take_delta-sum.new.seat.me.0) (sym (to_z-of_z w64 c.take_delta-sum.result fits))
+    (subst (λ (k : Known). HasTaken k c.take_delta-sum.new.taken.items c.take_delta-sum.result old.seat.me.0 c.take_delta-sum.new.seat.me.0)
+    (meant old.known.items old.seat.me.0.answers.names c.args.histogram.index c.index.result.now known old.listed c.index.ensures c.requires means) c.take_delta-sum.ensures.taken)

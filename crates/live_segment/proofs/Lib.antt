@@ -63,6 +63,10 @@ mod OneSample
 mod OneValue
 mod BucketKeys
 mod TurnedAway
+mod Items
+mod ItemNoted
+mod ItemsCounted
+mod ItemsRefused
 mod Added
 mod Adds
 mod FirstValues

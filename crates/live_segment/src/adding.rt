@@ -44,7 +44,7 @@ impl Segment {
     // Counts units of a value.
     //
     // `Corrupt` or `Full` where a block was needed for them and none could be claimed: then the call has ended.
-    fn count_value(
+    pub(crate) fn count_value(
         &self,
         seat: &mut Pass,
         histogram: &KnownHistogram,

@@ -8,6 +8,7 @@
 
 mod adding;
 mod allocation;
+mod batching;
 mod comparing;
 mod counting;
 mod deltas;

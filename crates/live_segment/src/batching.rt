@@ -1,0 +1,64 @@
+//! How the items of a batch are counted, one after the other.
+
+ghost use Rattle.std.specs.Prelude.{◌≡◌, ◌+◌, ◌≤◌, MatchResult};
+ghost use Rattle.std.specs.List.{All};
+ghost use Rattle.bucket_ranges.specs.Tally.{units_of};
+
+use crate::recorder::KnownHistogram;
+use crate::rule::Pass;
+use crate::segment::Segment;
+use hist_core::{BatchRefusal, Refusal};
+
+impl Segment {
+    ghost use Rattle.live_segment.specs.Batching.{HasItems, HasNoted, StopsAt};
+    ghost use Rattle.live_segment.specs.Finishing.{item_of};
+    ghost use Rattle.live_segment.specs.Holders.{table_of};
+    ghost use Rattle.live_segment.specs.Known.{known_view, KnowsRight};
+    ghost use Rattle.live_segment.specs.Refusing.{IsNotCounted};
+    ghost use Rattle.live_segment.specs.Rule.{IsOf};
+    ghost use Rattle.live_segment.specs.Steps.{IsAtRest, IsSame};
+    ghost use Rattle.live_segment.specs.Working.{CountsAlone};
+
+    // Counts items of a histogram, in order. Their call goes on.
+    //
+    // `Corrupt` or `Full` where a block was needed for one and none could be claimed: then the call has ended with those before it.
+    fn count_items(
+        &self,
+        seat: &mut Pass,
+        histogram: &KnownHistogram,
+        items: &[(i32, u32)],
+    ) -> Result<(), BatchRefusal>
+        requires seat { (seat.old.table_id ≡ table_of self.now) × IsOf self.now.setting seat.old.me.0 }
+        requires right { KnowsRight self.now.setting seat.old.me.0 histogram.now }
+        requires rests { IsAtRest seat.old.me.0 }
+        requires units { All (λ item. 1 ≤ item.1) items.now × (units_of items.now ≤ seat.old.me.0.units.share) }
+        ensures same { IsSame seat.old seat.new }
+        ensures outcome { MatchResult result (λ _. HasItems (known_view histogram.now) items.now seat.old.me.0 seat.new.me.0) (λ refusal. StopsAt (known_view histogram.now) items.now refusal seat.old.me.0 seat.new.me.0) }
+    {
+        for (added, item) in items.iter().enumerate() {
+            if let Err(why) = self.count_item(seat, histogram, item.0, item.1) {
+                return Err(BatchRefusal { added, why });
+            }
+        }
+        Ok(())
+    }
+
+    // Counts an item, and notes its units. Its call goes on.
+    fn count_item(
+        &self,
+        seat: &mut Pass,
+        histogram: &KnownHistogram,
+        value: i32,
+        units: u32,
+    ) -> Result<(), Refusal>
+        requires seat { (seat.old.table_id ≡ table_of self.now) × IsOf self.now.setting seat.old.me.0 }
+        requires right { KnowsRight self.now.setting seat.old.me.0 histogram.now }
+        requires may { CountsAlone seat.old.me.0 (known_view histogram.now) (item_of (known_view histogram.now) value units) }
+        ensures same { IsSame seat.old seat.new }
+        ensures outcome { MatchResult result (λ _. HasNoted (item_of (known_view histogram.now) value units) seat.old.me.0 seat.new.me.0) (λ why. IsNotCounted why (known_view histogram.now) value units seat.old.me.0 seat.new.me.0) }
+    {
+        self.count_value(seat, histogram, value, units)?;
+        self.add_redundant(seat, histogram.reference, u64::from(units));
+        Ok(())
+    }
+}

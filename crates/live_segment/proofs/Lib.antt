@@ -67,6 +67,8 @@ mod Items
 mod ItemNoted
 mod ItemsCounted
 mod ItemsRefused
+mod SumWithin
+mod SumAdded
 mod Added
 mod Adds
 mod FirstValues

@@ -1,8 +1,9 @@
 //! How the items of a batch are counted, one after the other.
 
-ghost use Rattle.std.specs.Prelude.{◌≡◌, ◌+◌, ◌≤◌, MatchResult};
+ghost use Rattle.std.specs.Prelude.{◌≡◌, ◌≢◌, ◌+◌, ◌≤◌, pos, MatchResult};
 ghost use Rattle.std.specs.List.{All};
 ghost use Rattle.bucket_ranges.specs.Tally.{units_of};
+ghost use Rattle.segment_machine.specs.Entry.{batch_cost};
 
 use crate::recorder::KnownHistogram;
 use crate::rule::Pass;
@@ -10,7 +11,7 @@ use crate::segment::Segment;
 use hist_core::{BatchRefusal, Refusal};
 
 impl Segment {
-    ghost use Rattle.live_segment.specs.Batching.{HasItems, HasNoted, StopsAt};
+    ghost use Rattle.live_segment.specs.Batching.{HasItems, HasNoted, IsBatched, IsCutShort, StopsAt};
     ghost use Rattle.live_segment.specs.Finishing.{item_of};
     ghost use Rattle.live_segment.specs.Holders.{table_of};
     ghost use Rattle.live_segment.specs.Known.{known_view, KnowsRight};
@@ -18,6 +19,28 @@ impl Segment {
     ghost use Rattle.live_segment.specs.Rule.{IsOf};
     ghost use Rattle.live_segment.specs.Steps.{IsAtRest, IsSame};
     ghost use Rattle.live_segment.specs.Working.{CountsAlone};
+
+    // Counts a batch with a sum: its items, and then the sum.
+    fn count_summed(
+        &self,
+        seat: &mut Pass,
+        histogram: &KnownHistogram,
+        items: &[(i32, u32)],
+        sum: i64,
+    ) -> Result<(), BatchRefusal>
+        requires seat { (seat.old.table_id ≡ table_of self.now) × IsOf self.now.setting seat.old.me.0 }
+        requires right { KnowsRight self.now.setting seat.old.me.0 histogram.now }
+        requires rests { IsAtRest seat.old.me.0 }
+        requires units { All (λ item. 1 ≤ item.1) items.now × (batch_cost items.now sum ≤ seat.old.me.0.units.share) }
+        requires some { sum ≢ pos 0 }
+        ensures same { IsSame seat.old seat.new }
+        ensures rests { IsAtRest seat.new.me.0 }
+        ensures outcome { MatchResult result (λ _. IsBatched (known_view histogram.now) items.now sum seat.old.me.0 seat.new.me.0) (λ refusal. IsCutShort (known_view histogram.now) items.now refusal seat.old.me.0 seat.new.me.0) }
+    {
+        self.count_items(seat, histogram, items)?;
+        self.add_sum(seat, histogram.reference, sum);
+        Ok(())
+    }
 
     // Counts items of a histogram, in order. Their call goes on.
     //

@@ -1,8 +1,13 @@
 //! Tests of what no clause says: that calls succeed, each at its least and its most.
 
-use crate::{OpenFault, Segment};
-use bucket_ranges::Spec;
+ghost use Rattle.std.specs.Prelude.{IfOk};
+ghost use Rattle.live_segment.specs.Holders.{IsMadeWith};
+
+use crate::{Hist, OpenFault, Opener, Recorder, Segment};
+use bucket_ranges::{CustomValues, Spec};
 use hist_core::Refusal;
+use segment_image::Image;
+use std::alloc::{AllocError, Global};
 use std::test::Fail;
 
 #[test]
@@ -123,5 +128,163 @@ fn no_room_for_a_sample(rt: HostRuntime) -> Result<(), Fail> {
     );
     assert!(rt; stand(words, 48, &[8, CLAIMED, 3, 56, 16, 1, 6, 0]));
     assert!(rt; stand(words, 56, &[8, CLAIMED, 3, 12, 16, 2_147_483_647, 1, 0]));
+    Ok(())
+}
+
+// The image of a new segment with one boolean histogram, where a second call answers the same.
+fn boolean_image(alloc: Global, version: u64) -> Result<Option<Image>, Fail> {
+    let (segment, mut opener) = Segment::create(alloc, 128, 64, 7, 0, version)?;
+    let mut recorder = opener.recorder(&segment, 0)?;
+    let first = recorder.hist(b"A", &Spec::Boolean)?;
+    let again = recorder.hist(b"A", &Spec::Boolean)?;
+    if again != first {
+        return Ok(None);
+    }
+    opener.join(recorder);
+    Ok(Some(segment.close(opener)))
+}
+
+#[test]
+fn fresh_boolean(rt: HostRuntime) -> Result<(), Fail> {
+    for version in [1, 2] {
+        let image = boolean_image(rt.alloc(), version)?.expect(&rt, "the same histogram");
+        let words = image.words();
+        assert!(rt; stand(words, 0, &[0x4083_05DC, version, 128, 64, 7, 1, 0, 32]));
+        assert!(rt; stand(words, 8, &[16, 0, 0, 0, 4, 1, 0, 16]));
+        assert!(rt; stand(words, 16, &[16, CLAIMED, 1, 12, 2, 1, 2, 3]));
+        assert!(rt; stand(words, 24, &[0, 0, 0, 0, 0, 0, 1, 65, 0]));
+    }
+    Ok(())
+}
+
+fn linear(min: u32, max: u32, n: u32) -> Spec {
+    Spec::Linear { min, max, n }
+}
+
+// The number of the refusal of a `hist`, 0 where it is answered.
+fn refusal_of(recorder: &mut Recorder, name: &[u8], spec: &Spec) -> u32 {
+    match recorder.hist(name, spec) {
+        Ok(_) => 0,
+        Err(why) => why.number(),
+    }
+}
+
+// Whether the calls of `hist` of one recorder of a new segment are answered or refused so.
+fn are_refused(alloc: Global, size: u64, cases: &[(&[u8], Spec, u32)]) -> Result<bool, Fail> {
+    let (segment, mut opener) = Segment::create(alloc, size, 64, 7, 0, 1)?;
+    let mut recorder = opener.recorder(&segment, 0)?;
+    for (name, spec, number) in cases {
+        if refusal_of(&mut recorder, name, spec) != *number {
+            return Ok(false);
+        }
+    }
+    Ok(true)
+}
+
+#[test]
+fn refusals_of_hist(rt: HostRuntime) -> Result<(), Fail> {
+    let alloc = rt.alloc();
+    let long = [b'n'; 129];
+    let names = [
+        (&b""[..], Spec::Boolean, 1),
+        (&long[..], Spec::Boolean, 1),
+        (&b"a,b"[..], Spec::Boolean, 1),
+        (&b"!x"[..], Spec::Boolean, 1),
+        (&long[..128], Spec::Boolean, 0),
+    ];
+    assert!(rt; are_refused(alloc, 128, &names)?);
+    let specs = [
+        (&b"A"[..], linear(1, 100, 31), 7),
+        (&b"A"[..], linear(1, 10, 2), 2),
+        (&b"A"[..], linear(1, 100, 30), 0),
+        (&b"A"[..], linear(1, 100, 31), 7),
+        (&b"A"[..], Spec::Boolean, 10),
+    ];
+    assert!(rt; are_refused(alloc, 128, &specs)?);
+    let full = [
+        (&b"A"[..], Spec::Boolean, 0),
+        (&b"B"[..], Spec::Boolean, 0),
+        (&b"C"[..], Spec::Boolean, 0),
+        (&b"D"[..], Spec::Boolean, 9),
+        (&b"A"[..], linear(1, 2, 3), 10),
+        (&b"C"[..], Spec::Boolean, 0),
+    ];
+    assert!(rt; are_refused(alloc, 64, &full)?);
+    Ok(())
+}
+
+#[test]
+fn hist_of_a_corrupt_segment(rt: HostRuntime) -> Result<(), Fail> {
+    let (segment, mut opener) = Segment::create(rt.alloc(), 128, 64, 7, 0, 1)?;
+    let mut first = opener.recorder(&segment, 0)?;
+    let mut second = opener.recorder(&segment, 0)?;
+    assert!(rt; refusal_of(&mut first, b"A", &Spec::Boolean) == 0);
+    first.set_corrupt();
+    assert!(rt; refusal_of(&mut second, b"A", &Spec::Boolean) == 0);
+    assert!(rt; refusal_of(&mut second, b"B", &Spec::Boolean) == 8);
+    assert!(rt; refusal_of(&mut second, b"A", &linear(1, 2, 3)) == 10);
+    Ok(())
+}
+
+#[test]
+fn records_and_a_shared_cursor(rt: HostRuntime) -> Result<(), Fail> {
+    let (segment, mut opener) = Segment::create(rt.alloc(), 128, 64, 7, 1, 1)?;
+    let mut first = opener.recorder(&segment, 0)?;
+    let mut second = opener.recorder(&segment, 0)?;
+    first.hist(b"A", &Spec::Boolean)?;
+    first.hist(b"B", &Spec::Boolean)?;
+    assert!(rt; first.records()?[..] == [16, 32] && first.records()?[..] == [16, 32]);
+    assert!(rt; first.fresh_records()?[..] == [16, 32] && first.fresh_records()?.is_empty());
+    assert!(rt; first.next_shared(0) == Some(16) && second.next_shared(0) == Some(32));
+    assert!(rt; first.next_shared(0).is_none());
+    second.hist(b"C", &Spec::Boolean)?;
+    assert!(rt; first.next_shared(0) == Some(48) && first.fresh_records()?[..] == [48]);
+    Ok(())
+}
+
+// The same again where memory was refused at the first time.
+fn segment_again(alloc: Global) -> Result<(Segment, Opener), OpenFault>
+    ensures { IfOk result (λ made. IsMadeWith made.0 made.1) }
+{
+    match Segment::create(alloc, 128, 64, 7, 1, 1) {
+        Err(OpenFault::NoMemory) => Segment::create(alloc, 128, 64, 7, 1, 1),
+        made => made,
+    }
+}
+
+fn custom_again(alloc: Global) -> Result<Spec, AllocError> {
+    let values = match Vec::from_slice(alloc, &[2, 0, 1, 2]) {
+        Err(AllocError) => Vec::from_slice(alloc, &[2, 0, 1, 2])?,
+        Ok(values) => values,
+    };
+    Ok(Spec::Custom(CustomValues::from(values)))
+}
+
+fn hist_again(recorder: &mut Recorder, name: &[u8], spec: &Spec) -> Result<Hist, Refusal> {
+    match recorder.hist(name, spec) {
+        Err(Refusal::NoMemory) => recorder.hist(name, spec),
+        answer => answer,
+    }
+}
+
+fn records_again(recorder: &mut Recorder) -> Result<Vec<u64>, Refusal> {
+    match recorder.fresh_records() {
+        Err(Refusal::NoMemory) => recorder.fresh_records(),
+        answer => answer,
+    }
+}
+
+// It passes too where any one allocation fails.
+#[test]
+fn refused_memory_once(rt: HostRuntime) -> Result<(), Fail> {
+    let custom = custom_again(rt.alloc())?;
+    let (segment, mut opener) = segment_again(rt.alloc())?;
+    let mut recorder = opener.recorder(&segment, 3)?;
+    let first = hist_again(&mut recorder, b"A", &custom)?;
+    let second = hist_again(&mut recorder, b"B", &Spec::Boolean)?;
+    assert!(rt; records_again(&mut recorder)?[..] == [16, 34] && recorder.units() == 3);
+    assert!(rt; hist_again(&mut recorder, b"A", &custom)? == first);
+    assert!(rt; hist_again(&mut recorder, b"B", &Spec::Boolean)? == second && first != second);
+    assert!(rt; records_again(&mut recorder)?.is_empty());
     Ok(())
 }

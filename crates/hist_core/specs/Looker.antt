@@ -1,9 +1,10 @@
 -- A snapshot that is going on.
-use Rattle.std.specs.Prelude.{◌≡◌, ◌≢◌, ◌⊎◌, true, false, nat_lt, ℕ, ◌+◌, ◌<◌, ◌≤◌, ℤ, List, [], ◌∷◌, ◌++◌, map, length, if◌then◌else◌, Some, None}
+use Rattle.std.specs.Prelude.{◌≡◌, ◌≢◌, ◌⊎◌, true, false, nat_lt, ℕ, ◌+◌, ◌-◌, ◌<◌, ◌≤◌, ℤ, pos, slice_index, List, [], ◌∷◌, ◌++◌, map, length, if◌then◌else◌, Some, None}
 use Rattle.std.specs.List.{All, Contains, range_with_len}
 use mathlib.Core.Option.{some}
 use lib.ListN.{get_elem?}
 use Rattle.bucket_ranges.specs.Single.{packed_bucket, single_of, units_packed}
+use Rattle.bucket_ranges.specs.Ranges.{boundaries_of}
 use Rattle.bucket_ranges.specs.Spec.{buckets_of, spec_fault}
 use Rattle.segment_image.specs.declared.layout.TheConstants.{HISTOGRAM_NAME}
 use Rattle.segment_image.specs.Shape.{Dimensions}
@@ -66,6 +67,19 @@ pub record IsLooker (shape : Dimensions) (known : Known) (looker : Looker) (a : 
   pub keys : map (λ total. total.0) looker.totals.items ≡ map (bucket_key (Some known)) (range_with_len 0 (buckets_of known.spec))
   pub buckets : length looker.totals.items ≡ buckets_of known.spec
   pub stands : StandsAtStage known looker a looker.stage
+
+-- ---- how it begins
+
+-- the key of each bucket of these ranges in order, each with no units yet
+abbrev pub blank_totals : List ℕ → List (ℤ × ℕ)
+blank_totals boundaries = map (λ i. (pos (slice_index boundaries i), 0)) (range_with_len 0 (length boundaries - 1))
+
+-- It begins: it looks at a histogram with buckets, of which it has seen no units.
+pub record IsStarted (version : ℕ) (known : Known) (looker : Looker) : Type 0 where
+  pub versioned : looker.version ≡ version
+  pub reference : looker.histogram ≡ known.reference
+  pub totals : looker.totals.items ≡ blank_totals (boundaries_of known.spec)
+  pub stage : looker.stage ≡ LoadingSingle
 
 -- ---- what a step makes of its actor
 

@@ -99,6 +99,15 @@ pub record IsTaker (shape : Dimensions) (known : Known) (earlier : List Taken) (
   pub room : buckets_of known.spec ≤ vec_capacity taker.counts
   pub stands : StandsAtStage known earlier taker a taker.stage
 
+-- It begins: it takes of a histogram with buckets, and has taken nothing.
+pub record IsStarted (version : ℕ) (known : Known) (taker : Taker) : Type 0 where
+  pub versioned : taker.version ≡ version
+  pub reference : taker.histogram ≡ known.reference
+  pub ranges : taker.ranges ≡ boundaries_of known.spec
+  pub none : taker.counts.items ≡ []
+  pub room : buckets_of known.spec ≤ vec_capacity taker.counts
+  pub stage : taker.stage ≡ LoadingSingle
+
 -- ---- what a step makes of its actor
 
 -- What it leaves as it was: its role, its segment, its units and entries, the names that it was answered with, and its snapshots. Of the

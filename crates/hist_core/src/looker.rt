@@ -1,10 +1,16 @@
 //! A snapshot that is going on: it looks at all that is counted of a histogram, and changes nothing.
 
+ghost use Rattle.std.specs.Prelude.{◌≡◌, IfOk};
+ghost use Rattle.hist_core.specs.Looker.{blank_totals};
+
+use crate::hist::Known;
 use crate::mounted::Mounted;
 use crate::packing::{DISABLED_BIT, packed_in};
+use bucket_ranges::Ranges;
 use segment_image::layout::{
     BLOCK_HEADER, HISTOGRAM_COUNTS, HISTOGRAM_REDUNDANT, HISTOGRAM_SINGLE, HISTOGRAM_SUM,
 };
+use std::alloc::{AllocError, Global};
 
 /// What a snapshot does next.
 #[derive(Clone, Copy, Debug, PartialEq, Eq)]
@@ -41,10 +47,40 @@ pub(crate) struct Looker {
     pub(crate) stage: Stage,
 }
 
+// The key of each bucket in order, each with no units yet.
+fn blank_totals(alloc: Global, ranges: &Ranges) -> Result<Vec<(i32, u64)>, AllocError>
+    ensures { IfOk result (λ totals. totals.items ≡ blank_totals ranges.now) }
+{
+    let mut totals = Vec::with_capacity(alloc, ranges.len())?;
+    for bucket in 0..ranges.len() {
+        totals.push_reserved((ranges.low(bucket), 0));
+    }
+    Ok(totals)
+}
+
 impl Looker {
-    ghost use Rattle.std.specs.Prelude.{◌≡◌, ◌≤◌, ◌<◌, length, vec_len};
+    ghost use Rattle.std.specs.Prelude.{◌≤◌, ◌<◌, length, vec_len, true, None};
+    ghost use Rattle.bucket_ranges.specs.Ranges.{boundaries_of};
+    ghost use Rattle.bucket_ranges.specs.Spec.{spec_fault};
+    ghost use Rattle.segment_machine.specs.Actor.{has_buckets};
+    ghost use Rattle.hist_core.specs.Runner.{known_of};
     ghost use Rattle.hist_core.specs.declared.looker.Stage.TheVariants.{LoadingSingle, LoadingCounts, LoadingCount, LoadingSum, LoadingRedundant};
-    ghost use Rattle.hist_core.specs.Looker.{IsSomeLooker, LookerSteps, IsPut, IsBehindSingle, behind_bucket};
+    ghost use Rattle.hist_core.specs.Looker.{IsSomeLooker, IsStarted, LookerSteps, IsPut, IsBehindSingle, behind_bucket};
+
+    // It begins to look at a known histogram with buckets: it loads the single word.
+    pub(crate) fn start(alloc: Global, version: u64, known: &Known) -> Result<Looker, AllocError>
+        requires lawful { spec_fault known.now.spec ≡ None }
+        requires bucketed { has_buckets known.now.spec ≡ true }
+        requires ranges { known.now.ranges ≡ boundaries_of known.now.spec }
+        ensures { IfOk result (IsStarted version (known_of known.now)) }
+    {
+        Ok(Looker {
+            version,
+            histogram: known.reference,
+            totals: blank_totals(alloc, &known.ranges)?,
+            stage: Stage::LoadingSingle,
+        })
+    }
 
     // The units of a bucket that it saw.
     fn put(&mut self, bucket: usize, total: u64)

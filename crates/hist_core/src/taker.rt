@@ -2,6 +2,7 @@
 //! is new.
 
 use crate::counting::{fetch_max, swap};
+use crate::hist::Known;
 use crate::mounted::Mounted;
 use crate::packing::{DISABLED_BIT, packed_in};
 use bucket_ranges::Ranges;
@@ -9,6 +10,7 @@ use segment_image::layout::{
     BLOCK_HEADER, HISTOGRAM_COUNTS, HISTOGRAM_SINGLE, HISTOGRAM_SINGLE_MARK, HISTOGRAM_SUM,
     HISTOGRAM_SUM_MARK,
 };
+use std::alloc::{AllocError, Global};
 
 /// What a delta does next.
 #[derive(Clone, Copy, Debug, PartialEq, Eq)]
@@ -68,9 +70,31 @@ pub(crate) struct Taker {
 }
 
 impl Taker {
-    ghost use Rattle.std.specs.Prelude.{◌≡◌, ◌≤◌, ◌<◌, ◌+◌, ◌⊎◌, length, vec_len, vec_capacity};
+    ghost use Rattle.std.specs.Prelude.{◌≡◌, ◌≤◌, ◌<◌, ◌+◌, length, vec_len, vec_capacity, true, None, IfOk};
+    ghost use Rattle.bucket_ranges.specs.Spec.{spec_fault};
+    ghost use Rattle.segment_machine.specs.Actor.{has_buckets};
+    ghost use Rattle.hist_core.specs.Runner.{known_of};
     ghost use Rattle.hist_core.specs.declared.taker.Stage.TheVariants.{LoadingSingle, TakingPacked, LoadingCounts, LoadingCount, Raising, LoadingSum, Swapping};
-    ghost use Rattle.hist_core.specs.Taker.{IsSomeTaker, TakerSteps, Lists, IsBehindSingle, behind_bucket, IsTaken, mark_of};
+    ghost use Rattle.hist_core.specs.Taker.{IsSomeTaker, IsStarted, TakerSteps, Lists, IsBehindSingle, behind_bucket, IsTaken, mark_of};
+
+    // It begins to take of a known histogram with buckets: it loads the single word. There is room for all buckets.
+    pub(crate) fn start(alloc: Global, version: u64, known: &Known) -> Result<Taker, AllocError>
+        requires lawful { spec_fault known.now.spec ≡ None }
+        requires bucketed { has_buckets known.now.spec ≡ true }
+        ensures { IfOk result (IsStarted version (known_of known.now)) }
+    {
+        let Ok(ranges) = Ranges::of(alloc, &known.spec) else {
+            return Err(AllocError);
+        };
+        let counts = Vec::with_capacity(alloc, ranges.len())?;
+        Ok(Taker {
+            version,
+            histogram: known.reference,
+            ranges,
+            counts,
+            stage: Stage::LoadingSingle,
+        })
+    }
 
     // What a single word leads to.
     fn behind_single(&self, word: u64) -> Stage

@@ -20,7 +20,7 @@ use Rattle.hist_core.specs.declared.add.Stage.TheVariants as stage
 use Rattle.hist_core.specs.declared.call.Stepped.{Stepped}
 use Rattle.hist_core.specs.declared.entry.Entry.{Entry}
 use Rattle.hist_core.specs.declared.runner.Running.{Running}
-use Rattle.hist_core.specs.declared.runner.Running.TheVariants.{Hist, Add}
+use Rattle.hist_core.specs.declared.runner.Running.TheVariants.{Hist, Add, Snapshot}
 use Rattle.hist_core.specs.declared.refusal.Refusal.{Refusal}
 use Rattle.hist_core.specs.declared.runner.Runner.{Runner}
 use Rattle.hist_core.specs.Add.{counted_entry, HasEntry, StandsAtStage, IsAdd, IsSomeAdd, AddSteps, AddGives}
@@ -319,6 +319,10 @@ abbrev asks_not : Option Running → Type 0
 asks_not (Some (Hist hist)) = ⊥
 asks_not running = ⊤
 
+abbrev looks_not : Option Running → Type 0
+looks_not (Some (Snapshot looker)) = ⊥
+looks_not running = ⊤
+
 abbrev added_by : AddCall → Option Running → AddCall
 added_by d (Some (Add x)) = x
 added_by d running = d
@@ -335,6 +339,7 @@ module _ (old : Runner) (add now : AddCall) (is : old.running ≡ Some (Add add)
           ap (λ (r : Runner). r.known.items) new_is,
           (λ asked is_asked. absurd (subst asks_not (sym is ∙ is_asked) tt)),
           (λ other is_other. (now, ap (λ (r : Runner). r.running) new_is, ap (λ (x : AddCall). x.units) same ∙ ap (λ (x : AddCall). x.units) (ap (added_by add) (sym is ∙ is_other)))),
+          (λ looker is_looker. absurd (subst looks_not (sym is ∙ is_looker) tt)),
         ),
         (ap ended_by new_is, ap begun_by new_is ∙ whole, ap pending_by new_is),
       )

@@ -26,7 +26,7 @@ use Rattle.hist_core.specs.declared.hist.HistStep.{HistStep}
 use Rattle.hist_core.specs.declared.hist.HistStep.TheVariants.{More, Done, Refused}
 use Rattle.hist_core.specs.declared.hist.Known.{Known}
 use Rattle.hist_core.specs.declared.runner.Running.{Running}
-use Rattle.hist_core.specs.declared.runner.Running.TheVariants.{Hist, Add}
+use Rattle.hist_core.specs.declared.runner.Running.TheVariants.{Hist, Add, Snapshot}
 use Rattle.hist_core.specs.declared.entry.Entry.{Entry}
 use Rattle.hist_core.proofs.Quiet.{quiet_on, gives_none, begun_there}
 use Rattle.hist_core.specs.declared.runner.Runner.{Runner}
@@ -166,6 +166,10 @@ abbrev adds_not : Option Running → Type 0
 adds_not (Some (Add add)) = ⊥
 adds_not running = ⊤
 
+abbrev looks_not : Option Running → Type 0
+looks_not (Some (Snapshot looker)) = ⊥
+looks_not running = ⊤
+
 -- what is answered
 module _ (old : Runner) (h now : HistCall) (is : old.running ≡ Some (Hist h)) (same : now.asked ≡ h.asked) (words new_words : List ℕ)
     (all : length old.entries.items ≡ old.ended) (unbegun : old.begun ≡ old.ended) where
@@ -183,6 +187,7 @@ module _ (old : Runner) (h now : HistCall) (is : old.running ≡ Some (Hist h)) 
           ap (λ (r : Runner). r.known.items) new_is,
           (λ asked is_asked. (now, ap (λ (r : Runner). r.running) new_is, same ∙ ap (λ (y : HistCall). y.asked) (ap (asked_by h) (sym is ∙ is_asked)))),
           (λ add is_add. absurd (subst adds_not (sym is ∙ is_add) tt)),
+          (λ looker is_looker. absurd (subst looks_not (sym is ∙ is_looker) tt)),
         ),
         (
           ap ended_by new_is,

@@ -250,7 +250,7 @@ module _ (old : Board) (state : State) (reach : IsReachedAs old state) (size : l
     lands_so event b step (Done answer.Flagged) pooled run = lands event b step (omega (arith, pooled)) run
     lands_so event b step (Done (answer.Hist reference)) pooled run = lands event b step (omega (arith, pooled)) run
     lands_so event b step (Done (answer.Delta delta)) pooled run = lands event b step (omega (arith, pooled)) run
-    lands_so event b step (Done (answer.Snapshot snapshot)) pooled run = lands event b step (omega (arith, pooled)) run
+    lands_so event b step (Done (answer.Snapshot snapshot)) pooled (run, is) = lands event b step (omega (arith, pooled)) run
     lands_so event b step (Done (answer.BatchRefused why)) pooled run = lands event b step (omega (arith, pooled)) run
     lands_so event b step (Done (answer.Refused why)) pooled (living, fits, run) =
         lands_back event b (held_by r.running) step pooled living run.records fits run
@@ -294,15 +294,17 @@ module _ (old : Board) (state : State) (reach : IsReachedAs old state) (size : l
           },
         )
 
--- an actor changes at run time alone, and stands for the same as before: so does its world
-pub same_state : (old : Board) (state : State) → IsReachedAs old state → (actor : ℕ) (r r' : Runner) (new : Board) → get_elem? old.runners.items actor ≡ some r
-    → ((a : Actor) → IsRun old.shape old.version r a → IsRun old.shape old.version r' a)
+-- an actor changes at run time alone, and stands for the same actor of the machine as before: so does its world
+pub same_there : (old : Board) (state : State) → IsReachedAs old state → (actor : ℕ) (r r' : Runner) (new : Board) → get_elem? old.runners.items actor ≡ some r
+    → ((a : Actor) → get_elem? state.actors (actor + 1) ≡ some a → IsRun old.shape old.version r a → IsRun old.shape old.version r' a)
     → new.shape ≡ old.shape → new.version ≡ old.version → new.units ≡ old.units → new.words.items ≡ old.words.items → new.runners.items ≡ set old.runners.items actor r'
     → IsReachedAs new state
-same_state old state reach actor r r' new at same shaped versioned pooled worded runners =
+same_there old state reach actor r r' new at same shaped versioned pooled worded runners =
     let shows = reach.shows in
     let found = recorder_at old.shape old.version old.runners.items shows.recorders actor r shows.runs at in
-    let goes = one_goes_on old.shape old.version old.runners.items shows.recorders actor r' found.0 shows.runs (same found.0 found.2) in
+    let there : get_elem? state.actors (actor + 1) ≡ some found.0 =
+    ap (λ actors. get_elem? actors (actor + 1)) shows.actors ∙ behind_first shows.opener shows.recorders actor ∙ found.1 in
+    let goes = one_goes_on old.shape old.version old.runners.items shows.recorders actor r' found.0 shows.runs (same found.0 there found.2) in
     let stays = set_again shows.recorders actor found.0 found.1 in
     record {
       id = reach.id;
@@ -320,6 +322,13 @@ same_state old state reach actor r r' new at same shaped versioned pooled worded
         runs = subst (λ (p : Dimensions × ℕ × List Runner × List Actor). AreRun p.0 p.1 p.2 p.3) (λ i. (sym shaped i, sym versioned i, sym runners i, stays i)) goes;
       };
     }
+
+-- whichever that is
+pub same_state : (old : Board) (state : State) → IsReachedAs old state → (actor : ℕ) (r r' : Runner) (new : Board) → get_elem? old.runners.items actor ≡ some r
+    → ((a : Actor) → IsRun old.shape old.version r a → IsRun old.shape old.version r' a)
+    → new.shape ≡ old.shape → new.version ≡ old.version → new.units ≡ old.units → new.words.items ≡ old.words.items → new.runners.items ≡ set old.runners.items actor r'
+    → IsReachedAs new state
+same_state old state reach actor r r' new at same = same_there old state reach actor r r' new at (λ a there run. same a run)
 
 -- ---- at any moment
 

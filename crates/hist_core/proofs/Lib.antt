@@ -14,4 +14,5 @@ mod Quiet
 mod Runners
 mod Snapshots
 mod Takes
+mod Viewing
 mod Worlds

@@ -12,7 +12,7 @@ use Rattle.hist_core.specs.declared.runner.Runner.{Runner}
 use Rattle.std.specs.Prelude.{Option, Some, None, ⊤}
 use Rattle.hist_core.specs.declared.hist.Known.{Known}
 use Rattle.hist_core.specs.declared.runner.Running.{Running}
-use Rattle.hist_core.specs.declared.runner.Running.TheVariants.{SetCorrupt, Hist, Add}
+use Rattle.hist_core.specs.declared.runner.Running.TheVariants.{SetCorrupt, Hist, Add, Snapshot}
 use Rattle.hist_core.specs.Runner.{entry_of, ended_by, begun_by, pending_by, IsQuiet, StandsIn, IsRun, IsSomeRun}
 
 -- it counts nothing still where units, entries and deltas are as before
@@ -78,6 +78,7 @@ quiet_in : (shape : Dimensions) (known : List Known) (pending : List Entry) (run
 quiet_in shape known pending None a none stands = stands.1
 quiet_in shape known pending (Some SetCorrupt) a none stands = stands.1
 quiet_in shape known pending (Some (Hist hist)) a none stands = stands.1
+quiet_in shape known pending (Some (Snapshot looker)) a none stands = stands.0
 quiet_in shape known pending (Some (Add add)) a none stands = absurd none
 
 pub some_quiet : (n : ℕ) (r : Runner) → counts_none r.running → IsSomeRun n r → (length r.entries.items ≡ r.ended) × (r.begun ≡ r.ended)

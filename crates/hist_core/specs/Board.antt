@@ -32,7 +32,7 @@ use Rattle.hist_core.specs.declared.call.Begun.TheVariants.{Going, Ended}
 use Rattle.hist_core.specs.declared.hist.Known.{Known}
 use Rattle.hist_core.specs.declared.refusal.Refusal.TheVariants as refusal
 use Rattle.hist_core.specs.declared.runner.Running.{Running}
-use Rattle.hist_core.specs.declared.runner.Running.TheVariants.{Hist, Add}
+use Rattle.hist_core.specs.declared.runner.Running.TheVariants.{Hist, Add, Snapshot}
 use Rattle.hist_core.specs.declared.entry.Entry.{Entry}
 use Rattle.hist_core.specs.Asked.{IsRefusedFor}
 use Rattle.hist_core.specs.Runner.{IsFresh, IsRun, IsAsItWas, IsKnownAnswer, NoneHasName, Answers, entry_of, pending_by, ended_by, begun_by}
@@ -193,6 +193,20 @@ AddBegins actor name value units old new Going = (0 < units) × (units ≤ old.u
 AddBegins actor name value units old new (Ended (answer.Refused refusal.ZeroCount)) = IsAsBefore old new × (units ≡ 0)
 AddBegins actor name value units old new (Ended (answer.Refused refusal.NoUnits)) = IsAsBefore old new × (old.units < units)
 AddBegins actor name value units old new (Ended answered) = ⊥
+
+-- ---- how a `snapshot` begins
+
+-- a running call looks at the histogram of a record
+abbrev pub LooksAt : ℕ → Option Running → Type 0
+LooksAt reference (Some (Snapshot looker)) = looker.histogram ≡ reference
+LooksAt reference running = ⊥
+
+-- it goes on, looking at a histogram of the name that the actor knows, and no word has changed
+abbrev pub SnapshotBegins : ℕ → List ℕ → Board → Board → Begun → Type 0
+SnapshotBegins actor name old new Going =
+    (new.words ≡ old.words) × ((runner : Runner) × (get_elem? new.runners.items actor ≡ some runner)
+    × ((known : Known) × Contains runner.known.items known × (known.name.items ≡ name) × LooksAt known.reference runner.running))
+SnapshotBegins actor name old new (Ended answered) = ⊥
 
 -- ---- a step
 

@@ -1,6 +1,6 @@
 -- An actor of a world at run time, and the actor of the machine that it stands for.
 use Rattle.std.specs.Prelude.{◌≡◌, ◌≢◌, ◌≤◌, ◌<◌, ℕ, ℤ, ◌+◌, ◌*◌, ◌⊎◌, true, false, List, [], ◌∷◌, ◌++◌, map, take, drop, length, Option, Some, None, bit_or, ⊤, Result, Ok, Err, vec_len, vec_capacity}
-use Rattle.std.specs.List.{All}
+use Rattle.std.specs.List.{All, Contains}
 use mathlib.Core.Option.{some}
 use lib.ListN.{get_elem?}
 use Rattle.bucket_ranges.specs.Ranges.{boundaries_of}
@@ -14,8 +14,9 @@ use Rattle.segment_machine.specs.declared.entry.Entry.{Entry as MachineEntry}
 use Rattle.segment_machine.specs.declared.actor.Actor.{Actor}
 use Rattle.segment_machine.specs.declared.place.Place.TheVariants.{Spent}
 use Rattle.segment_machine.specs.Actor.{is_opener, is_bound}
-use Rattle.segment_machine.specs.Note.{MayNote, noted, begins}
+use Rattle.segment_machine.specs.Note.{MayNote, SawAll, noted, begins}
 use Rattle.segment_machine.specs.Seats.{giver}
+use Rattle.segment_machine.specs.declared.actor.Answered.{Answered}
 use Rattle.segment_machine.specs.declared.actor.Known.{Known as MachineKnown}
 use Rattle.hist_core.specs.Goes.{Goes}
 use Rattle.hist_core.specs.Add.{IsAdd, counted_entry, IsStarted}
@@ -23,6 +24,11 @@ use Rattle.hist_core.specs.declared.add.Add.{Add as AddCall}
 use Rattle.hist_core.specs.declared.add.AddStep.{AddStep}
 use Rattle.hist_core.specs.declared.add.AddStep.TheVariants as add
 use Rattle.hist_core.specs.Hist.{IsHist, IsBegun}
+use Rattle.hist_core.specs.Looker.{IsLooker, IsStarted as IsLookerStarted}
+use Rattle.hist_core.specs.declared.answer.Snapshot.{Snapshot as SnapshotAnswer}
+use Rattle.hist_core.specs.declared.looker.Looker.{Looker}
+use Rattle.hist_core.specs.declared.looker.LookerStep.{LookerStep}
+use Rattle.hist_core.specs.declared.looker.LookerStep.TheVariants as look
 use Rattle.hist_core.specs.declared.asked.Asked.{Asked}
 use Rattle.hist_core.specs.declared.refusal.Refusal.TheVariants as why
 use Rattle.hist_core.specs.declared.call.Answer.{Answer}
@@ -38,7 +44,7 @@ use Rattle.hist_core.specs.declared.call.Answer.TheVariants as answer
 use Rattle.hist_core.specs.declared.call.Stepped.{Stepped}
 use Rattle.hist_core.specs.declared.call.Stepped.TheVariants.{More, Done}
 use Rattle.hist_core.specs.declared.runner.Running.{Running}
-use Rattle.hist_core.specs.declared.runner.Running.TheVariants.{SetCorrupt, Hist, Add}
+use Rattle.hist_core.specs.declared.runner.Running.TheVariants.{SetCorrupt, Hist, Add, Snapshot}
 use Rattle.hist_core.specs.declared.runner.Runner.{Runner}
 
 -- ---- what it shows
@@ -128,6 +134,7 @@ StandsIn shape known pending None a = (is_bound a.hand.place ≡ false) × IsQui
 StandsIn shape known pending (Some SetCorrupt) a = (is_bound a.hand.place ≡ false) × IsQuiet pending a
 StandsIn shape known pending (Some (Hist hist)) a = IsHist shape hist a × IsQuiet pending a × NoneHasName known hist.asked.name.items
 StandsIn shape known pending (Some (Add add)) a = IsAdding shape pending add a
+StandsIn shape known pending (Some (Snapshot looker)) a = IsQuiet pending a × ((seen : MachineKnown) × IsLooker shape seen looker a)
 
 -- there is room for the histogram that a `hist` asks for, beside so many that are known
 abbrev pub HasRoom : Option Running → ℕ → ℕ → Type 0
@@ -166,10 +173,30 @@ abbrev pub returned_by : Stepped → ℕ → ℕ
 returned_by (Done (answer.Refused why)) held = held
 returned_by said held = 0
 
--- where its actor lands: a call that is refused gives the units back that it had
+-- the histogram's record that a running call looks at
+abbrev pub looked_by : Option Running → ℕ
+looked_by (Some (Snapshot looker)) = looker.histogram
+looked_by running = 0
+
+-- A snapshot of the histogram of a record is the last that its actor was answered, and is what the actor saw since it began.
+pub record IsAnswer (histogram : ℕ) (snapshot : SnapshotAnswer) (a : Actor) : Type 0 where
+  pub known : MachineKnown
+  pub knows : Contains a.answers.names known
+  pub reference : known.reference ≡ histogram
+  pub before : List Answered
+  pub answered : Answered
+  pub snapshots : a.deltas.snapshots ≡ before ++ answered ∷ []
+  pub name : answered.name ≡ known.name
+  pub counts : answered.counts ≡ snapshot.counts.items
+  pub sum : answered.sum ≡ snapshot.sum
+  pub redundant : answered.redundant ≡ snapshot.redundant
+  pub saw : SawAll a known answered
+
+-- where its actor lands: a call that is refused gives the units back that it had; a snapshot is answered with what was seen
 abbrev pub Lands : Dimensions → ℕ → Runner → Runner → Stepped → Actor → Type 0
 Lands shape version old new (Done (answer.Refused why)) b =
     let units = held_by old.running in (b.hand.place ≢ Spent) × (units ≤ b.units.share) × IsRun shape version new (giver b units)
+Lands shape version old new (Done (answer.Snapshot snapshot)) b = IsRun shape version new b × IsAnswer (looked_by old.running) snapshot b
 Lands shape version old new said b = IsRun shape version new b
 
 -- It goes on by one event, as the actor does for which it stands.
@@ -196,16 +223,23 @@ EntriesGo old new (Done answered) = (ended_by new ≡ ended_by old) × (begun_by
 abbrev pub AddsOn : Option Running → Option Running → Type 0
 AddsOn old new = (add : AddCall) → old ≡ Some (Add add) → (now : AddCall) × (new ≡ Some (Add now)) × (now.units ≡ add.units)
 
+-- it goes on with the same snapshot
+abbrev pub LooksOn : Option Running → Option Running → Type 0
+LooksOn old new = (looker : Looker) → old ≡ Some (Snapshot looker) → (now : Looker) × (new ≡ Some (Snapshot now)) × (now.histogram ≡ looker.histogram)
+
 -- What its call says, and what it knows then: it goes on; the corrupt flag is set; a `hist` is answered with the histogram that it asked
--- for, which is the last that is known; an `add` is accepted; or it is refused.
+-- for, which is the last that is known; an `add` is accepted; a snapshot is answered; or it is refused.
 abbrev pub Tells : Runner → List ℕ → Runner → List ℕ → Stepped → Type 0
-Tells old words new new_words More = (new.known.items ≡ old.known.items) × AsksOn old.running new.running × AddsOn old.running new.running
+Tells old words new new_words More =
+    (new.known.items ≡ old.known.items) × AsksOn old.running new.running × AddsOn old.running new.running × LooksOn old.running new.running
 Tells old words new new_words (Done answer.Flagged) =
     (word_at new_words FLAGS_WORD ≡ bit_or (word_at words FLAGS_WORD) FLAG_CORRUPT) × (new.running ≡ None) × (new.known.items ≡ old.known.items)
 Tells old words new new_words (Done (answer.Hist reference)) =
     (known : Known) × IsAskedBy old.running known × (known.reference ≡ reference) × (new.known.items ≡ old.known.items ++ known ∷ []) × (new.running ≡ None)
 Tells old words new new_words (Done answer.Added) =
     ((add : AddCall) × (old.running ≡ Some (Add add))) × (new.running ≡ None) × (new.known.items ≡ old.known.items)
+Tells old words new new_words (Done (answer.Snapshot snapshot)) =
+    ((looker : Looker) × (old.running ≡ Some (Snapshot looker))) × (new.running ≡ None) × (new.known.items ≡ old.known.items)
 Tells old words new new_words (Done (answer.Refused why)) = (new.running ≡ None) × (new.known.items ≡ old.known.items)
 Tells old words new new_words (Done _) = ⊥
 
@@ -252,6 +286,25 @@ pub record BeginsAdd (shape : Dimensions) (version : ℕ) (known : Known) (value
   pub entry_is : entry_of entry ≡ counted_entry (known_of known) add
   pub entries : new.entries.items ≡ old.entries.items ++ entry ∷ []
   pub is : new ≡ record old { entries = new.entries; running = Some (Add add) }
+
+-- ---- a `snapshot`
+
+-- it looks at a histogram
+abbrev pub LooksAtOne : Option Running → Type 0
+LooksAtOne (Some (Snapshot looker)) = ⊤
+LooksAtOne running = ⊥
+
+-- what becomes of it by what a step of its `snapshot` said: it goes on, or is answered with the totals, the sum and the redundant count
+abbrev pub IsSnapshotSaid : Runner → LookerStep → Runner → Stepped → Type 0
+IsSnapshotSaid old look.More new result = (new ≡ old) × (result ≡ More)
+IsSnapshotSaid old (look.Done sum redundant) new result =
+    (looker : Looker) × (old.running ≡ Some (Snapshot looker)) × (new ≡ record old { running = None })
+    × (result ≡ Done (answer.Snapshot (record { counts = looker.totals; sum = sum; redundant = redundant })))
+
+-- it begins a `snapshot` of a known histogram
+abbrev pub BeginsSnapshot : ℕ → Known → Runner → Runner → Type 0
+BeginsSnapshot version known old new =
+    (looker : Looker) × IsLookerStarted version (known_of known) looker × (new ≡ record old { running = Some (Snapshot looker) })
 
 -- ---- how it begins a `hist`
 

@@ -76,7 +76,7 @@ impl Board {
     ghost use lib.ListN.{get_elem?};
     ghost use Rattle.segment_machine.specs.State.{State};
     ghost use Rattle.hist_core.specs.declared.runner.Runner.{Runner};
-    ghost use Rattle.hist_core.specs.Board.{IsNewBoard, IsReached, IsReachedAs, StepsTo, Rests, IsBusy, IsAsBefore, OthersStay, BeginsFrom, HistBegins, AddBegins, IsAddBegun, IsKnownBy, IsPlaceOf, LacksName, Says};
+    ghost use Rattle.hist_core.specs.Board.{IsNewBoard, IsReached, IsReachedAs, StepsTo, Rests, IsBusy, IsAsBefore, OthersStay, BeginsFrom, HistBegins, AddBegins, IsAddBegun, SnapshotBegins, IsKnownBy, IsPlaceOf, LacksName, Says};
     ghost use Rattle.hist_core.specs.declared.hist.Known.{Known};
     ghost use Rattle.segment_machine.specs.Actor.{has_buckets};
 
@@ -196,6 +196,23 @@ impl Board {
         runner.begin_add(self.alloc, self.shape, self.version, place, value, count)?;
         self.units -= u64::from(count);
         Ok(())
+    }
+
+    // An actor that rests begins to look at a histogram that it knows.
+    pub(crate) fn begin_snapshot(&mut self, actor: usize, place: usize) -> Result<Begun, AllocError>
+        requires reached { ∥ IsReached self.old ∥₁ }
+        requires near { actor < vec_len self.old.runners }
+        requires rests { Rests self.old actor }
+        requires bucketed { (known : Known) → IsKnownBy self.old actor place known → has_buckets known.spec ≡ true }
+        requires known { (name : List ℕ) × IsPlaceOf self.old actor name place }
+        ensures fault { OnErr result (IsAsBefore self.old self.new) }
+        ensures begins { (state : State) → IsReachedAs self.old state → IsReachedAs self.new state }
+        ensures others { OthersStay actor self.old self.new }
+        ensures says { IfOk result (λ said. (name : List ℕ) → IsPlaceOf self.old actor name place → SnapshotBegins actor name self.old self.new said) }
+    {
+        let runner = &mut self.runners[actor];
+        runner.begin_snapshot(self.alloc, self.version, place)?;
+        Ok(Begun::Going)
     }
 
     // An actor goes on with its call by one event.

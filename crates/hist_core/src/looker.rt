@@ -110,7 +110,8 @@ impl Looker {
     fn load_single(&mut self, words: &[u64]) -> LookerStep
         requires loads { self.old.stage ≡ LoadingSingle }
         requires stands { ∥ IsSomeLooker (length words.now) self.old ∥₁ }
-        ensures { LookerSteps self.old words.now self.new words.now result }
+        ensures steps { LookerSteps self.old words.now self.new words.now result }
+        ensures of { self.new.histogram ≡ self.old.histogram }
     {
         let word = words[self.histogram as usize + HISTOGRAM_SINGLE];
         self.behind_single(word);
@@ -121,7 +122,8 @@ impl Looker {
     fn load_counts(&mut self, words: &[u64], packed: Option<usize>, kept: u64) -> LookerStep
         requires loads { self.old.stage ≡ LoadingCounts packed kept }
         requires stands { ∥ IsSomeLooker (length words.now) self.old ∥₁ }
-        ensures { LookerSteps self.old words.now self.new words.now result }
+        ensures steps { LookerSteps self.old words.now self.new words.now result }
+        ensures of { self.new.histogram ≡ self.old.histogram }
     {
         let counts = words[self.histogram as usize + HISTOGRAM_COUNTS];
         let mounted = Mounted {
@@ -152,7 +154,8 @@ impl Looker {
     fn load_count(&mut self, words: &[u64], mounted: Mounted, bucket: usize) -> LookerStep
         requires loads { self.old.stage ≡ LoadingCount mounted bucket }
         requires stands { ∥ IsSomeLooker (length words.now) self.old ∥₁ }
-        ensures { LookerSteps self.old words.now self.new words.now result }
+        ensures steps { LookerSteps self.old words.now self.new words.now result }
+        ensures of { self.new.histogram ≡ self.old.histogram }
     {
         let count = words[mounted.counts as usize + (BLOCK_HEADER + bucket)];
         self.stage = self.behind_bucket(mounted, bucket);
@@ -164,7 +167,8 @@ impl Looker {
     fn load_sum(&mut self, words: &[u64]) -> LookerStep
         requires loads { self.old.stage ≡ LoadingSum }
         requires stands { ∥ IsSomeLooker (length words.now) self.old ∥₁ }
-        ensures { LookerSteps self.old words.now self.new words.now result }
+        ensures steps { LookerSteps self.old words.now self.new words.now result }
+        ensures of { self.new.histogram ≡ self.old.histogram }
     {
         let sum = words[self.histogram as usize + HISTOGRAM_SUM].cast_signed();
         self.stage = Stage::LoadingRedundant { sum };
@@ -175,7 +179,8 @@ impl Looker {
     fn load_redundant(&mut self, words: &[u64], sum: i64) -> LookerStep
         requires loads { self.old.stage ≡ LoadingRedundant sum }
         requires stands { ∥ IsSomeLooker (length words.now) self.old ∥₁ }
-        ensures { LookerSteps self.old words.now self.new words.now result }
+        ensures steps { LookerSteps self.old words.now self.new words.now result }
+        ensures of { self.new.histogram ≡ self.old.histogram }
     {
         let redundant = words[self.histogram as usize + HISTOGRAM_REDUNDANT];
         LookerStep::Done { sum, redundant }
@@ -184,7 +189,8 @@ impl Looker {
     // Goes on by one event.
     pub(crate) fn step(&mut self, words: &[u64]) -> LookerStep
         requires stands { ∥ IsSomeLooker (length words.now) self.old ∥₁ }
-        ensures { LookerSteps self.old words.now self.new words.now result }
+        ensures steps { LookerSteps self.old words.now self.new words.now result }
+        ensures of { self.new.histogram ≡ self.old.histogram }
     {
         match self.stage {
             Stage::LoadingSingle => self.load_single(words),

@@ -1,10 +1,12 @@
 //! One actor of a world, with the call that it runs.
 
 use crate::add::{Add, AddStep};
+use crate::answer::Snapshot;
 use crate::asked::Asked;
 use crate::call::{Answer, Begun, Stepped};
 use crate::entry::{Entry, Taken};
 use crate::hist::{Hist, HistStep, Known};
+use crate::looker::{Looker, LookerStep};
 use crate::refusal::Refusal;
 use crate::samples::key_of;
 use alloc_core::event::set_bits;
@@ -21,6 +23,8 @@ pub(crate) enum Running {
     Hist(Hist),
     /// It counts a value.
     Add(Add),
+    /// It looks at a histogram.
+    Snapshot(Looker),
 }
 
 /// An actor: what it has counted and taken, and the call that it runs.
@@ -49,7 +53,7 @@ impl Runner {
     ghost use Rattle.segment_image.specs.Shape.{Dimensions};
     ghost use Rattle.segment_machine.specs.declared.actor.Actor.{Actor};
     ghost use Rattle.hist_core.specs.declared.hist.HistStep.TheVariants.{Done};
-    ghost use Rattle.hist_core.specs.Runner.{IsFresh, IsRun, IsSomeRun, NoneHasName, IsKnownAt, IsKnownAnswer, BeginsHist, HasRoom, AsksForOne, IsHistSaid, IsAddSaid, Adds, BeginsAdd, IsAsItWas, held_by, Advances, Answers};
+    ghost use Rattle.hist_core.specs.Runner.{IsFresh, IsRun, IsSomeRun, NoneHasName, IsKnownAt, IsKnownAnswer, BeginsHist, HasRoom, AsksForOne, IsHistSaid, IsAddSaid, Adds, BeginsAdd, BeginsSnapshot, LooksAtOne, IsSnapshotSaid, IsAsItWas, held_by, Advances, Answers};
 
     // An actor that has done nothing.
     pub(crate) fn new(alloc: Global) -> Runner
@@ -110,7 +114,7 @@ impl Runner {
     {
         match &self.running {
             Some(Running::Add(add)) => u64::from(add.units),
-            Some(Running::SetCorrupt | Running::Hist(_)) | None => 0,
+            Some(Running::SetCorrupt | Running::Hist(_) | Running::Snapshot(_)) | None => 0,
         }
     }
 
@@ -212,6 +216,44 @@ impl Runner {
         }
     }
 
+    // It begins to look at a histogram that it knows.
+    pub(crate) fn begin_snapshot(
+        &mut self,
+        alloc: Global,
+        version: u64,
+        i: usize,
+    ) -> Result<(), AllocError>
+        requires near { i < vec_len self.old.known }
+        requires lawful { (known : Known) → get_elem? self.old.known.items i ≡ some known → spec_fault known.spec ≡ None }
+        requires ranges { (known : Known) → get_elem? self.old.known.items i ≡ some known → known.ranges ≡ boundaries_of known.spec }
+        requires bucketed { (known : Known) → get_elem? self.old.known.items i ≡ some known → has_buckets known.spec ≡ true }
+        ensures begins { IfOk result (λ _. (known : Known) → get_elem? self.old.known.items i ≡ some known → BeginsSnapshot version known self.old self.new) }
+        ensures fails { OnErr result (self.new ≡ self.old) }
+    {
+        let looker = Looker::start(alloc, version, &self.known[i])?;
+        self.running = Some(Running::Snapshot(looker));
+        Ok(())
+    }
+
+    // What becomes of it by what a step of its `snapshot` said.
+    fn snapshot_said(&mut self, said: LookerStep) -> Stepped
+        requires looks { LooksAtOne self.old.running }
+        ensures { IsSnapshotSaid self.old said self.new result }
+    {
+        let LookerStep::Done { sum, redundant } = said else {
+            return Stepped::More;
+        };
+        let Some(Running::Snapshot(looker)) = self.running.take() else {
+            return Stepped::More;
+        };
+        let Looker { totals, .. } = looker;
+        Stepped::Done(Answer::Snapshot(Snapshot {
+            counts: totals,
+            sum,
+            redundant,
+        }))
+    }
+
     // Goes on by one event, which is the next of the running call.
     pub(crate) fn advance(&mut self, words: &mut [u64]) -> Stepped
         requires runs { IsSome self.old.running }
@@ -232,6 +274,10 @@ impl Runner {
             Some(Running::Add(add)) => {
                 let said = add.step(words);
                 self.add_said(said)
+            }
+            Some(Running::Snapshot(looker)) => {
+                let said = looker.step(words);
+                self.snapshot_said(said)
             }
             None => Stepped::More,
         }

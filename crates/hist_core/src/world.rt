@@ -102,8 +102,8 @@ impl World {
         &runner.entries[..runner.ended]
     }
 
-    /// An actor begins a call, which asks for a histogram, counts a value, or marks the segment as corrupt. The other calls are
-    /// to come, and so is counting in a sparse histogram.
+    /// An actor begins a call, which asks for a histogram, counts a value, looks at a histogram, or marks the segment as corrupt.
+    /// The other calls are to come, and so are those on a sparse histogram.
     ///
     /// `NoActor` where there is no such actor, then `Busy` where a call of it is going on, then `Unknown` where the call is of a
     /// histogram and no `Hist` of the actor was answered with one of that name, then `NoMemory`. Where the call needs no event it
@@ -133,6 +133,12 @@ impl World {
                     return Err(WorldFault::Unknown);
                 };
                 Ok(board.begin_add(actor, place, *value, *count)?)
+            }
+            Call::Snapshot(name) => {
+                let Some(place) = board.place_of(actor, name) else {
+                    return Err(WorldFault::Unknown);
+                };
+                Ok(board.begin_snapshot(actor, place)?)
             }
             Call::SetCorrupt => {
                 board.begin_set_corrupt(actor);

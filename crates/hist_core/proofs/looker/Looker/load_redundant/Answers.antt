@@ -16,8 +16,8 @@ offset_bounds-words-self c = let inside = some_inside c.args.self.now c.args.wor
 pub bounds-words-self : goal.bounds-words-self
 bounds-words-self c = let inside = some_inside c.args.self.now c.args.words.now c.requires.stands in omega (arith, inside.0)
 
-pub returns : goal.returns
-returns c = λ shape known a long is.
+pub returns-clause-steps : goal.returns-clause-steps
+returns-clause-steps c = λ shape known a long is.
     let looker = c.args.self.now in
     let words = c.args.words.now in
     let whole : cast_signed w64 (cast_unsigned w64 c.args.sum) ≡ c.args.sum = search rules in

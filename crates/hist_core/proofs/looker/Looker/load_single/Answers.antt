@@ -14,6 +14,6 @@ bounds-words-self c = let inside = some_inside c.args.self.now c.args.words.now 
 pub behind_single-requires : goal.behind_single-requires
 behind_single-requires c = let inside = some_inside c.args.self.now c.args.words.now c.requires.stands in omega (arith, inside.2)
 
-pub returns : goal.returns
-returns c = λ shape known a long is.
+pub returns-clause-steps : goal.returns-clause-steps
+returns-clause-steps c = λ shape known a long is.
     loads_single shape known c.args.self.now a c.args.words.now is c.requires.loads _ c.behind_single.ensures

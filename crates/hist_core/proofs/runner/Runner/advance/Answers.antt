@@ -7,6 +7,7 @@ use Rattle.hist_core.proofs.Adding.{add_goes, add_answers, some_add}
 use Rattle.hist_core.proofs.Asking.{some_hist, some_words, some_room, hist_goes, hist_answers}
 use Rattle.hist_core.proofs.Quiet.{counts_none, some_quiet, some_within}
 use Rattle.hist_core.proofs.Runners.{sets_corrupt}
+use Rattle.hist_core.proofs.Viewing.{snapshot_answers, snapshot_goes, some_looker}
 use Rattle.hist_core.proofs.runner.Runner.advance.Goals as goal
 
 pub set_bits-requires : goal.set_bits-requires
@@ -71,3 +72,22 @@ pub returns-in-Some-Add-clause-answers : goal.returns-in-Some-Add-clause-answers
 returns-in-Some-Add-clause-answers c =
     add_answers c.args.self.now c.in-Some-Add.add c.step-said-in-Some-Add.new.self (c.in-Some-Add.is ∙ ap Some c.in-Some-Add.field-0-is) c.step-said-in-Some-Add.ensures.same
     c.args.words.now c.step-said-in-Some-Add.new.words c.step-said-in-Some-Add.result c.add_said.new.self c.add_said.result c.add_said.ensures
+
+pub step-said-requires-in-Some-Snapshot : goal.step-said-requires-in-Some-Snapshot
+step-said-requires-in-Some-Snapshot c = record {
+  stands = ∥∥₁_elim c.requires.stands (hlevel props) (λ some.
+      ∣ some_looker (length c.args.words.now) c.args.self.now c.in-Some-Snapshot.looker (c.in-Some-Snapshot.is ∙ ap Some c.in-Some-Snapshot.field-0-is) some ∣₁);
+}
+
+pub returns-in-Some-Snapshot-clause-advances : goal.returns-in-Some-Snapshot-clause-advances
+returns-in-Some-Snapshot-clause-advances c = λ shape version a size run.
+    snapshot_goes shape version c.args.self.now a run c.in-Some-Snapshot.looker c.step-said-in-Some-Snapshot.new.self (c.in-Some-Snapshot.is ∙ ap Some c.in-Some-Snapshot.field-0-is)
+    c.step-said-in-Some-Snapshot.ensures.of c.args.words.now c.args.words.now (sym size) c.step-said-in-Some-Snapshot.result c.snapshot_said.new.self c.snapshot_said.result
+    c.step-said-in-Some-Snapshot.ensures.steps c.snapshot_said.ensures
+
+pub returns-in-Some-Snapshot-clause-answers : goal.returns-in-Some-Snapshot-clause-answers
+returns-in-Some-Snapshot-clause-answers c =
+    let its = c.in-Some-Snapshot.is ∙ ap Some c.in-Some-Snapshot.field-0-is in
+    let unbegun = ∥∥₁_elim c.requires.stands (hlevel props) (λ some. some_quiet (length c.args.words.now) c.args.self.now (subst counts_none (sym its) tt) some) in
+    snapshot_answers c.args.self.now c.in-Some-Snapshot.looker c.step-said-in-Some-Snapshot.new.self its c.step-said-in-Some-Snapshot.ensures.of
+    c.args.words.now c.args.words.now unbegun.0 unbegun.1 c.step-said-in-Some-Snapshot.result c.snapshot_said.new.self c.snapshot_said.result c.snapshot_said.ensures

@@ -1,6 +1,6 @@
 use Rattle.std.proofs.Common.{◌≡◌, ◌∙◌, true, false, ℤ, w32, to_z, of_z, List, ℕ, refl, sym, ap, subst, vec_len, arith, rules}
 use Rattle.std.specs.Prelude.{Ok, IfErr}
-use Rattle.hist_core.specs.Board.{HistBegins, AddBegins, IsPlaceOf}
+use Rattle.hist_core.specs.Board.{HistBegins, AddBegins, SnapshotBegins, IsPlaceOf}
 use mathlib.Core.Option.{some, some-injective}
 use lib.ListN.{get_elem?}
 use Rattle.segment_invariant.proofs.Lists.Elements.{contains_at}
@@ -132,3 +132,58 @@ returns-in_ok-begin_hist-in-Hist-clause-says c =
     subst (λ (call : Call). BeginSays c.args.actor call c.args.self.now.board c.begin_hist.new.self c.in_ok-begin_hist-in-Hist.field-0) (sym c.in-Hist.is)
     (subst (λ (name : List ℕ). HistBegins c.args.actor name c.in-Hist.spec c.args.self.now.board c.begin_hist.new.self (Ok c.in_ok-begin_hist-in-Hist.field-0)) c.deref.ensures.value
     c.in_ok-begin_hist-in-Hist.ensures.says)
+
+pub begin_snapshot-requires-clause-rests : goal.begin_snapshot-requires-clause-rests
+begin_snapshot-requires-clause-rests c =
+    let board = c.args.self.now.board in let r = c.index.result.now in
+    let at = is_there board.runners.items (vec_len board.runners) c.args.actor r board.runners.ok.0 (omega (arith, c.if-actor-len.false, c.len.ensures)) c.index.ensures in
+    is_resting board c.args.actor r at (sym c.is_some.ensures ∙ c.if-is_some.false)
+
+pub begin_snapshot-requires-clause-bucketed : goal.begin_snapshot-requires-clause-bucketed
+begin_snapshot-requires-clause-bucketed c = λ known (r, here, at).
+    let board = c.args.self.now.board in
+    let can = subst (CanBegin c.args.actor board) c.in-Snapshot.is c.requires in
+    let found : IsPlaceOf board c.args.actor c.deref-in-Snapshot.result.now c.in-Some-place_of.place = c.in-Some-place_of.ensures.found in
+    let one : found.1.0 ≡ r = some-injective found.1.0 r (sym found.1.1 ∙ here) in
+    let same : found.0 ≡ known = some-injective found.0 known (sym found.1.2 ∙ (ap (λ (x : Runner). get_elem? x.known.items c.in-Some-place_of.place) one ∙ at)) in
+    can r known here (contains_at r.known.items c.in-Some-place_of.place known at) (ap (λ (k : Known). k.name.items) (sym same) ∙ (found.2 ∙ c.deref-in-Snapshot.ensures.value))
+
+pub invariant_of-self-in-Snapshot : goal.invariant_of-self-in-Snapshot
+invariant_of-self-in-Snapshot c = record {
+  reached = ∥∥₁_elim c.args.self.now.reached (hlevel props) (λ (state, reach). ∣ (state, c.begin_snapshot.ensures.begins state reach) ∣₁);
+}
+
+pub returns-in_default-place_of-2-clause-faults : goal.returns-in_default-place_of-2-clause-faults
+returns-in_default-place_of-2-clause-faults c =
+    let board = c.args.self.now.board in let r = c.index.result.now in
+    let at = is_there board.runners.items (vec_len board.runners) c.args.actor r board.runners.ok.0 (omega (arith, c.if-actor-len.false, c.len.ensures)) c.index.ensures in
+    third_of_three _ _ _ _ _ _ _ _ (lt-leb (vec_len board.runners) c.args.actor (omega (arith, c.if-actor-len.false, c.len.ensures)))
+    (runs_as board c.args.actor r at ∙ sym c.is_some.ensures ∙ c.if-is_some.false)
+    (by_name board c.args.actor c.deref-in-Snapshot.result.now c.args.call.now (ap named_by c.in-Snapshot.is ∙ ap some (sym c.deref-in-Snapshot.ensures.value)) true
+    (lacks_it board c.args.actor c.deref-in-Snapshot.result.now r at c.in_default-place_of-2.ensures.none)) refl
+
+pub returns-in_err-begin_snapshot-in-Snapshot-clause-faults : goal.returns-in_err-begin_snapshot-in-Snapshot-clause-faults
+returns-in_err-begin_snapshot-in-Snapshot-clause-faults c =
+    let board = c.args.self.now.board in let r = c.index.result.now in
+    let at = is_there board.runners.items (vec_len board.runners) c.args.actor r board.runners.ok.0 (omega (arith, c.if-actor-len.false, c.len.ensures)) c.index.ensures in
+    none_of_three _ _ _ _ _ _ _ _ (lt-leb (vec_len board.runners) c.args.actor (omega (arith, c.if-actor-len.false, c.len.ensures)))
+    (runs_as board c.args.actor r at ∙ sym c.is_some.ensures ∙ c.if-is_some.false)
+    (by_name board c.args.actor c.deref-in-Snapshot.result.now c.args.call.now (ap named_by c.in-Snapshot.is ∙ ap some (sym c.deref-in-Snapshot.ensures.value)) false
+    (knows_it board c.args.actor c.deref-in-Snapshot.result.now c.in-Some-place_of.place c.in-Some-place_of.ensures.found))
+    (subst (λ (call : Call). IfErr c.from_residual-in_err-begin_snapshot-in-Snapshot.result (λ fault. (fault ≡ NoMemory) × TakesMemory call)) (sym c.in-Snapshot.is) (search rules))
+
+pub returns-in_ok-begin_snapshot-in-Snapshot-clause-faults : goal.returns-in_ok-begin_snapshot-in-Snapshot-clause-faults
+returns-in_ok-begin_snapshot-in-Snapshot-clause-faults c =
+    let board = c.args.self.now.board in let r = c.index.result.now in
+    let at = is_there board.runners.items (vec_len board.runners) c.args.actor r board.runners.ok.0 (omega (arith, c.if-actor-len.false, c.len.ensures)) c.index.ensures in
+    none_of_three _ _ _ _ _ _ _ _ (lt-leb (vec_len board.runners) c.args.actor (omega (arith, c.if-actor-len.false, c.len.ensures)))
+    (runs_as board c.args.actor r at ∙ sym c.is_some.ensures ∙ c.if-is_some.false)
+    (by_name board c.args.actor c.deref-in-Snapshot.result.now c.args.call.now (ap named_by c.in-Snapshot.is ∙ ap some (sym c.deref-in-Snapshot.ensures.value)) false
+    (knows_it board c.args.actor c.deref-in-Snapshot.result.now c.in-Some-place_of.place c.in-Some-place_of.ensures.found)) tt
+
+pub returns-in_ok-begin_snapshot-in-Snapshot-clause-says : goal.returns-in_ok-begin_snapshot-in-Snapshot-clause-says
+returns-in_ok-begin_snapshot-in-Snapshot-clause-says c =
+    subst (λ (call : Call). BeginSays c.args.actor call c.args.self.now.board c.begin_snapshot.new.self c.in_ok-begin_snapshot-in-Snapshot.field-0) (sym c.in-Snapshot.is)
+    (subst (λ (name : List ℕ). SnapshotBegins c.args.actor name c.args.self.now.board c.begin_snapshot.new.self c.in_ok-begin_snapshot-in-Snapshot.field-0)
+    c.deref-in-Snapshot.ensures.value
+    (c.in_ok-begin_snapshot-in-Snapshot.ensures.says c.deref-in-Snapshot.result.now c.in-Some-place_of.ensures.found))

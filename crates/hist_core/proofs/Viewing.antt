@@ -1,0 +1,267 @@
+-- A `snapshot` of an actor goes on, and what it is answered with.
+use Rattle.std.proofs.Common.{◌≡◌, ◌≤◌, ◌+◌, ◌-◌, ℕ, ℤ, pos, true, false, true≢false, arith, set, slice_index, List, length, map, take, All, refl, sym, ap, subst, ◌∙◌}
+use Rattle.std.specs.Prelude.{⊤, Option, Some, None}
+use Rattle.std.specs.List.{Contains}
+use Rattle.segment_image.specs.Shape.{Dimensions}
+use Rattle.segment_machine.specs.declared.actor.Actor.{Actor}
+use Rattle.segment_machine.specs.declared.actor.Known.{Known as MachineKnown}
+use Rattle.segment_machine.specs.Calls.{MayTurn}
+use Rattle.hist_core.specs.declared.call.Stepped.{Stepped}
+use Rattle.hist_core.specs.declared.call.Answer.TheVariants as answer
+use Rattle.hist_core.specs.declared.call.Stepped.TheVariants as stepped
+use Rattle.hist_core.specs.declared.looker.Looker.{Looker}
+use Rattle.hist_core.specs.declared.looker.LookerStep.{LookerStep}
+use Rattle.hist_core.specs.declared.looker.LookerStep.TheVariants.{More, Done}
+use Rattle.hist_core.specs.declared.runner.Running.{Running}
+use Rattle.hist_core.specs.declared.runner.Running.TheVariants.{Hist, Add, Snapshot}
+use Rattle.hist_core.specs.declared.runner.Runner.{Runner}
+use Rattle.hist_core.specs.Goes.{Goes}
+use Rattle.hist_core.specs.Looker.{HasLooked, IsLooker, IsSomeLooker, LookerGives, LookerSteps}
+use Rattle.hist_core.specs.Runner.{Advances, Answers, BeginsSnapshot, IsKnown, known_of, IsAnswer, IsQuiet, IsRun, IsSnapshotSaid, IsSomeRun, StandsIn, begun_by, ended_by, looked_by, pending_by}
+use Rattle.std.specs.List.{range_with_len}
+use Rattle.std.proofs.lemmas.Simd.{map-map}
+use Rattle.std.proofs.lemmas.List.FromFn.{get_or-map-range_with_len, length-map-range_with_len}
+use mathlib.Core.Option.{some}
+use lib.ListN.{get_elem?}
+use Rattle.alloc_core.specs.Layout.{IsShape}
+use Rattle.atomic_table.proofs.Lists.{set_here}
+use Rattle.bucket_ranges.specs.Ranges.{boundaries_of}
+use Rattle.bucket_ranges.specs.Spec.{buckets_of, spec_fault}
+use Rattle.bucket_ranges.proofs.Ascent.{boundaries_of-split}
+use Rattle.segment_invariant.specs.Body.{blank}
+use Rattle.segment_invariant.proofs.Lists.Elements.{all_at, contains_at}
+use Rattle.segment_invariant.proofs.Lists.Maps.{contains_map}
+use Rattle.segment_promises.proofs.Reached.{states_are_kept}
+use Rattle.segment_machine.specs.State.{State}
+use Rattle.segment_machine.specs.Actor.{bucket_key, has_buckets, is_bound, known_at}
+use Rattle.hist_core.specs.declared.board.Board.{Board}
+use Rattle.hist_core.specs.declared.hist.Known.{Known}
+use Rattle.hist_core.specs.Board.{IsReachedAs, LooksAt}
+use Rattle.hist_core.specs.Looker.{IsStarted, StandsAtStage, blank_totals}
+use Rattle.hist_core.proofs.Asking.{place_below, runs_on}
+use Rattle.hist_core.proofs.Boards.{same_there}
+use Rattle.hist_core.proofs.Opening.{alone_there}
+use Rattle.hist_core.proofs.Parts.Walks.{goes_with}
+use Rattle.hist_core.proofs.Quiet.{begun_there, not_spent, quiet_on}
+
+abbrev looks_by : Looker → Option Running → Looker
+looks_by d (Some (Snapshot looker)) = looker
+looks_by d running = d
+
+pub some_looker : (n : ℕ) (runner : Runner) (looker : Looker) → runner.running ≡ Some (Snapshot looker) → IsSomeRun n runner → IsSomeLooker n looker
+some_looker n runner looker is (shape, version, a, long, wide, run) =
+    let stands = subst (λ running. StandsIn shape runner.known.items (pending_by runner) running a) is run.stands in
+    (shape, stands.1.0, a, long, stands.1.1)
+
+module _ (shape : Dimensions) (version : ℕ) (old : Runner) (a : Actor) (run : IsRun shape version old a) (looker now : Looker)
+    (is : old.running ≡ Some (Snapshot looker)) (same : now.histogram ≡ looker.histogram) (words new_words : List ℕ) (long : length words ≡ shape.size) where
+  stands : StandsIn shape old.known.items (pending_by old) (Some (Snapshot looker)) a
+  stands = subst (λ running. StandsIn shape old.known.items (pending_by old) running a) is run.stands
+
+  abbrev known : MachineKnown
+  known = stands.1.0
+
+  looks : IsLooker shape known looker a
+  looks = stands.1.1
+
+  one_version : looker.version ≡ version
+  one_version = sym looks.version ∙ ap (λ s. s.version) run.segment
+
+  -- it has ended: of what its actor has counted and knows nothing has changed
+  rests_then : (b : Actor) (sum : ℤ) (redundant : ℕ) → MayTurn b → HasLooked known now sum redundant a b → IsRun shape version (record old { running = None }) b
+  rests_then b sum redundant turns looked =
+      let c : Actor = record b { deltas = a.deltas } in
+      let quiet = quiet_on (pending_by old) a c looked.beside.units looked.beside.entries refl stands.0 in
+      let then_is : IsRun shape version (record old { running = None }) c = runs_on shape version old a run c None looked.beside (turns, quiet) tt in
+      let deltas = looked.deltas in record {
+        records = then_is.records;
+        segment = then_is.segment;
+        first = then_is.first;
+        within = then_is.within;
+        ended = then_is.ended;
+        begun = then_is.begun;
+        untaken = (run.untaken.0, ap (λ d. d.taken) deltas ∙ run.untaken.1);
+        names = then_is.names;
+        lawful = then_is.lawful;
+        once = then_is.once;
+        stands = (
+          turns,
+          record { none = quiet.none; runs = quiet.runs; holds = quiet.holds; share = quiet.share; takes = ap (λ d. d.taking) deltas ∙ quiet.takes },
+        );
+        room = tt;
+      }
+
+  is_answer : (b : Actor) (sum : ℤ) (redundant : ℕ) → HasLooked known now sum redundant a b
+      → IsAnswer (looked_by old.running) (record { counts = now.totals; sum = sum; redundant = redundant }) b
+  is_answer b sum redundant looked = record {
+    known = known;
+    knows = subst (λ l. Contains l known) (sym looked.beside.names) looks.knows;
+    reference = looks.reference ∙ sym (ap looked_by is);
+    before = a.deltas.snapshots;
+    answered = looked.answered;
+    snapshots = ap (λ d. d.snapshots) looked.deltas;
+    name = looked.name;
+    counts = looked.counts;
+    sum = looked.sum_is;
+    redundant = looked.redundant_is;
+    saw = looked.saw;
+  }
+
+  its_steps : (said : LookerStep) → LookerSteps looker words now new_words said → Goes shape.size version a words new_words (LookerGives shape known now said a)
+  its_steps said steps = subst (λ (v : ℕ). Goes shape.size v a words new_words (LookerGives shape known now said a)) one_version (steps shape known a long looks)
+
+  -- what the machine's actor does, and what becomes of that at run time
+  pub snapshot_goes : (said : LookerStep) (new : Runner) (result : Stepped) → LookerSteps looker words now new_words said
+      → IsSnapshotSaid (record old { running = Some (Snapshot now) }) said new result → Advances shape version old words new new_words result a
+  snapshot_goes More new result steps (new_is, result_is) =
+      subst (λ said. Advances shape version old words new new_words said a) (sym result_is) (goes_with (its_steps More steps) (λ b (beside, looks_on).
+      subst (λ (r : Runner). IsRun shape version r b) (sym new_is)
+      (runs_on shape version old a run b (Some (Snapshot now)) beside (quiet_on (pending_by old) a b beside.units beside.entries beside.deltas stands.0, (known, looks_on)) tt)))
+  snapshot_goes (Done sum redundant) new result steps (other, is_other, new_is, result_is) =
+      let here : other ≡ now = sym (ap (looks_by now) is_other) in
+      let said_is : result ≡ stepped.Done (answer.Snapshot (record { counts = now.totals; sum = sum; redundant = redundant })) =
+      result_is ∙ ap (λ (x : Looker). stepped.Done (answer.Snapshot (record { counts = x.totals; sum = sum; redundant = redundant }))) here in
+      subst (λ said. Advances shape version old words new new_words said a) (sym said_is) (goes_with (its_steps (Done sum redundant) steps) (λ b (turns, looked). (
+        subst (λ (r : Runner). IsRun shape version r b) (sym new_is) (rests_then b sum redundant turns looked),
+        is_answer b sum redundant looked,
+      )))
+
+-- ---- what is answered
+
+abbrev asks_not : Option Running → Type 0
+asks_not (Some (Hist hist)) = ⊥
+asks_not running = ⊤
+
+abbrev adds_not : Option Running → Type 0
+adds_not (Some (Add add)) = ⊥
+adds_not running = ⊤
+
+module _ (old : Runner) (looker now : Looker) (is : old.running ≡ Some (Snapshot looker)) (same : now.histogram ≡ looker.histogram) (words new_words : List ℕ)
+    (all : length old.entries.items ≡ old.ended) (unbegun : old.begun ≡ old.ended) where
+  pub snapshot_answers : (said : LookerStep) (new : Runner) (result : Stepped) → IsSnapshotSaid (record old { running = Some (Snapshot now) }) said new result
+      → Answers old words new new_words result
+  snapshot_answers More new result (new_is, result_is) =
+      subst (Answers old words new new_words) (sym result_is) (
+        (
+          ap (λ (r : Runner). r.known.items) new_is,
+          (λ asked is_asked. absurd (subst asks_not (sym is ∙ is_asked) tt)),
+          (λ add is_add. absurd (subst adds_not (sym is ∙ is_add) tt)),
+          (λ other is_other. (now, ap (λ (r : Runner). r.running) new_is, same ∙ ap (λ (x : Looker). x.histogram) (ap (looks_by looker) (sym is ∙ is_other)))),
+        ),
+        (ap ended_by new_is, ap begun_by new_is ∙ begun_there old all unbegun, ap pending_by new_is),
+      )
+  snapshot_answers (Done sum redundant) new result (other, is_other, new_is, result_is) =
+      subst (Answers old words new new_words) (sym result_is) (
+        ((looker, is), ap (λ (r : Runner). r.running) new_is, ap (λ (r : Runner). r.known.items) new_is),
+        (ap ended_by new_is, ap begun_by new_is ∙ (ap (λ n. take n old.entries.items) unbegun ∙ sym (ap ended_by new_is))),
+      )
+
+-- ---- it begins
+
+-- the keys of the buckets of a histogram
+keys_of_buckets : (known : MachineKnown) → spec_fault known.spec ≡ None → has_buckets known.spec ≡ true
+    → (map (λ (total : ℤ × ℕ). total.0) (blank_totals (boundaries_of known.spec)) ≡ map (bucket_key (Some known)) (range_with_len 0 (buckets_of known.spec)))
+    × (length (blank_totals (boundaries_of known.spec)) ≡ buckets_of known.spec)
+keys_of_buckets known lawful has =
+    let split = boundaries_of-split known.spec lawful (λ sparse. true≢false (sym has ∙ ap has_buckets sparse)) in
+    let count = split.count in
+    let boundaries = boundaries_of known.spec in
+    let n : length (boundaries_of known.spec) - 1 ≡ buckets_of known.spec = omega (arith, count) in (
+      map-map (λ (total : ℤ × ℕ). total.0) (λ i. (pos (slice_index boundaries i), 0)) (range_with_len 0 (length boundaries - 1))
+          ∙ (λ j. map (λ i. pos (slice_index boundaries i)) (range_with_len 0 (n j))),
+      length-map-range_with_len (λ i. (pos (slice_index boundaries i), 0)) 0 (length boundaries - 1) ∙ n,
+    )
+
+no_units : (boundaries : List ℕ) → All (λ total. total.1 ≡ 0) (blank_totals boundaries)
+no_units boundaries k d below =
+    let blank_one : ℕ → ℤ × ℕ = λ i. (pos (slice_index boundaries i), 0) in
+    let long = length-map-range_with_len blank_one 0 (length boundaries - 1) in
+    ap (λ (total : ℤ × ℕ). total.1) (get_or-map-range_with_len blank_one 0 (length boundaries - 1) k k d (omega (arith, below, long)) (omega arith))
+
+-- who rests begins it, which is no event
+module _ (shape : Dimensions) (version : ℕ) (known : Known) (old new : Runner) (starts : BeginsSnapshot version known old new) (i : ℕ)
+    (at : get_elem? old.known.items i ≡ some known) (bucketed : has_buckets known.spec ≡ true) (rests : old.running ≡ None) where
+  module _ (a : Actor) (run : IsRun shape version old a) (lawful : IsShape shape) (alone : known_at a.answers.names known.reference ≡ Some (known_of known)) where
+    stood : (is_bound a.hand.place ≡ false) × IsQuiet (pending_by old) a
+    stood = subst (λ running. StandsIn shape old.known.items (pending_by old) running a) rests run.stands
+
+    its_known : IsKnown shape known
+    its_known = all_at (IsKnown shape) old.known.items i known run.lawful at
+
+    abbrev looker : Looker
+    looker = starts.0
+
+    started : IsStarted version (known_of known) looker
+    started = starts.1
+
+    keys : (map (λ (total : ℤ × ℕ). total.0) looker.totals.items ≡ map (bucket_key (Some (known_of known))) (range_with_len 0 (buckets_of known.spec)))
+        × (length looker.totals.items ≡ buckets_of known.spec)
+    keys = subst (λ (l : List (ℤ × ℕ)). (map (λ (total : ℤ × ℕ). total.0) l ≡ map (bucket_key (Some (known_of known))) (range_with_len 0 (buckets_of known.spec)))
+        × (length l ≡ buckets_of known.spec)) (sym started.totals) (keys_of_buckets (known_of known) its_known.lawful bucketed)
+
+    begins_looking : IsLooker shape (known_of known) looker a
+    begins_looking = record {
+      segment = ap (λ s. s.shape) run.segment;
+      version = ap (λ s. s.version) run.segment ∙ sym started.versioned;
+      lawful_shape = lawful;
+      recorder = run.records;
+      counts_nothing = stood.1.runs;
+      takes_nothing = stood.1.takes;
+      turns = stood.0;
+      reference = sym started.reference;
+      within = subst (λ n. n + 15 ≤ shape.size) (sym started.reference) its_known.within;
+      lawful = its_known.lawful;
+      bucketed = bucketed;
+      knows = subst (λ (l : List MachineKnown). Contains l (known_of known)) run.names (contains_map known_of old.known.items known (contains_at old.known.items i known at));
+      alone = alone;
+      keys = keys.0;
+      buckets = keys.1;
+      stands = subst (StandsAtStage (known_of known) looker a) (sym started.stage)
+          (subst (All (λ total. total.1 ≡ 0)) (sym started.totals) (no_units (boundaries_of known.spec)));
+    }
+
+    pub begins_with : IsRun shape version new a
+    begins_with = subst (λ (r : Runner). IsRun shape version r a) (sym starts.2) (record {
+      records = run.records;
+      segment = run.segment;
+      first = run.first;
+      within = run.within;
+      ended = run.ended;
+      begun = run.begun;
+      untaken = run.untaken;
+      names = run.names;
+      lawful = run.lawful;
+      once = run.once;
+      stands = (stood.1, (known_of known, begins_looking));
+      room = tt;
+    })
+
+-- on a board
+module _ (old new : Board) (actor : ℕ) (r now : Runner) (here : get_elem? old.runners.items actor ≡ some r) (place : ℕ) (known : Known)
+    (at : get_elem? r.known.items place ≡ some known) (starts : BeginsSnapshot old.version known r now) (bucketed : has_buckets known.spec ≡ true)
+    (rests : r.running ≡ None) (shaped : new.shape ≡ old.shape) (versioned : new.version ≡ old.version) (worded : new.words ≡ old.words)
+    (pooled : new.units ≡ old.units) (runners : new.runners.items ≡ set old.runners.items actor now) where
+  pub snapshot_begins : (state : State) → IsReachedAs old state → IsReachedAs new state
+  snapshot_begins state reach =
+      let kept = states_are_kept old.shape old.version reach.id 0 state reach.reached in
+      same_there old state reach actor r now new here (λ a there run.
+      let free = (subst (λ running. StandsIn old.shape r.known.items (pending_by r) running a) rests run.stands).0 in
+      begins_with old.shape old.version known r now starts place at bucketed rests a run reach.reached.0
+      (alone_there old.shape (blank old.version reach.id old.shape.size) state kept (actor + 1) a there (not_spent a.hand.place free) r.known.items run.once run.names place known at))
+      shaped versioned pooled (ap (λ w. w.items) worded) runners
+
+-- so it is among the actors
+pub snapshot_begun : {version : ℕ} (runners : List Runner) (actor : ℕ) (r now : Runner) → get_elem? runners actor ≡ some r → (place : ℕ) (known : Known)
+    → get_elem? r.known.items place ≡ some known → BeginsSnapshot version known r now → (name : List ℕ) → known.name.items ≡ name
+    → (runner : Runner) × (get_elem? (set runners actor now) actor ≡ some runner)
+    × ((k : Known) × Contains runner.known.items k × (k.name.items ≡ name) × LooksAt k.reference runner.running)
+snapshot_begun runners actor r now here place known at starts name named = (
+  now,
+  set_here runners actor now (place_below runners actor r here),
+  (
+    known,
+    subst (λ (x : Runner). Contains x.known.items known) (sym starts.2) (contains_at r.known.items place known at),
+    named,
+    subst (LooksAt known.reference) (sym (ap (λ (x : Runner). x.running) starts.2)) starts.1.reference,
+  ),
+)

@@ -76,3 +76,4 @@ mod Given
 mod ValuesListed
 mod ValuesTaken
 mod ValuesDelta
+mod ValuesSeen

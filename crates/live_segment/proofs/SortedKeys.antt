@@ -1,5 +1,5 @@
 -- Keys with units that are sorted by key: where no key stands twice, each is below those behind it.
-use Rattle.std.proofs.Common.{◌≡◌, ◌≢◌, ℕ, suc, ◌+◌, ◌<◌, ℤ, int_lt, if◌then◌else◌, map, sum_by, Bool, true, false, List, [], ◌∷◌, length, Less, Equal, Greater, refl, sym, ap, ◌∙◌, arith}
+use Rattle.std.proofs.Common.{zero, ◌≡◌, ◌≢◌, ℕ, suc, ◌+◌, ◌<◌, ℤ, int_lt, if◌then◌else◌, map, sum_by, Bool, true, false, List, [], ◌∷◌, length, Less, Equal, Greater, refl, sym, ap, ◌∙◌, arith}
 use Rattle.std.specs.List.{AllByRecursion}
 use Rattle.std.specs.List.Sorted.{IsPermutation, IsSortedBy, IsStrictlySortedBy}
 use Rattle.std.specs.Ordering.{int_cmp, int_eq, is_lt}
@@ -9,7 +9,9 @@ use Rattle.std.proofs.lemmas.Cmp.{int_cmp_total}
 use Rattle.std.proofs.lemmas.List.Sorted.{ranks_by, sorted_far, sum_by-IsPermutation}
 use Rattle.std.proofs.lemmas.List.Sums.{sum_by-append}
 use Rattle.std.proofs.lemmas.Map.Lookups.{exact_signed}
-use Rattle.segment_invariant.proofs.Lists.Elements.{sum_at_least}
+use mathlib.Core.Option.{some, some-injective, some-ne-none}
+use lib.ListN.{get_elem?}
+use Rattle.segment_invariant.proofs.Lists.Elements.{below_length, sum_at_least}
 use Rattle.segment_invariant.proofs.Lists.Pairs.{element_at}
 use Rattle.live_segment.specs.Values.{KeysStandOnce}
 
@@ -76,3 +78,19 @@ strictly_sorted (x ∷ xs) sorted once = (
 -- to move them about changes nothing of that
 pub once_still : (xs ys : List (ℤ × ℕ)) → IsPermutation xs ys → KeysStandOnce xs → KeysStandOnce ys
 once_still xs ys moved once key = let same = sum_by-IsPermutation (times key) xs ys moved in let most = once key in omega (arith, same, most)
+
+-- a key has one place
+pub one_place : (xs : List (ℤ × ℕ)) → KeysStandOnce xs → (i j : ℕ) (x y : ℤ × ℕ) → get_elem? xs i ≡ some x → get_elem? xs j ≡ some y → x.0 ≡ y.0 → i ≡ j
+one_place [] once i j x y here there same = absurd (some-ne-none x (sym here))
+one_place (z ∷ xs) once zero zero x y here there same = refl
+one_place (z ∷ xs) once zero (suc j) x y here there same =
+    let is : z ≡ x = some-injective z x here in
+    let low = below_length xs j y there in
+    let other : get_or xs j y ≡ y = some-injective (get_or xs j y) y (sym (element_at xs j y low) ∙ there) in
+    absurd (behind_differs z xs once j y low (ap (λ (c : ℤ × ℕ). c.0) is ∙ (same ∙ ap (λ (c : ℤ × ℕ). c.0) (sym other))))
+one_place (z ∷ xs) once (suc i) zero x y here there same =
+    let is : z ≡ y = some-injective z y there in
+    let low = below_length xs i x here in
+    let other : get_or xs i x ≡ x = some-injective (get_or xs i x) x (sym (element_at xs i x low) ∙ here) in
+    absurd (behind_differs z xs once i x low (ap (λ (c : ℤ × ℕ). c.0) is ∙ (sym same ∙ ap (λ (c : ℤ × ℕ). c.0) (sym other))))
+one_place (z ∷ xs) once (suc i) (suc j) x y here there same = ap suc (one_place xs (tail_once z xs once) i j x y here there same)

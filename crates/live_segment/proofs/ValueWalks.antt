@@ -67,6 +67,24 @@ one_there (r ∷ rest) stands miss = (rest, ap (λ (x : ℕ). x ∷ rest) (sym s
 abbrev pub left_of : ℕ → List ℕ → ℕ → ℕ
 left_of size chain at = if at == 12 then 0 else size + 1 - last_of chain at
 
+-- ---- where a walk stands
+
+module _ (a : Actor) (histogram : ℕ) (passed : List ℕ) (at : ℕ) (comes : ComesTo histogram passed at a) (miss : at ≢ 12) where
+  pub behind_it : (rest : List ℕ) × (comes.behind ≡ at ∷ rest)
+  behind_it = one_there comes.behind comes.stands (ne_eqb at 12 miss)
+
+  pub split_at_it : a.seen.chain ≡ comes.front ++ histogram ∷ (passed ++ at ∷ behind_it.0)
+  split_at_it = comes.chain ∙ ap (λ (l : List ℕ). comes.front ++ histogram ∷ (passed ++ l)) behind_it.1
+
+  -- it has passed few records, each of five words
+  pub passed_few : 5 * (length passed + 1) + 16 ≤ a.segment.shape.size
+  passed_few =
+      let few = comes.few in
+      let all : length a.seen.chain ≡ length comes.front + suc (length (passed ++ at ∷ behind_it.0)) =
+      ap length split_at_it ∙ length-append comes.front (histogram ∷ (passed ++ at ∷ behind_it.0)) in
+      let more : length (passed ++ at ∷ behind_it.0) ≡ length passed + suc (length behind_it.0) = length-append passed (at ∷ behind_it.0) in
+      omega (arith, few, all, more)
+
 -- ---- the walk goes on
 
 module _ (a b : Actor) (histogram found : ℕ) (shape : b.segment.shape ≡ a.segment.shape) where

@@ -1,6 +1,7 @@
 -- How a recorder goes along the samples of a sparse histogram, and which values it lists.
-use Rattle.std.specs.Prelude.{◌≡◌, ◌≢◌, ◌⊎◌, true, false, ℕ, ◌+◌, ◌-◌, ◌*◌, ◌/◌, ◌≤◌, ℤ, List, [], ◌∷◌, ◌++◌, length, map, sum_by, if◌then◌else◌, Option, Some, None}
+use Rattle.std.specs.Prelude.{◌≡◌, ◌≢◌, ◌⊎◌, true, false, ℕ, ◌+◌, ◌-◌, ◌*◌, ◌/◌, ◌≤◌, ℤ, List, [], ◌∷◌, ◌++◌, length, map, sum_by, if◌then◌else◌, Option, Some, None, Vec, vec_capacity}
 use Rattle.std.specs.List.{All, AllByRecursion, Contains}
+use Rattle.std.specs.Global.{Global}
 use Rattle.std.specs.List.Sorted.{IsPermutation, IsStrictlySortedBy}
 use Rattle.std.specs.Ordering.{int_cmp, int_eq}
 use Rattle.segment_image.specs.declared.layout.TheConstants.{BLOCK_LEAST, HEADER_WORDS, QUEUE, SAMPLE_COUNT}
@@ -15,11 +16,13 @@ use Rattle.segment_machine.specs.Firsts.{ComesFirst}
 use Rattle.segment_machine.specs.Made.{SawOther, SawSample}
 use Rattle.segment_machine.specs.Note.{TookSample}
 use Rattle.segment_machine.specs.Taking.{IsLaterSample, is_looking}
+use Rattle.live_segment.specs.declared.recorder.KnownHistogram.{KnownHistogram}
 use Rattle.live_segment.specs.declared.segment.Segment.{Segment}
 use Rattle.live_segment.specs.Deltas.{TakesOn, TakesValues}
 use Rattle.live_segment.specs.Holders.{table_of}
 use Rattle.live_segment.specs.Onward.{SeesOn}
 use Rattle.live_segment.specs.Rule.{IsOf}
+use Rattle.live_segment.specs.Snapshots.{blank_totals}
 use Rattle.live_segment.specs.Steps.{IsSame, Pass}
 use Rattle.live_segment.specs.Telling.{KnowsAlone}
 
@@ -105,7 +108,7 @@ pub record TakesAlong (segment : Segment) (known : Known) (passed : List ℕ) (a
 
 -- ---- a snapshot
 
--- It has seen more, stands elsewhere, and at no single word and no counts of a histogram. All else is as it was.
+-- It has seen more and stands elsewhere; all else is as it was.
 pub record SeesMore (old new : Actor) : Type 0 where
   pub view : new ≡ record old { hand = record old.hand { place = new.hand.place }; seen = new.seen }
   pub seen : SeesOn old.seen new.seen
@@ -119,6 +122,7 @@ pub record LooksAtValues (segment : Segment) (known : Known) (seat : Pass) : Typ
   pub sparse : known.spec ≡ Sparse
   pub free : is_bound seat.me.0.hand.place ≡ false
   pub apart : is_looking seat.me.0.hand.place ≡ false
+  pub singles : seat.me.0.since.singles ≤ length seat.me.0.seen.singles
   pub counts : seat.me.0.since.counts ≤ length seat.me.0.seen.counts
 
 -- it saw the count of a sample, and has listed it where that is not 0
@@ -126,10 +130,21 @@ abbrev pub HasListed : List (ℤ × ℕ) → Actor → ℤ → ℕ → Type 0
 HasListed listed a value sample =
     (count : ℕ) × SawCount a (sample + SAMPLE_COUNT) count × ((count ≡ 0) ⊎ Contains (map (λ count. count.0) listed) value)
 
+-- it saw the count of a sample, which has units
+abbrev pub HasTotal : Actor → ℕ → ℕ → Type 0
+HasTotal a sample units = SawCount a (sample + SAMPLE_COUNT) units × (1 ≤ units)
+
+-- Totals with which a snapshot of a histogram begins: its buckets in order, with no units yet; or none, and room for as many values as fit in
+-- a segment.
+abbrev pub OpensWith : Segment → KnownHistogram → Vec (ℤ × ℕ) Global → Type 0
+OpensWith segment known totals =
+    (has_buckets known.spec ≡ true → totals.items ≡ blank_totals known.ranges)
+    × (known.spec ≡ Sparse → (totals.items ≡ []) × ((segment.setting.shape.size - HEADER_WORDS) / BLOCK_LEAST ≤ vec_capacity totals))
+
 -- A snapshot of a sparse histogram has passed records behind its own, listed what it saw of the first sample of each value, and comes to the next.
 pub record LooksAlong (segment : Segment) (known : Known) (passed : List ℕ) (at : ℕ) (listed : List (ℤ × ℕ)) (old new : Pass) : Type 0 where
   pub same : IsSame old new
   pub looks : LooksAtValues segment known new
   pub on : SeesMore old.me.0 new.me.0
   pub comes : ComesTo known.reference passed at new.me.0
-  pub lists : ListsValues (HasListed listed new.me.0) (λ sample units. SawCount new.me.0 (sample + SAMPLE_COUNT) units) known.reference passed listed new.me.0.seen
+  pub lists : ListsValues (HasListed listed new.me.0) (HasTotal new.me.0) known.reference passed listed new.me.0.seen

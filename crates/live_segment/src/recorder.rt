@@ -13,9 +13,9 @@ use crate::records::WalkPlace;
 use crate::rule::Pass;
 use crate::segment::Segment;
 use bucket_ranges::{Ranges, Spec};
-use hist_core::{Asked, Delta, Refusal};
+use hist_core::{Asked, Delta, Refusal, Snapshot};
 use segment_image::layout::{BLOCK_LEAST, FLAG_CORRUPT, HEADER_WORDS};
-use std::alloc::Global;
+use std::alloc::{AllocError, Global};
 
 /// A histogram that a recorder knows: its place in the list of those.
 #[derive(Clone, Copy, Debug, PartialEq, Eq)]
@@ -79,8 +79,10 @@ pub struct Recorder<'a> {
 impl<'a> Recorder<'a> {
     ghost use Rattle.std.specs.Prelude.{slice_index_or};
     ghost use Rattle.live_segment.specs.declared.recorder.KnownHistogram.{KnownHistogram};
-    ghost use Rattle.live_segment.specs.Deltas.{HasTaken};
-    ghost use Rattle.live_segment.specs.Values.{HoldsKeys};
+    ghost use Rattle.bucket_ranges.specs.declared.spec.Spec.TheVariants.{Sparse};
+    ghost use Rattle.live_segment.specs.Deltas.{AreUnits, HasTaken};
+    ghost use Rattle.live_segment.specs.Snapshots.{HasSnapshot};
+    ghost use Rattle.live_segment.specs.Values.{HoldsKeys, OpensWith};
     ghost use Rattle.std.specs.Prelude.{◌↔◌, IsTrue, Err, ◌<◌, ◌++◌, length, IfOk, MatchOption, MatchResult};
     ghost use Rattle.segment_image.specs.Checks.{first_fault};
     ghost use Rattle.segment_machine.specs.declared.actor.Known.{Known};
@@ -225,6 +227,32 @@ impl<'a> Recorder<'a> {
             .segment
             .take_delta(&mut self.seat, &self.known[histogram.index], &mut counts);
         Ok(Delta { counts, sum })
+    }
+
+    // The totals with which a snapshot of a histogram begins.
+    fn totals_for(&self, histogram: Hist) -> Result<Vec<(i32, u64)>, AllocError>
+        requires { Knows self.now histogram }
+        ensures { IfOk result (λ totals. (known : KnownHistogram) → known ≡ slice_index_or self.now.known.items histogram.index known → OpensWith self.now.segment.now known totals) }
+    {
+        self.segment
+            .opening_totals(self.alloc, &self.known[histogram.index])
+    }
+
+    /// What a histogram that it knows has: the units of all of its buckets in order, or of a sparse one those of the values that have
+    /// some, ascending; its sum; and its redundant count, which is loaded last. It stands behind what its snapshots answered before.
+    ///
+    /// `NoMemory` where there is none for as many keys as the histogram may have; then nothing has changed.
+    pub fn snapshot(&mut self, histogram: Hist) -> Result<Snapshot, Refusal>
+        requires { Knows self.old histogram }
+        ensures same { IsSameRecorder self.old self.new }
+        ensures answer { MatchResult result (λ snapshot. (known : Known) → Means self.old histogram known → HasSnapshot known (view_of_recorder self.old) snapshot (view_of_recorder self.new)) (λ why. (why ≡ NoMemory) × (self.new ≡ self.old)) }
+        ensures values { IfOk result (λ snapshot. (known : Known) → Means self.old histogram known → known.spec ≡ Sparse → AreUnits snapshot.counts.items) }
+    {
+        let totals = self.totals_for(histogram)?;
+        let snapshot = self
+            .segment
+            .take_snapshot(&mut self.seat, &self.known[histogram.index], totals);
+        Ok(snapshot)
     }
 
     /// Marks the segment as corrupt for good: from then on no block is claimed in it. It is never refused.

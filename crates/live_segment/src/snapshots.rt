@@ -9,10 +9,12 @@ ghost use Rattle.live_segment.specs.Snapshots.{blank_totals, HavePacked};
 
 use crate::recorder::KnownHistogram;
 use crate::rule::{Announcement, Pass};
+use crate::samples::sort_by_key;
 use crate::segment::Segment;
 use bucket_ranges::{Ranges, SingleWord};
 use hist_core::Snapshot;
 use hist_core::packing::DISABLED_BIT;
+use segment_image::layout::QUEUE;
 use std::alloc::{AllocError, Global};
 
 // The keys of all buckets in order, each with no units yet.
@@ -54,7 +56,15 @@ fn snapshot_said(said: Announcement) -> Snapshot
 }
 
 impl Segment {
-    ghost use Rattle.std.specs.Prelude.{◌+◌, map, true, false};
+    ghost use Rattle.std.specs.Prelude.{◌+◌, ◌-◌, ◌/◌, List, [], map, true, false, vec_capacity};
+    ghost use Rattle.segment_image.specs.declared.layout.TheConstants.{QUEUE};
+    ghost use Rattle.bucket_ranges.specs.declared.spec.Spec.TheVariants.{Sparse};
+    ghost use Rattle.live_segment.specs.Records.{StandOnce};
+    ghost use Rattle.live_segment.specs.Samples.{SamplesStandBehind};
+    ghost use Rattle.segment_machine.specs.declared.actor.Actor.{Actor};
+    ghost use Rattle.live_segment.specs.declared.rule.Setting.{Setting};
+    ghost use Rattle.live_segment.specs.Deltas.{AreUnits};
+    ghost use Rattle.live_segment.specs.Values.{ComesTo, LooksAlong, LooksAtValues, OpensWith};
     ghost use Rattle.bucket_ranges.specs.Spec.{buckets_of};
     ghost use Rattle.segment_machine.specs.Actor.{has_buckets, is_opener};
     ghost use Rattle.segment_machine.specs.Event.{taking_event};
@@ -150,5 +160,106 @@ impl Segment {
             redundant,
         };
         self.answer_with(seat, histogram, snapshot)
+    }
+
+    // The values of a sparse histogram that have units, from the first record behind its own on to the end of the list, are listed in
+    // their order there. There is room for as many as fit in a segment.
+    fn look_at_values(
+        &self,
+        seat: &mut Pass,
+        histogram: &KnownHistogram,
+        first: u64,
+        totals: &mut Vec<(i32, u64)>,
+    )
+        requires looks { LooksAtValues self.now (known_view histogram.now) seat.old }
+        requires comes { ComesTo histogram.now.reference [] first seat.old.me.0 }
+        requires room { (totals.old.items ≡ []) × ((self.now.setting.shape.size - 16) / 5 ≤ vec_capacity totals.old) }
+        ensures { (passed : List ℕ) × LooksAlong self.now (known_view histogram.now) passed QUEUE totals.new.items seat.old seat.new }
+    {
+        let mut at = first;
+        while at != QUEUE {
+            if let Some(total) = self.sample_at(seat, histogram, at) {
+                totals.push_reserved(total);
+            }
+            at = self.load_next(seat, at);
+        }
+    }
+
+    // The sum of a sparse histogram, once its samples were met, and its redundant count, which is loaded last.
+    fn look_at_sum_of_values(&self, seat: &mut Pass, histogram: u64) -> (i64, u64)
+        requires may { MayStep self.now seat.old (taking_event (load_sum histogram)) }
+        requires room { histogram + 15 ≤ self.now.setting.shape.size }
+        ensures same { IsSame seat.old seat.new }
+        ensures view { seat.new.me.0 ≡ saw_sum seat.old.me.0 histogram result.0 result.1 }
+        ensures behind { SamplesStandBehind seat.old.me.0 }
+        ensures once { StandOnce seat.old.me.0.seen.chain }
+    {
+        let sum = self.load_sum_of_values(seat, histogram).cast_signed();
+        let redundant = self.load_redundant(seat, histogram);
+        (sum, redundant)
+    }
+
+    // What a sparse histogram has: the totals are empty, and there is room for as many values as fit in a segment.
+    pub(crate) fn snapshot_of_values(
+        &self,
+        seat: &mut Pass,
+        histogram: &KnownHistogram,
+        mut totals: Vec<(i32, u64)>,
+    ) -> Snapshot
+        requires seat { (seat.old.table_id ≡ table_of self.now) × IsOf self.now.setting seat.old.me.0 }
+        requires rests { IsAtRest seat.old.me.0 }
+        requires right { KnowsRight self.now.setting seat.old.me.0 histogram.now }
+        requires sparse { histogram.now.spec ≡ Sparse }
+        requires room { (totals.items ≡ []) × ((self.now.setting.shape.size - 16) / 5 ≤ vec_capacity totals) }
+        ensures same { IsSame seat.old seat.new }
+        ensures answer { HasSnapshot (known_view histogram.now) seat.old.me.0 result seat.new.me.0 }
+        ensures units { AreUnits result.counts.items }
+    {
+        let first = self.look_next(seat, histogram.reference);
+        self.look_at_values(seat, histogram, first, &mut totals);
+        sort_by_key(&mut totals);
+        let (sum, redundant) = self.look_at_sum_of_values(seat, histogram.reference);
+        let snapshot = Snapshot {
+            counts: totals,
+            sum,
+            redundant,
+        };
+        self.answer_with(seat, histogram, snapshot)
+    }
+
+    // The totals with which a snapshot of a histogram begins.
+    pub(crate) fn opening_totals(
+        &self,
+        alloc: Global,
+        histogram: &KnownHistogram,
+    ) -> Result<Vec<(i32, u64)>, AllocError>
+        requires right { (setting : Setting) × (a : Actor) × KnowsRight setting a histogram.now }
+        ensures { IfOk result (λ totals. OpensWith self.now histogram.now totals) }
+    {
+        if histogram.ranges.len() == 0 {
+            return Vec::with_capacity(alloc, self.most_keys(histogram));
+        }
+        blank_totals(alloc, &histogram.ranges)
+    }
+
+    // A snapshot of a histogram, with the totals with which it begins.
+    pub(crate) fn take_snapshot(
+        &self,
+        seat: &mut Pass,
+        histogram: &KnownHistogram,
+        totals: Vec<(i32, u64)>,
+    ) -> Snapshot
+        requires seat { (seat.old.table_id ≡ table_of self.now) × IsOf self.now.setting seat.old.me.0 }
+        requires rests { IsAtRest seat.old.me.0 }
+        requires right { KnowsRight self.now.setting seat.old.me.0 histogram.now }
+        requires totals { OpensWith self.now histogram.now totals }
+        ensures same { IsSame seat.old seat.new }
+        ensures answer { HasSnapshot (known_view histogram.now) seat.old.me.0 result seat.new.me.0 }
+        ensures units { histogram.now.spec ≡ Sparse → AreUnits result.counts.items }
+    {
+        if histogram.ranges.len() == 0 {
+            return self.snapshot_of_values(seat, histogram, totals);
+        }
+        self.snapshot_of_buckets(seat, histogram, totals)
     }
 }

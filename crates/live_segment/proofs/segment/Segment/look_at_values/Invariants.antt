@@ -1,0 +1,15 @@
+use Rattle.std.proofs.Common.{◌-◌, ◌/◌, ◌≤◌, ℕ, List, vec_capacity}
+use Rattle.live_segment.specs.Known.{known_view}
+use Rattle.live_segment.specs.Values.{LooksAlong}
+use Rattle.live_segment.proofs.ValueWalks.{left_of}
+use Rattle.live_segment.proofs.segment.Segment.look_at_values.Given as goal
+
+-- it has listed what it saw of the samples among the records that it passed, and there is room for as many values as fit in a segment
+abbrev pub invariant-loop-at : goal.invariant-loop-at
+invariant-loop-at l = record {
+  looks : (passed : List ℕ) × LooksAlong l.self (known_view l.histogram) passed l.at l.totals.items l.fn.seat l.seat;
+  room : (l.self.setting.shape.size - 16) / 5 ≤ vec_capacity l.totals;
+}
+
+abbrev pub decreases-loop-at : goal.decreases-loop-at
+decreases-loop-at l = left_of l.self.setting.shape.size l.seat.me.0.seen.chain l.at

@@ -45,6 +45,7 @@ pub(crate) struct Runner {
 impl Runner {
     ghost use Rattle.std.specs.Prelude.{◌≡◌, ◌≤◌, ◌<◌, ◌^◌, ℕ, List, length, true, None, IsSome, IfSome, IfNone, IfOk, OnErr, vec_len, vec_capacity};
     ghost use mathlib.Core.Option.{some};
+    ghost use Rattle.std.specs.List.{All, Contains};
     ghost use lib.ListN.{get_elem?};
     ghost use Rattle.hist_core.specs.declared.hist.Known.{Known};
     ghost use Rattle.bucket_ranges.specs.Ranges.{boundaries_of};
@@ -105,6 +106,14 @@ impl Runner {
         self.known.reserve(1)?;
         self.running = Some(Running::Hist(Hist::start(shape, asked)));
         Ok(Begun::Going)
+    }
+
+    // Whether each histogram of a name that it knows has buckets.
+    pub(crate) fn is_bucketed(&self, name: &[u8]) -> bool
+        requires ranges { All (λ known. known.ranges ≡ boundaries_of known.spec) self.now.known.items }
+        ensures { result ≡ true → (known : Known) → Contains self.now.known.items known → known.name.items ≡ name.now → has_buckets known.spec ≡ true }
+    {
+        self.known.iter().all(|known| known.name.as_slice() != name || known.ranges.len() > 0)
     }
 
     // The units that its running call has of the pool.

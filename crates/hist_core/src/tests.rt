@@ -245,3 +245,153 @@ fn refused_allocations(rt: HostRuntime) -> Result<(), Fail> {
     assert!(rt; finish(&mut world, 1)? == Err(8));
     Ok(())
 }
+
+// An actor begins to count a value. `Idle` where that is no call that can begin so far.
+fn count(
+    world: &mut World,
+    alloc: Global,
+    actor: usize,
+    name: &[u8],
+    value: i32,
+    units: u32,
+) -> Result<Begun, WorldFault> {
+    let call = Call::Add(Vec::from_slice(alloc, name)?, value, units);
+    if !world.can_begin(actor, &call) {
+        return Err(WorldFault::Idle);
+    }
+    world.begin(actor, &call)
+}
+
+// The number of what an `add` is answered: 0 where it is accepted, and else that of the refusal.
+fn add_answer(answer: &Answer) -> u32 {
+    match answer {
+        Answer::Added => 0,
+        Answer::Refused(why) => why.number(),
+        _ => 100,
+    }
+}
+
+// What the begin of an `add` says: the number of its answer, or 200 where it goes on.
+fn add_begun(begun: &Begun) -> u32 {
+    match begun {
+        Begun::Ended(answer) => add_answer(answer),
+        Begun::Going => 200,
+    }
+}
+
+// Counts a value, for 200 events at most, and gives the number of the answer.
+fn add(
+    world: &mut World,
+    alloc: Global,
+    actor: usize,
+    value: i32,
+    units: u32,
+) -> Result<u32, WorldFault> {
+    if let Begun::Ended(answer) = count(world, alloc, actor, b"A", value, units)? {
+        return Ok(add_answer(&answer));
+    }
+    for _ in 0..200 {
+        if let Stepped::Done(answer) = world.step(actor)? {
+            return Ok(add_answer(&answer));
+        }
+    }
+    Ok(300)
+}
+
+// A world of the first row's shape, in which an actor knows the boolean histogram `A`, whose record is at 16.
+fn with_boolean(alloc: Global, version: u64) -> Result<World, WorldFault> {
+    let mut world = World::new(alloc, 128, 64, 7, 2, version)?;
+    ask(&mut world, alloc, 0, b"A", Spec::Boolean)?;
+    let _ = finish(&mut world, 0)?;
+    Ok(world)
+}
+
+#[test]
+fn packed_then_mounted(rt: HostRuntime) -> Result<(), Fail> {
+    let alloc = rt.alloc();
+    let mut world = with_boolean(alloc, 1)?;
+    for _ in 0..2 {
+        assert!(rt; add(&mut world, alloc, 0, 1, 1)? == 0);
+    }
+    assert!(rt; holds(&world, 25, &[4294967298]));
+    assert!(rt; add(&mut world, alloc, 0, 0, 1)? == 0);
+    assert!(rt; holds(&world, 7, &[42]));
+    assert!(rt; holds(&world, 24, &[32, 9223372036854775809, 0, 2, 0, 3]));
+    assert!(rt; holds(&world, 36, &[1, 2, 0]));
+    let mut world = with_boolean(alloc, 2)?;
+    for value in [1, 1, 0] {
+        assert!(rt; add(&mut world, alloc, 0, value, 1)? == 0);
+    }
+    assert!(rt; holds(&world, 24, &[32, 9223372041149743106, 0, 2, 0, 3]));
+    assert!(rt; holds(&world, 36, &[1, 0, 0]));
+    Ok(())
+}
+
+#[test]
+fn stopped_in_transit(rt: HostRuntime) -> Result<(), Fail> {
+    let alloc = rt.alloc();
+    let mut world = with_boolean(alloc, 1)?;
+    for _ in 0..2 {
+        assert!(rt; add(&mut world, alloc, 0, 1, 1)? == 0);
+    }
+    let begun = count(&mut world, alloc, 0, b"A", 0, 1)?;
+    assert!(rt; matches!(begun, Begun::Going));
+    go(&mut world, 0, 11)?;
+    assert!(rt; holds(&world, 24, &[32, 9223372036854775809, 0, 2, 0, 2]));
+    assert!(rt; holds(&world, 36, &[0, 0, 0]));
+    go(&mut world, 0, 1)?;
+    assert!(rt; holds(&world, 36, &[0, 2, 0]));
+    go(&mut world, 0, 1)?;
+    assert!(rt; holds(&world, 36, &[1, 2, 0]));
+    Ok(())
+}
+
+#[test]
+fn packing_limit(rt: HostRuntime) -> Result<(), Fail> {
+    let alloc = rt.alloc();
+    let mut world = with_boolean(alloc, 1)?;
+    assert!(rt; add(&mut world, alloc, 0, 1, 70000)? == 0);
+    assert!(rt; holds(&world, 25, &[9223372036854841343]) && holds(&world, 37, &[70000]));
+    let mut world = with_boolean(alloc, 1)?;
+    assert!(rt; add(&mut world, alloc, 0, 1, 65535)? == 0);
+    assert!(rt; holds(&world, 25, &[4295032831]));
+    assert!(rt; add(&mut world, alloc, 0, 1, 1)? == 0);
+    assert!(rt; holds(&world, 25, &[9223372036854775809]) && holds(&world, 37, &[65536]));
+    Ok(())
+}
+
+#[test]
+fn full_segment(rt: HostRuntime) -> Result<(), Fail> {
+    let alloc = rt.alloc();
+    let mut world = World::new(alloc, 64, 64, 7, 1, 1)?;
+    for (letter, reference) in [(b'A', 16), (b'B', 32), (b'C', 48)] {
+        ask(&mut world, alloc, 0, &[letter], Spec::Boolean)?;
+        assert!(rt; finish(&mut world, 0)? == Ok(reference));
+    }
+    assert!(rt; add(&mut world, alloc, 0, 1, 1)? == 0);
+    assert!(rt; add(&mut world, alloc, 0, 0, 1)? == 9);
+    assert!(rt; holds(&world, 6, &[2]) && holds(&world, 25, &[4294967297]));
+    // The units of the refused one are there again: all that one ended call did not spend.
+    assert!(rt; add(&mut world, alloc, 0, 1, 4294967295)? == 4);
+    assert!(rt; add(&mut world, alloc, 0, 1, 4294967294)? == 9);
+    assert!(rt; add(&mut world, alloc, 0, 1, 1)? == 0);
+    assert!(rt; holds(&world, 25, &[4294967298]));
+    Ok(())
+}
+
+#[test]
+fn refusals_of_add(rt: HostRuntime) -> Result<(), Fail> {
+    let alloc = rt.alloc();
+    let mut world = with_boolean(alloc, 1)?;
+    assert!(rt; fault_of(count(&mut world, alloc, 0, b"B", 1, 0)) == 5);
+    assert!(rt; fault_of(count(&mut world, alloc, 1, b"A", 1, 1)) == 5);
+    assert!(rt; add(&mut world, alloc, 0, 1, 0)? == 3);
+    let begun = count(&mut world, alloc, 0, b"A", 1, 5)?;
+    assert!(rt; add_begun(&begun) == 200);
+    assert!(rt; fault_of(count(&mut world, alloc, 0, b"B", 1, 0)) == 3);
+    // Those units are taken with the begin, and so another actor has fewer.
+    ask(&mut world, alloc, 1, b"A", Spec::Boolean)?;
+    assert!(rt; finish(&mut world, 1)? == Ok(16));
+    assert!(rt; add(&mut world, alloc, 1, 1, 4294967291)? == 4);
+    Ok(())
+}

@@ -22,7 +22,7 @@ pub struct World {
 ghost use Rattle.hist_core.specs.Board.{IsReached};
 
 impl World {
-    ghost use Rattle.std.specs.Prelude.{◌≡◌, ◌≢◌, ◌≤◌, ◌<◌, ◌⊎◌, ℕ, Ok, Err, OnOk, OnErr, IfOk, IfErr, IsOk, MatchOption, MatchResult, vec_len};
+    ghost use Rattle.std.specs.Prelude.{◌≡◌, ◌≢◌, ◌≤◌, ◌<◌, ◌⊎◌, ℕ, true, Ok, Err, OnOk, OnErr, IfOk, IfErr, IsOk, MatchOption, MatchResult, vec_len};
     ghost use Rattle.segment_image.specs.Checks.{first_fault};
     ghost use Rattle.alloc_core.specs.Layout.{IsShape};
     ghost use Rattle.segment_machine.specs.State.{State};
@@ -102,8 +102,22 @@ impl World {
         &runner.entries[..runner.ended]
     }
 
+    /// Whether a call of an actor is known to be one that can begin so far. Of a `Snapshot` it does not tell.
+    pub fn can_begin(&self, actor: usize, call: &Call) -> bool
+        ensures { result ≡ true → CanBegin actor self.now.board call.now }
+    {
+        match call {
+            Call::Hist(..) | Call::SetCorrupt => true,
+            Call::Add(name, ..) => {
+                actor >= self.board.runners.len() || self.board.runners[actor].is_bucketed(name)
+            }
+            _ => false,
+        }
+    }
+
     /// An actor begins a call, which asks for a histogram, counts a value, looks at a histogram, or marks the segment as corrupt.
-    /// The other calls are to come, and so are those on a sparse histogram.
+    /// The other calls are to come, and so are those on a sparse histogram: `can_begin` tells of
+    /// an `Add` whether it is none of these.
     ///
     /// `NoActor` where there is no such actor, then `Busy` where a call of it is going on, then `Unknown` where the call is of a
     /// histogram and no `Hist` of the actor was answered with one of that name, then `NoMemory`. Where the call needs no event it

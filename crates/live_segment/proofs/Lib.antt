@@ -77,3 +77,4 @@ mod ValuesListed
 mod ValuesTaken
 mod ValuesDelta
 mod ValuesSeen
+pub mod Callers

@@ -1,0 +1,48 @@
+-- What those who call an opener and its recorders rest on: an opener is of its segment still when it has made or joined a recorder, and a
+-- histogram that a recorder knows it knows still behind any of its calls.
+use Rattle.std.proofs.Common.{◌≡◌, ℕ, ◌+◌, ◌<◌, List, ◌++◌, map, length, sym, ap, ◌∙◌, subst, arith}
+use Rattle.std.proofs.lemmas.List.{length-append}
+use Rattle.segment_machine.specs.declared.actor.Actor.{Actor}
+use Rattle.segment_machine.specs.declared.actor.Known.{Known}
+use Rattle.segment_machine.specs.Seats.{joined, offering, parent}
+use Rattle.live_segment.specs.declared.opener.Opener.{Opener}
+use Rattle.live_segment.specs.declared.recorder.Hist.{Hist}
+use Rattle.live_segment.specs.declared.recorder.Recorder.{Recorder}
+use Rattle.live_segment.specs.Hist.{KnowsOn}
+use Rattle.live_segment.specs.declared.segment.Segment.{Segment}
+use Rattle.live_segment.specs.Holders.{IsMadeWith, IsSameOpener, IsSameRecorder, Knows, view_of_opener, view_of_recorder}
+use Rattle.live_segment.specs.Known.{known_view}
+use Rattle.live_segment.specs.Rule.{IsOf}
+
+-- it knows the same histograms
+pub same_names : (old new : Recorder) → IsSameRecorder old new → (view_of_recorder new).answers.names ≡ (view_of_recorder old).answers.names
+same_names old new same = sym new.listed ∙ (ap (λ known. map known_view known.items) same.known ∙ old.listed)
+
+pub knows_same : (old new : Recorder) (histogram : Hist) → IsSameRecorder old new → Knows old histogram → Knows new histogram
+knows_same old new histogram same knows =
+    subst (λ (names : List Known). histogram.index < length names) (sym (same_names old new same)) knows
+
+-- it has come to know more, if anything
+pub knows_on : (old new : Recorder) (histogram : Hist) → KnowsOn old new → Knows old histogram → Knows new histogram
+knows_on old new histogram on knows =
+    let (more, grown) = on.known in
+    let longer = ap length grown ∙ length-append (view_of_recorder old).answers.names more in
+    omega (arith, longer, knows)
+
+-- ---- an opener
+
+-- it has made a recorder
+pub made_still : (segment : Segment) (old new : Opener) (units : ℕ) → IsMadeWith segment old → IsSameOpener old new
+    → view_of_opener new ≡ parent (offering (view_of_opener old) units) → IsMadeWith segment new
+made_still segment old new units made same view = record {
+  table = same.table ∙ made.table;
+  of = subst (IsOf segment.setting) (sym view) (let of = made.of in record { shape = of.shape; version = of.version; cursors = of.cursors });
+}
+
+-- it has joined one
+pub joined_still : (segment : Segment) (old new : Opener) (other : Actor) → IsMadeWith segment old → IsSameOpener old new
+    → view_of_opener new ≡ joined (view_of_opener old) other → IsMadeWith segment new
+joined_still segment old new other made same view = record {
+  table = same.table ∙ made.table;
+  of = subst (IsOf segment.setting) (sym view) (let of = made.of in record { shape = of.shape; version = of.version; cursors = of.cursors });
+}

@@ -1,0 +1,63 @@
+//! What a burst records.
+
+use bucket_ranges::Spec;
+use std::alloc::{AllocError, Global};
+
+const MOST_PACKED: u32 = 65_535;
+
+const MOUNTED_SAMPLES: u32 = 1_000_000;
+
+const VALUES: usize = 4096;
+
+/// What a burst records.
+#[derive(Clone, Copy)]
+pub(crate) struct Plan {
+    /// Whether every sample is packed.
+    pub(crate) packed: bool,
+    /// Whether all threads record into the same histograms.
+    pub(crate) shared: bool,
+    /// How many threads there are.
+    pub(crate) threads: u8,
+}
+
+impl Plan {
+    /// How many histograms a thread records into.
+    pub(crate) fn histograms(&self) -> u32 {
+        if self.packed { 16 } else { 1 }
+    }
+
+    /// How many samples a thread records into each of them.
+    pub(crate) fn samples(&self) -> u32 {
+        match (self.packed, self.shared) {
+            (false, _) => MOUNTED_SAMPLES,
+            (true, false) => MOST_PACKED,
+            (true, true) => MOST_PACKED / u32::from(self.threads).max(1),
+        }
+    }
+
+    /// The spec of every histogram.
+    pub(crate) fn spec(&self) -> Spec {
+        Spec::Linear {
+            min: 1,
+            max: 10_000,
+            n: 50,
+        }
+    }
+
+    /// The values of the samples, again and again: one that is in no range of the ends, or values in no order, of one that
+    /// fits each bucket to one beyond the greatest.
+    pub(crate) fn values(&self, alloc: Global) -> Result<Vec<i32>, AllocError> {
+        let mut values = Vec::with_capacity(alloc, VALUES)?;
+        let mut state: u32 = 1;
+        for _ in 0..VALUES {
+            state = state.wrapping_mul(1_664_525).wrapping_add(1_013_904_223);
+            let value = if self.packed {
+                5000
+            } else {
+                (state >> 8) % 10_100
+            };
+            values.push(value as i32)?;
+        }
+        Ok(values)
+    }
+}

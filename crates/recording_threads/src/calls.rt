@@ -1,0 +1,195 @@
+//! The calls of one thread.
+
+ghost use Rattle.std.specs.Prelude.{◌<◌, IfOk};
+ghost use Rattle.live_segment.specs.Holders.{Knows};
+ghost use Rattle.recording_threads.specs.Holders.{IsBeside};
+
+use bucket_ranges::{CustomValues, Spec};
+use hist_core::{Delta, Refusal, Snapshot};
+use live_segment::{Hist, Recorder};
+use std::alloc::Global;
+
+/// How many calls a thread makes.
+const CALLS: u32 = 120;
+
+/// The units of a thread. No call asks for more than it has left.
+pub(crate) const UNITS: u32 = CALLS * MOST_COUNT;
+
+// The greatest count of a sample: no single word holds so many.
+const MOST_COUNT: u32 = 70_000;
+
+/// The names of the histograms.
+pub(crate) const NAMES: [&str; 4] = ["boolean", "custom", "linear", "sparse"];
+
+/// A sample that was accepted.
+#[derive(Clone, Copy)]
+pub(crate) struct Sample {
+    pub(crate) name: &'static str,
+    pub(crate) value: i32,
+    pub(crate) count: u32,
+}
+
+/// What a thread did: its recorder, its samples, and what it was answered.
+#[derive(Drop)]
+pub(crate) struct Done<'a> {
+    pub(crate) recorder: Recorder<'a>,
+    pub(crate) samples: Vec<Sample>,
+    pub(crate) deltas: Vec<(&'static str, Delta)>,
+    pub(crate) snapshots: Vec<(&'static str, Snapshot)>,
+}
+
+// Numbers in no order (a linear congruence).
+#[derive(Clone, Copy)]
+struct Numbers {
+    state: u32,
+}
+
+impl Numbers {
+    // A number below a limit.
+    fn below(&mut self, limit: u32) -> u32
+        requires { 0 < limit }
+        ensures { result < limit }
+    {
+        self.state = self
+            .state
+            .wrapping_mul(1_664_525)
+            .wrapping_add(1_013_904_223);
+        (self.state >> 8) % limit
+    }
+}
+
+/// The spec of a histogram.
+pub(crate) fn spec_of(alloc: Global, name: &str) -> Result<Spec, Refusal> {
+    Ok(match name {
+        "boolean" => Spec::Boolean,
+        "custom" => Spec::Custom(CustomValues::from(Vec::from_slice(alloc, &[10, 100, 1000])?)),
+        "linear" => Spec::Linear {
+            min: 1,
+            max: 100,
+            n: 20,
+        },
+        _ => Spec::Sparse,
+    })
+}
+
+// Puts an item at the end of a list.
+fn put<T: Drop>(list: &mut Vec<T>, item: T) -> Result<(), Refusal> {
+    list.reserve(1)?;
+    list.push_reserved(item);
+    Ok(())
+}
+
+// A thread at work.
+#[derive(Drop)]
+struct Worker<'a> {
+    done: Done<'a>,
+    histograms: Vec<(&'static str, Hist)>,
+    numbers: Numbers,
+}
+
+// All histograms, which a recorder meets in an order of its own.
+fn meet_all(
+    alloc: Global,
+    recorder: &mut Recorder,
+    first: usize,
+) -> Result<Vec<(&'static str, Hist)>, Refusal>
+    requires { first < 4 }
+    ensures { IsBeside recorder.old recorder.new }
+{
+    let mut histograms = Vec::new(alloc);
+    for i in 0..NAMES.len() {
+        let name = NAMES[(i + first) % NAMES.len()];
+        let histogram = recorder.hist(name.as_bytes(), &spec_of(alloc, name)?)?;
+        put(&mut histograms, (name, histogram))?;
+    }
+    Ok(histograms)
+}
+
+// The value and the count of a sample: mostly a small one, which a single word can hold.
+fn sample_of(numbers: &mut Numbers, name: &'static str) -> Sample {
+    let value = match name {
+        "boolean" => numbers.below(4) as i32 - 1,
+        "custom" => numbers.below(2000) as i32,
+        "linear" => numbers.below(120) as i32,
+        _ => numbers.below(12) as i32 - 6,
+    };
+    let count = match numbers.below(40) {
+        0 => MOST_COUNT,
+        some => 1 + some % 3,
+    };
+    Sample { name, value, count }
+}
+
+impl<'a> Worker<'a> {
+    fn add(&mut self, name: &'static str, histogram: Hist) -> Result<(), Refusal>
+        requires { Knows self.old.done.recorder histogram }
+        ensures { IsBeside self.old.done.recorder self.new.done.recorder }
+    {
+        let sample = sample_of(&mut self.numbers, name);
+        self.done
+            .recorder
+            .add(histogram, sample.value, sample.count)?;
+        put(&mut self.done.samples, sample)
+    }
+
+    fn take(&mut self, name: &'static str, histogram: Hist) -> Result<(), Refusal>
+        requires { Knows self.old.done.recorder histogram }
+        ensures { IsBeside self.old.done.recorder self.new.done.recorder }
+    {
+        let delta = self.done.recorder.delta(histogram)?;
+        put(&mut self.done.deltas, (name, delta))
+    }
+
+    fn look(&mut self, name: &'static str, histogram: Hist) -> Result<(), Refusal>
+        requires { Knows self.old.done.recorder histogram }
+        ensures { IsBeside self.old.done.recorder self.new.done.recorder }
+    {
+        let snapshot = self.done.recorder.snapshot(histogram)?;
+        put(&mut self.done.snapshots, (name, snapshot))
+    }
+
+    // The next call.
+    fn call(&mut self) -> Result<(), Refusal>
+        ensures { IsBeside self.old.done.recorder self.new.done.recorder }
+    {
+        let place = self.numbers.below(NAMES.len() as u32) as usize;
+        let kind = self.numbers.below(16);
+        let Some(&(name, histogram)) = self.histograms.get(place) else {
+            return Ok(());
+        };
+        if !self.done.recorder.knows(histogram) {
+            return Ok(());
+        }
+        match kind {
+            0 => self.take(name, histogram),
+            1 => self.look(name, histogram),
+            _ => self.add(name, histogram),
+        }
+    }
+}
+
+/// Makes the calls of a thread, as a seed decides.
+pub(crate) fn run<'a>(
+    alloc: Global,
+    mut recorder: Recorder<'a>,
+    seed: u32,
+) -> Result<Done<'a>, Refusal>
+    ensures { IfOk result (λ done. IsBeside recorder.entry done.recorder) }
+{
+    let histograms = meet_all(alloc, &mut recorder, seed as usize % NAMES.len())?;
+    let mut worker = Worker {
+        done: Done {
+            recorder,
+            samples: Vec::new(alloc),
+            deltas: Vec::new(alloc),
+            snapshots: Vec::new(alloc),
+        },
+        histograms,
+        numbers: Numbers { state: seed },
+    };
+    for _ in 0..CALLS {
+        worker.call()?;
+    }
+    let Worker { done, .. } = worker;
+    Ok(done)
+}

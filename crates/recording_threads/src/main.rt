@@ -1,0 +1,73 @@
+//! Threads record beside one another into one segment, and what they recorded is printed beside what the image tells.
+//!
+//! `recording_threads record THREADS SEED ROUNDS`: each round is a new segment, in which each of THREADS threads makes some
+//! hundred calls by its own recorder, which SEED decides: samples of all kinds of histograms, deltas and snapshots. Then
+//! all are joined, one more delta of each histogram is taken, and the segment is closed. A round prints
+//!
+//!     round,NUMBER,VERSION
+//!     sample,NAME,VALUE,COUNT                 for each sample, those of a thread in their order
+//!     delta,NAME,SUM,KEY,UNITS..              for each delta
+//!     snapshot,NAME,SUM,REDUNDANT,KEY,UNITS.. for each snapshot
+//!     report                                  and behind this line the report of the image
+//!
+//! `recording_threads walk THREADS RECORDS ROUNDS`: each round is a new segment with so many records, along which THREADS
+//! threads go by one cursor that they share. It prints `round,NUMBER` and then `given,THREAD,REFERENCE` for each record that
+//! a thread was given, those of a thread in their order.
+#![tactic(auto)]
+
+mod calls;
+mod lines;
+mod round;
+mod walk;
+
+use anyhow::{Context, Result, bail};
+use std::env;
+use std::env::Env;
+
+// What the program is to do.
+#[derive(Clone, Copy)]
+enum Task {
+    Record { seed: u32 },
+    Walk { records: u32 },
+}
+
+// How many threads do it, and how often.
+struct Parameters {
+    task: Task,
+    threads: u8,
+    rounds: u32,
+}
+
+fn read_parameters(rt: &(impl Env + Alloc)) -> Result<Parameters> {
+    let mut words = env::args(rt)?.skip(1);
+    let name = words.next().context("give record or walk")?;
+    let threads = words.next().context("give the number of threads")?;
+    let number = words.next().context("give a seed, or how many records")?;
+    let rounds = words.next().context("give the number of rounds")?;
+    let number = number.parse::<u32>()?;
+    let task = match name.as_str() {
+        "record" => Task::Record { seed: number },
+        "walk" => Task::Walk { records: number },
+        _ => bail!("give record or walk"),
+    };
+    Ok(Parameters {
+        task,
+        threads: threads.parse::<u8>()?,
+        rounds: rounds.parse::<u32>()?,
+    })
+}
+
+fn main(rt: HostRuntime) -> Result<()> {
+    let Parameters {
+        task,
+        threads,
+        rounds,
+    } = read_parameters(&rt)?;
+    for number in 0..rounds {
+        match task {
+            Task::Record { seed } => round::show(&rt, number, seed, threads)?,
+            Task::Walk { records } => walk::show(&rt, number, records, threads)?,
+        }
+    }
+    Ok(())
+}

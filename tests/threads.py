@@ -1,0 +1,173 @@
+"""Threads that record beside one another: the report is what a plain tally of their samples says, and all deltas of a
+histogram, the last among them, add up to it.
+
+The program prints the samples that were accepted, what each delta and snapshot was answered, and the report of the image.
+"""
+
+import collections
+import itertools
+
+import program
+
+BUILT = program.ROOT / "crates" / "recording_threads" / "out" / "recording_threads"
+GREATEST = 2_147_483_647
+THREADS = (2, 3, 4, 8, 16)
+ROUNDS = 200
+RECORDS = 100
+
+
+def linear(least, greatest, buckets):
+    """The boundaries of a linear histogram: between both ends as even as whole numbers allow."""
+    inner = [(2 * (least * (buckets - 1 - i) + greatest * (i - 1)) + buckets - 2) // (2 * (buckets - 2))
+             for i in range(1, buckets)]
+    return [0, *inner, GREATEST]
+
+
+BOUNDARIES = {"boolean": [0, 1, 2, GREATEST], "custom": [0, 10, 100, 1000, GREATEST], "linear": linear(1, 100, 20)}
+
+
+def key(name, value):
+    """The low end of the bucket that has a value; of a sparse histogram the value."""
+    if name == "sparse":
+        return value
+    return max(low for low in BOUNDARIES[name][:-1] if low <= max(value, 0))
+
+
+def high(name, low):
+    if name == "sparse":
+        return low + 1
+    return BOUNDARIES[name][BOUNDARIES[name].index(low) + 1]
+
+
+def amount(name, value):
+    return value if name == "sparse" else max(value, 0)
+
+
+class Round:
+    """What one round printed."""
+
+    def __init__(self, lines):
+        self.samples = []
+        self.deltas = collections.defaultdict(list)
+        self.snapshots = collections.defaultdict(list)
+        self.report = []
+        kinds = {"sample": self.sample, "delta": self.delta, "snapshot": self.snapshot}
+        for place, line in enumerate(lines):
+            kind, *fields = line.split(",")
+            if kind == "report":
+                self.report = lines[place + 1:]
+                break
+            kinds[kind](*fields)
+
+    def sample(self, name, value, count):
+        self.samples.append((name, int(value), int(count)))
+
+    def delta(self, name, total, *units):
+        self.deltas[name].append((int(total), pairs(units)))
+
+    def snapshot(self, name, total, redundant, *units):
+        self.snapshots[name].append((int(redundant), pairs(units)))
+
+
+def pairs(fields):
+    """Keys with their units, in the order in which they were printed."""
+    numbers = [int(field) for field in fields]
+    return list(zip(numbers[::2], numbers[1::2], strict=True))
+
+
+def tally(samples):
+    """Of each name the units of its keys and the sum of its samples."""
+    counts, sums = collections.defaultdict(collections.Counter), collections.Counter()
+    for name, value, count in samples:
+        counts[name][key(name, value)] += count
+        sums[name] += amount(name, value) * count
+    return counts, sums
+
+
+def report(counts, sums):
+    """The report of what was tallied. All four histograms were made, whoever records into them."""
+    lines = []
+    for name in ("boolean", "custom", "linear", "sparse"):
+        for low in sorted(counts[name]):
+            lines.append(f"{name},{name},{low},{high(name, low)},{counts[name][low]}")
+        lines.append(f"{name},total,{sum(counts[name].values())},{sums[name]}")
+    return lines
+
+
+def wrong_deltas(name, deltas, counts, total):
+    taken = collections.Counter()
+    for _, units in deltas:
+        keys = [low for low, _ in units]
+        if keys != sorted(set(keys)) or not all(count > 0 for _, count in units):
+            return f"a delta of {name} has {units}"
+        taken.update(dict(units))
+    if taken != counts or sum(amount for amount, _ in deltas) != total:
+        return f"the deltas of {name} take {taken}, and the samples are {counts}"
+    return None
+
+
+def wrong_snapshots(name, snapshots, counts):
+    for redundant, units in snapshots:
+        keys = [low for low, _ in units]
+        if keys != sorted(set(keys)) or (name != "sparse" and keys != BOUNDARIES[name][:-1]):
+            return f"a snapshot of {name} has the keys {keys}"
+        if redundant > counts.total() or any(count > counts[low] for low, count in units):
+            return f"a snapshot of {name} saw {units}, and the samples are {counts}"
+    return None
+
+
+def wrong_round(lines):
+    """What is wrong with a round, or None."""
+    done = Round(lines)
+    counts, sums = tally(done.samples)
+    wanted = report(counts, sums)
+    if done.report != wanted:
+        return f"the report is {done.report}, and the samples are {wanted}"
+    for name in counts:
+        wrong = wrong_deltas(name, done.deltas[name], counts[name], sums[name])
+        wrong = wrong or wrong_snapshots(name, done.snapshots[name], counts[name])
+        if wrong is not None:
+            return wrong
+    return None
+
+
+def rounds(words):
+    """The lines of each round of a run, or what it said in place of them."""
+    came = program.answer(BUILT, words)
+    if came.status != 0 or came.error:
+        return None, f"status {came.status}, {came.error[:200]!r}"
+    lines = came.output.decode().splitlines()
+    starts = [place for place, line in enumerate(lines) if line.startswith("round,")]
+    return [lines[start + 1:end] for start, end in itertools.pairwise([*starts, len(lines)])], None
+
+
+def recorded(threads, seed):
+    every, wrong = rounds(["record", str(threads), str(seed), str(ROUNDS)])
+    if wrong is not None:
+        return wrong
+    if len(every) != ROUNDS:
+        return f"{len(every)} rounds"
+    return next(filter(None, map(wrong_round, every)), None)
+
+
+def shared():
+    """Two threads that share a cursor are given each record once between them, each in the order of the list."""
+    every, wrong = rounds(["walk", "2", str(RECORDS), str(ROUNDS)])
+    if wrong is not None:
+        return wrong
+    for lines in every:
+        given = [tuple(map(int, line.split(",")[1:])) for line in lines]
+        for thread in (0, 1):
+            own = [reference for one, reference in given if one == thread]
+            if own != sorted(own):
+                return f"thread {thread} was given {own}"
+        # Boolean histograms with names of up to eight bytes take 16 words each.
+        if sorted(reference for _, reference in given) != [16 + 16 * i for i in range(RECORDS)]:
+            return f"given were {given}"
+    return None if len(every) == ROUNDS else f"{len(every)} rounds"
+
+
+def cases(_, options):
+    for threads in THREADS:
+        yield f"{threads} threads, {ROUNDS} rounds", recorded(threads, options.seed)
+    yield f"a shared cursor, {ROUNDS} rounds", shared()

@@ -8,7 +8,7 @@ import struct
 import subprocess
 import tempfile
 
-from program import EXAMPLE, Answer, answer, difference, fault
+from program import EXAMPLE, SCRIPT, Answer, answer, difference, fault
 
 REPORT = Answer(b"A,boolean,0,1,1\nA,boolean,1,2,2\nA,total,3,2\n")
 READ_FAULT, WRITE_FAULT = fault("Read", 4), fault("Write", 4)
@@ -27,12 +27,14 @@ HEADER_FAULTS = [
 ]
 
 HELP = b"""\
-Reads images of segments with shared histograms
+Records into segments with shared histograms, reads their images and merges them
 
 Usage: persist_report <COMMAND>
 
 Commands:
   report  Writes the histograms of an image to standard output
+  run     Records what a script says: writes the image to OUT and its report to standard output
+  merge   Merges two images into a new one, which has what no delta took of either
   help    Print this message or the help of the given subcommand(s)
 
 Options:
@@ -49,6 +51,41 @@ Arguments:
 
 Options:
   -h, --help  Print help
+
+Example:
+  persist_report report examples/three_samples.img
+"""
+RUN_HELP = b"""\
+Records what a script says: writes the image to OUT and its report to standard output
+
+Usage: persist_report run [OPTIONS] <SCRIPT> <OUT>
+
+Arguments:
+  <SCRIPT>  What is to be recorded, as CSV
+  <OUT>     Where the image of the segment is written
+
+Options:
+      --workers <K>  How many workers record, each in a thread of its own: 1 to 16 [default: 1]
+  -h, --help         Print help
+
+Example:
+  persist_report run examples/three_samples.csv three.img --workers 2
+"""
+MERGE_HELP = b"""\
+Merges two images into a new one, which has what no delta took of either
+
+Usage: persist_report merge <BASE> <DEAD> <OUT>
+
+Arguments:
+  <BASE>  The image whose size, page and id the new one has
+  <DEAD>  The image that is merged behind it
+  <OUT>   Where the new image is written
+
+Options:
+  -h, --help  Print help
+
+Example:
+  persist_report merge examples/three_samples.img three.img both.img
 """
 NOT_TEXT = b"""\
 error: invalid UTF-8 was detected in one or more arguments
@@ -64,6 +101,17 @@ MISTAKES = [
     ["--workers"],
     ["report", EXAMPLE, EXAMPLE],
     ["report", "--workers", "2"],
+    ["run"],
+    ["run", SCRIPT],
+    ["run", SCRIPT, "out", "more"],
+    *[["run", SCRIPT, "out", "--workers", count] for count in ("0", "17", "-1", "", "two", "4294967297")],
+    ["run", SCRIPT, "out", "--workers"],
+    ["run", SCRIPT, "out", "--workers", "1", "--workers", "2"],
+    ["merge"],
+    ["merge", EXAMPLE],
+    ["merge", EXAMPLE, EXAMPLE],
+    ["merge", EXAMPLE, EXAMPLE, "out", "more"],
+    ["merge", EXAMPLE, EXAMPLE, "out", "--workers", "2"],
 ]
 
 
@@ -140,7 +188,7 @@ def answer_to_short_file(program, path, most):
 def outputs(program, folder):
     """Outputs that cannot be written: what is asked for, and each is a fault of the device."""
     example = EXAMPLE.read_bytes()
-    asked = [["report"], ["report", EXAMPLE], ["--help"], ["report", "--help"], ["--version"]]
+    asked = [["report"], ["report", EXAMPLE], ["--help"], ["report", "--help"], ["run", "--help"], ["--version"]]
     for name, output in (("a full device", os.open("/dev/full", os.O_WRONLY)), ("a closed pipe", pipe_without_reader())):
         for words in asked:
             came = answer(program, words, example, stdout=output)
@@ -155,18 +203,94 @@ def outputs(program, folder):
             yield f"{words} with a full error stream", difference(Answer(status=status), answer(program, words, stderr=full))
 
 
+def inputs_of_commands(program, folder):
+    """Inputs of `run` and `merge`: all files are opened in the order of the arguments, and last OUT, which is emptied."""
+    out = folder / "out"
+    opened, not_opened = b"", b"what stood there before"
+    no_words = folder / "no-words"
+    no_words.write_bytes(b"1234567")
+    cases_of = {
+        "no script": (["run", "missing", out], READ_FAULT, not_opened),
+        "no script and no folder": (["run", "missing", folder / "missing" / "out"], READ_FAULT, not_opened),
+        "no folder": (["run", SCRIPT, folder / "missing" / "out"], WRITE_FAULT, not_opened),
+        "a folder": (["run", SCRIPT, folder], WRITE_FAULT, not_opened),
+        "a script that cannot be read": (["run", "/proc/self/mem", out], READ_FAULT, opened),
+        "a folder as a script": (["run", folder, out], READ_FAULT, opened),
+        "a script without an end": (["run", "/dev/zero", out], fault("TooLong", 3), opened),
+        "no base": (["merge", "missing", EXAMPLE, out], READ_FAULT, not_opened),
+        "no dead": (["merge", no_words, "missing", out], READ_FAULT, not_opened),
+        "no folder for the merge": (["merge", no_words, EXAMPLE, folder / "missing" / "out"], WRITE_FAULT, not_opened),
+        "a base that cannot be read": (["merge", "/proc/self/mem", no_words, out], READ_FAULT, opened),
+        "a base that is no image": (["merge", no_words, "/proc/self/mem", out], fault("NotWords", 3), opened),
+        "a dead that cannot be read": (["merge", EXAMPLE, "/proc/self/mem", out], READ_FAULT, opened),
+        "a dead without an end": (["merge", EXAMPLE, "/dev/zero", out], fault("TooLong", 3), opened),
+        "a base without an end": (["merge", "/dev/zero", no_words, out], fault("TooLong", 3), opened),
+    }
+    for name, (words, wanted, left) in cases_of.items():
+        out.write_bytes(not_opened)
+        wrong = difference(wanted, answer(program, words, cwd=folder))
+        yield name, wrong or (None if out.read_bytes() == left else f"{out.read_bytes()[:50]!r} stands in OUT")
+
+
+def answer_behind_closed_pipe(program, folder):
+    """The answer of `run` whose OUT is a pipe that is closed before the script comes."""
+    script, out = folder / "script-pipe", folder / "out-pipe"
+    os.mkfifo(script)
+    os.mkfifo(out)
+    running = subprocess.Popen([program, "run", script, out], stdout=subprocess.PIPE, stderr=subprocess.PIPE)
+    with open(script, "wb") as sending:
+        open(out, "rb").close()
+        sending.write(SCRIPT.read_bytes())
+    output, error = running.communicate()
+    return Answer(output, error, running.returncode)
+
+
+def answer_to_short_out(program, words, most):
+    """The answer where files may have so many bytes."""
+
+    def limited():
+        signal.signal(signal.SIGXFSZ, signal.SIG_IGN)
+        resource.setrlimit(resource.RLIMIT_FSIZE, (most, most))
+
+    return answer(program, words, preexec_fn=limited)
+
+
+def outputs_of_commands(program, folder):
+    """Outputs of `run` and `merge` that cannot be written: behind a fault of the image no report is begun."""
+    out, image = folder / "out", folder / "image"
+    run, merge = ["run", SCRIPT], ["merge", EXAMPLE, EXAMPLE]
+    for words in (run, merge):
+        yield f"{words[0]} into a full device", difference(WRITE_FAULT, answer(program, [*words, "/dev/full"]))
+        whole = answer(program, [*words, image])
+        yield f"{words[0]} into a file", difference(REPORT if words == run else Answer(), whole)
+        for most in (0, 1, 8, 511, 1023):
+            wrong = difference(WRITE_FAULT, answer_to_short_out(program, [*words, out], most))
+            left = out.read_bytes()
+            yield f"{words[0]} into a file of {most} bytes", wrong or (None if left == image.read_bytes()[:most] else f"{len(left)} other bytes")
+        wrong = difference(whole, answer_to_short_out(program, [*words, out], 1024))
+        yield f"{words[0]} into a file of 1024 bytes", wrong or (None if out.read_bytes() == image.read_bytes() else "another image")
+    yield "run into a closed pipe", difference(WRITE_FAULT, answer_behind_closed_pipe(program, folder))
+    answer(program, [*run, image])
+    for name, output in (("a full device", os.open("/dev/full", os.O_WRONLY)), ("a closed pipe", pipe_without_reader())):
+        wrong = difference(WRITE_FAULT, answer(program, [*run, out], stdout=output))
+        yield f"the report of run on {name}", wrong or (None if out.read_bytes() == image.read_bytes() else "another image")
+        yield f"merge beside {name}", difference(Answer(), answer(program, [*merge, out], stdout=output))
+        os.close(output)
+
+
 def words(program):
     """Help, the version, and command lines that ask for nothing that the program does."""
     shown = {("--version",): b"persist_report 0.1.0\n", ("--help",): HELP, ("help",): HELP, ("report", "--help"): REPORT_HELP}
+    shown |= {("run", "--help"): RUN_HELP, ("merge", "--help"): MERGE_HELP, ("help", "merge"): MERGE_HELP}
     for asked, text in shown.items():
         yield f"{list(asked)}", difference(Answer(text), answer(program, asked))
     for asked in ([b"\xc3", "report"], ["report", b"\xff\xfe"]):
         yield f"{asked}, which is not text", difference(Answer(error=NOT_TEXT, status=2), answer(program, asked))
     for asked in MISTAKES:
         came = answer(program, asked, EXAMPLE.read_bytes())
-        is_told = came.error.startswith(b"error: ") and b"\nUsage: persist_report" in came.error
+        is_told = came.error.startswith(b"error: ") and came.error.endswith(b"\nFor more information, try '--help'.\n")
         is_right = (came.output, is_told, came.status) == (b"", True, 2)
-        yield f"{asked}", None if is_right else f"wanted 'error: ' and a usage, with status 2, came {came}"
+        yield f"{asked}", None if is_right else f"wanted 'error: ' and where to find more, with status 2, came {came}"
 
 
 def cases(program, _options):
@@ -176,4 +300,6 @@ def cases(program, _options):
         yield from files(program, folder)
         yield from inputs(program, folder)
         yield from outputs(program, folder)
+        yield from inputs_of_commands(program, folder)
+        yield from outputs_of_commands(program, folder)
         yield from words(program)

@@ -1,13 +1,16 @@
-"""Images of the greatest size that are full: of samples, of names, and of the smallest blocks, each with its report.
+"""Images of the greatest size that are full: of samples, of names, and of the smallest blocks, each with its report; and the
+longest scripts.
 
 A program that searches a list from its front, for each sample or each name, does not end in time.
 """
 
 import array
+import pathlib
 import random
 import sys
+import tempfile
 
-from program import Answer, answer, difference
+from program import Answer, answer, difference, fault
 
 SIZE = 1_048_576
 PAGE = 65_536
@@ -19,6 +22,7 @@ PURGED, HISTOGRAM, SAMPLE = 0, 1, 3
 BOOLEAN, SPARSE = 2, 4
 SAMPLES = 60_000
 LEAST, GREATEST = -(2**31), 2**31 - 1
+MOST_SCRIPT = 16_777_216
 
 
 def image_of(blocks):
@@ -72,7 +76,25 @@ def smallest(_chance):
 IMAGES = [samples, names, smallest]
 
 
+def scripts(program, folder):
+    """A script of the greatest length, and one that is a byte longer."""
+    head, record = b"segment,128,64,7\nhist,A,boolean\n", b"add,A,1,1\n"
+    count, rest = divmod(MOST_SCRIPT - len(head), len(record))
+    text = head + count * record + rest * b"\n"
+    script, out = folder / "script", folder / "out"
+    script.write_bytes(text)
+    wanted = Answer(f"A,boolean,1,2,{count}\nA,total,{count},{count}\n".encode())
+    for workers in (1, 4):
+        came = answer(program, ["run", script, out, "--workers", str(workers)])
+        yield f"the longest script, {workers} workers", difference(wanted, came)
+    script.write_bytes(text + b"\n")
+    wrong = difference(fault("TooLong", 3), answer(program, ["run", script, out]))
+    yield "a byte more", wrong or (f"{out.stat().st_size} bytes were written" if out.stat().st_size else None)
+
+
 def cases(program, _options):
     for make in IMAGES:
         image, report = make(random.Random(5))
         yield make.__name__, difference(Answer(report), answer(program, ["report"], image))
+    with tempfile.TemporaryDirectory() as scratch:
+        yield from scripts(program, pathlib.Path(scratch))

@@ -294,6 +294,15 @@ def check_marks(words, at, totals, named, seen):
                 seen["a mark of another bucket"] += mark > 0
 
 
+def marks_of(words, at, n, named):
+    """The marks of the buckets: that of the packed bucket stands in the record, the others behind the counts."""
+    counts = words[at + 8]
+    marks = list(words[counts + 4 + n : counts + 4 + 2 * n]) if counts else [0] * n
+    if named is not None:
+        marks[named] = words[at + 10]
+    return marks
+
+
 def check_sum(words, at):
     total, mark = signed(words[at + 11]), signed(words[at + 12])
     require(abs(total) <= MOST_SUM, "BadSum", "of the sum")
@@ -310,14 +319,25 @@ def read_histogram(words, at, seen):
     boundaries = boundaries_of(words, at, name)
     if kind == 4:
         require(words[at + 8 : at + 11] == (0, 0, 0), "BadCounts", "of a sparse")
-        buckets = {}
+        buckets, marks = {}, {}
     else:
         totals = totals_of(words, at, len(boundaries) - 1)
         named = named_bucket(words, at, len(totals), seen)
         check_marks(words, at, totals, named, seen)
         buckets = {low: (high, total) for low, high, total in zip(boundaries, boundaries[1:], totals)}
+        marks = dict(zip(boundaries, marks_of(words, at, len(totals), named)))
     check_sum(words, at)
-    return {"name": name, "kind": kind, "buckets": buckets, "sum": signed(words[at + 11]), "redundant": words[at + 13]}
+    return {
+        "name": name,
+        "kind": kind,
+        "spec": (*words[at + 4 : at + 8], *boundaries),
+        "boundaries": boundaries,
+        "buckets": buckets,
+        "marks": marks,
+        "sum": signed(words[at + 11]),
+        "sum mark": signed(words[at + 12]),
+        "redundant": words[at + 13],
+    }
 
 
 def read_sample(words, at, read_at, seen):
@@ -334,6 +354,7 @@ def read_sample(words, at, read_at, seen):
         seen["a later sample of a value"] += 1
         return
     histogram["buckets"][value] = (value + 1, count)
+    histogram["marks"][value] = mark
     seen["a sample"] += 1
     seen["a sample without units"] += count == 0
     seen["the least value"] += value == -(2**31)

@@ -7,6 +7,7 @@ import subprocess
 ROOT = pathlib.Path(__file__).resolve().parent.parent
 BUILT = ROOT / "crates" / "persist_report" / "out" / "persist_report"
 EXAMPLE = ROOT / "examples" / "three_samples.img"
+SCRIPT = ROOT / "examples" / "three_samples.csv"
 MOST_SECONDS = 60
 
 

@@ -5,8 +5,10 @@ allocation with which the program would have more than that, and each page more 
 """
 
 import os
+import pathlib
 import random
 import resource
+import tempfile
 
 import known
 import largest
@@ -16,8 +18,10 @@ PAGE = resource.getpagesize()
 MOST_TO_LOAD = 200
 MOST_PAGES = 100_000
 STEP = 100
-NO_MEMORY = fault("NoMemory", 5)
+THREAD_STEP = 40
+NO_MEMORY, NO_THREAD = fault("NoMemory", 5), fault("NoThread", 5)
 NOT_LOADED = 127
+SCRIPT = b"segment,256,64,7\nhist,A,boolean\nhist,S,sparse\nadd,A,1,2\nadd,S,-5,1\nadd,A,0,1\ndelta,A\nadd,S,7,70000\n"
 EACH_BY_ITSELF = {"MALLOC_MMAP_THRESHOLD_": "0", "MALLOC_TOP_PAD_": "0"}
 COMMAND_LINES = [
     ["report"],
@@ -47,16 +51,21 @@ def least_pages(program):
     return max((pages + 1 for pages, status in enumerate(statuses) if status == NOT_LOADED), default=0)
 
 
-def wrong_of(program, words, data, pages, step, setting):
+def wrong_of(program, words, data, pages, step, setting, out=None):
     """What is wrong with the answers under limits that grow by `step` from these pages on, or None.
 
-    Each has to be NoMemory until it is the one that the program gives with ample memory; and NoMemory has to come.
+    Each has to be NoMemory until it is the one that the program gives with ample memory; and NoMemory has to come. Where
+    there is none to start a worker, it is NoThread. Nothing is written to `out` before.
     """
     ample = answer(program, words, data)
     refused = 0
+    if out is not None:
+        out.write_bytes(b"")
     came = answer_within(program, pages, words, data, setting)
-    while came == NO_MEMORY and pages < MOST_PAGES:
-        refused += 1
+    while came in (NO_MEMORY, NO_THREAD) and pages < MOST_PAGES:
+        refused += came == NO_MEMORY
+        if out is not None and out.read_bytes():
+            return f"under {pages} pages of data, {out.stat().st_size} bytes were written beside the fault"
         pages += step
         came = answer_within(program, pages, words, data, setting)
     if came != ample:
@@ -69,6 +78,15 @@ def longest_report():
     return max(known.FOLDER.glob("*.out"), key=lambda path: path.stat().st_size).with_suffix(".img")
 
 
+def files(program, least):
+    """Commands that write a file."""
+    with tempfile.TemporaryDirectory() as scratch:
+        script, out = pathlib.Path(scratch) / "script", pathlib.Path(scratch) / "out"
+        script.write_bytes(SCRIPT)
+        for words in (["run", script, out, "--workers", "3"], ["merge", EXAMPLE, EXAMPLE, out]):
+            yield words[0], wrong_of(program, words, b"", least, THREAD_STEP, EACH_BY_ITSELF, out)
+
+
 def cases(program, _options):
     least = least_pages(program)
     for words in [*COMMAND_LINES, ["report", longest_report()]]:
@@ -76,3 +94,4 @@ def cases(program, _options):
     for make in largest.IMAGES:
         image, _ = make(random.Random(5))
         yield f"the largest image of {make.__name__}", wrong_of(program, ["report"], image, least, STEP, {})
+    yield from files(program, least)

@@ -1,46 +1,21 @@
-"""Threads that record beside one another: the report is what a plain tally of their samples says, and all deltas of a
-histogram, the last among them, add up to it.
+"""Threads that record beside one another: the report is what a plain tally of their samples and batches says, and all
+deltas of a histogram, the last among them, add up to it.
 
-The program prints the samples that were accepted, what each delta and snapshot was answered, and the report of the image.
+The program prints the samples and batches that were accepted, what each delta and snapshot was answered, and the report
+of the image.
 """
 
 import collections
 import itertools
 
+import plain_tally
 import program
 
 BUILT = program.ROOT / "crates" / "recording_threads" / "out" / "recording_threads"
-GREATEST = 2_147_483_647
 THREADS = (2, 3, 4, 8, 16)
 ROUNDS = 200
 RECORDS = 100
-
-
-def linear(least, greatest, buckets):
-    """The boundaries of a linear histogram: between both ends as even as whole numbers allow."""
-    inner = [(2 * (least * (buckets - 1 - i) + greatest * (i - 1)) + buckets - 2) // (2 * (buckets - 2))
-             for i in range(1, buckets)]
-    return [0, *inner, GREATEST]
-
-
-BOUNDARIES = {"boolean": [0, 1, 2, GREATEST], "custom": [0, 10, 100, 1000, GREATEST], "linear": linear(1, 100, 20)}
-
-
-def key(name, value):
-    """The low end of the bucket that has a value; of a sparse histogram the value."""
-    if name == "sparse":
-        return value
-    return max(low for low in BOUNDARIES[name][:-1] if low <= max(value, 0))
-
-
-def high(name, low):
-    if name == "sparse":
-        return low + 1
-    return BOUNDARIES[name][BOUNDARIES[name].index(low) + 1]
-
-
-def amount(name, value):
-    return value if name == "sparse" else max(value, 0)
+SPECS = {"boolean": ("boolean",), "custom": ("custom", 10, 100, 1000), "linear": ("linear", 1, 100, 20), "sparse": ("sparse",)}
 
 
 class Round:
@@ -48,10 +23,11 @@ class Round:
 
     def __init__(self, lines):
         self.samples = []
+        self.batches = []
         self.deltas = collections.defaultdict(list)
         self.snapshots = collections.defaultdict(list)
         self.report = []
-        kinds = {"sample": self.sample, "delta": self.delta, "snapshot": self.snapshot}
+        kinds = {"sample": self.sample, "batch": self.batch, "delta": self.delta, "snapshot": self.snapshot}
         for place, line in enumerate(lines):
             kind, *fields = line.split(",")
             if kind == "report":
@@ -62,6 +38,9 @@ class Round:
     def sample(self, name, value, count):
         self.samples.append((name, int(value), int(count)))
 
+    def batch(self, name, total, *items):
+        self.batches.append((name, int(total), pairs(items)))
+
     def delta(self, name, total, *units):
         self.deltas[name].append((int(total), pairs(units)))
 
@@ -70,62 +49,58 @@ class Round:
 
 
 def pairs(fields):
-    """Keys with their units, in the order in which they were printed."""
+    """Keys or values with their units, in the order in which they were printed."""
     numbers = [int(field) for field in fields]
     return list(zip(numbers[::2], numbers[1::2], strict=True))
 
 
-def tally(samples):
-    """Of each name the units of its keys and the sum of its samples."""
-    counts, sums = collections.defaultdict(collections.Counter), collections.Counter()
+def tally(samples, batches):
+    """What they add up to: a sample adds its value as often as it has units, a batch its sum.
+
+    All four histograms were made, whoever records into them.
+    """
+    histograms = {name: plain_tally.Histogram.of(spec) for name, spec in SPECS.items()}
     for name, value, count in samples:
-        counts[name][key(name, value)] += count
-        sums[name] += amount(name, value) * count
-    return counts, sums
+        histograms[name].add(value, count)
+    for name, total, items in batches:
+        for value, count in items:
+            histograms[name].take({histograms[name].key(value): count}, 0)
+        histograms[name].take({}, total)
+    return histograms
 
 
-def report(counts, sums):
-    """The report of what was tallied. All four histograms were made, whoever records into them."""
-    lines = []
-    for name in ("boolean", "custom", "linear", "sparse"):
-        for low in sorted(counts[name]):
-            lines.append(f"{name},{name},{low},{high(name, low)},{counts[name][low]}")
-        lines.append(f"{name},total,{sum(counts[name].values())},{sums[name]}")
-    return lines
-
-
-def wrong_deltas(name, deltas, counts, total):
+def wrong_deltas(name, deltas, tallied):
     taken = collections.Counter()
     for _, units in deltas:
         keys = [low for low, _ in units]
         if keys != sorted(set(keys)) or not all(count > 0 for _, count in units):
             return f"a delta of {name} has {units}"
         taken.update(dict(units))
-    if taken != counts or sum(amount for amount, _ in deltas) != total:
-        return f"the deltas of {name} take {taken}, and the samples are {counts}"
+    if taken != tallied.counts or sum(amount for amount, _ in deltas) != tallied.sum:
+        return f"the deltas of {name} take {taken}, and the samples are {tallied.counts}"
     return None
 
 
-def wrong_snapshots(name, snapshots, counts):
+def wrong_snapshots(name, snapshots, tallied):
     for redundant, units in snapshots:
         keys = [low for low, _ in units]
-        if keys != sorted(set(keys)) or (name != "sparse" and keys != BOUNDARIES[name][:-1]):
+        if keys != sorted(set(keys)) or (name != "sparse" and keys != tallied.boundaries[:-1]):
             return f"a snapshot of {name} has the keys {keys}"
-        if redundant > counts.total() or any(count > counts[low] for low, count in units):
-            return f"a snapshot of {name} saw {units}, and the samples are {counts}"
+        if redundant > tallied.counts.total() or any(count > tallied.counts[low] for low, count in units):
+            return f"a snapshot of {name} saw {units}, and the samples are {tallied.counts}"
     return None
 
 
 def wrong_round(lines):
     """What is wrong with a round, or None."""
     done = Round(lines)
-    counts, sums = tally(done.samples)
-    wanted = report(counts, sums)
+    histograms = tally(done.samples, done.batches)
+    wanted = plain_tally.report(histograms).decode().splitlines()
     if done.report != wanted:
-        return f"the report is {done.report}, and the samples are {wanted}"
-    for name in counts:
-        wrong = wrong_deltas(name, done.deltas[name], counts[name], sums[name])
-        wrong = wrong or wrong_snapshots(name, done.snapshots[name], counts[name])
+        return f"the report is {done.report}, and the samples and batches are {wanted}"
+    for name, tallied in histograms.items():
+        wrong = wrong_deltas(name, done.deltas[name], tallied)
+        wrong = wrong or wrong_snapshots(name, done.snapshots[name], tallied)
         if wrong is not None:
             return wrong
     return None

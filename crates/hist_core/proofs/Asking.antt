@@ -1,6 +1,6 @@
 -- A `hist` of an actor goes on, and what its actor knows then.
 use Rattle.std.proofs.Common.{◌≡◌, ◌≢◌, ◌<◌, ◌+◌, ℕ, zero, suc, ◌≤◌, List, [], ◌∷◌, ◌++◌, length, map, take, drop, All, inl, inr, refl, sym, ap, subst, ◌∙◌, vec_len, arith}
-use Rattle.std.specs.Prelude.{⊤, Option, Some, None, Result, Ok, Err, vec_capacity}
+use Rattle.std.specs.Prelude.{Option, Some, None, Result, Ok, Err, vec_capacity}
 use Rattle.std.specs.declared.alloc.AllocError.{AllocError}
 use Rattle.bucket_ranges.specs.declared.spec.Spec.{Spec}
 use Rattle.alloc_core.specs.Layout.{IsShape}
@@ -20,19 +20,23 @@ use Rattle.segment_machine.specs.declared.actor.Actor.{Actor}
 use Rattle.segment_machine.specs.Actor.{is_opener}
 use Rattle.segment_machine.specs.Calls.{MayTurn}
 use Rattle.segment_machine.specs.Note.{Note, Notes, MayNote, noted, knows}
+use Rattle.hist_core.specs.declared.call.Answer.TheVariants as answer
 use Rattle.hist_core.specs.declared.call.Stepped.{Stepped}
+use Rattle.hist_core.specs.declared.call.Stepped.TheVariants as stepped
+use Rattle.hist_core.specs.declared.entry.Taken.{Taken}
 use Rattle.hist_core.specs.declared.hist.Hist.{Hist as HistCall}
 use Rattle.hist_core.specs.declared.hist.HistStep.{HistStep}
 use Rattle.hist_core.specs.declared.hist.HistStep.TheVariants.{More, Done, Refused}
 use Rattle.hist_core.specs.declared.hist.Known.{Known}
 use Rattle.hist_core.specs.declared.runner.Running.{Running}
-use Rattle.hist_core.specs.declared.runner.Running.TheVariants.{Hist, Add, Snapshot}
+use Rattle.hist_core.specs.declared.runner.Running.TheVariants.{Hist}
 use Rattle.hist_core.specs.declared.entry.Entry.{Entry}
-use Rattle.hist_core.proofs.Quiet.{quiet_on, gives_none, begun_there}
+use Rattle.hist_core.proofs.Apart.{adds_not, looks_not, batches_not}
+use Rattle.hist_core.proofs.Quiet.{quiet_on, gives_none, begun_there, takes_none, takes_not}
 use Rattle.hist_core.specs.declared.runner.Runner.{Runner}
 use Rattle.hist_core.specs.Goes.{Beside, Goes}
 use Rattle.hist_core.specs.Hist.{IsSomeHist, HistSteps, asked_of}
-use Rattle.hist_core.specs.Runner.{known_of, IsKnown, NoneHasName, HaveOwnNames, StandsIn, HasRoom, IsRun, IsSomeRun, IsHistSaid, BeginsHist, IsAsItWas, IsQuiet, Advances, Answers, held_by, entry_of, ended_by, begun_by, pending_by}
+use Rattle.hist_core.specs.Runner.{known_of, AreShown, HasDraft, IsKnown, NoneHasName, HaveOwnNames, StandsIn, HasRoom, IsRun, IsSomeRun, IsHistSaid, BeginsHist, IsAsItWas, IsQuiet, Advances, Answers, held_by, entry_of, ended_by, begun_by, pending_by}
 use Rattle.hist_core.proofs.Parts.Walks.{goes_with}
 
 -- ---- a note more
@@ -72,20 +76,21 @@ own_more (first ∷ rest) known own none =
 module _ (shape : Dimensions) (version : ℕ) (old : Runner) (a : Actor) (run : IsRun shape version old a) where
   -- its call is another, or none, and of what it has counted and knows nothing has changed
   pub runs_on : (b : Actor) (running : Option Running) → Beside a b → StandsIn shape old.known.items (pending_by old) running b
-      → HasRoom running (vec_len old.known) (vec_capacity old.known) → IsRun shape version (record old { running = running }) b
-  runs_on b running beside stands room = record {
+      → HasRoom running (vec_len old.known) (vec_capacity old.known) → HasDraft running old.taken → IsRun shape version (record old { running = running }) b
+  runs_on b running beside stands room draft = record {
     records = ap is_opener beside.role ∙ run.records;
     segment = beside.segment ∙ run.segment;
     first = ap (λ e. e.first) beside.entries ∙ run.first;
     within = run.within;
     ended = run.ended ∙ ap (λ e. map (λ c. c.entry) e.log) (sym beside.entries);
     begun = run.begun ∙ ap (λ e. map (λ c. c.entry) (e.log ++ e.running)) (sym beside.entries);
-    untaken = (run.untaken.0, ap (λ d. d.taken) beside.deltas ∙ run.untaken.1);
+    taken = subst (AreShown old.taken.items) (sym (ap (λ d. d.taken) beside.deltas)) run.taken;
     names = run.names ∙ sym beside.names;
     lawful = run.lawful;
     once = run.once;
     stands = stands;
     room = room;
+    draft = draft;
   }
 
   -- it knows one histogram more
@@ -100,13 +105,14 @@ module _ (shape : Dimensions) (version : ℕ) (old : Runner) (a : Actor) (run : 
         within = run.within;
         ended = run.ended ∙ ap (λ e. map (λ c. c.entry) e.log) (sym beside.entries);
         begun = run.begun ∙ ap (λ e. map (λ c. c.entry) (e.log ++ e.running)) (sym beside.entries);
-        untaken = (run.untaken.0, ap (λ d. d.taken) beside.deltas ∙ run.untaken.1);
+        taken = subst (AreShown old.taken.items) (sym (ap (λ d. d.taken) beside.deltas)) run.taken;
         names = ap (map known_of) items
             ∙ (map-append known_of old.known.items (known ∷ []) ∙ ap (λ l. l ++ known_of known ∷ []) (run.names ∙ sym beside.names));
         lawful = subst (All (IsKnown shape)) (sym items) (All-push (IsKnown shape) old.known.items known run.lawful lawful);
         once = subst HaveOwnNames (sym items) (own_more old.known.items known run.once none);
         stands = (may, quiet_on (pending_by old) b (noted b (knows (known_of known))) refl refl refl quiet);
         room = tt;
+        draft = tt;
       })
 
 -- ---- its `hist`
@@ -145,7 +151,7 @@ module _ (shape : Dimensions) (version : ℕ) (old : Runner) (a : Actor) (run : 
   hist_goes More new result steps (new_is, result_is) =
       subst (λ said. Advances shape version old words new new_words said a) (sym result_is) (goes_with (steps shape version a long stands.0) (λ b (beside, is_hist).
       subst (λ (r : Runner). IsRun shape version r b) (sym new_is)
-      (runs_on shape version old a run b (Some (Hist now)) beside (is_hist, still_quiet b beside, none) room)))
+      (runs_on shape version old a run b (Some (Hist now)) beside (is_hist, still_quiet b beside, none) room tt)))
   hist_goes Done new result steps (asked, is_asked, new_is, items, result_is) =
       let here : asked ≡ now = sym (ap (asked_by now) is_asked) in
       let then_items : new.known.items ≡ old.known.items ++ (let k = now.asked in record k { reference = now.reference }) ∷ [] =
@@ -159,16 +165,7 @@ module _ (shape : Dimensions) (version : ℕ) (old : Runner) (a : Actor) (run : 
   hist_goes (Refused why) new result steps (new_is, result_is) =
       subst (λ said. Advances shape version old words new new_words said a) (sym result_is) (goes_with (steps shape version a long stands.0) (λ b (beside, may, cause).
       gives_none shape version new b (held_by old.running) (ap held_by is) may (subst (λ (r : Runner). IsRun shape version r b) (sym new_is)
-      (runs_on shape version old a run b None beside (may, still_quiet b beside) tt))))
-
--- what it asks for, where it asks for something
-abbrev adds_not : Option Running → Type 0
-adds_not (Some (Add add)) = ⊥
-adds_not running = ⊤
-
-abbrev looks_not : Option Running → Type 0
-looks_not (Some (Snapshot looker)) = ⊥
-looks_not running = ⊤
+      (runs_on shape version old a run b None beside (may, still_quiet b beside) tt tt))))
 
 -- what is answered
 module _ (old : Runner) (h now : HistCall) (is : old.running ≡ Some (Hist h)) (same : now.asked ≡ h.asked) (words new_words : List ℕ)
@@ -188,12 +185,15 @@ module _ (old : Runner) (h now : HistCall) (is : old.running ≡ Some (Hist h)) 
           (λ asked is_asked. (now, ap (λ (r : Runner). r.running) new_is, same ∙ ap (λ (y : HistCall). y.asked) (ap (asked_by h) (sym is ∙ is_asked)))),
           (λ add is_add. absurd (subst adds_not (sym is ∙ is_add) tt)),
           (λ looker is_looker. absurd (subst looks_not (sym is ∙ is_looker) tt)),
+          (λ taker fresh is_taker. absurd (subst takes_not (sym is ∙ is_taker) tt)),
+          (λ batch is_batch. absurd (subst batches_not (sym is ∙ is_batch) tt)),
         ),
         (
           ap ended_by new_is,
           ap begun_by new_is ∙ begun_there old all unbegun,
           ap pending_by new_is,
         ),
+        takes_none old new stepped.More (subst takes_not (sym is) tt) (ap (λ (r : Runner). r.taken.items) new_is),
       )
   hist_answers Done new result (asked, is_asked, new_is, items, result_is) =
       let then_same : asked.asked ≡ h.asked = ap (λ (y : HistCall). y.asked) (sym (ap (asked_by now) is_asked)) ∙ same in
@@ -206,11 +206,13 @@ module _ (old : Runner) (h now : HistCall) (is : old.running ≡ Some (Hist h)) 
           ap (λ (r : Runner). r.running) new_is,
         ),
         (ap ended_by new_is, begun_on new (ap (λ (r : Runner). r.entries) new_is) (ap (λ (r : Runner). r.ended) new_is) (ap (λ (r : Runner). r.begun) new_is)),
+        takes_none old new (stepped.Done (answer.Hist asked.reference)) (subst takes_not (sym is) tt) (ap (λ (r : Runner). r.taken.items) new_is),
       )
   hist_answers (Refused why) new result (new_is, result_is) =
       subst (Answers old words new new_words) (sym result_is) (
         (ap (λ (r : Runner). r.running) new_is, ap (λ (r : Runner). r.known.items) new_is),
         (ap ended_by new_is, begun_on new (ap (λ (r : Runner). r.entries) new_is) (ap (λ (r : Runner). r.ended) new_is) (ap (λ (r : Runner). r.begun) new_is)),
+        takes_none old new (stepped.Done (answer.Refused why)) (subst takes_not (sym is) tt) (ap (λ (r : Runner). r.taken.items) new_is),
       )
 
 -- ---- what it begins with
@@ -224,7 +226,7 @@ place_below (y ∷ l) (suc i) x at = let below = place_below l i x at in omega (
 -- where it is as it was but for room, the machine's actor stands as before
 pub as_it_stood : (shape : Dimensions) (version : ℕ) (old new : Runner) (a : Actor) → old.running ≡ None → IsAsItWas old new → IsRun shape version old a
     → IsRun shape version new a
-as_it_stood shape version old new a rests (new_is, entries, items) run =
+as_it_stood shape version old new a rests (new_is, entries, items, taken) run =
     subst (λ (r : Runner). IsRun shape version r a) (sym new_is) (record {
       records = run.records;
       segment = run.segment;
@@ -232,12 +234,13 @@ as_it_stood shape version old new a rests (new_is, entries, items) run =
       within = subst (λ (l : List Entry). (old.ended ≤ old.begun) × (old.begun ≤ length l)) (sym entries) run.within;
       ended = ap (λ (l : List Entry). map entry_of (take old.ended l)) entries ∙ run.ended;
       begun = ap (λ (l : List Entry). map entry_of (take old.begun l)) entries ∙ run.begun;
-      untaken = run.untaken;
+      taken = subst (λ (l : List Taken). AreShown l a.deltas.taken) (sym taken) run.taken;
       names = ap (map known_of) items ∙ run.names;
       lawful = subst (All (IsKnown shape)) (sym items) run.lawful;
       once = subst HaveOwnNames (sym items) run.once;
       stands = subst (λ (p : List Known × List Entry). StandsIn shape p.0 (drop old.ended p.1) old.running a) (λ i. (sym items i, sym entries i)) run.stands;
       room = subst (λ running. HasRoom running (vec_len new.known) (vec_capacity new.known)) (sym rests) tt;
+      draft = subst (λ running. HasDraft running new.taken) (sym rests) tt;
     })
 
 -- it begins a `hist`, or there was no memory for it: the machine's actor stands as before
@@ -252,7 +255,7 @@ begins_hist shape version name spec asked old new (Ok Going) a asks lawful rests
       within = run.within;
       ended = run.ended;
       begun = run.begun;
-      untaken = run.untaken;
+      taken = run.taken;
       names = ap (map known_of) items ∙ run.names;
       lawful = subst (All (IsKnown shape)) (sym items) run.lawful;
       once = subst HaveOwnNames (sym items) run.once;
@@ -263,6 +266,7 @@ begins_hist shape version name spec asked old new (Ok Going) a asks lawful rests
             (subst (NoneHasName old.known.items) (ap (λ n. n.items) (sym begun.named)) none),
       );
       room = room;
+      draft = tt;
     })
 begins_hist shape version name spec asked old new (Ok (Ended answered)) a asks lawful rests (new_is, known) run = subst (λ (r : Runner). IsRun shape version r a) (sym new_is) run
 begins_hist shape version name spec asked old new (Err error) a asks lawful rests same run = as_it_stood shape version old new a rests same run

@@ -30,7 +30,7 @@ as_it_was board = record {
   words = refl;
   units = refl;
   count = refl;
-  runners = λ i before behind was is. subst (IsAsItWas before) (some-injective before behind (sym was ∙ is)) (refl, refl, refl);
+  runners = λ i before behind was is. subst (IsAsItWas before) (some-injective before behind (sym was ∙ is)) (refl, refl, refl, refl);
 }
 
 -- what a `hist` of a known name is answered, it is answered at once
@@ -72,7 +72,7 @@ module _ (old new : Board) (actor : ℕ) (r now : Runner) (at : get_elem? old.ru
         (λ k. (some-injective r before (sym at ∙ (ap (get_elem? old.runners.items) (sym here) ∙ was)) k, some-injective now behind (sym is_now ∙ (ap (get_elem? new.runners.items) (sym here) ∙ is)) k))
         same)
         (λ apart. subst (IsAsItWas before)
-        (some-injective before behind (sym was ∙ (sym (set_else old.runners.items actor i now apart) ∙ (sym (ap (λ (l : List Runner). get_elem? l i) runners) ∙ is)))) (refl, refl, refl));
+        (some-injective before behind (sym was ∙ (sym (set_else old.runners.items actor i now apart) ∙ (sym (ap (λ (l : List Runner). get_elem? l i) runners) ∙ is)))) (refl, refl, refl, refl));
   }
 
   pub hist_begins : (name : List ℕ) (spec : Spec) (asked : Asked) (result : Result Begun AllocError) → IsAskedFor old.shape name spec asked
@@ -83,7 +83,7 @@ module _ (old new : Board) (actor : ℕ) (r now : Runner) (at : get_elem? old.ru
     subst (AsksFor name spec) (sym (ap (λ (x : Runner). x.running) now_is)) (ap (λ n. n.items) begun.named ∙ asks.named, begun.specified ∙ asks.specified),
   )
   hist_begins name spec asked (Ok (Ended answered)) asks (now_is, known) = (
-    as_before (subst (IsAsItWas r) (sym now_is) (refl, refl, refl)),
+    as_before (subst (IsAsItWas r) (sym now_is) (refl, refl, refl, refl)),
     λ runner is. at_once old.shape runner.known.items name spec answered
         (subst (λ (p : Runner × List ℕ × Spec). let x : Runner = p.0 in IsKnownAnswer x.known.items p.1 p.2 answered)
         (λ i. (some-injective r runner (sym at ∙ is) i, asks.named i, asks.specified i)) known),

@@ -1,5 +1,5 @@
 -- A step of a world is one event of the machine.
-use Rattle.std.proofs.Common.{◌≡◌, ◌≢◌, false, ℕ, zero, suc, ◌+◌, ◌<◌, ◌≤◌, List, [], ◌∷◌, ◌++◌, length, get_or, set, take, inl, inr, refl, sym, ap, ◌∙◌, subst, arith, length-set}
+use Rattle.std.proofs.Common.{◌≡◌, ◌≢◌, false, ℕ, ℤ, zero, suc, ◌+◌, ◌<◌, ◌≤◌, List, [], ◌∷◌, ◌++◌, length, get_or, set, take, inl, inr, refl, sym, ap, ◌∙◌, subst, arith, length-set}
 use Rattle.std.proofs.Math.Numerals.{add-one}
 use Rattle.std.proofs.lemmas.List.{append-nil, length-take-le, set-set}
 use Rattle.std.proofs.Math.Logic.{∥∥₁_elim}
@@ -16,7 +16,8 @@ use Rattle.segment_machine.specs.State.{State, memory, IsStep}
 use Rattle.segment_machine.specs.Reached.{IsState, IsLent, IsReturned, new_state, stepped, lent, returned}
 use Rattle.segment_machine.specs.Reached as machine
 use Rattle.segment_machine.specs.Seats.{giver, getter}
-use Rattle.segment_machine.specs.Actor.{is_opener, units_of}
+use Rattle.segment_machine.specs.declared.actor.Answered.{Answered}
+use Rattle.segment_machine.specs.Actor.{is_opener, units_listed, units_of}
 use Rattle.segment_invariant.proofs.Lists.Elements.{all_at, sum_at_least}
 use Rattle.alloc_core.proofs.Layouts.{length_shown}
 use Rattle.alloc_core.proofs.Owners.{set_at}
@@ -25,6 +26,9 @@ use Rattle.segment_invariant.specs.Keeps.{found_at}
 use Rattle.segment_invariant.proofs.Lists.Pairs.{element_at}
 use Rattle.segment_promises.proofs.Reached.{states_are_kept, states_are_consistent}
 use Rattle.segment_promises.proofs.Readings.Stopped.{stopped_reads}
+use Rattle.segment_promises.specs.Deltas.{IsEnough}
+use Rattle.segment_promises.proofs.Deltas.{deltas_take_accepted}
+use Rattle.segment_promises.proofs.Snapshots.{snapshots_see_accepted}
 use Rattle.segment_promises.proofs.Steps.{happens}
 use Rattle.segment_promises.proofs.Names.{names_are_first}
 use Rattle.std.specs.List.{Contains}
@@ -39,12 +43,14 @@ use Rattle.segment_invariant.proofs.Lists.Maps.{contains_map}
 use Rattle.hist_core.specs.declared.hist.Known.{Known}
 use Rattle.hist_core.specs.declared.runner.Runner.{Runner}
 use Rattle.hist_core.specs.declared.board.Board.{Board}
+use Rattle.hist_core.specs.declared.answer.Delta.{Delta}
+use Rattle.hist_core.specs.declared.answer.Snapshot.{Snapshot}
 use Rattle.hist_core.specs.declared.call.Stepped.{Stepped}
 use Rattle.hist_core.specs.declared.call.Stepped.TheVariants.{More, Done}
 use Rattle.hist_core.specs.declared.call.Answer.TheVariants as answer
 use Rattle.hist_core.specs.Goes.{AreApart, Goes}
-use Rattle.hist_core.specs.Runner.{IsKnown, IsRun, IsSomeRun, Lands, Advances, held_by, returned_by, StandsIn, known_of, pending_by}
-use Rattle.hist_core.specs.Board.{AreRun, IsReachedAs, IsReached, IsConsistentAs, IsReadAs, AreKnownFirst, StepsTo, BeginsFrom}
+use Rattle.hist_core.specs.Runner.{IsAnswer, IsTook, IsKnown, IsRun, IsSomeRun, Lands, Advances, held_by, looked_by, returned_by, StandsIn, known_of, pending_by}
+use Rattle.hist_core.specs.Board.{AreRun, IsReachedAs, IsReached, IsConsistentAs, IsReadAs, AreKnownFirst, HasSeen, HasTaken, IsPromised, StepsTo, BeginsFrom}
 use Rattle.bucket_ranges.specs.Ranges.{boundaries_of}
 use Rattle.bucket_ranges.specs.Spec.{spec_fault}
 use Rattle.std.specs.Prelude.{None}
@@ -82,6 +88,43 @@ behind_first x xs i = ap (get_elem? (x ∷ xs)) (add-one i)
 
 set_behind_first : {A : Type 0} (x : A) (xs : List A) (i : ℕ) (y : A) → set (x ∷ xs) (i + 1) y ≡ x ∷ set xs i y
 set_behind_first x xs i y = ap (λ n. set (x ∷ xs) n y) (add-one i)
+
+-- ---- what is answered
+
+-- what an actor answers of a snapshot is at least what it had accepted and seen
+has_seen : (board : Board) (state : State) (reach : IsReachedAs board state) (actor : ℕ) (b : Actor) → get_elem? state.actors (actor + 1) ≡ some b
+    → is_opener b.role ≡ false → (histogram : ℕ) (snapshot : Snapshot) → IsAnswer histogram snapshot b → HasSeen actor histogram snapshot board state reach
+has_seen board state reach actor b there records histogram snapshot is =
+    let opened = blank board.version reach.id board.shape.size in
+    let kept = states_are_kept board.shape board.version reach.id 0 state reach.reached in
+    let known : MachineKnown = is.known in
+    let answered : Answered = is.answered in
+    let sees = snapshots_see_accepted board.shape opened state (actor + 1) reach.shows.opener b known answered kept
+    (ap (λ l. get_elem? l 0) reach.shows.actors) there records is.knows is.saw in
+    let noted = sees.1 in
+    let redundant = is.redundant in record {
+      recorder = b;
+      there = there;
+      answer = is;
+      kept = kept;
+      enough = subst (λ (l : List (ℤ × ℕ)). IsEnough state.words kept.anatomy.records b known (units_listed l)) is.counts sees.0;
+      noted = omega (arith, noted, redundant);
+      rising = λ count saw.
+          let least = sees.2 count (subst (λ (h : ℕ). Contains (take b.since.counts b.seen.counts) (record { at = h + 13; word = count })) (sym is.reference) saw) in
+          omega (arith, least, redundant);
+    }
+
+-- of a delta, that all of them took together
+has_taken : (board : Board) (state : State) (reach : IsReachedAs board state) (actor : ℕ) (b : Actor) → get_elem? state.actors (actor + 1) ≡ some b
+    → is_opener b.role ≡ false → (histogram : ℕ) (delta : Delta) → IsTook histogram delta b → HasTaken actor histogram delta board state reach
+has_taken board state reach actor b there records histogram delta is =
+    let kept = states_are_kept board.shape board.version reach.id 0 state reach.reached in record {
+      recorder = b;
+      there = there;
+      answer = is;
+      kept = kept;
+      enough = deltas_take_accepted board.shape (blank board.version reach.id board.shape.size) state (actor + 1) b is.known kept there records is.knows is.took;
+    }
 
 -- ---- a step
 
@@ -164,34 +207,31 @@ module _ (old : Board) (state : State) (reach : IsReachedAs old state) (size : l
           goes.3,
         )
 
+    -- the state where its actor is this is reached
+    reached_so : (event : Event) (b : Actor) → IsStep old.version state (actor + 1) event (changed b) → new.units ≡ old.units → IsRun old.shape old.version r' b
+        → IsReachedAs new (changed b)
+    reached_so event b step pooled run = record {
+      id = reach.id;
+      reached = reaches (changed b) (stepped state (changed b) (actor + 1) event reach.reached.3 step);
+      shows = record {
+        words = refl;
+        cursors = refl;
+        opener = reach.shows.opener;
+        recorders = set reach.shows.recorders actor b;
+        actors = ap (λ actors. set actors (actor + 1) b) reach.shows.actors ∙ set_behind_first reach.shows.opener reach.shows.recorders actor b;
+        opens = reach.shows.opens;
+        waits = reach.shows.waits;
+        offers = reach.shows.offers;
+        pool = reach.shows.pool ∙ sym pooled;
+        runs = runs_there b run;
+      };
+    }
+
     -- it lands there, where no units come back
-    lands : (event : Event) (b : Actor) → IsStep old.version state (actor + 1) event (changed b) → new.units ≡ old.units → IsRun old.shape old.version r' b
-        → StepsTo old actor state new
-    lands event b step pooled run = (
-      event,
-      changed b,
-      step,
-      (
-        changed b,
-        inl refl,
-        record {
-          id = reach.id;
-          reached = reaches (changed b) (stepped state (changed b) (actor + 1) event reach.reached.3 step);
-          shows = record {
-            words = refl;
-            cursors = refl;
-            opener = reach.shows.opener;
-            recorders = set reach.shows.recorders actor b;
-            actors = ap (λ actors. set actors (actor + 1) b) reach.shows.actors ∙ set_behind_first reach.shows.opener reach.shows.recorders actor b;
-            opens = reach.shows.opens;
-            waits = reach.shows.waits;
-            offers = reach.shows.offers;
-            pool = reach.shows.pool ∙ sym pooled;
-            runs = runs_there b run;
-          };
-        },
-      ),
-    )
+    lands : (event : Event) (b : Actor) (step : IsStep old.version state (actor + 1) event (changed b)) (pooled : new.units ≡ old.units)
+        (run : IsRun old.shape old.version r' b) (said : Stepped) → IsPromised old actor said new (changed b) (reached_so event b step pooled run)
+        → StepsTo old actor state new said
+    lands event b step pooled run said promised = (event, changed b, step, (changed b, inl refl, (reached_so event b step pooled run, promised)))
 
     -- the opener and its actor, once one has given the other units
     abbrev traded : Actor → Actor → Actor → State
@@ -211,53 +251,60 @@ module _ (old : Board) (state : State) (reach : IsReachedAs old state) (size : l
 
     -- it lands there once its units have come back
     lands_back : (event : Event) (b : Actor) (units : ℕ) → IsStep old.version state (actor + 1) event (changed b) → new.units ≡ old.units + units
-        → b.hand.place ≢ Spent → is_opener b.role ≡ false → units ≤ b.units.share → IsRun old.shape old.version r' (giver b units) → StepsTo old actor state new
-    lands_back event b units step pooled living recorder fits run =
+        → b.hand.place ≢ Spent → is_opener b.role ≡ false → units ≤ b.units.share → IsRun old.shape old.version r' (giver b units) → (said : Stepped)
+        → ((last : State) (there : IsReachedAs new last) → IsPromised old actor said new last there) → StepsTo old actor state new said
+    lands_back event b units step pooled living recorder fits run said promised =
         let opener : Actor = reach.shows.opener in
         let last : State = traded b (getter opener units) (giver b units) in
         let back : IsReturned (changed b) 0 (actor + 1) units last =
-        (opener, b, not_first, first_is b, set_at state.actors (actor + 1) its.0 b there, (reach.shows.opens, recorder, living, fits), refl) in (
+        (opener, b, not_first, first_is b, set_at state.actors (actor + 1) its.0 b there, (reach.shows.opens, recorder, living, fits), refl) in
+        let there : IsReachedAs new last = record {
+          id = reach.id;
+          reached = reaches last (returned (changed b) last 0 (actor + 1) units (stepped state (changed b) (actor + 1) event reach.reached.3 step) back);
+          shows = record {
+            words = refl;
+            cursors = refl;
+            opener = getter opener units;
+            recorders = set reach.shows.recorders actor (giver b units);
+            actors = traded_are b (getter opener units) (giver b units);
+            opens = reach.shows.opens;
+            waits = reach.shows.waits;
+            offers = reach.shows.offers;
+            pool = ap (λ n. n + units) reach.shows.pool ∙ sym pooled;
+            runs = runs_there (giver b units) run;
+          };
+        } in (
           event,
           changed b,
           step,
-          (
-            last,
-            inr (units, back),
-            record {
-              id = reach.id;
-              reached = reaches last (returned (changed b) last 0 (actor + 1) units (stepped state (changed b) (actor + 1) event reach.reached.3 step) back);
-              shows = record {
-                words = refl;
-                cursors = refl;
-                opener = getter opener units;
-                recorders = set reach.shows.recorders actor (giver b units);
-                actors = traded_are b (getter opener units) (giver b units);
-                opens = reach.shows.opens;
-                waits = reach.shows.waits;
-                offers = reach.shows.offers;
-                pool = ap (λ n. n + units) reach.shows.pool ∙ sym pooled;
-                runs = runs_there (giver b units) run;
-              };
-            },
-          ),
+          (last, inr (units, back), (there, promised last there)),
         )
 
     -- where its actor lands by what its call says
     lands_so : (event : Event) (b : Actor) → IsStep old.version state (actor + 1) event (changed b) → (said : Stepped)
-        → new.units ≡ old.units + returned_by said (held_by r.running) → Lands old.shape old.version r r' said b → StepsTo old actor state new
-    lands_so event b step More pooled run = lands event b step (omega (arith, pooled)) run
-    lands_so event b step (Done answer.Added) pooled run = lands event b step (omega (arith, pooled)) run
-    lands_so event b step (Done answer.Flagged) pooled run = lands event b step (omega (arith, pooled)) run
-    lands_so event b step (Done (answer.Hist reference)) pooled run = lands event b step (omega (arith, pooled)) run
-    lands_so event b step (Done (answer.Delta delta)) pooled run = lands event b step (omega (arith, pooled)) run
-    lands_so event b step (Done (answer.Snapshot snapshot)) pooled (run, is) = lands event b step (omega (arith, pooled)) run
-    lands_so event b step (Done (answer.BatchRefused why)) pooled run = lands event b step (omega (arith, pooled)) run
+        → new.units ≡ old.units + returned_by said (held_by r.running) → Lands old.shape old.version r r' said b → StepsTo old actor state new said
+    lands_so event b step More pooled run = lands event b step (omega (arith, pooled)) run More tt
+    lands_so event b step (Done answer.Added) pooled run = lands event b step (omega (arith, pooled)) run (Done answer.Added) tt
+    lands_so event b step (Done answer.Flagged) pooled run = lands event b step (omega (arith, pooled)) run (Done answer.Flagged) tt
+    lands_so event b step (Done (answer.Hist reference)) pooled run = lands event b step (omega (arith, pooled)) run (Done (answer.Hist reference)) tt
+    lands_so event b step (Done (answer.Delta delta)) pooled (run, is) =
+        let same : new.units ≡ old.units = omega (arith, pooled) in
+        lands event b step same run (Done (answer.Delta delta)) (λ before was.
+        subst (λ (x : Runner). HasTaken actor (looked_by x.running) delta new (changed b) (reached_so event b step same run)) (some-injective r before (sym at ∙ was))
+        (has_taken new (changed b) (reached_so event b step same run) actor b (set_at state.actors (actor + 1) its.0 b there) run.records (looked_by r.running) delta is))
+    lands_so event b step (Done (answer.Snapshot snapshot)) pooled (run, is) =
+        let same : new.units ≡ old.units = omega (arith, pooled) in
+        lands event b step same run (Done (answer.Snapshot snapshot)) (λ before was.
+        subst (λ (x : Runner). HasSeen actor (looked_by x.running) snapshot new (changed b) (reached_so event b step same run)) (some-injective r before (sym at ∙ was))
+        (has_seen new (changed b) (reached_so event b step same run) actor b (set_at state.actors (actor + 1) its.0 b there) run.records (looked_by r.running) snapshot is))
+    lands_so event b step (Done (answer.BatchRefused refused)) pooled (living, fits, run) =
+        lands_back event b (held_by r.running) step pooled living run.records fits run (Done (answer.BatchRefused refused)) (λ last there. tt)
     lands_so event b step (Done (answer.Refused why)) pooled (living, fits, run) =
-        lands_back event b (held_by r.running) step pooled living run.records fits run
+        lands_back event b (held_by r.running) step pooled living run.records fits run (Done (answer.Refused why)) (λ last there. tt)
 
     -- an actor that goes on by an event leads to the next state
     pub steps : (said : Stepped) → ((a : Actor) → IsRun old.shape old.version r a → Advances old.shape old.version r words r' new.words.items said a)
-        → new.units ≡ old.units + returned_by said (held_by r.running) → StepsTo old actor state new
+        → new.units ≡ old.units + returned_by said (held_by r.running) → StepsTo old actor state new said
     steps said advances pooled = let did = does_step (advances its.0 its.2) in lands_so did.0 did.1 did.2 said pooled did.3
 
     -- its actor is lent units, and may begin a call with them

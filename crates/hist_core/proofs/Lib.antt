@@ -1,9 +1,15 @@
 mod Adding
 mod Adds
+mod Apart
 mod Asking
+mod BatchBegins
+mod Batched
+mod Batches
+mod Batching
 mod Beginnings
 mod Boards
 mod Buckets
+mod Deltas
 mod Letters
 mod Looks
 mod NewBoards
@@ -14,5 +20,7 @@ mod Quiet
 mod Runners
 mod Snapshots
 mod Takes
+mod Tellings
 mod Viewing
 mod Worlds
+mod Zips

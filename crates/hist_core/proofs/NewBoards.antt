@@ -16,7 +16,7 @@ use Rattle.segment_machine.specs.Reached.{new_state, IsReached, IsState, started
 use Rattle.segment_invariant.proofs.Lists.Elements.{all_at, all_from}
 use Rattle.hist_core.specs.declared.runner.Runner.{Runner}
 use Rattle.hist_core.specs.declared.board.Board.{Board}
-use Rattle.hist_core.specs.Runner.{entry_of, known_of, IsFresh, IsKnown, HaveOwnNames, StandsIn, HasRoom, IsRun, pending_by}
+use Rattle.hist_core.specs.Runner.{entry_of, known_of, AreShown, HasDraft, IsFresh, IsKnown, HaveOwnNames, StandsIn, HasRoom, IsRun, pending_by}
 use Rattle.hist_core.specs.Board as board
 use Rattle.hist_core.specs.Board.{AreRun, IsNewBoard}
 
@@ -55,7 +55,7 @@ module _ (shape : Dimensions) (version id : ℕ) where
         within = (subst (λ (k : ℕ). k ≤ runner.begun) (sym fresh.ended) (omega arith), subst (λ (k : ℕ). k ≤ length runner.entries.items) (sym fresh.begun) (omega arith));
         ended = nothing runner.ended fresh.ended;
         begun = nothing runner.begun fresh.begun;
-        untaken = (fresh.taken, refl);
+        taken = subst (λ l. AreShown l []) (sym fresh.taken) tt;
         names = ap (map known_of) fresh.known;
         lawful = subst (All (IsKnown shape)) (sym fresh.known) (λ k d inside. absurd (omega (arith, inside)));
         once = subst HaveOwnNames (sym fresh.known) tt;
@@ -64,6 +64,7 @@ module _ (shape : Dimensions) (version id : ℕ) where
           record { none = ap (drop runner.ended) fresh.entries ∙ drop-nil runner.ended; runs = refl; holds = refl; share = refl; takes = refl },
         );
         room = subst (λ running. HasRoom running (vec_len runner.known) (vec_capacity runner.known)) (sym fresh.rests) tt;
+        draft = subst (λ running. HasDraft running runner.taken) (sym fresh.rests) tt;
       }
 
   -- so do all of them

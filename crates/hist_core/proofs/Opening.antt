@@ -1,6 +1,7 @@
--- An `add` of an actor begins: what it counts, and that it may.
+-- A call of an actor that counts begins: what it counts, and that it may.
 use Rattle.std.proofs.Common.{◌≡◌, ◌≢◌, ◌≤◌, ◌<◌, ◌+◌, ◌*◌, ℕ, zero, suc, ℤ, pos, ◌+ℤ◌, Bool, true, false, not, ◌==◌, ◌⊎◌, List, [], ◌∷◌, ◌++◌, map, length, take, drop, set, fold, Contains, inl, refl, sym, ap, subst, ◌∙◌, arith, length-append}
-use Rattle.std.specs.Prelude.{Option, Some, None, IfSome, IfNone, Result, Ok, Err, OnErr, unsigned_abs, if◌then◌else◌}
+use Rattle.std.specs.Prelude.{Option, Some, None, IfSome, IfNone, Result, Ok, Err, OnErr, unsigned_abs, if◌then◌else◌, vec_len, vec_capacity}
+use Rattle.std.proofs.lemmas.List.Elements.{All-nil}
 use Rattle.std.specs.Str.{bytes_eq}
 use Rattle.std.specs.Ordering.{int_eq}
 use Rattle.std.proofs.Math.IntN.{+ℤ_idl}
@@ -10,7 +11,6 @@ use mathlib.Core.Option.{some, some-injective, some-ne-none}
 use lib.ListN.{get_elem?}
 use Rattle.alloc_core.specs.Layout.{IsShape}
 use Rattle.bucket_ranges.specs.Ranges.{boundaries_of}
-use Rattle.bucket_ranges.specs.Tally.{amount_of}
 use Rattle.segment_image.specs.declared.layout.TheConstants.{BLOCK_HEADER, HISTOGRAM_NAME}
 use Rattle.segment_image.specs.Shape.{Dimensions}
 use Rattle.segment_machine.specs.declared.actor.Actor.{Actor}
@@ -19,7 +19,8 @@ use Rattle.segment_machine.specs.declared.entry.Entry.{Entry as MachineEntry}
 use Rattle.segment_machine.specs.declared.place.Place.TheVariants.{Spent}
 use Rattle.segment_machine.specs.Actor.{has_buckets, is_bound, known_at}
 use Rattle.segment_machine.specs.Calls.{IsKeyOfBucket}
-use Rattle.segment_machine.specs.Entry.{AreWithin, key_of, sample_entry}
+use Rattle.segment_machine.specs.Entry.{AreWithin, has_ended, key_of}
+use Rattle.segment_machine.specs.Note.{noted, begins}
 use Rattle.segment_machine.specs.Seats.{getter}
 use Rattle.segment_machine.specs.State.{State}
 use Rattle.segment_invariant.specs.Body.{Anatomy}
@@ -31,16 +32,19 @@ use Rattle.segment_invariant.proofs.Lists.Elements.{all_at, all_from, at_from, c
 use Rattle.segment_invariant.proofs.Lists.Maps.{contains_map}
 use Rattle.hist_core.specs.declared.add.Add.{Add as AddCall}
 use Rattle.hist_core.specs.declared.hist.Known.{Known}
+use Rattle.hist_core.specs.declared.entry.Entry.{Entry}
+use Rattle.hist_core.specs.declared.runner.Running.{Running}
+use Rattle.hist_core.specs.declared.runner.Running.TheVariants.{Add}
 use Rattle.hist_core.specs.declared.runner.Runner.{Runner}
 use Rattle.hist_core.specs.declared.board.Board.{Board}
-use Rattle.hist_core.specs.Board.{IsReached, IsReachedAs, BeginsFrom, IsPlaceOf, LacksName, CountsValue, IsAddBegun}
+use Rattle.hist_core.specs.Board.{IsReached, IsReachedAs, BeginsFrom, IsPlaceOf, LacksName, IsCountBegun}
 use Rattle.hist_core.proofs.Boards.{lends, is_long}
 use Rattle.hist_core.proofs.Asking.{place_below}
 use Rattle.atomic_table.proofs.Lists.{set_here}
 use Rattle.segment_promises.proofs.Reached.{states_are_kept}
 use Rattle.segment_invariant.specs.Body.{blank}
-use Rattle.hist_core.specs.Add.{counted_entry, IsCounting, StandsAtStage}
-use Rattle.hist_core.specs.Runner.{entry_of, known_of, pending_by, IsKnown, NoneHasName, HaveOwnNames, IsKnownAt, IsQuiet, StandsIn, IsRun, BeginsAdd, IsBefore, begins_add}
+use Rattle.hist_core.specs.Add.{alone, counted_entry, IsAdd, IsCounting, IsStarted, StandsAtStage}
+use Rattle.hist_core.specs.Runner.{entry_of, known_of, pending_by, IsKnown, NoneHasName, HaveOwnNames, IsKnownAt, IsQuiet, HasDraft, HasRoom, StandsIn, IsRun, IsTelling, BeginsToCount, BeginsAdd}
 use Rattle.hist_core.proofs.Quiet.{not_spent, all_ended}
 
 -- ---- what an actor knows
@@ -75,133 +79,141 @@ module _ (shape : Dimensions) (opened : Anatomy) (state : State) (kept : Invaria
       let (k, at_k, k_is) = from_map known_of list j found (ap (λ (l : List MachineKnown). get_elem? l j) names ∙ at_j) in
       is ∙ ap Some (sym k_is ∙ ap known_of (own_one list own j i k known at_k at (ap (λ (m : MachineKnown). m.name) k_is ∙ same)))
 
--- ---- what it counts
+-- ---- it begins
+
+-- a call of an actor that rests, which counts entries: they are pending, and it stands for the same actor with the units of it
+module _ (shape : Dimensions) (version : ℕ) (old new : Runner) (entries : List MachineEntry) (running : Running) (starts : BeginsToCount entries running old new)
+    (rests : old.running ≡ None) (a : Actor) (run : IsRun shape version old a) where
+  pub stands : (is_bound a.hand.place ≡ false) × IsQuiet (pending_by old) a
+  stands = subst (λ running. StandsIn shape old.known.items (pending_by old) running a) rests run.stands
+
+  none_left : length old.entries.items ≡ old.ended
+  none_left = all_ended shape version old a run stands.1.none
+
+  module _ (cost : ℕ) where
+    has_units : (getter a cost).units.share ≡ cost
+    has_units = let none = stands.1.share in omega (arith, none)
+
+    -- it may begin to count them, where they are within its cost
+    pub before_it : (known : MachineKnown) → Contains a.answers.names known → AreWithin known.name cost entries → (standing : Actor → Type 0)
+        → standing (noted (getter a cost) (begins known.name cost entries)) → IsTelling starts.pending known.name cost entries standing (getter a cost)
+    before_it known inside within standing is = record {
+      pending_are = starts.pending_are;
+      stands = inl (record {
+        share = has_units;
+        may = (
+          not_spent a.hand.place stands.0,
+          run.records,
+          stands.1.runs,
+          stands.1.holds,
+          stands.1.takes,
+          (let share = has_units in omega (arith, share)),
+          contains_map (λ (k : MachineKnown). k.name) a.answers.names known inside,
+          within,
+        );
+        stands = is;
+      });
+    }
+
+    pub begins_with : StandsIn shape old.known.items starts.pending (Some running) (getter a cost) → HasRoom (Some running) (vec_len old.known) (vec_capacity old.known)
+        → HasDraft (Some running) old.taken → IsRun shape version new (getter a cost)
+    begins_with stood room draft = subst (λ (r : Runner). IsRun shape version r (getter a cost)) (sym starts.is) (record {
+      records = run.records;
+      segment = run.segment;
+      first = run.first;
+      within = (run.within.0, (let longer = ap length starts.entries_are ∙ length-append old.entries.items starts.pending in let within = run.within in omega (arith, longer, within)));
+      ended = ap (map entry_of) (ap (take old.ended) starts.entries_are ∙ take-append-le old.ended old.entries.items starts.pending (let w = run.within in omega (arith, w))) ∙ run.ended;
+      begun = ap (map entry_of) (ap (take old.begun) starts.entries_are ∙ take-append-le old.begun old.entries.items starts.pending run.within.1) ∙ run.begun;
+      taken = run.taken;
+      names = run.names;
+      lawful = run.lawful;
+      once = run.once;
+      stands = subst (λ (l : List Entry). StandsIn shape old.known.items l (Some running) (getter a cost)) (sym pending_is) stood;
+      room = room;
+      draft = draft;
+    })
+      where
+        pending_is : drop old.ended new.entries.items ≡ starts.pending
+        pending_is = ap (drop old.ended) starts.entries_are
+            ∙ (drop-append-le old.ended old.entries.items starts.pending (let none = none_left in omega (arith, none)) ∙ ap (λ l. l ++ starts.pending) stands.1.none)
+
+-- ---- an `add`
 
 -- its entry is within its units
-module _ (known : MachineKnown) (add : AddCall) (small : unsigned_abs (counted_entry known add).amount ≤ 2147483648 * add.units) where
-  abbrev its : MachineEntry
-  its = counted_entry known add
+within : (name : List ℕ) (its : MachineEntry) → its.name ≡ name → unsigned_abs its.amount ≤ 2147483648 * its.units → AreWithin name its.units (its ∷ [])
+within name its named small = record {
+  of_name = all_from (λ (e : MachineEntry). e.name ≡ name) (its ∷ []) (each_of_one its (λ i (e : MachineEntry). e.name ≡ name) named);
+  units = least (bytes_eq its.name name);
+  one = few (int_eq its.amount (pos 0));
+  amount = sized (bytes_eq its.name name);
+}
+  where
+    least : (b : Bool) → 0 + (if b then its.units else 0) ≤ its.units
+    least true = omega arith
+    least false = omega arith
 
-  within : AreWithin known.name add.units (its ∷ [])
-  within = record {
-    of_name = all_from (λ (e : MachineEntry). e.name ≡ known.name) (its ∷ []) (each_of_one its (λ i (e : MachineEntry). e.name ≡ known.name) refl);
-    units = least (bytes_eq known.name known.name);
-    one = few (int_eq its.amount (pos 0));
-    amount = sized (bytes_eq known.name known.name);
-  }
-    where
-      least : (b : Bool) → 0 + (if b then add.units else 0) ≤ add.units
-      least true = omega arith
-      least false = omega arith
+    few : (b : Bool) → length (if not b then its ∷ [] else []) ≤ 1
+    few true = omega arith
+    few false = omega arith
 
-      few : (b : Bool) → length (if not b then its ∷ [] else []) ≤ 1
-      few true = omega arith
-      few false = omega arith
+    sized : (b : Bool) → unsigned_abs (fold ◌+ℤ◌ (pos 0) ((if b then its.amount else pos 0) ∷ [])) ≤ 2147483648 * its.units
+    sized true = subst (λ (n : ℤ). unsigned_abs n ≤ 2147483648 * its.units) (sym (+ℤ_idl its.amount)) small
+    sized false = omega arith
 
-      sized : (b : Bool) → unsigned_abs (fold ◌+ℤ◌ (pos 0) ((if b then its.amount else pos 0) ∷ [])) ≤ 2147483648 * add.units
-      sized true = subst (λ (n : ℤ). unsigned_abs n ≤ 2147483648 * add.units) (sym (+ℤ_idl its.amount)) small
-      sized false = omega arith
-
--- ---- it begins
+-- what is started counts units of a value in a histogram that is known
+pub counts_so : (shape : Dimensions) (version : ℕ) (known : Known) (value : ℤ) (units : ℕ) (amount : ℤ) (add : AddCall)
+    → IsStarted shape version (known_of known) value units amount add → IsKnown shape known → (version ≡ 1) ⊎ (version ≡ 2) → 0 < units
+    → IsCounting shape (known_of known) add
+counts_so shape version known value units amount add started its versions some_units = record {
+  shaped = started.shaped;
+  versions = subst (λ v. (v ≡ 1) ⊎ (v ≡ 2)) (sym started.versioned) versions;
+  reference = sym started.reference;
+  within = subst (λ n. n + HISTOGRAM_NAME ≤ shape.size) (sym started.reference) its.within;
+  some = ap (λ n. n == 0) started.holds ∙ ne_eqb units 0 (λ none. omega (arith, some_units, none));
+  lawful = its.lawful;
+  buckets = started.buckets;
+  fits = subst (λ n. BLOCK_HEADER + 2 * n ≤ shape.page) (sym started.buckets) its.fits;
+  bucket = λ _. subst (λ v. IsKeyOfBucket (known_of known) add.bucket (key_of (boundaries_of known.spec) v)) (sym started.counts) started.bucket;
+}
 
 module _ (shape : Dimensions) (version : ℕ) (known : Known) (value : ℤ) (units : ℕ) (old new : Runner) (starts : BeginsAdd shape version known value units old new)
     (i : ℕ) (at : get_elem? old.known.items i ≡ some known) (some_units : 0 < units) (bucketed : has_buckets known.spec ≡ true)
-    (rests : old.running ≡ None) where
+    (rests : old.running ≡ None) (a : Actor) (run : IsRun shape version old a) (lawful : IsShape shape) (versions : (version ≡ 1) ⊎ (version ≡ 2))
+    (alone_there : known_at a.answers.names known.reference ≡ Some (known_of known)) where
   abbrev add : AddCall
   add = starts.add
 
   abbrev machine : MachineKnown
   machine = known_of known
 
-  amount_is : add.amount ≡ (counted_entry machine add).amount
-  amount_is = starts.started.amount ∙ (λ j. amount_of (boundaries_of known.spec) (sym starts.started.counts j, sym starts.started.holds j))
+  pub add_stands : StandsIn shape old.known.items starts.begins.pending (Some (Add add)) (getter a units)
+  add_stands = subst (λ (n : ℕ). StandsIn shape old.known.items starts.begins.pending (Some (Add add)) (getter a n)) starts.started.holds (
+    machine,
+    before_it shape version old new (counted_entry machine add ∷ []) (Add add) starts.begins rests a run add.units machine inside
+        (within machine.name (counted_entry machine add) refl (subst (λ (n : ℕ). unsigned_abs add.amount ≤ 2147483648 * n) (sym starts.started.holds) starts.small))
+        (IsAdd shape machine (alone add) add) (record {
+          counting = counts_so shape version known value units _ add starts.started its_known versions some_units;
+          segment = ap (λ s. s.shape) run.segment;
+          version = ap (λ s. s.version) run.segment ∙ sym starts.started.versioned;
+          lawful_shape = lawful;
+          knows = inside;
+          alone = alone_there;
+          rests = free.1.takes;
+          held = refl;
+          over = All-nil (λ c. has_ended c ≡ true);
+          stands = subst (StandsAtStage shape machine (alone add) add (noted (getter a add.units) (begins machine.name add.units (counted_entry machine add ∷ []))))
+              (sym starts.started.stage) (bucketed, refl, free.0);
+        }),
+  )
+    where
+      free : (is_bound a.hand.place ≡ false) × IsQuiet (pending_by old) a
+      free = stands shape version old new (counted_entry machine add ∷ []) (Add add) starts.begins rests a run
 
-  module _ (a : Actor) (run : IsRun shape version old a) (lawful : IsShape shape) (versions : (version ≡ 1) ⊎ (version ≡ 2))
-      (alone : known_at a.answers.names known.reference ≡ Some machine) where
-    stands : (is_bound a.hand.place ≡ false) × IsQuiet (pending_by old) a
-    stands = subst (λ running. StandsIn shape old.known.items (pending_by old) running a) rests run.stands
+      its_known : IsKnown shape known
+      its_known = all_at (IsKnown shape) old.known.items i known run.lawful at
 
-    its_known : IsKnown shape known
-    its_known = all_at (IsKnown shape) old.known.items i known run.lawful at
-
-    inside : Contains a.answers.names machine
-    inside = subst (λ (l : List MachineKnown). Contains l machine) run.names (contains_map known_of old.known.items known (contains_at old.known.items i known at))
-
-    counting : IsCounting shape machine add
-    counting = record {
-      shaped = starts.started.shaped;
-      versions = subst (λ v. (v ≡ 1) ⊎ (v ≡ 2)) (sym starts.started.versioned) versions;
-      reference = sym starts.started.reference;
-      within = subst (λ n. n + HISTOGRAM_NAME ≤ shape.size) (sym starts.started.reference) its_known.within;
-      some = ap (λ n. n == 0) starts.started.holds ∙ ne_eqb units 0 (λ none. omega (arith, some_units, none));
-      lawful = its_known.lawful;
-      amount = amount_is;
-      buckets = starts.started.buckets;
-      fits = subst (λ n. BLOCK_HEADER + 2 * n ≤ shape.page) (sym starts.started.buckets) its_known.fits;
-      bucket = λ _. subst (λ v. IsKeyOfBucket machine add.bucket (key_of (boundaries_of known.spec) v)) (sym starts.started.counts) starts.started.bucket;
-    }
-
-    small : unsigned_abs (counted_entry machine add).amount ≤ 2147483648 * add.units
-    small = subst (λ (p : ℤ × ℕ). unsigned_abs p.0 ≤ 2147483648 * p.1) (λ j. (amount_is j, sym starts.started.holds j)) starts.started.small
-
-    abbrev b : Actor
-    b = getter a units
-
-    has_units : b.units.share ≡ add.units
-    has_units = let none = stands.1.share in let held = starts.started.holds in omega (arith, none, held)
-
-    before : IsBefore shape machine add b
-    before = record {
-      share = has_units;
-      may = (
-        not_spent a.hand.place stands.0,
-        run.records,
-        stands.1.runs,
-        stands.1.holds,
-        stands.1.takes,
-        omega (arith, has_units),
-        contains_map (λ (k : MachineKnown). k.name) a.answers.names machine inside,
-        within machine add small,
-      );
-      stands = record {
-        counting = counting;
-        segment = ap (λ s. s.shape) run.segment;
-        version = ap (λ s. s.version) run.segment ∙ sym starts.started.versioned;
-        lawful_shape = lawful;
-        knows = inside;
-        alone = alone;
-        rests = stands.1.takes;
-        held = refl;
-        stands = subst (StandsAtStage shape machine add (begins_add machine add b)) (sym starts.started.stage) (bucketed, refl, stands.0);
-      };
-    }
-
-    none_left : length old.entries.items ≡ old.ended
-    none_left = all_ended shape version old a run stands.1
-
-    -- its actor, once it is lent the units, stands for the one that begins
-    pub begins_with : IsRun shape version new b
-    begins_with = subst (λ (r : Runner). IsRun shape version r b) (sym starts.is) (record {
-      records = run.records;
-      segment = run.segment;
-      first = run.first;
-      within = (run.within.0, (let longer = ap length starts.entries ∙ length-append old.entries.items (starts.entry ∷ []) in let within = run.within in omega (arith, longer, within)));
-      ended = ap (map entry_of) (ap (take old.ended) starts.entries ∙ take-append-le old.ended old.entries.items (starts.entry ∷ []) (let w = run.within in omega (arith, w))) ∙ run.ended;
-      begun = ap (map entry_of) (ap (take old.begun) starts.entries ∙ take-append-le old.begun old.entries.items (starts.entry ∷ []) run.within.1) ∙ run.begun;
-      untaken = run.untaken;
-      names = run.names;
-      lawful = run.lawful;
-      once = run.once;
-      stands = record {
-        known = machine;
-        entry = starts.entry;
-        pending_is = ap (drop old.ended) starts.entries
-            ∙ (drop-append-le old.ended old.entries.items (starts.entry ∷ []) (omega (arith, none_left)) ∙ ap (λ l. l ++ starts.entry ∷ []) stands.1.none);
-        entry_is = starts.entry_is;
-        stands = inl before;
-      };
-      room = tt;
-    })
+      inside : Contains a.answers.names machine
+      inside = subst (λ (l : List MachineKnown). Contains l machine) run.names (contains_map known_of old.known.items known (contains_at old.known.items i known at))
 
 -- ---- on a board
 
@@ -219,46 +231,47 @@ pub on_err : {A E X : Type 0} (result : Result A E) → X → OnErr result X
 on_err (Ok a) x = tt
 on_err (Err e) x = x
 
--- one actor begins an `add`
+-- one actor begins a call that counts, in a histogram that it knows
 module _ (old new : Board) (actor : ℕ) (r now : Runner) (here : get_elem? old.runners.items actor ≡ some r) (place : ℕ) (known : Known)
-    (at : get_elem? r.known.items place ≡ some known) (value : ℤ) (units : ℕ) (starts : BeginsAdd old.shape old.version known value units r now)
-    (some_units : 0 < units) (bucketed : has_buckets known.spec ≡ true) (rests : r.running ≡ None) (shaped : new.shape ≡ old.shape)
-    (versioned : new.version ≡ old.version) (worded : new.words ≡ old.words) (pooled : new.units + units ≡ old.units)
-    (runners : new.runners.items ≡ set old.runners.items actor now) (reached : ∥ IsReached old ∥₁) where
-  pub add_begins : (state : State) → IsReachedAs old state → BeginsFrom state actor new
-  add_begins state reach =
+    (at : get_elem? r.known.items place ≡ some known) (entries : List MachineEntry) (running : Running) (cost : ℕ) (starts : BeginsToCount entries running r now)
+    (rests : r.running ≡ None) (shaped : new.shape ≡ old.shape) (versioned : new.version ≡ old.version) (worded : new.words ≡ old.words)
+    (pooled : new.units + cost ≡ old.units) (runners : new.runners.items ≡ set old.runners.items actor now) where
+  pub count_begins : ∥ IsReached old ∥₁ → HasRoom (Some running) (vec_len r.known) (vec_capacity r.known) → HasDraft (Some running) r.taken
+      → ((a : Actor) → IsRun old.shape old.version r a → IsShape old.shape → (old.version ≡ 1) ⊎ (old.version ≡ 2)
+      → known_at a.answers.names known.reference ≡ Some (known_of known) → StandsIn old.shape r.known.items starts.pending (Some running) (getter a cost))
+      → (state : State) → IsReachedAs old state → BeginsFrom state actor new
+  count_begins reached room draft stood state reach =
       let kept = states_are_kept old.shape old.version reach.id 0 state reach.reached in
-      lends old state reach (is_long old reached) actor r now new here shaped versioned runners units (ap (λ w. w.items) worded) pooled (λ a there run.
+      lends old state reach (is_long old reached) actor r now new here shaped versioned runners cost (ap (λ w. w.items) worded) pooled (λ a there run.
       let free = (subst (λ running. StandsIn old.shape r.known.items (pending_by r) running a) rests run.stands).0 in
       let lives = not_spent a.hand.place free in (
         lives,
-        begins_with old.shape old.version known value units r now starts place at some_units bucketed rests a run reach.reached.0 reach.reached.1
-            (alone_there old.shape (blank old.version reach.id old.shape.size) state kept (actor + 1) a there lives r.known.items run.once run.names place known at),
+        begins_with old.shape old.version r now entries running starts rests a run cost (stood a run reach.reached.0 reach.reached.1
+            (alone_there old.shape (blank old.version reach.id old.shape.size) state kept (actor + 1) a there lives r.known.items run.once run.names place known at)) room draft,
       ))
 
-  pub add_begun : (name : List ℕ) → known.name.items ≡ name → (all : length r.entries.items ≡ r.ended) → (begun : r.begun ≡ r.ended)
-      → IsAddBegun actor name value units old new
-  add_begun name named all begun =
-      let longer : now.entries.items ≡ r.entries.items ++ starts.entry ∷ [] = starts.entries in
-      let now_is = starts.is in
-      record {
-        words = worded;
-        pool = pooled;
-        before = r;
-        behind = now;
-        was = here;
-        is = ap (λ (l : List Runner). get_elem? l actor) runners ∙ set_here old.runners.items actor now (place_below old.runners.items actor r here);
-        known = known;
-        knows = contains_at r.known.items place known at;
-        named = named;
-        runs = subst (CountsValue value units) (sym (ap (λ (x : Runner). x.running) now_is)) (starts.started.counts, starts.started.holds);
-        entry = starts.entry;
-        entry_is = starts.entry_is ∙ (λ j. sample_entry (named j) (boundaries_of known.spec) (starts.started.counts j, starts.started.holds j));
-        pending = (λ j. drop (now_is j).ended now.entries.items)
-            ∙ (ap (drop r.ended) longer ∙ (drop-append-le r.ended r.entries.items (starts.entry ∷ []) (omega (arith, all))
-            ∙ ap (λ l. l ++ starts.entry ∷ []) (drop_all r.ended r.entries.items (omega (arith, all)))));
-        ended = (λ j. take (now_is j).ended now.entries.items)
-            ∙ (ap (take r.ended) longer ∙ take-append-le r.ended r.entries.items (starts.entry ∷ []) (omega (arith, all)));
-        begun = (λ j. take (now_is j).begun now.entries.items)
-            ∙ (ap (take r.begun) longer ∙ take-append-le r.begun r.entries.items (starts.entry ∷ []) (omega (arith, all, begun)));
-      }
+  pub count_begun : (name : List ℕ) → known.name.items ≡ name → (all : length r.entries.items ≡ r.ended) → (begun : r.begun ≡ r.ended)
+      → (runs : Option Running → Type 0) → runs (Some running) → (told : List ℕ → List MachineEntry) → entries ≡ told (boundaries_of known.spec)
+      → (price : ℕ) → cost ≡ price → IsCountBegun actor name price told runs old new
+  count_begun name named all begun runs runs_so told told_are price price_is = record {
+    words = worded;
+    pool = ap (λ (n : ℕ). new.units + n) (sym price_is) ∙ pooled;
+    before = r;
+    behind = now;
+    was = here;
+    is = ap (λ (l : List Runner). get_elem? l actor) runners ∙ set_here old.runners.items actor now (place_below old.runners.items actor r here);
+    known = known;
+    knows = contains_at r.known.items place known at;
+    named = named;
+    counts = subst runs (sym (ap (λ (x : Runner). x.running) starts.is)) runs_so;
+    pending = ap (map entry_of) pending_is ∙ (starts.pending_are ∙ told_are);
+    ended = (λ j. take (starts.is j).ended now.entries.items)
+        ∙ (ap (take r.ended) starts.entries_are ∙ take-append-le r.ended r.entries.items starts.pending (omega (arith, all)));
+    begun = (λ j. take (starts.is j).begun now.entries.items)
+        ∙ (ap (take r.begun) starts.entries_are ∙ take-append-le r.begun r.entries.items starts.pending (omega (arith, all, begun)));
+  }
+    where
+      pending_is : pending_by now ≡ starts.pending
+      pending_is = (λ j. drop (starts.is j).ended now.entries.items)
+          ∙ (ap (drop r.ended) starts.entries_are ∙ (drop-append-le r.ended r.entries.items starts.pending (omega (arith, all))
+          ∙ ap (λ l. l ++ starts.pending) (drop_all r.ended r.entries.items (omega (arith, all)))))

@@ -1,5 +1,5 @@
 -- Of a call that counts nothing: none of its actor's entries is pending, and what it leaves as it was.
-use Rattle.std.proofs.Common.{◌≡◌, ◌≢◌, ◌≤◌, ◌-◌, false, true≢false, ℕ, List, ◌++◌, length, take, sym, ap, subst, ◌∙◌, arith}
+use Rattle.std.proofs.Common.{◌≡◌, ◌≢◌, ◌≤◌, ◌-◌, false, true≢false, ℕ, List, [], ◌++◌, length, take, sym, ap, subst, ◌∙◌, arith}
 use Rattle.std.proofs.lemmas.List.{length-map, length-drop, length-take-le, append-nil, drop_all}
 use Rattle.segment_image.specs.Shape.{Dimensions}
 use Rattle.segment_machine.specs.declared.actor.Actor.{Actor}
@@ -12,8 +12,9 @@ use Rattle.hist_core.specs.declared.runner.Runner.{Runner}
 use Rattle.std.specs.Prelude.{Option, Some, None, ⊤}
 use Rattle.hist_core.specs.declared.hist.Known.{Known}
 use Rattle.hist_core.specs.declared.runner.Running.{Running}
-use Rattle.hist_core.specs.declared.runner.Running.TheVariants.{SetCorrupt, Hist, Add, Snapshot}
-use Rattle.hist_core.specs.Runner.{entry_of, ended_by, begun_by, pending_by, IsQuiet, StandsIn, IsRun, IsSomeRun}
+use Rattle.hist_core.specs.declared.runner.Running.TheVariants.{SetCorrupt, Hist, Add, Delta, Snapshot, Batch}
+use Rattle.hist_core.specs.declared.call.Stepped.{Stepped}
+use Rattle.hist_core.specs.Runner.{entry_of, ended_by, begun_by, pending_by, IsQuiet, StandsIn, IsRun, IsSomeRun, TakenGoes}
 
 -- it counts nothing still where units, entries and deltas are as before
 pub quiet_on : (pending : List Entry) (a b : Actor) → b.units ≡ a.units → b.entries ≡ a.entries → b.deltas ≡ a.deltas → IsQuiet pending a → IsQuiet pending b
@@ -52,15 +53,15 @@ module _ (shape : Dimensions) (version : ℕ) (r : Runner) (a : Actor) (run : Is
       sym (length-map (a.entries.log ++ a.entries.running) (λ c. c.entry))
       ∙ (sym (ap length run.begun) ∙ (length-map (begun_by r) entry_of ∙ length-take-le r.begun r.entries.items run.within.1))
 
-  module _ (quiet : IsQuiet (pending_by r) a) where
+  module _ (none : pending_by r ≡ []) where
     pub all_ended : length r.entries.items ≡ r.ended
     all_ended =
-        let rest : length r.entries.items - r.ended ≡ 0 = sym (length-drop r.ended r.entries.items) ∙ ap length quiet.none in
+        let rest : length r.entries.items - r.ended ≡ 0 = sym (length-drop r.ended r.entries.items) ∙ ap length none in
         let within = run.within in
         omega (arith, rest, within)
 
-    pub none_begun : r.begun ≡ r.ended
-    none_begun = sym started ∙ (ap (λ l. length (a.entries.log ++ l)) quiet.runs ∙ (ap length (append-nil a.entries.log) ∙ logged))
+  none_begun : a.entries.running ≡ [] → r.begun ≡ r.ended
+  none_begun none = sym started ∙ (ap (λ l. length (a.entries.log ++ l)) none ∙ (ap length (append-nil a.entries.log) ∙ logged))
 
 -- what has begun of it, where it counts nothing: what has ended, and nothing is pending
 pub begun_there : (r : Runner) → length r.entries.items ≡ r.ended → r.begun ≡ r.ended → begun_by r ≡ ended_by r ++ pending_by r
@@ -70,21 +71,43 @@ begun_there r all none =
 -- whether its call counts nothing
 abbrev pub counts_none : Option Running → Type 0
 counts_none (Some (Add add)) = ⊥
+counts_none (Some (Batch batch)) = ⊥
 counts_none running = ⊤
 
--- so it is of an actor that runs such a call
+-- so no entry is pending of an actor that runs such a call, and none runs
 quiet_in : (shape : Dimensions) (known : List Known) (pending : List Entry) (running : Option Running) (a : Actor) → counts_none running
-    → StandsIn shape known pending running a → IsQuiet pending a
-quiet_in shape known pending None a none stands = stands.1
-quiet_in shape known pending (Some SetCorrupt) a none stands = stands.1
-quiet_in shape known pending (Some (Hist hist)) a none stands = stands.1
-quiet_in shape known pending (Some (Snapshot looker)) a none stands = stands.0
+    → StandsIn shape known pending running a → (pending ≡ []) × (a.entries.running ≡ [])
+quiet_in shape known pending None a none stands = (stands.1.none, stands.1.runs)
+quiet_in shape known pending (Some SetCorrupt) a none stands = (stands.1.none, stands.1.runs)
+quiet_in shape known pending (Some (Hist hist)) a none stands = (stands.1.none, stands.1.runs)
+quiet_in shape known pending (Some (Delta taker fresh)) a none stands = (stands.0.none, stands.0.runs)
+quiet_in shape known pending (Some (Snapshot looker)) a none stands = (stands.0.none, stands.0.runs)
 quiet_in shape known pending (Some (Add add)) a none stands = absurd none
+quiet_in shape known pending (Some (Batch batch)) a none stands = absurd none
 
 pub some_quiet : (n : ℕ) (r : Runner) → counts_none r.running → IsSomeRun n r → (length r.entries.items ≡ r.ended) × (r.begun ≡ r.ended)
 some_quiet n r none (shape, version, a, long, wide, run) =
     let quiet = quiet_in shape r.known.items (pending_by r) r.running a none run.stands in
-    (all_ended shape version r a run quiet, none_begun shape version r a run quiet)
+    (all_ended shape version r a run quiet.0, none_begun shape version r a run quiet.1)
 
 pub some_within : (n : ℕ) (r : Runner) → IsSomeRun n r → r.ended ≤ length r.entries.items
 some_within n r (shape, version, a, long, wide, run) = let within = run.within in omega (arith, within)
+
+-- whether its call takes no delta
+abbrev pub takes_not : Option Running → Type 0
+takes_not (Some (Delta taker fresh)) = ⊥
+takes_not running = ⊤
+
+-- such a call changes nothing of what deltas took
+pub takes_none : (old new : Runner) (said : Stepped) → takes_not old.running → new.taken.items ≡ old.taken.items
+    → TakenGoes old.running old.taken.items new.taken.items said
+takes_none old new said none same = by old.running none
+  where
+    by : (running : Option Running) → takes_not running → TakenGoes running old.taken.items new.taken.items said
+    by None none = same
+    by (Some SetCorrupt) none = same
+    by (Some (Hist hist)) none = same
+    by (Some (Add add)) none = same
+    by (Some (Batch batch)) none = same
+    by (Some (Snapshot looker)) none = same
+    by (Some (Delta taker fresh)) none = absurd none

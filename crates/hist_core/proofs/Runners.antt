@@ -39,12 +39,13 @@ sets_corrupt shape version a old words new_words long run is stored =
           within = run.within;
           ended = run.ended;
           begun = run.begun;
-          untaken = run.untaken;
+          taken = run.taken;
           names = run.names;
           lawful = run.lawful;
           once = run.once;
           stands = (refl, quiet_on (pending_by old) a (next a (allocating_event (set_flag 1)) (word_at words 6)) refl refl refl stands.1);
           room = tt;
+          draft = tt;
         },
       );
     }
@@ -59,10 +60,11 @@ begins_set_corrupt shape version r a rests run = record {
   within = run.within;
   ended = run.ended;
   begun = run.begun;
-  untaken = run.untaken;
+  taken = run.taken;
   names = run.names;
   lawful = run.lawful;
   once = run.once;
   room = tt;
+  draft = tt;
   stands = subst (λ running. StandsIn shape r.known.items (pending_by r) running a) rests run.stands;
 }

@@ -1,6 +1,6 @@
 -- A `snapshot` of an actor goes on, and what it is answered with.
 use Rattle.std.proofs.Common.{◌≡◌, ◌≤◌, ◌+◌, ◌-◌, ℕ, ℤ, pos, true, false, true≢false, arith, set, slice_index, List, length, map, take, All, refl, sym, ap, subst, ◌∙◌}
-use Rattle.std.specs.Prelude.{⊤, Option, Some, None}
+use Rattle.std.specs.Prelude.{Option, Some, None}
 use Rattle.std.specs.List.{Contains}
 use Rattle.segment_image.specs.Shape.{Dimensions}
 use Rattle.segment_machine.specs.declared.actor.Actor.{Actor}
@@ -13,11 +13,11 @@ use Rattle.hist_core.specs.declared.looker.Looker.{Looker}
 use Rattle.hist_core.specs.declared.looker.LookerStep.{LookerStep}
 use Rattle.hist_core.specs.declared.looker.LookerStep.TheVariants.{More, Done}
 use Rattle.hist_core.specs.declared.runner.Running.{Running}
-use Rattle.hist_core.specs.declared.runner.Running.TheVariants.{Hist, Add, Snapshot}
+use Rattle.hist_core.specs.declared.runner.Running.TheVariants.{Snapshot}
 use Rattle.hist_core.specs.declared.runner.Runner.{Runner}
 use Rattle.hist_core.specs.Goes.{Goes}
 use Rattle.hist_core.specs.Looker.{HasLooked, IsLooker, IsSomeLooker, LookerGives, LookerSteps}
-use Rattle.hist_core.specs.Runner.{Advances, Answers, BeginsSnapshot, IsKnown, known_of, IsAnswer, IsQuiet, IsRun, IsSnapshotSaid, IsSomeRun, StandsIn, begun_by, ended_by, looked_by, pending_by}
+use Rattle.hist_core.specs.Runner.{Advances, Answers, AreShown, BeginsSnapshot, IsKnown, known_of, IsAnswer, IsQuiet, IsRun, IsSnapshotSaid, IsSomeRun, StandsIn, begun_by, ended_by, looked_by, pending_by}
 use Rattle.std.specs.List.{range_with_len}
 use Rattle.std.proofs.lemmas.Simd.{map-map}
 use Rattle.std.proofs.lemmas.List.FromFn.{get_or-map-range_with_len, length-map-range_with_len}
@@ -42,7 +42,8 @@ use Rattle.hist_core.proofs.Asking.{place_below, runs_on}
 use Rattle.hist_core.proofs.Boards.{same_there}
 use Rattle.hist_core.proofs.Opening.{alone_there}
 use Rattle.hist_core.proofs.Parts.Walks.{goes_with}
-use Rattle.hist_core.proofs.Quiet.{begun_there, not_spent, quiet_on}
+use Rattle.hist_core.proofs.Apart.{asks_not, adds_not, batches_not}
+use Rattle.hist_core.proofs.Quiet.{begun_there, not_spent, quiet_on, takes_none, takes_not}
 
 abbrev looks_by : Looker → Option Running → Looker
 looks_by d (Some (Snapshot looker)) = looker
@@ -72,7 +73,7 @@ module _ (shape : Dimensions) (version : ℕ) (old : Runner) (a : Actor) (run : 
   rests_then b sum redundant turns looked =
       let c : Actor = record b { deltas = a.deltas } in
       let quiet = quiet_on (pending_by old) a c looked.beside.units looked.beside.entries refl stands.0 in
-      let then_is : IsRun shape version (record old { running = None }) c = runs_on shape version old a run c None looked.beside (turns, quiet) tt in
+      let then_is : IsRun shape version (record old { running = None }) c = runs_on shape version old a run c None looked.beside (turns, quiet) tt tt in
       let deltas = looked.deltas in record {
         records = then_is.records;
         segment = then_is.segment;
@@ -80,7 +81,7 @@ module _ (shape : Dimensions) (version : ℕ) (old : Runner) (a : Actor) (run : 
         within = then_is.within;
         ended = then_is.ended;
         begun = then_is.begun;
-        untaken = (run.untaken.0, ap (λ d. d.taken) deltas ∙ run.untaken.1);
+        taken = subst (AreShown old.taken.items) (sym (ap (λ d. d.taken) deltas)) run.taken;
         names = then_is.names;
         lawful = then_is.lawful;
         once = then_is.once;
@@ -89,6 +90,7 @@ module _ (shape : Dimensions) (version : ℕ) (old : Runner) (a : Actor) (run : 
           record { none = quiet.none; runs = quiet.runs; holds = quiet.holds; share = quiet.share; takes = ap (λ d. d.taking) deltas ∙ quiet.takes },
         );
         room = tt;
+        draft = tt;
       }
 
   is_answer : (b : Actor) (sum : ℤ) (redundant : ℕ) → HasLooked known now sum redundant a b
@@ -116,7 +118,7 @@ module _ (shape : Dimensions) (version : ℕ) (old : Runner) (a : Actor) (run : 
   snapshot_goes More new result steps (new_is, result_is) =
       subst (λ said. Advances shape version old words new new_words said a) (sym result_is) (goes_with (its_steps More steps) (λ b (beside, looks_on).
       subst (λ (r : Runner). IsRun shape version r b) (sym new_is)
-      (runs_on shape version old a run b (Some (Snapshot now)) beside (quiet_on (pending_by old) a b beside.units beside.entries beside.deltas stands.0, (known, looks_on)) tt)))
+      (runs_on shape version old a run b (Some (Snapshot now)) beside (quiet_on (pending_by old) a b beside.units beside.entries beside.deltas stands.0, (known, looks_on)) tt tt)))
   snapshot_goes (Done sum redundant) new result steps (other, is_other, new_is, result_is) =
       let here : other ≡ now = sym (ap (looks_by now) is_other) in
       let said_is : result ≡ stepped.Done (answer.Snapshot (record { counts = now.totals; sum = sum; redundant = redundant })) =
@@ -127,14 +129,6 @@ module _ (shape : Dimensions) (version : ℕ) (old : Runner) (a : Actor) (run : 
       )))
 
 -- ---- what is answered
-
-abbrev asks_not : Option Running → Type 0
-asks_not (Some (Hist hist)) = ⊥
-asks_not running = ⊤
-
-abbrev adds_not : Option Running → Type 0
-adds_not (Some (Add add)) = ⊥
-adds_not running = ⊤
 
 module _ (old : Runner) (looker now : Looker) (is : old.running ≡ Some (Snapshot looker)) (same : now.histogram ≡ looker.histogram) (words new_words : List ℕ)
     (all : length old.entries.items ≡ old.ended) (unbegun : old.begun ≡ old.ended) where
@@ -147,13 +141,17 @@ module _ (old : Runner) (looker now : Looker) (is : old.running ≡ Some (Snapsh
           (λ asked is_asked. absurd (subst asks_not (sym is ∙ is_asked) tt)),
           (λ add is_add. absurd (subst adds_not (sym is ∙ is_add) tt)),
           (λ other is_other. (now, ap (λ (r : Runner). r.running) new_is, same ∙ ap (λ (x : Looker). x.histogram) (ap (looks_by looker) (sym is ∙ is_other)))),
+          (λ taker fresh is_taker. absurd (subst takes_not (sym is ∙ is_taker) tt)),
+          (λ batch is_batch. absurd (subst batches_not (sym is ∙ is_batch) tt)),
         ),
         (ap ended_by new_is, ap begun_by new_is ∙ begun_there old all unbegun, ap pending_by new_is),
+        takes_none old new stepped.More (subst takes_not (sym is) tt) (ap (λ (r : Runner). r.taken.items) new_is),
       )
   snapshot_answers (Done sum redundant) new result (other, is_other, new_is, result_is) =
       subst (Answers old words new new_words) (sym result_is) (
         ((looker, is), ap (λ (r : Runner). r.running) new_is, ap (λ (r : Runner). r.known.items) new_is),
         (ap ended_by new_is, ap begun_by new_is ∙ (ap (λ n. take n old.entries.items) unbegun ∙ sym (ap ended_by new_is))),
+        takes_none old new _ (subst takes_not (sym is) tt) (ap (λ (r : Runner). r.taken.items) new_is),
       )
 
 -- ---- it begins
@@ -228,40 +226,54 @@ module _ (shape : Dimensions) (version : ℕ) (known : Known) (old new : Runner)
       within = run.within;
       ended = run.ended;
       begun = run.begun;
-      untaken = run.untaken;
+      taken = run.taken;
       names = run.names;
       lawful = run.lawful;
       once = run.once;
       stands = (stood.1, (known_of known, begins_looking));
       room = tt;
+      draft = tt;
     })
 
 -- on a board
 module _ (old new : Board) (actor : ℕ) (r now : Runner) (here : get_elem? old.runners.items actor ≡ some r) (place : ℕ) (known : Known)
-    (at : get_elem? r.known.items place ≡ some known) (starts : BeginsSnapshot old.version known r now) (bucketed : has_buckets known.spec ≡ true)
-    (rests : r.running ≡ None) (shaped : new.shape ≡ old.shape) (versioned : new.version ≡ old.version) (worded : new.words ≡ old.words)
-    (pooled : new.units ≡ old.units) (runners : new.runners.items ≡ set old.runners.items actor now) where
-  pub snapshot_begins : (state : State) → IsReachedAs old state → IsReachedAs new state
-  snapshot_begins state reach =
+    (at : get_elem? r.known.items place ≡ some known) (rests : r.running ≡ None) (shaped : new.shape ≡ old.shape) (versioned : new.version ≡ old.version)
+    (worded : new.words ≡ old.words) (pooled : new.units ≡ old.units) (runners : new.runners.items ≡ set old.runners.items actor now) where
+  -- a call on a known histogram begins, which is no event
+  pub call_begins : ((a : Actor) → IsRun old.shape old.version r a → IsShape old.shape → known_at a.answers.names known.reference ≡ Some (known_of known)
+      → IsRun old.shape old.version now a) → (state : State) → IsReachedAs old state → IsReachedAs new state
+  call_begins begins state reach =
       let kept = states_are_kept old.shape old.version reach.id 0 state reach.reached in
       same_there old state reach actor r now new here (λ a there run.
       let free = (subst (λ running. StandsIn old.shape r.known.items (pending_by r) running a) rests run.stands).0 in
-      begins_with old.shape old.version known r now starts place at bucketed rests a run reach.reached.0
+      begins a run reach.reached.0
       (alone_there old.shape (blank old.version reach.id old.shape.size) state kept (actor + 1) a there (not_spent a.hand.place free) r.known.items run.once run.names place known at))
       shaped versioned pooled (ap (λ w. w.items) worded) runners
 
+  pub snapshot_begins : BeginsSnapshot old.version known r now → has_buckets known.spec ≡ true → (state : State) → IsReachedAs old state → IsReachedAs new state
+  snapshot_begins starts bucketed = call_begins (begins_with old.shape old.version known r now starts place at bucketed rests)
+
 -- so it is among the actors
+pub call_begun : (IsOf : ℕ → Option Running → Type 0) (runners : List Runner) (actor : ℕ) (r now : Runner) → get_elem? runners actor ≡ some r → (place : ℕ) (known : Known)
+    → get_elem? r.known.items place ≡ some known → now.known.items ≡ r.known.items → now.taken.items ≡ r.taken.items → IsOf known.reference now.running
+    → (name : List ℕ) → known.name.items ≡ name
+    → (before behind : Runner) × (get_elem? runners actor ≡ some before) × (get_elem? (set runners actor now) actor ≡ some behind)
+    × (behind.taken.items ≡ before.taken.items)
+    × ((k : Known) × Contains behind.known.items k × (k.name.items ≡ name) × IsOf k.reference behind.running)
+call_begun IsOf runners actor r now here place known at same taken is name named = (
+  r,
+  now,
+  here,
+  set_here runners actor now (place_below runners actor r here),
+  taken,
+  (known, subst (λ (l : List Known). Contains l known) (sym same) (contains_at r.known.items place known at), named, is),
+)
+
 pub snapshot_begun : {version : ℕ} (runners : List Runner) (actor : ℕ) (r now : Runner) → get_elem? runners actor ≡ some r → (place : ℕ) (known : Known)
     → get_elem? r.known.items place ≡ some known → BeginsSnapshot version known r now → (name : List ℕ) → known.name.items ≡ name
-    → (runner : Runner) × (get_elem? (set runners actor now) actor ≡ some runner)
-    × ((k : Known) × Contains runner.known.items k × (k.name.items ≡ name) × LooksAt k.reference runner.running)
-snapshot_begun runners actor r now here place known at starts name named = (
-  now,
-  set_here runners actor now (place_below runners actor r here),
-  (
-    known,
-    subst (λ (x : Runner). Contains x.known.items known) (sym starts.2) (contains_at r.known.items place known at),
-    named,
-    subst (LooksAt known.reference) (sym (ap (λ (x : Runner). x.running) starts.2)) starts.1.reference,
-  ),
-)
+    → (before behind : Runner) × (get_elem? runners actor ≡ some before) × (get_elem? (set runners actor now) actor ≡ some behind)
+    × (behind.taken.items ≡ before.taken.items)
+    × ((k : Known) × Contains behind.known.items k × (k.name.items ≡ name) × LooksAt k.reference behind.running)
+snapshot_begun runners actor r now here place known at starts =
+    call_begun LooksAt runners actor r now here place known at (ap (λ (x : Runner). x.known.items) starts.2) (ap (λ (x : Runner). x.taken.items) starts.2)
+    (subst (LooksAt known.reference) (sym (ap (λ (x : Runner). x.running) starts.2)) starts.1.reference)

@@ -1,5 +1,5 @@
 -- The faults of a world's calls, and the calls that are going on.
-use Rattle.std.proofs.Common.{◌≡◌, zero, suc, List, [], ◌∷◌, ◌||◌, Bool, true, false, true≢false, refl, sym, subst, ℕ, ap, ◌∙◌}
+use Rattle.std.proofs.Common.{◌≡◌, ◌≤◌, arith, length, ◌⊎◌, ⊎_elim, ℤ, zero, suc, List, [], ◌∷◌, ◌||◌, Bool, true, false, true≢false, refl, sym, subst, ℕ, ap, ◌∙◌}
 use Rattle.std.specs.Prelude.{Option, Some, None, IsSome, not, is_some, MatchOption, if◌then◌else◌}
 use mathlib.Core.Option.{some, none, some-injective, some-ne-none}
 use lib.ListN.{get_elem?}
@@ -8,7 +8,11 @@ use Rattle.hist_core.specs.declared.runner.Running.{Running}
 use Rattle.hist_core.specs.declared.runner.Runner.{Runner}
 use Rattle.hist_core.specs.declared.board.Board.{Board}
 use Rattle.hist_core.specs.Board.{Rests, IsBusy, IsPlaceOf, LacksName}
-use Rattle.hist_core.specs.World.{runs, rests, lacks, lacks_name, named_by}
+use Rattle.hist_core.specs.World.{runs, rests, lacks, lacks_name, named_by, of_actor, CanBegin, IsBucketed}
+use Rattle.hist_core.proofs.Asking.{place_below}
+use Rattle.std.specs.declared.alloc.Global.{Global}
+use Rattle.std.specs.declared.vec.Vec.{Vec}
+use Rattle.hist_core.specs.declared.call.Call.TheVariants as calls
 use Rattle.hist_core.specs.Runner.{NoneHasName}
 use Rattle.hist_core.specs.declared.hist.Known.{Known}
 use Rattle.hist_core.specs.declared.call.Call.{Call}
@@ -99,3 +103,22 @@ module _ (board : Board) (i : ℕ) (r : Runner) (at : get_elem? board.runners.it
 
   pub is_busy : is_some r.running ≡ true → IsBusy board i
   is_busy runs = λ runner is. subst (λ (x : Runner). IsSome x.running) (some-injective r runner (sym at ∙ is)) runs
+
+-- each call of a name can begin of a histogram with buckets
+pub each_begins : (actor : ℕ) (board : Board) (call : Call) (name : Vec ℕ Global)
+    → ((value : ℤ) × (count : ℕ) × (call ≡ calls.Add name value count))
+    ⊎ ((call ≡ calls.Delta name) ⊎ ((call ≡ calls.Snapshot name) ⊎ ((items : Vec (ℤ × ℕ) Global) × (sum : ℤ) × (call ≡ calls.Batch name items sum))))
+    → IsBucketed actor board name.items → CanBegin actor board call
+each_begins actor board call name is bucketed =
+    ⊎_elim (λ (value, count, adds). subst (CanBegin actor board) (sym adds) bucketed)
+    (⊎_elim (λ takes. subst (CanBegin actor board) (sym takes) bucketed)
+    (⊎_elim (λ looks. subst (CanBegin actor board) (sym looks) bucketed) (λ (items, sum, counts). subst (CanBegin actor board) (sym counts) bucketed))) is
+
+-- an actor that is not there shows nothing
+pub shows_nothing : {X : Type 0} (shown : Runner → List X) (board : Board) (i : ℕ) → length board.runners.items ≤ i
+    → [] ≡ of_actor shown (get_elem? board.runners.items i)
+shows_nothing shown board i beyond = by (get_elem? board.runners.items i) refl
+  where
+    by : (found : maybe.Option Runner) → get_elem? board.runners.items i ≡ found → [] ≡ of_actor shown found
+    by none at = refl
+    by (some r) at = absurd (let below = place_below board.runners.items i r at in omega (arith, below, beyond))

@@ -1,12 +1,10 @@
 -- An `add` that is going on.
-use Rattle.std.specs.Prelude.{◌≡◌, ◌≢◌, Bool, true, false, ◌⊎◌, ◌||◌, ◌==◌, if◌then◌else◌, ℕ, ◌+◌, ◌*◌, ◌/◌, ◌%◌, ◌^◌, ◌&&◌, nat_lt, ◌<◌, ◌≤◌, ℤ, pos, List, [], ◌∷◌, ◌++◌, length, Option, Some, None, is_some, ⊤}
-use Rattle.std.specs.List.{Contains}
-use Rattle.std.specs.Int.RustNames.{unsigned_abs}
+use Rattle.std.specs.Prelude.{◌≡◌, ◌≢◌, Bool, true, false, not, ◌⊎◌, ◌==◌, if◌then◌else◌, ℕ, ◌+◌, ◌*◌, ◌/◌, ◌%◌, ◌^◌, ◌&&◌, nat_lt, ◌<◌, ◌≤◌, ℤ, pos, List, [], ◌∷◌, ◌++◌, length, map, Option, Some, None, is_some, ⊤}
+use Rattle.std.specs.List.{All, Contains}
 use Rattle.std.specs.Ordering.{int_eq}
 use Rattle.bucket_ranges.specs.Ranges.{boundaries_of}
 use Rattle.bucket_ranges.specs.Single.{single_of}
 use Rattle.bucket_ranges.specs.Spec.{buckets_of, spec_fault}
-use Rattle.bucket_ranges.specs.Tally.{amount_of}
 use Rattle.segment_image.specs.declared.layout.TheConstants.{BLOCK_HEADER, BLOCK_LEAST, HEADER_WORDS, HISTOGRAM_NAME, HISTOGRAM_SINGLE, SAMPLE_COUNT, TYPE_COUNTS}
 use Rattle.segment_image.specs.Shape.{Dimensions}
 use Rattle.alloc_core.specs.Layout.{IsShape}
@@ -22,9 +20,9 @@ use Rattle.segment_machine.specs.declared.place.Look.{Look}
 use Rattle.segment_machine.specs.declared.actor.Own.{Own}
 use Rattle.segment_machine.specs.declared.place.Place.TheVariants.{Looking, Losing, Moving as PlaceMoving}
 use Rattle.segment_machine.specs.declared.seen.Sighting.{Sighting}
-use Rattle.segment_machine.specs.Actor.{cost_of, has_buckets, known_at, Sparse}
+use Rattle.segment_machine.specs.Actor.{has_buckets, known_at, Sparse}
 use Rattle.segment_machine.specs.Calls.{IsKeyOfBucket, LooksOff, MayTurn}
-use Rattle.segment_machine.specs.Entry.{has_ended, key_of, sample_entry}
+use Rattle.segment_machine.specs.Entry.{fresh, has_ended, key_of}
 use Rattle.segment_machine.specs.Form.{is_off, IsPacking}
 use Rattle.segment_machine.specs.Made.{IsFirstSample}
 use Rattle.segment_machine.specs.Packing.{IsBlankCounts}
@@ -40,9 +38,25 @@ use Rattle.hist_core.specs.Goes.{Goes}
 
 -- ---- what it counts
 
--- its entry: its units of the key of its value, and the value as often as it has units
+-- its entry: its units of the key of its value, and its amount
 abbrev pub counted_entry : Known → Add → Entry
-counted_entry known add = sample_entry known.name (boundaries_of known.spec) (add.value, add.units)
+counted_entry known add = record {
+  name = known.name;
+  key = key_of (boundaries_of known.spec) add.value;
+  units = add.units;
+  amount = add.amount;
+}
+
+-- What stands about its entry in the call that it is of: the entries before it, of which all has happened, those behind it, of which
+-- nothing has, and the units that the call holds.
+pub record Amid : Type 0 where
+  pub before : List MachineCounting
+  pub behind : List Entry
+  pub cost : ℕ
+
+-- nothing does where the call counts no more than that
+abbrev pub alone : Add → Amid
+alone add = record { before = []; behind = []; cost = add.units }
 
 -- It counts some units of a value in a known histogram of a lawful spec, whose record lies in the segment, and whose counts fit in a
 -- page. The bucket is that of the value.
@@ -53,13 +67,12 @@ pub record IsCounting (shape : Dimensions) (known : Known) (add : Add) : Type 0 
   pub within : add.histogram + HISTOGRAM_NAME ≤ shape.size
   pub some : (add.units == 0) ≡ false
   pub lawful : spec_fault known.spec ≡ None
-  pub amount : add.amount ≡ amount_of (boundaries_of known.spec) (add.value, add.units)
   pub buckets : add.buckets ≡ buckets_of known.spec
   pub fits : BLOCK_HEADER + 2 * add.buckets ≤ shape.page
   pub bucket : has_buckets known.spec ≡ true → IsKeyOfBucket known add.bucket (key_of (boundaries_of known.spec) add.value)
 
--- It begins: it counts so many units of a value in a histogram with buckets, and loads the single word.
-pub record IsStarted (shape : Dimensions) (version : ℕ) (known : Known) (value : ℤ) (units : ℕ) (add : Add) : Type 0 where
+-- It begins: it counts so many units of a value in a histogram with buckets, and an amount, and loads the single word.
+pub record IsStarted (shape : Dimensions) (version : ℕ) (known : Known) (value : ℤ) (units : ℕ) (amount : ℤ) (add : Add) : Type 0 where
   pub shaped : add.shape ≡ shape
   pub versioned : add.version ≡ version
   pub reference : add.histogram ≡ known.reference
@@ -67,16 +80,23 @@ pub record IsStarted (shape : Dimensions) (version : ℕ) (known : Known) (value
   pub bucket : IsKeyOfBucket known add.bucket (key_of (boundaries_of known.spec) value)
   pub counts : add.value ≡ value
   pub holds : add.units ≡ units
-  pub amount : add.amount ≡ amount_of (boundaries_of known.spec) (value, units)
-  pub small : unsigned_abs add.amount ≤ 2147483648 * units
+  pub amounts : add.amount ≡ amount
   pub stage : add.stage ≡ LoadingSingle
 
 -- ---- where it stands
 
--- its entry is that of the running call; whether it is counted, and summed. It is not noted
-abbrev pub HasEntry : Known → Add → Actor → Bool → Bool → Type 0
-HasEntry known add a counted summed =
-    a.entries.running ≡ record { entry = counted_entry known add; counted = counted; summed = summed; noted = false } ∷ []
+-- its entry stands among those of the running call; whether it is counted, and summed. It is not noted
+abbrev pub HasEntry : Known → Amid → Add → Actor → Bool → Bool → Type 0
+HasEntry known amid add a counted summed =
+    a.entries.running ≡ amid.before ++ record { entry = counted_entry known add; counted = counted; summed = summed; noted = false } ∷ map fresh amid.behind
+
+-- its entry once all of it has happened: an amount of 0 is left out
+abbrev pub ended_entry : Known → Add → MachineCounting
+ended_entry known add = record { entry = counted_entry known add; counted = true; summed = not (int_eq add.amount (pos 0)); noted = true }
+
+-- that stands among those of the running call
+abbrev pub HasEnded : Known → Amid → Add → Actor → Type 0
+HasEnded known amid add a = a.entries.running ≡ amid.before ++ ended_entry known add ∷ map fresh amid.behind
 
 -- its actor looks at the histogram: it has loaded this single word, and this counts reference, or 0
 abbrev pub Looks : Known → Actor → ℕ → ℕ → Type 0
@@ -127,16 +147,15 @@ StandsBefore shape known add a (Moving counts bucket units) =
 StandsBefore shape known add a _ = ⊥
 
 -- Where its actor stands, and what has happened of its entry.
-abbrev pub StandsAtStage : Dimensions → Known → Add → Actor → Stage → Type 0
-StandsAtStage shape known add a (Counting at) = HasEntry known add a false false × IsCountOf known add a at × (at < shape.size)
-StandsAtStage shape known add a Summing = MayTurn a × HasEntry known add a true false × (int_eq add.amount (pos 0) ≡ false)
-StandsAtStage shape known add a Noting =
-    MayTurn a × ((summed : Bool) × HasEntry known add a true summed × ((summed || int_eq add.amount (pos 0)) ≡ true))
-StandsAtStage shape known add a stage =
-    (has_buckets known.spec ≡ true) × HasEntry known add a false false × StandsBefore shape known add a stage
+abbrev pub StandsAtStage : Dimensions → Known → Amid → Add → Actor → Stage → Type 0
+StandsAtStage shape known amid add a (Counting at) = HasEntry known amid add a false false × IsCountOf known add a at × (at < shape.size)
+StandsAtStage shape known amid add a Summing = MayTurn a × HasEntry known amid add a true false × (int_eq add.amount (pos 0) ≡ false)
+StandsAtStage shape known amid add a Noting = MayTurn a × HasEntry known amid add a true (not (int_eq add.amount (pos 0)))
+StandsAtStage shape known amid add a stage =
+    (has_buckets known.spec ≡ true) × HasEntry known amid add a false false × StandsBefore shape known add a stage
 
--- Its actor knows the histogram, which alone has its reference there, takes nothing, and holds the units.
-pub record IsAdd (shape : Dimensions) (known : Known) (add : Add) (a : Actor) : Type 0 where
+-- Its actor knows the histogram, which alone has its reference there, takes nothing, and holds the units of the call.
+pub record IsAdd (shape : Dimensions) (known : Known) (amid : Amid) (add : Add) (a : Actor) : Type 0 where
   pub counting : IsCounting shape known add
   pub segment : a.segment.shape ≡ shape
   pub version : a.segment.version ≡ add.version
@@ -144,8 +163,9 @@ pub record IsAdd (shape : Dimensions) (known : Known) (add : Add) (a : Actor) : 
   pub knows : Contains a.answers.names known
   pub alone : known_at a.answers.names known.reference ≡ Some known
   pub rests : a.deltas.taking ≡ false
-  pub held : a.units.held ≡ record { name = known.name; units = add.units } ∷ []
-  pub stands : StandsAtStage shape known add a add.stage
+  pub held : a.units.held ≡ record { name = known.name; units = amid.cost } ∷ []
+  pub over : All (λ c. has_ended c ≡ true) amid.before
+  pub stands : StandsAtStage shape known amid add a add.stage
 
 -- ---- what a step makes of its actor
 
@@ -163,41 +183,27 @@ pub record Aside (a b : Actor) : Type 0 where
 abbrev pub StaysOpen : Actor → Actor → Type 0
 StaysOpen a b = (b.units ≡ a.units) × (b.entries ≡ record a.entries { running = b.entries.running })
 
--- accepted: the entry, of which all has happened, is the last of the log, and what was held is spent
-pub record IsAccepted (entry : Entry) (a b : Actor) : Type 0 where
-  pub last : MachineCounting
-  pub counted : last.entry ≡ entry
-  pub ended : has_ended last ≡ true
-  pub entries : b.entries ≡ record a.entries { log = a.entries.log ++ last ∷ []; running = [] }
-  pub units : b.units ≡ record a.units { costs = a.units.costs ++ a.units.held; held = [] }
-
 -- what its actor has done that is refused: an allocation has set the full flag, or found the segment corrupt
 abbrev pub IsCause : Refusal → Actor → Type 0
 IsCause why.Full b = b.done.filled ≡ true
 IsCause why.Corrupt b = ⊤
 IsCause cause b = ⊥
 
--- refused: no entry is left of it, what was held has come back, and nothing is spent
-pub record IsTakenBack (units : ℕ) (a b : Actor) : Type 0 where
-  pub entries : b.entries ≡ record a.entries { running = [] }
-  pub share : b.units.share ≡ a.units.share + units
-  pub spent : (name : List ℕ) → cost_of b.units.costs name ≡ cost_of a.units.costs name
-  pub held : b.units.held ≡ []
-
--- What a step says: it goes on; it is accepted; or it is refused. Its actor may turn to another call then.
-abbrev pub AddGives : Dimensions → Known → Add → AddStep → Actor → Actor → Type 0
-AddGives shape known new More a b = Aside a b × StaysOpen a b × IsAdd shape known new b
-AddGives shape known new Done a b = Aside a b × MayTurn b × IsAccepted (counted_entry known new) a b
-AddGives shape known new (Refused cause) a b = Aside a b × MayTurn b × IsCause cause b × IsTakenBack new.units a b
+-- What a step says: it goes on; all of its entry has happened; or it is refused, and nothing has. Its actor may turn to another entry or
+-- another call then.
+abbrev pub AddGives : Dimensions → Known → Amid → Add → AddStep → Actor → Actor → Type 0
+AddGives shape known amid new More a b = Aside a b × StaysOpen a b × IsAdd shape known amid new b
+AddGives shape known amid new Done a b = Aside a b × StaysOpen a b × MayTurn b × HasEnded known amid new b
+AddGives shape known amid new (Refused cause) a b = Aside a b × StaysOpen a b × MayTurn b × IsCause cause b × HasEntry known amid new b false false
 
 -- what a step makes of the words, and of whatever actor stands so
 abbrev pub AddSteps : Add → List ℕ → Add → List ℕ → AddStep → Type 0
-AddSteps old words new new_words said = (shape : Dimensions) (known : Known) (a : Actor) → length words ≡ shape.size → IsAdd shape known old a
-    → Goes shape.size old.version a words new_words (AddGives shape known new said a)
+AddSteps old words new new_words said = (shape : Dimensions) (known : Known) (amid : Amid) (a : Actor) → length words ≡ shape.size
+    → IsAdd shape known amid old a → Goes shape.size old.version a words new_words (AddGives shape known amid new said a)
 
 -- an `add` that stands so somewhere, in so many words
 abbrev pub IsSomeAdd : ℕ → Add → Type 0
-IsSomeAdd n add = (shape : Dimensions) × (known : Known) × (a : Actor) × (n ≡ shape.size) × IsAdd shape known add a
+IsSomeAdd n add = (shape : Dimensions) × (known : Known) × (amid : Amid) × (a : Actor) × (n ≡ shape.size) × IsAdd shape known amid add a
 
 -- what it does behind the event that counts its units: it adds its amount, where that is not 0
 abbrev pub behind_count : ℤ → Stage

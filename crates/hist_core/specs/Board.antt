@@ -1,5 +1,5 @@
 -- The words of a segment with its actors, and the states of the machine that they stand for.
-use Rattle.std.specs.Prelude.{◌≡◌, ◌≢◌, ◌⊎◌, ◌<◌, ◌≤◌, ℕ, ℤ, ◌+◌, true, List, [], ◌∷◌, IsSome, Option, Some, None, Result, Ok, Err, All, vec_len, ⊤}
+use Rattle.std.specs.Prelude.{◌≡◌, ◌≢◌, ◌⊎◌, ◌<◌, ◌≤◌, ℕ, ℤ, pos, map, ◌+◌, true, List, [], ◌∷◌, take, IsSome, Option, Some, None, Result, Ok, Err, All, vec_len, ⊤}
 use mathlib.Core.Option.{some}
 use lib.ListN.{get_elem?}
 use Rattle.std.specs.List.{Contains}
@@ -9,7 +9,8 @@ use Rattle.bucket_ranges.specs.Reading.{Histogram, Reading, IsReading}
 use Rattle.alloc_core.specs.Layout.{render, fresh}
 use Rattle.segment_machine.specs.declared.place.Place.TheVariants.{Idle}
 use Rattle.segment_machine.specs.declared.actor.Actor.{Actor}
-use Rattle.segment_machine.specs.Actor.{is_opener, offered_of}
+use Rattle.segment_image.specs.declared.layout.TheConstants.{HISTOGRAM_REDUNDANT}
+use Rattle.segment_machine.specs.Actor.{accepted_since, is_opener, offered_of, units_listed}
 use Rattle.segment_machine.specs.Event.{Event}
 use Rattle.segment_machine.specs.State.{State, IsStep}
 use Rattle.segment_machine.specs.Reached.{IsState, IsLent, IsReturned}
@@ -17,10 +18,14 @@ use Rattle.segment_invariant.specs.Body.{blank}
 use Rattle.bucket_ranges.specs.Reading.{spec_of}
 use Rattle.bucket_ranges.specs.Spec.{SameSpec}
 use Rattle.list_core.specs.Chain.{IsChain}
-use Rattle.segment_invariant.specs.Consistent.{IsConsistent, IsHistogram, new_opening}
+use Rattle.segment_invariant.specs.Consistent.{IsConsistent, IsHistogram, new_opening, units_taken}
 use Rattle.segment_invariant.specs.Invariant.{Invariant}
+use Rattle.segment_promises.specs.Deltas.{IsEnough}
 use Rattle.segment_promises.specs.Reads.{HasNoFault, ReadsHead, ReadsNames, ReadsUnits, ReadsAmounts}
+use Rattle.hist_core.specs.declared.answer.Delta.{Delta as DeltaAnswer}
+use Rattle.hist_core.specs.declared.answer.Snapshot.{Snapshot as SnapshotAnswer}
 use Rattle.hist_core.specs.declared.call.Stepped.{Stepped}
+use Rattle.hist_core.specs.declared.call.Stepped.TheVariants.{Done}
 use Rattle.hist_core.specs.declared.runner.Runner.{Runner}
 use Rattle.hist_core.specs.declared.board.Board.{Board}
 use Rattle.bucket_ranges.specs.declared.spec.Spec.{Spec}
@@ -32,11 +37,13 @@ use Rattle.hist_core.specs.declared.call.Begun.TheVariants.{Going, Ended}
 use Rattle.hist_core.specs.declared.hist.Known.{Known}
 use Rattle.hist_core.specs.declared.refusal.Refusal.TheVariants as refusal
 use Rattle.hist_core.specs.declared.runner.Running.{Running}
-use Rattle.hist_core.specs.declared.runner.Running.TheVariants.{Hist, Add, Snapshot}
-use Rattle.hist_core.specs.declared.entry.Entry.{Entry}
+use Rattle.hist_core.specs.declared.runner.Running.TheVariants.{Hist, Add, Delta, Snapshot, Batch}
 use Rattle.hist_core.specs.Asked.{IsRefusedFor}
-use Rattle.hist_core.specs.Runner.{IsFresh, IsRun, IsAsItWas, IsKnownAnswer, NoneHasName, Answers, entry_of, pending_by, ended_by, begun_by}
-use Rattle.segment_machine.specs.Entry.{sample_entry}
+use Rattle.hist_core.specs.Runner.{IsFresh, IsRun, IsAsItWas, IsAnswer, IsTook, IsKnownAnswer, NoneHasName, Answers, entry_of, looked_by, pending_by, ended_by, begun_by}
+use Rattle.segment_machine.specs.Entry.{batch_cost, batch_entries, sample_entry, tally_noted}
+use Rattle.segment_machine.specs.declared.entry.Entry.{Entry as MachineEntry}
+use Rattle.hist_core.specs.Batch.{sample_of}
+use Rattle.hist_core.specs.declared.refusal.Refusal.{Refusal}
 use Rattle.bucket_ranges.specs.Ranges.{boundaries_of}
 
 -- a new segment with so many actors, which have done nothing
@@ -103,11 +110,41 @@ GivesBack actor old new = (new ≡ old) ⊎ ((units : ℕ) × IsReturned old 0 (
 abbrev pub BeginsFrom : State → ℕ → Board → Type 0
 BeginsFrom state actor new = (then_is : State) × Lends actor state then_is × IsReachedAs new then_is
 
--- one event of the actor leads from a state to another; then the units of a call that is refused come back
-abbrev pub StepsTo : Board → ℕ → State → Board → Type 0
-StepsTo old actor state new =
+-- A snapshot of the histogram of a record is what its actor saw since it began. Of each key it has at least the units that the actor
+-- had accepted and those that it had seen before; so has its redundant count.
+pub record HasSeen (actor histogram : ℕ) (snapshot : SnapshotAnswer) (board : Board) (state : State) (reach : IsReachedAs board state) : Type 0 where
+  pub recorder : Actor
+  pub there : get_elem? state.actors (actor + 1) ≡ some recorder
+  pub answer : IsAnswer histogram snapshot recorder
+  pub kept : Invariant board.shape (blank board.version reach.id board.shape.size) state
+  pub enough : IsEnough state.words kept.anatomy.records recorder answer.known (units_listed snapshot.counts.items)
+  pub noted : tally_noted (accepted_since reach.shows.opener recorder) answer.known.name ≤ snapshot.redundant
+  pub rising : (count : ℕ) → Contains (take recorder.since.counts recorder.seen.counts) (record { at = histogram + HISTOGRAM_REDUNDANT; word = count })
+      → count ≤ snapshot.redundant
+
+-- A delta of the histogram of a record took all that its actor saw since it began. With it all deltas together took, of each key, at least
+-- the units that the actor had accepted and those that it had seen before.
+pub record HasTaken (actor histogram : ℕ) (delta : DeltaAnswer) (board : Board) (state : State) (reach : IsReachedAs board state) : Type 0 where
+  pub recorder : Actor
+  pub there : get_elem? state.actors (actor + 1) ≡ some recorder
+  pub answer : IsTook histogram delta recorder
+  pub kept : Invariant board.shape (blank board.version reach.id board.shape.size) state
+  pub enough : IsEnough state.words kept.anatomy.records recorder answer.known (units_taken state.actors answer.known.name)
+
+-- what an answer promises of the state behind it, by what the call took of or looked at
+abbrev pub IsPromised : Board → ℕ → Stepped → (new : Board) (last : State) → IsReachedAs new last → Type 0
+IsPromised old actor (Done (answer.Delta delta)) new last reach =
+    (before : Runner) → get_elem? old.runners.items actor ≡ some before → HasTaken actor (looked_by before.running) delta new last reach
+IsPromised old actor (Done (answer.Snapshot snapshot)) new last reach =
+    (before : Runner) → get_elem? old.runners.items actor ≡ some before → HasSeen actor (looked_by before.running) snapshot new last reach
+IsPromised old actor said new last reach = ⊤
+
+-- One event of the actor leads from a state to another; then the units of a call that is refused come back. What the call says is as it
+-- promises, of the state that it leads to.
+abbrev pub StepsTo : Board → ℕ → State → Board → Stepped → Type 0
+StepsTo old actor state new said =
     (event : Event) × (then_is : State) × IsStep old.version state (actor + 1) event then_is
-    × ((last : State) × GivesBack actor then_is last × IsReachedAs new last)
+    × ((last : State) × GivesBack actor then_is last × ((reach : IsReachedAs new last) × IsPromised old actor said new last reach))
 
 -- the shape and the version stay, and so do all other actors
 pub record OthersStay (actor : ℕ) (old new : Board) : Type 0 where
@@ -116,7 +153,7 @@ pub record OthersStay (actor : ℕ) (old new : Board) : Type 0 where
   pub count : vec_len new.runners ≡ vec_len old.runners
   pub others : (other : ℕ) → other ≢ actor → get_elem? new.runners.items other ≡ get_elem? old.runners.items other
 
--- all is as it was, but for the room for entries and for histograms that actors may know
+-- all is as it was, but for the room for entries, for histograms that actors may know, and for deltas
 pub record IsAsBefore (old new : Board) : Type 0 where
   pub units : new.units ≡ old.units
   pub shape : new.shape ≡ old.shape
@@ -169,10 +206,12 @@ abbrev pub CountsValue : ℤ → ℕ → Option Running → Type 0
 CountsValue value units (Some (Add add)) = (add.value ≡ value) × (add.units ≡ units)
 CountsValue value units running = ⊥
 
--- The call goes on, its units are out of the pool, and its entry is pending, of which nothing has begun.
-pub record IsAddBegun (actor : ℕ) (name : List ℕ) (value : ℤ) (units : ℕ) (old new : Board) : Type 0 where
+-- A call of a histogram of this name goes on that is to count entries, which its boundaries determine: its units are out of the pool, and
+-- the entries are pending, of which nothing has begun.
+pub record IsCountBegun (actor : ℕ) (name : List ℕ) (cost : ℕ) (entries : List ℕ → List MachineEntry) (runs : Option Running → Type 0) (old new : Board)
+    : Type 0 where
   pub words : new.words ≡ old.words
-  pub pool : new.units + units ≡ old.units
+  pub pool : new.units + cost ≡ old.units
   pub before : Runner
   pub behind : Runner
   pub was : get_elem? old.runners.items actor ≡ some before
@@ -180,12 +219,15 @@ pub record IsAddBegun (actor : ℕ) (name : List ℕ) (value : ℤ) (units : ℕ
   pub known : Known
   pub knows : Contains before.known.items known
   pub named : known.name.items ≡ name
-  pub runs : CountsValue value units behind.running
-  pub entry : Entry
-  pub entry_is : entry_of entry ≡ sample_entry name (boundaries_of known.spec) (value, units)
-  pub pending : pending_by behind ≡ entry ∷ []
+  pub counts : runs behind.running
+  pub pending : map entry_of (pending_by behind) ≡ entries (boundaries_of known.spec)
   pub ended : ended_by behind ≡ ended_by before
   pub begun : begun_by behind ≡ begun_by before
+
+-- an `add` counts one entry
+abbrev pub IsAddBegun : ℕ → List ℕ → ℤ → ℕ → Board → Board → Type 0
+IsAddBegun actor name value units old new =
+    IsCountBegun actor name units (λ boundaries. sample_entry name boundaries (value, units) ∷ []) (CountsValue value units) old new
 
 -- What the begin of an `add` says: it goes on; or it is refused at once, and then all is as it was.
 abbrev pub AddBegins : ℕ → List ℕ → ℤ → ℕ → Board → Board → Begun → Type 0
@@ -194,19 +236,61 @@ AddBegins actor name value units old new (Ended (answer.Refused refusal.ZeroCoun
 AddBegins actor name value units old new (Ended (answer.Refused refusal.NoUnits)) = IsAsBefore old new × (old.units < units)
 AddBegins actor name value units old new (Ended answered) = ⊥
 
--- ---- how a `snapshot` begins
+-- ---- how a `batch` begins
 
--- a running call looks at the histogram of a record
+-- a running call counts these items and adds this sum
+abbrev pub CountsItems : List (ℤ × ℕ) → ℤ → Option Running → Type 0
+CountsItems items sum (Some (Batch batch)) = (map sample_of batch.items.items ≡ items) × (batch.sum ≡ sum)
+CountsItems items sum running = ⊥
+
+-- a `batch` counts one entry for each item, and one for its sum
+abbrev pub IsBatchBegun : ℕ → List ℕ → List (ℤ × ℕ) → ℤ → Board → Board → Type 0
+IsBatchBegun actor name items sum old new =
+    IsCountBegun actor name (batch_cost items sum) (λ boundaries. batch_entries name boundaries items sum) (CountsItems items sum) old new
+
+-- no item has a count of 0
+abbrev pub AreSome : List (ℤ × ℕ) → Type 0
+AreSome items = All (λ item. 1 ≤ item.1) items
+
+-- why it is refused at once: an item has a count of 0, or it costs more units than the pool has
+abbrev pub IsTooMuch : Board → List (ℤ × ℕ) → ℤ → Refusal → Type 0
+IsTooMuch old items sum refusal.ZeroCount = ¬ (AreSome items)
+IsTooMuch old items sum refusal.NoUnits = AreSome items × (old.units < batch_cost items sum)
+IsTooMuch old items sum why = ⊥
+
+-- What the begin of a `batch` says: it goes on; or it counts nothing, and has ended; or it is refused at once, with no item counted. Then all
+-- is as it was.
+abbrev pub BatchBegins : ℕ → List ℕ → List (ℤ × ℕ) → ℤ → Board → Board → Begun → Type 0
+BatchBegins actor name items sum old new Going = AreSome items × (batch_cost items sum ≤ old.units) × IsBatchBegun actor name items sum old new
+BatchBegins actor name items sum old new (Ended answer.Added) = IsAsBefore old new × (items ≡ []) × (sum ≡ pos 0)
+BatchBegins actor name items sum old new (Ended (answer.BatchRefused refused)) =
+    IsAsBefore old new × (refused.added ≡ 0) × IsTooMuch old items sum refused.why
+BatchBegins actor name items sum old new (Ended answered) = ⊥
+
+-- ---- how a `delta` and a `snapshot` begin
+
+-- a running call takes of the histogram of a record, or looks at it
+abbrev pub TakesOf : ℕ → Option Running → Type 0
+TakesOf reference (Some (Delta taker fresh)) = taker.histogram ≡ reference
+TakesOf reference running = ⊥
+
 abbrev pub LooksAt : ℕ → Option Running → Type 0
 LooksAt reference (Some (Snapshot looker)) = looker.histogram ≡ reference
 LooksAt reference running = ⊥
 
--- it goes on, looking at a histogram of the name that the actor knows, and no word has changed
+-- It goes on with a histogram of the name that the actor knows. No word has changed, and what the actor's deltas took is shown as before.
+abbrev pub GoesWith : (ℕ → Option Running → Type 0) → ℕ → List ℕ → Board → Board → Begun → Type 0
+GoesWith IsOf actor name old new Going =
+    (new.words ≡ old.words) × ((before behind : Runner) × (get_elem? old.runners.items actor ≡ some before) × (get_elem? new.runners.items actor ≡ some behind)
+    × (behind.taken.items ≡ before.taken.items)
+    × ((known : Known) × Contains behind.known.items known × (known.name.items ≡ name) × IsOf known.reference behind.running))
+GoesWith IsOf actor name old new (Ended answered) = ⊥
+
+abbrev pub DeltaBegins : ℕ → List ℕ → Board → Board → Begun → Type 0
+DeltaBegins = GoesWith TakesOf
+
 abbrev pub SnapshotBegins : ℕ → List ℕ → Board → Board → Begun → Type 0
-SnapshotBegins actor name old new Going =
-    (new.words ≡ old.words) × ((runner : Runner) × (get_elem? new.runners.items actor ≡ some runner)
-    × ((known : Known) × Contains runner.known.items known × (known.name.items ≡ name) × LooksAt known.reference runner.running))
-SnapshotBegins actor name old new (Ended answered) = ⊥
+SnapshotBegins = GoesWith LooksAt
 
 -- ---- a step
 

@@ -4,6 +4,7 @@ pub mod Goes
 pub mod Asked
 pub mod Hist
 pub mod Add
+pub mod Batch
 pub mod Runner
 pub mod Board
 pub mod World

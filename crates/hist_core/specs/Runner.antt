@@ -1,10 +1,11 @@
 -- An actor of a world at run time, and the actor of the machine that it stands for.
-use Rattle.std.specs.Prelude.{◌≡◌, ◌≢◌, ◌≤◌, ◌<◌, ℕ, ℤ, ◌+◌, ◌*◌, ◌⊎◌, true, false, List, [], ◌∷◌, ◌++◌, map, take, drop, length, Option, Some, None, bit_or, ⊤, Result, Ok, Err, vec_len, vec_capacity}
-use Rattle.std.specs.List.{All, Contains}
+use Rattle.std.specs.Prelude.{◌≡◌, ◌≢◌, ◌≤◌, ◌<◌, ℕ, ℤ, pos, ◌+◌, ◌-◌, ◌*◌, ◌⊎◌, true, false, List, [], ◌∷◌, ◌++◌, map, take, drop, length, Option, Some, None, option_to_list, bit_or, ⊤, Result, Ok, Err, vec_len, vec_capacity, unsigned_abs}
+use Rattle.std.specs.List.{All, AllZip, Contains}
 use mathlib.Core.Option.{some}
 use lib.ListN.{get_elem?}
 use Rattle.bucket_ranges.specs.Ranges.{boundaries_of}
 use Rattle.bucket_ranges.specs.Reading.{is_name}
+use Rattle.bucket_ranges.specs.Tally.{amount_of}
 use Rattle.bucket_ranges.specs.Spec.{spec_fault, buckets_of, SameSpec}
 use Rattle.bucket_ranges.specs.declared.spec.Spec.{Spec}
 use Rattle.segment_image.specs.Words.{word_at}
@@ -13,13 +14,19 @@ use Rattle.segment_image.specs.declared.layout.TheConstants.{BLOCK_HEADER, FLAG_
 use Rattle.segment_machine.specs.declared.entry.Entry.{Entry as MachineEntry}
 use Rattle.segment_machine.specs.declared.actor.Actor.{Actor}
 use Rattle.segment_machine.specs.declared.place.Place.TheVariants.{Spent}
-use Rattle.segment_machine.specs.Actor.{is_opener, is_bound}
-use Rattle.segment_machine.specs.Note.{MayNote, SawAll, noted, begins}
+use Rattle.segment_machine.specs.declared.actor.Taken.{Taken as MachineTaken}
+use Rattle.segment_machine.specs.Actor.{is_opener, is_bound, units_listed}
+use Rattle.segment_machine.specs.Entry.{batch_entries}
+use Rattle.segment_machine.specs.Note.{MayNote, SawAll, TookAll, noted, begins}
 use Rattle.segment_machine.specs.Seats.{giver}
 use Rattle.segment_machine.specs.declared.actor.Answered.{Answered}
 use Rattle.segment_machine.specs.declared.actor.Known.{Known as MachineKnown}
 use Rattle.hist_core.specs.Goes.{Goes}
-use Rattle.hist_core.specs.Add.{IsAdd, counted_entry, IsStarted}
+use Rattle.hist_core.specs.Add.{IsAdd, alone, counted_entry, IsStarted}
+use Rattle.hist_core.specs.Batch.{IsBatch, IsSameBatch, counted_entries}
+use Rattle.hist_core.specs.declared.batch.Batch.{Batch as BatchCall}
+use Rattle.hist_core.specs.declared.batch.BatchStep.{BatchStep}
+use Rattle.hist_core.specs.declared.batch.BatchStep.TheVariants as batch
 use Rattle.hist_core.specs.declared.add.Add.{Add as AddCall}
 use Rattle.hist_core.specs.declared.add.AddStep.{AddStep}
 use Rattle.hist_core.specs.declared.add.AddStep.TheVariants as add
@@ -35,16 +42,25 @@ use Rattle.hist_core.specs.declared.call.Answer.{Answer}
 use Rattle.hist_core.specs.declared.call.Begun.{Begun}
 use Rattle.hist_core.specs.declared.call.Begun.TheVariants.{Going, Ended}
 use Rattle.std.specs.declared.alloc.AllocError.{AllocError}
+use Rattle.std.specs.declared.alloc.Global.{Global}
+use Rattle.std.specs.declared.vec.Vec.{Vec}
 use Rattle.hist_core.specs.declared.hist.Hist.{Hist as HistCall}
 use Rattle.hist_core.specs.declared.hist.HistStep.{HistStep}
 use Rattle.hist_core.specs.declared.hist.HistStep.TheVariants as hist
 use Rattle.hist_core.specs.declared.hist.Known.{Known}
 use Rattle.hist_core.specs.declared.entry.Entry.{Entry}
+use Rattle.hist_core.specs.declared.entry.Taken.{Taken}
+use Rattle.hist_core.specs.Taker.{AreUnits, HasBegun, IsTaker, IsStarted as IsTakerStarted}
+use Rattle.hist_core.specs.declared.answer.Delta.{Delta as DeltaAnswer}
+use Rattle.hist_core.specs.declared.taker.Stage.TheVariants.{LoadingSingle}
+use Rattle.hist_core.specs.declared.taker.Taker.{Taker}
+use Rattle.hist_core.specs.declared.taker.TakerStep.{TakerStep}
+use Rattle.hist_core.specs.declared.taker.TakerStep.TheVariants as take_step
 use Rattle.hist_core.specs.declared.call.Answer.TheVariants as answer
 use Rattle.hist_core.specs.declared.call.Stepped.{Stepped}
 use Rattle.hist_core.specs.declared.call.Stepped.TheVariants.{More, Done}
 use Rattle.hist_core.specs.declared.runner.Running.{Running}
-use Rattle.hist_core.specs.declared.runner.Running.TheVariants.{SetCorrupt, Hist, Add, Snapshot}
+use Rattle.hist_core.specs.declared.runner.Running.TheVariants.{SetCorrupt, Hist, Add, Delta, Snapshot, Batch}
 use Rattle.hist_core.specs.declared.runner.Runner.{Runner}
 
 -- ---- what it shows
@@ -100,6 +116,43 @@ abbrev pub HaveOwnNames : List Known → Type 0
 HaveOwnNames [] = ⊤
 HaveOwnNames (known ∷ rest) = NoneHasName rest known.name.items × HaveOwnNames rest
 
+-- ---- what its deltas took
+
+-- A delta is shown as the machine has it: of the same histogram, with as many units of each key, and as much of the sum. Its keys ascend,
+-- each with units.
+pub record IsShown (taken : Taken) (machine : MachineTaken) : Type 0 where
+  pub name : taken.name.items ≡ machine.name
+  pub sum : taken.sum ≡ machine.sum
+  pub counts : (key : ℤ) → units_listed taken.counts.items key ≡ units_listed machine.counts key
+  pub units : AreUnits taken.counts.items
+
+-- so are all, in order
+abbrev pub AreShown : List Taken → List MachineTaken → Type 0
+AreShown [] [] = ⊤
+AreShown [] (machine ∷ rest) = ⊥
+AreShown (taken ∷ list) [] = ⊥
+AreShown (taken ∷ list) (machine ∷ rest) = IsShown taken machine × AreShown list rest
+
+-- what stands last
+abbrev pub IsLast : List Taken → Taken → Type 0
+IsLast list taken = get_elem? list (length list - 1) ≡ some taken
+
+-- what a running delta is shown as: it lists what the call has taken, with as much room, and nothing of the sum yet
+abbrev pub IsDraft : Taker → Taken → Type 0
+IsDraft taker taken =
+    (taken.counts.items ≡ taker.counts.items) × (vec_capacity taken.counts ≡ vec_capacity taker.counts) × (taken.sum ≡ pos 0)
+
+-- until its first event there is room for that; from then on it stands last
+abbrev pub HasDraft : Option Running → Vec Taken Global → Type 0
+HasDraft (Some (Delta taker (Some fresh))) taken = (vec_len taken < vec_capacity taken) × IsDraft taker fresh
+HasDraft (Some (Delta taker None)) taken = (0 < vec_len taken) × ((last : Taken) → IsLast taken.items last → IsDraft taker last)
+HasDraft running taken = ⊤
+
+-- the name that it is to be shown with stands ready until then
+abbrev pub IsTimely : MachineKnown → Taker → Option Taken → Type 0
+IsTimely known taker (Some fresh) = (taker.stage ≡ LoadingSingle) × (fresh.name.items ≡ known.name)
+IsTimely known taker None = HasBegun taker.stage
+
 -- ---- what it stands for
 
 -- A call that counts nothing: no entries are pending, its actor has none that run, holds no units, has no share, and takes nothing.
@@ -110,23 +163,36 @@ pub record IsQuiet (pending : List Entry) (a : Actor) : Type 0 where
   pub share : a.units.share ≡ 0
   pub takes : a.deltas.taking ≡ false
 
--- what its actor notes at the first event of an `add`
-abbrev pub begins_add : MachineKnown → AddCall → Actor → Actor
-begins_add known add a = noted a (begins known.name add.units (counted_entry known add ∷ []))
+-- A call that counts entries, before its first event: its actor has the units of it, and no more. With that event it may begin to count,
+-- and then it stands so.
+pub record IsBefore (name : List ℕ) (cost : ℕ) (entries : List MachineEntry) (standing : Actor → Type 0) (a : Actor) : Type 0 where
+  pub share : a.units.share ≡ cost
+  pub may : MayNote a (begins name cost entries)
+  pub stands : standing (noted a (begins name cost entries))
 
--- An `add` before its first event: its actor has the units of it, and no more. With that event it may begin to count.
-pub record IsBefore (shape : Dimensions) (known : MachineKnown) (add : AddCall) (a : Actor) : Type 0 where
-  pub share : a.units.share ≡ add.units
-  pub may : MayNote a (begins known.name add.units (counted_entry known add ∷ []))
-  pub stands : IsAdd shape known add (begins_add known add a)
+-- A call that counts entries, whose first event has happened, or that is before that. The entries are pending.
+pub record IsTelling (pending : List Entry) (name : List ℕ) (cost : ℕ) (entries : List MachineEntry) (standing : Actor → Type 0) (a : Actor) : Type 0 where
+  pub pending_are : map entry_of pending ≡ entries
+  pub stands : IsBefore name cost entries standing a ⊎ ((a.units.share ≡ 0) × standing a)
 
--- An `add` whose first event has happened, or that is before that. Its entry is pending.
-pub record IsAdding (shape : Dimensions) (pending : List Entry) (add : AddCall) (a : Actor) : Type 0 where
-  pub known : MachineKnown
-  pub entry : Entry
-  pub pending_is : pending ≡ entry ∷ []
-  pub entry_is : entry_of entry ≡ counted_entry known add
-  pub stands : IsBefore shape known add a ⊎ ((a.units.share ≡ 0) × IsAdd shape known add a)
+-- an `add` counts one entry, and a `batch` one for each item and one for its sum
+abbrev pub IsAdding : Dimensions → List Entry → AddCall → Actor → Type 0
+IsAdding shape pending add a =
+    (known : MachineKnown) × IsTelling pending known.name add.units (counted_entry known add ∷ []) (IsAdd shape known (alone add) add) a
+
+abbrev pub IsBatching : Dimensions → List Entry → BatchCall → Actor → Type 0
+IsBatching shape pending batch a =
+    (known : MachineKnown) × IsTelling pending known.name batch.cost (counted_entries known batch) (IsBatch shape known batch) a
+
+-- an actor, but for the delta that it takes
+abbrev pub apart_from_delta : Actor → Actor
+apart_from_delta a = record a { deltas = record a.deltas { taking = false } }
+
+-- A `delta`: its actor counts nothing, and takes of a histogram, behind the deltas before.
+abbrev pub IsDrawing : Dimensions → List Entry → Taker → Option Taken → Actor → Type 0
+IsDrawing shape pending taker fresh a =
+    IsQuiet pending (apart_from_delta a)
+    × ((known : MachineKnown) × (earlier : List MachineTaken) × IsTaker shape known earlier taker a × IsTimely known taker fresh)
 
 -- Where the machine's actor stands whose call is this, or that runs none. A `hist` asks for a histogram that is not known.
 abbrev pub StandsIn : Dimensions → List Known → List Entry → Option Running → Actor → Type 0
@@ -134,6 +200,8 @@ StandsIn shape known pending None a = (is_bound a.hand.place ≡ false) × IsQui
 StandsIn shape known pending (Some SetCorrupt) a = (is_bound a.hand.place ≡ false) × IsQuiet pending a
 StandsIn shape known pending (Some (Hist hist)) a = IsHist shape hist a × IsQuiet pending a × NoneHasName known hist.asked.name.items
 StandsIn shape known pending (Some (Add add)) a = IsAdding shape pending add a
+StandsIn shape known pending (Some (Delta taker fresh)) a = IsDrawing shape pending taker fresh a
+StandsIn shape known pending (Some (Batch batch)) a = IsBatching shape pending batch a
 StandsIn shape known pending (Some (Snapshot looker)) a = IsQuiet pending a × ((seen : MachineKnown) × IsLooker shape seen looker a)
 
 -- there is room for the histogram that a `hist` asks for, beside so many that are known
@@ -142,7 +210,8 @@ HasRoom (Some (Hist hist)) known capacity = known < capacity
 HasRoom running known capacity = ⊤
 
 -- An actor of a segment of this shape and version is a recorder, whose log is the entries of ended calls, and which has begun those of
--- the running call that have begun; it knows the same histograms, each of another name, and stands where the running call does.
+-- the running call that have begun; its deltas took what is shown; it knows the same histograms, each of another name, and stands where the
+-- running call does.
 pub record IsRun (shape : Dimensions) (version : ℕ) (runner : Runner) (a : Actor) : Type 0 where
   pub records : is_opener a.role ≡ false
   pub segment : a.segment ≡ record { shape = shape; version = version; cursors = 0 }
@@ -150,12 +219,13 @@ pub record IsRun (shape : Dimensions) (version : ℕ) (runner : Runner) (a : Act
   pub within : (runner.ended ≤ runner.begun) × (runner.begun ≤ length runner.entries.items)
   pub ended : map entry_of (ended_by runner) ≡ map (λ c. c.entry) a.entries.log
   pub begun : map entry_of (begun_by runner) ≡ map (λ c. c.entry) (a.entries.log ++ a.entries.running)
-  pub untaken : (runner.taken.items ≡ []) × (a.deltas.taken ≡ [])
+  pub taken : AreShown runner.taken.items a.deltas.taken
   pub names : map known_of runner.known.items ≡ a.answers.names
   pub lawful : All (IsKnown shape) runner.known.items
   pub once : HaveOwnNames runner.known.items
   pub stands : StandsIn shape runner.known.items (pending_by runner) runner.running a
   pub room : HasRoom runner.running (vec_len runner.known) (vec_capacity runner.known)
+  pub draft : HasDraft runner.running runner.taken
 
 -- an actor that stands for one somewhere, in so many words
 abbrev pub IsSomeRun : ℕ → Runner → Type 0
@@ -163,18 +233,21 @@ IsSomeRun n runner = (shape : Dimensions) × (version : ℕ) × (a : Actor) × (
 
 -- ---- how it goes on
 
--- the units that its running call has of the pool
+-- the units of the pool that its running call would give back: those that no counted item of it has spent
 abbrev pub held_by : Option Running → ℕ
 held_by (Some (Add add)) = add.units
+held_by (Some (Batch batch)) = batch.left
 held_by running = 0
 
--- those of them that come back
+-- those of them that come back: all, where it is refused
 abbrev pub returned_by : Stepped → ℕ → ℕ
 returned_by (Done (answer.Refused why)) held = held
+returned_by (Done (answer.BatchRefused refusal)) held = held
 returned_by said held = 0
 
--- the histogram's record that a running call looks at
+-- the histogram's record that a running call takes of, or looks at
 abbrev pub looked_by : Option Running → ℕ
+looked_by (Some (Delta taker fresh)) = taker.histogram
 looked_by (Some (Snapshot looker)) = looker.histogram
 looked_by running = 0
 
@@ -192,10 +265,30 @@ pub record IsAnswer (histogram : ℕ) (snapshot : SnapshotAnswer) (a : Actor) : 
   pub redundant : answered.redundant ≡ snapshot.redundant
   pub saw : SawAll a known answered
 
--- where its actor lands: a call that is refused gives the units back that it had; a snapshot is answered with what was seen
+-- A delta of the histogram of a record is the last of what its actor's deltas took, and took all that the actor saw since it began.
+pub record IsTook (histogram : ℕ) (delta : DeltaAnswer) (a : Actor) : Type 0 where
+  pub known : MachineKnown
+  pub knows : Contains a.answers.names known
+  pub reference : known.reference ≡ histogram
+  pub before : List MachineTaken
+  pub last : MachineTaken
+  pub deltas : a.deltas.taken ≡ before ++ last ∷ []
+  pub name : last.name ≡ known.name
+  pub counts : (key : ℤ) → units_listed delta.counts.items key ≡ units_listed last.counts key
+  pub ascending : AreUnits delta.counts.items
+  pub sum : delta.sum ≡ last.sum
+  pub took : TookAll a known
+
+-- where its actor lands whose call is refused: it gives the units back that are left of it
+abbrev pub LandsBack : Dimensions → ℕ → ℕ → Runner → Actor → Type 0
+LandsBack shape version units new b = (b.hand.place ≢ Spent) × (units ≤ b.units.share) × IsRun shape version new (giver b units)
+
+-- Where its actor lands: a call that is refused gives units back; a snapshot is answered with what was seen, and a delta with what it
+-- took.
 abbrev pub Lands : Dimensions → ℕ → Runner → Runner → Stepped → Actor → Type 0
-Lands shape version old new (Done (answer.Refused why)) b =
-    let units = held_by old.running in (b.hand.place ≢ Spent) × (units ≤ b.units.share) × IsRun shape version new (giver b units)
+Lands shape version old new (Done (answer.Refused why)) b = LandsBack shape version (held_by old.running) new b
+Lands shape version old new (Done (answer.BatchRefused refusal)) b = LandsBack shape version (held_by old.running) new b
+Lands shape version old new (Done (answer.Delta delta)) b = IsRun shape version new b × IsTook (looked_by old.running) delta b
 Lands shape version old new (Done (answer.Snapshot snapshot)) b = IsRun shape version new b × IsAnswer (looked_by old.running) snapshot b
 Lands shape version old new said b = IsRun shape version new b
 
@@ -213,10 +306,11 @@ IsAskedBy running known =
     (call : HistCall) × (running ≡ Some (Hist call)) × let asked = call.asked in (known.name ≡ asked.name) × (known.spec ≡ asked.spec)
 
 -- What becomes of its entries: from the first event of its call on all of them have begun; where the call is accepted, all have ended;
--- else those that have ended are the same.
+-- of a refused batch those of the first items have; else those that have ended are the same.
 abbrev pub EntriesGo : Runner → Runner → Stepped → Type 0
 EntriesGo old new More = (ended_by new ≡ ended_by old) × (begun_by new ≡ ended_by old ++ pending_by old) × (pending_by new ≡ pending_by old)
 EntriesGo old new (Done answer.Added) = (ended_by new ≡ ended_by old ++ pending_by old) × (begun_by new ≡ ended_by new)
+EntriesGo old new (Done (answer.BatchRefused refusal)) = (ended_by new ≡ ended_by old ++ take refusal.added (pending_by old)) × (begun_by new ≡ ended_by new)
 EntriesGo old new (Done answered) = (ended_by new ≡ ended_by old) × (begun_by new ≡ ended_by new)
 
 -- it goes on with the same `add`
@@ -227,25 +321,61 @@ AddsOn old new = (add : AddCall) → old ≡ Some (Add add) → (now : AddCall) 
 abbrev pub LooksOn : Option Running → Option Running → Type 0
 LooksOn old new = (looker : Looker) → old ≡ Some (Snapshot looker) → (now : Looker) × (new ≡ Some (Snapshot now)) × (now.histogram ≡ looker.histogram)
 
+-- it goes on with the same delta, whose first event has happened
+abbrev pub TakesOn : Option Running → Option Running → Type 0
+TakesOn old new = (taker : Taker) (fresh : Option Taken) → old ≡ Some (Delta taker fresh)
+    → (now : Taker) × (new ≡ Some (Delta now None)) × (now.histogram ≡ taker.histogram)
+
+-- it goes on with the same batch
+abbrev pub BatchesOn : Option Running → Option Running → Type 0
+BatchesOn old new = (batch : BatchCall) → old ≡ Some (Batch batch) → (now : BatchCall) × (new ≡ Some (Batch now)) × IsSameBatch batch now
+
+-- it counts: it runs an `add` or a `batch`
+abbrev pub IsCounting : Option Running → Type 0
+IsCounting running = ((add : AddCall) × (running ≡ Some (Add add))) ⊎ ((batch : BatchCall) × (running ≡ Some (Batch batch)))
+
 -- What its call says, and what it knows then: it goes on; the corrupt flag is set; a `hist` is answered with the histogram that it asked
--- for, which is the last that is known; an `add` is accepted; a snapshot is answered; or it is refused.
+-- for, which is the last that is known; an `add` or a `batch` is accepted; a delta or a snapshot is answered; a batch is refused behind its
+-- first items; or it is refused.
 abbrev pub Tells : Runner → List ℕ → Runner → List ℕ → Stepped → Type 0
 Tells old words new new_words More =
     (new.known.items ≡ old.known.items) × AsksOn old.running new.running × AddsOn old.running new.running × LooksOn old.running new.running
+    × TakesOn old.running new.running × BatchesOn old.running new.running
 Tells old words new new_words (Done answer.Flagged) =
     (word_at new_words FLAGS_WORD ≡ bit_or (word_at words FLAGS_WORD) FLAG_CORRUPT) × (new.running ≡ None) × (new.known.items ≡ old.known.items)
 Tells old words new new_words (Done (answer.Hist reference)) =
     (known : Known) × IsAskedBy old.running known × (known.reference ≡ reference) × (new.known.items ≡ old.known.items ++ known ∷ []) × (new.running ≡ None)
 Tells old words new new_words (Done answer.Added) =
-    ((add : AddCall) × (old.running ≡ Some (Add add))) × (new.running ≡ None) × (new.known.items ≡ old.known.items)
+    IsCounting old.running × (new.running ≡ None) × (new.known.items ≡ old.known.items)
+Tells old words new new_words (Done (answer.Delta delta)) =
+    ((taker : Taker) × (fresh : Option Taken) × (old.running ≡ Some (Delta taker fresh))) × (new.running ≡ None) × (new.known.items ≡ old.known.items)
 Tells old words new new_words (Done (answer.Snapshot snapshot)) =
     ((looker : Looker) × (old.running ≡ Some (Snapshot looker))) × (new.running ≡ None) × (new.known.items ≡ old.known.items)
+Tells old words new new_words (Done (answer.BatchRefused refusal)) =
+    ((batch : BatchCall) × (old.running ≡ Some (Batch batch)) × (refusal.added ≡ batch.added)) × (new.running ≡ None) × (new.known.items ≡ old.known.items)
 Tells old words new new_words (Done (answer.Refused why)) = (new.running ≡ None) × (new.known.items ≡ old.known.items)
-Tells old words new new_words (Done _) = ⊥
 
--- both
+-- of what an actor's deltas took, that of the deltas that have ended
+abbrev pub ended_deltas : Option Running → List Taken → List Taken
+ended_deltas (Some (Delta taker None)) list = take (length list - 1) list
+ended_deltas running list = list
+
+-- What a delta is shown as behind an event: what it had taken, with what that event took; once it has ended, what it is answered with.
+abbrev pub TakesMore : Taker → Stepped → Taken → Type 0
+TakesMore taker More last = (last.sum ≡ pos 0) × ((units : List (ℤ × ℕ)) × (length units ≤ 1) × (last.counts.items ≡ taker.counts.items ++ units))
+TakesMore taker (Done (answer.Delta delta)) last = (last.counts.items ≡ delta.counts.items) × (last.sum ≡ delta.sum)
+TakesMore taker said last = ⊥
+
+-- What becomes of what its deltas took. A running one stands last, behind those that have ended; no other call changes it.
+abbrev pub TakenGoes : Option Running → List Taken → List Taken → Stepped → Type 0
+TakenGoes (Some (Delta taker fresh)) old new said =
+    (last : Taken) × (new ≡ ended_deltas (Some (Delta taker fresh)) old ++ last ∷ []) × TakesMore taker said last
+TakenGoes running old new said = new ≡ old
+
+-- what its call says, and what becomes of its entries and of what its deltas took
 abbrev pub Answers : Runner → List ℕ → Runner → List ℕ → Stepped → Type 0
-Answers old words new new_words said = Tells old words new new_words said × EntriesGo old new said
+Answers old words new new_words said =
+    Tells old words new new_words said × EntriesGo old new said × TakenGoes old.running old.taken.items new.taken.items said
 
 -- it asks for a histogram
 abbrev pub AsksForOne : Option Running → Type 0
@@ -278,14 +408,105 @@ IsAddSaid old (add.Refused why) new result =
     (new ≡ record old { entries = new.entries; begun = old.ended; running = None }) × (new.entries.items ≡ take old.ended old.entries.items)
     × (result ≡ Done (answer.Refused why))
 
--- it begins an `add` in a known histogram: the entry is pending
+-- it begins a call that counts these entries: they are pending
+pub record BeginsToCount (entries : List MachineEntry) (running : Running) (old new : Runner) : Type 0 where
+  pub pending : List Entry
+  pub pending_are : map entry_of pending ≡ entries
+  pub entries_are : new.entries.items ≡ old.entries.items ++ pending
+  pub is : new ≡ record old { entries = new.entries; running = Some running }
+
+-- it begins an `add` in a known histogram
 pub record BeginsAdd (shape : Dimensions) (version : ℕ) (known : Known) (value : ℤ) (units : ℕ) (old new : Runner) : Type 0 where
   pub add : AddCall
-  pub started : IsStarted shape version (known_of known) value units add
-  pub entry : Entry
-  pub entry_is : entry_of entry ≡ counted_entry (known_of known) add
-  pub entries : new.entries.items ≡ old.entries.items ++ entry ∷ []
-  pub is : new ≡ record old { entries = new.entries; running = Some (Add add) }
+  pub started : IsStarted shape version (known_of known) value units (amount_of (boundaries_of known.spec) (value, units)) add
+  pub small : unsigned_abs add.amount ≤ 2147483648 * units
+  pub begins : BeginsToCount (counted_entry (known_of known) add ∷ []) (Add add) old new
+
+-- ---- a `batch`
+
+-- it counts items
+abbrev pub Batches : Option Running → Type 0
+Batches (Some (Batch batch)) = ⊤
+Batches running = ⊥
+
+-- What becomes of it by what a step of its `batch` said: it goes on; its entries have ended; or it is refused, and those of its first
+-- items have ended, and the others are gone.
+abbrev pub IsBatchSaid : Runner → BatchStep → Runner → Stepped → Type 0
+IsBatchSaid old batch.More new result = (new ≡ record old { begun = length old.entries.items }) × (result ≡ More)
+IsBatchSaid old batch.Done new result =
+    let all = length old.entries.items in (new ≡ record old { begun = all; ended = all; running = None }) × (result ≡ Done answer.Added)
+IsBatchSaid old (batch.Refused refusal) new result =
+    let ended = old.ended + refusal.added in
+    (new ≡ record old { entries = new.entries; begun = ended; ended = ended; running = None }) × (new.entries.items ≡ take ended old.entries.items)
+    × (result ≡ Done (answer.BatchRefused refusal))
+
+-- it begins a `batch` of a known histogram: no item has begun
+pub record BeginsBatch (shape : Dimensions) (version : ℕ) (known : Known) (items : List (ℤ × ℕ)) (sum : ℤ) (cost : ℕ) (old new : Runner) : Type 0 where
+  pub call : BatchCall
+  pub started : AllZip (λ item add. IsStarted shape version (known_of known) item.0 item.1 (pos 0) add) items call.items.items
+  pub fresh : call ≡ record call { histogram = known.reference; added = 0; sum = sum; cost = cost; left = cost }
+  pub begins : BeginsToCount (batch_entries known.name.items (boundaries_of known.spec) items sum) (Batch call) old new
+
+-- ---- a `delta`
+
+-- it takes of a histogram
+abbrev pub TakesOfOne : Option Running → Type 0
+TakesOfOne (Some (Delta taker fresh)) = ⊤
+TakesOfOne running = ⊥
+
+-- there is room for what a step of it says
+abbrev pub Fits : TakerStep → Taken → Type 0
+Fits (take_step.Took key units) taken = vec_len taken.counts < vec_capacity taken.counts
+Fits said taken = ⊤
+
+-- in what it is shown as, for which there is room, or which stands last
+abbrev pub HasPlace : TakerStep → Option Running → Vec Taken Global → Type 0
+HasPlace said (Some (Delta taker (Some fresh))) taken = (vec_len taken < vec_capacity taken) × Fits said fresh
+HasPlace said (Some (Delta taker None)) taken = (0 < vec_len taken) × ((last : Taken) → IsLast taken.items last → Fits said last)
+HasPlace said running taken = ⊥
+
+-- what becomes of what it is shown as
+abbrev pub Becomes : TakerStep → Taken → Taken → Type 0
+Becomes take_step.More last now = now ≡ last
+Becomes (take_step.Took key units) last now =
+    (now ≡ record last { counts = now.counts }) × (now.counts.items ≡ last.counts.items ++ (key, units) ∷ [])
+    × (vec_capacity now.counts ≡ vec_capacity last.counts)
+Becomes (take_step.Done sum) last now = now ≡ record last { sum = sum }
+
+-- what stands last becomes so, and all before it stays
+abbrev pub LastBecomes : TakerStep → List Taken → List Taken → Type 0
+LastBecomes said old new = (before : List Taken) × (last now : Taken) × (old ≡ before ++ last ∷ []) × (new ≡ before ++ now ∷ []) × Becomes said last now
+
+-- it is shown from its first event on
+abbrev pub IsNowShown : Taker → Option Taken → Runner → Runner → Type 0
+IsNowShown taker fresh old new =
+    (new ≡ record old { taken = new.taken; running = Some (Delta taker None) }) × (new.taken.items ≡ old.taken.items ++ option_to_list fresh)
+
+-- it has ended, with this of the sum, and is answered with what it listed
+abbrev pub HasEndedDelta : Taker → ℤ → Runner → Runner → Stepped → Type 0
+HasEndedDelta taker sum old new result =
+    LastBecomes (take_step.Done sum) old.taken.items new.taken.items × (new ≡ record old { taken = new.taken; running = None })
+    × (result ≡ Done (answer.Delta (record { counts = taker.counts; sum = sum })))
+
+-- what becomes of it by what a step of its `delta` said: it goes on, and is shown; or is answered with what it listed and this of the sum
+abbrev pub IsDeltaSaid : Taker → Option Taken → Runner → TakerStep → Runner → Stepped → Type 0
+IsDeltaSaid taker fresh old (take_step.Done sum) new result =
+    LastBecomes (take_step.Done sum) (old.taken.items ++ option_to_list fresh) new.taken.items × (new ≡ record old { taken = new.taken; running = None })
+    × (result ≡ Done (answer.Delta (record { counts = taker.counts; sum = sum })))
+IsDeltaSaid taker fresh old said new result =
+    LastBecomes said (old.taken.items ++ option_to_list fresh) new.taken.items
+    × (new ≡ record old { taken = new.taken; running = Some (Delta taker None) }) × (result ≡ More)
+
+-- It begins a `delta` of a known histogram. What it is to be shown as stands ready, with room for it.
+pub record BeginsDelta (version : ℕ) (known : Known) (old new : Runner) : Type 0 where
+  pub taker : Taker
+  pub fresh : Taken
+  pub started : IsTakerStarted version (known_of known) taker
+  pub named : fresh.name.items ≡ known.name.items
+  pub draft : IsDraft taker fresh
+  pub taken : new.taken.items ≡ old.taken.items
+  pub room : vec_len new.taken < vec_capacity new.taken
+  pub is : new ≡ record old { taken = new.taken; running = Some (Delta taker (Some fresh)) }
 
 -- ---- a `snapshot`
 
@@ -315,10 +536,11 @@ IsKnownAnswer list name spec (answer.Hist reference) =
 IsKnownAnswer list name spec (answer.Refused why.OtherSpec) = (i : ℕ) × (known : IsKnownAt list i name) × (¬ (SameSpec known.0.spec spec))
 IsKnownAnswer list name spec answered = ⊥
 
--- it is as it was, but for the room for entries and for histograms that it may know
+-- it is as it was, but for the room for entries, for histograms that it may know, and for deltas
 abbrev pub IsAsItWas : Runner → Runner → Type 0
 IsAsItWas old new =
-    (new ≡ record old { entries = new.entries; known = new.known }) × (new.entries.items ≡ old.entries.items) × (new.known.items ≡ old.known.items)
+    (new ≡ record old { entries = new.entries; known = new.known; taken = new.taken }) × (new.entries.items ≡ old.entries.items)
+    × (new.known.items ≡ old.known.items) × (new.taken.items ≡ old.taken.items)
 
 -- It asks for a histogram that it does not know, with room for it; or is answered at once; or there was no memory for the room.
 abbrev pub BeginsHist : Dimensions → Asked → Runner → Runner → Result Begun AllocError → Type 0

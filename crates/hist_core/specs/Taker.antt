@@ -1,5 +1,5 @@
 -- A delta that is going on.
-use Rattle.std.specs.Prelude.{◌≡◌, true, false, nat_lt, nat_eq, ℕ, ◌+◌, ◌-◌, ◌<◌, ◌≤◌, ℤ, pos, List, [], ◌∷◌, ◌++◌, map, length, slice_index, vec_capacity, if◌then◌else◌, Some, None}
+use Rattle.std.specs.Prelude.{◌≡◌, true, false, nat_lt, nat_eq, ℕ, ◌+◌, ◌-◌, ◌<◌, ◌≤◌, ℤ, pos, List, [], ◌∷◌, ◌++◌, map, length, slice_index, vec_capacity, if◌then◌else◌, Some, None, ⊤}
 use Rattle.std.specs.List.{All, AllByRecursion, Contains}
 use Rattle.std.specs.List.Sorted.{IsStrictlySortedBy}
 use Rattle.std.specs.Option.{option_eq}
@@ -155,6 +155,11 @@ IsSomeTaker n taker =
 abbrev pub Lists : Taker → Taker → TakerStep → Type 0
 Lists old new (Took key units) = new.counts.items ≡ old.counts.items ++ (key, units) ∷ []
 Lists old new said = new.counts.items ≡ old.counts.items
+
+-- its first event has happened
+abbrev pub HasBegun : Stage → Type 0
+HasBegun LoadingSingle = ⊥
+HasBegun stage = ⊤
 
 -- ---- what it does next
 

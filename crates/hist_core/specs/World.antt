@@ -14,7 +14,7 @@ use Rattle.hist_core.specs.declared.fault.WorldFault.TheVariants.{BadShape, NoAc
 use Rattle.hist_core.specs.declared.runner.Runner.{Runner}
 use Rattle.hist_core.specs.declared.board.Board.{Board}
 use Rattle.hist_core.specs.Runner.{ended_by, begun_by}
-use Rattle.hist_core.specs.Board.{HistBegins, AddBegins, SnapshotBegins, IsBusy}
+use Rattle.hist_core.specs.Board.{HistBegins, AddBegins, DeltaBegins, SnapshotBegins, BatchBegins, IsBusy}
 use Rattle.hist_core.specs.declared.call.Begun.{Begun}
 use Rattle.hist_core.specs.declared.call.Begun.TheVariants.{Going, Ended}
 use Rattle.hist_core.specs.declared.call.Call.{Call}
@@ -87,29 +87,36 @@ step_checks board actor = (nat_le (vec_len board.runners) actor, NoActor) ∷ (r
 
 -- ---- the begin of a call
 
--- The calls that can begin so far. An `add` and a `snapshot` are of a histogram with buckets.
+-- the histogram of a name that an actor knows has buckets
+abbrev pub IsBucketed : ℕ → Board → List ℕ → Type 0
+IsBucketed actor board name =
+    (runner : Runner) (known : Known) → get_elem? board.runners.items actor ≡ some runner → Contains runner.known.items known → known.name.items ≡ name
+    → has_buckets known.spec ≡ true
+
+-- The calls that can begin so far. An `add`, a `delta`, a `snapshot` and a `batch` are of a histogram with buckets.
 abbrev pub CanBegin : ℕ → Board → Call → Type 0
 CanBegin actor board (Hist name spec) = ⊤
 CanBegin actor board SetCorrupt = ⊤
-CanBegin actor board (Add name value count) =
-    (runner : Runner) (known : Known) → get_elem? board.runners.items actor ≡ some runner → Contains runner.known.items known → known.name.items ≡ name.items
-    → has_buckets known.spec ≡ true
-CanBegin actor board (Snapshot name) =
-    (runner : Runner) (known : Known) → get_elem? board.runners.items actor ≡ some runner → Contains runner.known.items known → known.name.items ≡ name.items
-    → has_buckets known.spec ≡ true
-CanBegin actor board call = ⊥
+CanBegin actor board (Add name value count) = IsBucketed actor board name.items
+CanBegin actor board (Delta name) = IsBucketed actor board name.items
+CanBegin actor board (Snapshot name) = IsBucketed actor board name.items
+CanBegin actor board (Batch name items sum) = IsBucketed actor board name.items
 
 -- a call for whose begin there may be no memory
 abbrev pub TakesMemory : Call → Type 0
 TakesMemory (Hist name spec) = ⊤
 TakesMemory (Add name value count) = ⊤
+TakesMemory (Delta name) = ⊤
 TakesMemory (Snapshot name) = ⊤
+TakesMemory (Batch name items sum) = ⊤
 TakesMemory call = ⊥
 
 -- what the begin of a call says: it goes on, or it is answered at once
 abbrev pub BeginSays : ℕ → Call → Board → Board → Begun → Type 0
 BeginSays actor (Hist name spec) old new said = HistBegins actor name.items spec old new (Ok said)
 BeginSays actor (Add name value count) old new said = AddBegins actor name.items value count old new said
+BeginSays actor (Delta name) old new said = DeltaBegins actor name.items old new said
 BeginSays actor (Snapshot name) old new said = SnapshotBegins actor name.items old new said
+BeginSays actor (Batch name items sum) old new said = BatchBegins actor name.items items.items sum old new said
 BeginSays actor call old new Going = IsBusy new actor
 BeginSays actor call old new (Ended answered) = ⊥

@@ -1,4 +1,4 @@
-//! An `add` that is going on: it counts units of one value in a histogram that its actor knows.
+//! Units of one value that are being counted in a histogram that its actor knows: an `add`, or an item of a batch.
 
 ghost use Rattle.std.specs.Prelude.{◌≡◌, length};
 
@@ -6,7 +6,6 @@ use crate::counting::fetch_add;
 use crate::hist::Known;
 use crate::packing::{DISABLED_BIT, off_word, packed_with, unpacked};
 use crate::refusal::Refusal;
-use crate::samples::amount_of;
 use alloc_core::event::{exchange, store};
 use alloc_core::{Alloc, AllocStep};
 use segment_image::Shape;
@@ -72,7 +71,7 @@ pub(crate) enum Stage {
 pub(crate) enum AddStep {
     /// It goes on.
     More,
-    /// The units are counted, and the amount is in the sum.
+    /// The units are counted, the amount is in the sum, and the units are in the redundant count.
     Done,
     /// It is refused.
     Refused(Refusal),
@@ -104,12 +103,19 @@ impl Add {
     ghost use Rattle.hist_core.specs.declared.add.Stage.TheVariants.{LoadingSingle, Packing, LoadingCounts, SeekingCounts, Mounting, Purging, LoadingAgain, Disabling, Moving, Counting, Summing, Noting};
     ghost use Rattle.hist_core.specs.Add.{IsSomeAdd, AddSteps, IsBehindSingle, BeginsToAllocate, IsAllocating, IsAllocated, IsStarted, behind_count, behind_disabling, count_in};
 
-    // It begins to count so many units of a value in a known histogram with buckets: it loads the single word.
-    pub(crate) fn start(shape: Shape, version: u64, known: &Known, value: i32, units: u32) -> Add
+    // It begins to count so many units of a value in a known histogram with buckets, and an amount: it loads the single word.
+    pub(crate) fn start(
+        shape: Shape,
+        version: u64,
+        known: &Known,
+        value: i32,
+        units: u32,
+        amount: i64,
+    ) -> Add
         requires lawful { spec_fault known.now.spec ≡ None }
         requires bucketed { has_buckets known.now.spec ≡ true }
         requires ranges { known.now.ranges ≡ boundaries_of known.now.spec }
-        ensures { IsStarted shape version (known_of known.now) value units result }
+        ensures { IsStarted shape version (known_of known.now) value units amount result }
     {
         Add {
             shape,
@@ -119,7 +125,7 @@ impl Add {
             bucket: known.ranges.bucket(value),
             value,
             units,
-            amount: amount_of(&known.ranges, value, units),
+            amount,
             stage: Stage::LoadingSingle,
         }
     }
@@ -381,7 +387,7 @@ impl Add {
         AddStep::More
     }
 
-    // It adds its units to the redundant count, and has ended.
+    // It adds its units to the redundant count, and all has happened.
     fn note(&mut self, words: &mut [u64]) -> AddStep
         requires notes { self.old.stage ≡ Noting }
         requires stands { ∥ IsSomeAdd (length words.old) self.old ∥₁ }

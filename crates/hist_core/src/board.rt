@@ -2,8 +2,9 @@
 
 use crate::asked::Asked;
 use crate::call::{Answer, Begun, Stepped};
-use crate::refusal::Refusal;
+use crate::refusal::{BatchRefusal, Refusal};
 use crate::runner::{Runner, Running};
+use crate::telling::{are_some, batch_cost};
 use bucket_ranges::Spec;
 use segment_image::Shape;
 use segment_image::layout::{
@@ -29,6 +30,7 @@ pub(crate) struct Board {
 ghost use Rattle.std.specs.Prelude.{◌≡◌, IfOk, All, vec_len};
 ghost use Rattle.alloc_core.specs.Layout.{render, fresh};
 ghost use Rattle.hist_core.specs.Runner.{IsFresh};
+ghost use Rattle.hist_core.specs.declared.call.Answer.TheVariants.{BatchRefused};
 
 // The words of a new segment.
 fn new_words(alloc: Global, shape: Shape, version: u64, id: u64) -> Result<Vec<u64>, AllocError>
@@ -70,13 +72,21 @@ fn new_runners(alloc: Global, actors: usize) -> Result<Vec<Runner>, AllocError>
     Ok(runners)
 }
 
+// The answer to a batch of which nothing is counted.
+fn refused_batch(why: Refusal) -> Answer
+    ensures { result ≡ BatchRefused (record { added = 0; why = why }) }
+{
+    Answer::BatchRefused(BatchRefusal { added: 0, why })
+}
+
 impl Board {
     ghost use Rattle.std.specs.Prelude.{◌≢◌, ◌≤◌, ◌<◌, ℕ, IsSome, None, length, true, List, IfSome, IfNone, OnErr};
     ghost use mathlib.Core.Option.{some};
     ghost use lib.ListN.{get_elem?};
+    ghost use Rattle.segment_machine.specs.Entry.{batch_cost as cost_of_batch};
     ghost use Rattle.segment_machine.specs.State.{State};
     ghost use Rattle.hist_core.specs.declared.runner.Runner.{Runner};
-    ghost use Rattle.hist_core.specs.Board.{IsNewBoard, IsReached, IsReachedAs, StepsTo, Rests, IsBusy, IsAsBefore, OthersStay, BeginsFrom, HistBegins, AddBegins, IsAddBegun, SnapshotBegins, IsKnownBy, IsPlaceOf, LacksName, Says};
+    ghost use Rattle.hist_core.specs.Board.{IsNewBoard, IsReached, IsReachedAs, StepsTo, Rests, IsBusy, IsAsBefore, OthersStay, BeginsFrom, HistBegins, AddBegins, IsAddBegun, IsBatchBegun, BatchBegins, AreSome, DeltaBegins, SnapshotBegins, IsKnownBy, IsPlaceOf, LacksName, Says};
     ghost use Rattle.hist_core.specs.declared.hist.Known.{Known};
     ghost use Rattle.segment_machine.specs.Actor.{has_buckets};
 
@@ -198,6 +208,73 @@ impl Board {
         Ok(())
     }
 
+    // An actor that rests begins to count the items of a batch in a histogram that it knows. One that counts nothing has ended; with a
+    // count of 0, or where it costs more units than the pool has, it is refused at once.
+    pub(crate) fn begin_batch(
+        &mut self,
+        actor: usize,
+        place: usize,
+        items: &[(i32, u32)],
+        sum: i64,
+    ) -> Result<Begun, AllocError>
+        requires reached { ∥ IsReached self.old ∥₁ }
+        requires near { actor < vec_len self.old.runners }
+        requires rests { Rests self.old actor }
+        requires bucketed { (known : Known) → IsKnownBy self.old actor place known → has_buckets known.spec ≡ true }
+        requires known { (name : List ℕ) × IsPlaceOf self.old actor name place }
+        ensures fault { OnErr result (IsAsBefore self.old self.new) }
+        ensures begins { (state : State) → IsReachedAs self.old state → BeginsFrom state actor self.new }
+        ensures others { OthersStay actor self.old self.new }
+        ensures says { IfOk result (λ said. (name : List ℕ) → IsPlaceOf self.old actor name place → BatchBegins actor name items.now sum self.old self.new said) }
+    {
+        if !are_some(items) {
+            return Ok(Begun::Ended(refused_batch(Refusal::ZeroCount)));
+        }
+        let cost = batch_cost(items, sum);
+        if cost > self.units {
+            return Ok(Begun::Ended(refused_batch(Refusal::NoUnits)));
+        }
+        if cost == 0 {
+            return Ok(Begun::Ended(Answer::Added));
+        }
+        self.start_batch(actor, place, items, sum, cost as u32)?;
+        Ok(Begun::Going)
+    }
+
+    // An actor that rests begins to count the items of a batch in a histogram that it knows. Its units are taken from the pool.
+    fn start_batch(
+        &mut self,
+        actor: usize,
+        place: usize,
+        items: &[(i32, u32)],
+        sum: i64,
+        cost: u32,
+    ) -> Result<(), AllocError>
+        requires reached { ∥ IsReached self.old ∥₁ }
+        requires near { actor < vec_len self.old.runners }
+        requires rests { Rests self.old actor }
+        requires bucketed { (known : Known) → IsKnownBy self.old actor place known → has_buckets known.spec ≡ true }
+        requires known { (name : List ℕ) × IsPlaceOf self.old actor name place }
+        requires some { AreSome items.now × (0 < cost) × (cost ≤ self.old.units) × (cost ≡ cost_of_batch items.now sum) }
+        ensures fault { OnErr result (IsAsBefore self.old self.new) }
+        ensures begins { (state : State) → IsReachedAs self.old state → BeginsFrom state actor self.new }
+        ensures others { OthersStay actor self.old self.new }
+        ensures says { IfOk result (λ _. (name : List ℕ) → IsPlaceOf self.old actor name place → IsBatchBegun actor name items.now sum self.old self.new) }
+    {
+        let runner = &mut self.runners[actor];
+        runner.begin_batch(
+            self.alloc,
+            self.shape,
+            self.version,
+            place,
+            items,
+            sum,
+            cost,
+        )?;
+        self.units -= u64::from(cost);
+        Ok(())
+    }
+
     // An actor that rests begins to look at a histogram that it knows.
     pub(crate) fn begin_snapshot(&mut self, actor: usize, place: usize) -> Result<Begun, AllocError>
         requires reached { ∥ IsReached self.old ∥₁ }
@@ -215,12 +292,29 @@ impl Board {
         Ok(Begun::Going)
     }
 
+    // An actor that rests begins to take of a histogram that it knows.
+    pub(crate) fn begin_delta(&mut self, actor: usize, place: usize) -> Result<Begun, AllocError>
+        requires reached { ∥ IsReached self.old ∥₁ }
+        requires near { actor < vec_len self.old.runners }
+        requires rests { Rests self.old actor }
+        requires bucketed { (known : Known) → IsKnownBy self.old actor place known → has_buckets known.spec ≡ true }
+        requires known { (name : List ℕ) × IsPlaceOf self.old actor name place }
+        ensures fault { OnErr result (IsAsBefore self.old self.new) }
+        ensures begins { (state : State) → IsReachedAs self.old state → IsReachedAs self.new state }
+        ensures others { OthersStay actor self.old self.new }
+        ensures says { IfOk result (λ said. (name : List ℕ) → IsPlaceOf self.old actor name place → DeltaBegins actor name self.old self.new said) }
+    {
+        let runner = &mut self.runners[actor];
+        runner.begin_delta(self.alloc, self.version, place)?;
+        Ok(Begun::Going)
+    }
+
     // An actor goes on with its call by one event.
     pub(crate) fn step(&mut self, actor: usize) -> Stepped
         requires reached { ∥ IsReached self.old ∥₁ }
         requires near { actor < vec_len self.old.runners }
         requires busy { IsBusy self.old actor }
-        ensures steps { (state : State) → IsReachedAs self.old state → StepsTo self.old actor state self.new }
+        ensures steps { (state : State) → IsReachedAs self.old state → StepsTo self.old actor state self.new result }
         ensures others { OthersStay actor self.old self.new }
         ensures says { Says actor self.old self.new result }
     {

@@ -76,7 +76,7 @@ impl Stepped {
         ensures few { result ≤ held }
     {
         match self {
-            Stepped::Done(Answer::Refused(_)) => held,
+            Stepped::Done(Answer::Refused(_) | Answer::BatchRefused(_)) => held,
             _ => 0,
         }
     }

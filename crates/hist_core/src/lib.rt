@@ -5,9 +5,11 @@
 mod add;
 mod answer;
 mod asked;
+mod batch;
 mod board;
 mod call;
 mod counting;
+mod drawing;
 mod entry;
 mod fault;
 mod hist;
@@ -18,6 +20,7 @@ mod refusal;
 mod runner;
 mod samples;
 mod taker;
+mod telling;
 #[cfg(test)]
 mod tests;
 mod world;

@@ -1,14 +1,18 @@
 //! One actor of a world, with the call that it runs.
 
 use crate::add::{Add, AddStep};
-use crate::answer::Snapshot;
+use crate::answer::{Delta, Snapshot};
 use crate::asked::Asked;
+use crate::batch::{Batch, BatchStep};
 use crate::call::{Answer, Begun, Stepped};
+use crate::drawing::{draw, draw_sum};
 use crate::entry::{Entry, Taken};
 use crate::hist::{Hist, HistStep, Known};
 use crate::looker::{Looker, LookerStep};
 use crate::refusal::Refusal;
-use crate::samples::key_of;
+use crate::samples::{amount_of, key_of};
+use crate::taker::{Taker, TakerStep};
+use crate::telling::{batch_entries, entry_of, new_items};
 use alloc_core::event::set_bits;
 use segment_image::Shape;
 use segment_image::layout::{FLAG_CORRUPT, FLAGS_WORD};
@@ -23,8 +27,12 @@ pub(crate) enum Running {
     Hist(Hist),
     /// It counts a value.
     Add(Add),
+    /// It takes of a histogram; until its first event with what it is to be shown as.
+    Delta(Taker, Option<Taken>),
     /// It looks at a histogram.
     Snapshot(Looker),
+    /// It counts the items of a batch.
+    Batch(Batch),
 }
 
 /// An actor: what it has counted and taken, and the call that it runs.
@@ -35,7 +43,7 @@ pub(crate) struct Runner {
     // How many of these are of ended calls, and how many have begun.
     pub(crate) ended: usize,
     pub(crate) begun: usize,
-    // What its deltas took.
+    // What its deltas took; a running one stands last, from its first event on. Until then there is room for it.
     pub(crate) taken: Vec<Taken>,
     // The histograms that its `hist` was answered with. Where one is going on, there is room for one more.
     pub(crate) known: Vec<Known>,
@@ -43,18 +51,22 @@ pub(crate) struct Runner {
 }
 
 impl Runner {
-    ghost use Rattle.std.specs.Prelude.{◌≡◌, ◌≤◌, ◌<◌, ◌^◌, ℕ, List, length, true, None, IsSome, IfSome, IfNone, IfOk, OnErr, vec_len, vec_capacity};
+    ghost use Rattle.std.specs.Prelude.{◌≡◌, ◌≤◌, ◌<◌, ◌+◌, ◌^◌, ℕ, List, length, true, Option, Some, None, IsSome, IfSome, IfNone, IfOk, OnErr, vec_len, vec_capacity};
     ghost use mathlib.Core.Option.{some};
     ghost use Rattle.std.specs.List.{All, Contains};
     ghost use lib.ListN.{get_elem?};
     ghost use Rattle.hist_core.specs.declared.hist.Known.{Known};
+    ghost use Rattle.hist_core.specs.declared.entry.Taken.{Taken};
+    ghost use Rattle.hist_core.specs.declared.taker.Taker.{Taker};
+    ghost use Rattle.hist_core.specs.declared.runner.Running.TheVariants as runs;
     ghost use Rattle.bucket_ranges.specs.Ranges.{boundaries_of};
     ghost use Rattle.bucket_ranges.specs.Spec.{spec_fault};
     ghost use Rattle.segment_machine.specs.Actor.{has_buckets};
     ghost use Rattle.segment_image.specs.Shape.{Dimensions};
     ghost use Rattle.segment_machine.specs.declared.actor.Actor.{Actor};
     ghost use Rattle.hist_core.specs.declared.hist.HistStep.TheVariants.{Done};
-    ghost use Rattle.hist_core.specs.Runner.{IsFresh, IsRun, IsSomeRun, NoneHasName, IsKnownAt, IsKnownAnswer, BeginsHist, HasRoom, AsksForOne, IsHistSaid, IsAddSaid, Adds, BeginsAdd, BeginsSnapshot, LooksAtOne, IsSnapshotSaid, IsAsItWas, held_by, Advances, Answers};
+    ghost use Rattle.hist_core.specs.Batch.{added_of};
+    ghost use Rattle.hist_core.specs.Runner.{IsFresh, IsRun, IsSomeRun, NoneHasName, IsKnownAt, IsKnownAnswer, BeginsHist, HasRoom, AsksForOne, IsHistSaid, IsAddSaid, Adds, BeginsAdd, IsBatchSaid, BeginsBatch, BeginsSnapshot, BeginsDelta, IsNowShown, TakesOfOne, HasEndedDelta, HasPlace, IsDeltaSaid, LooksAtOne, IsSnapshotSaid, IsAsItWas, held_by, Advances, Answers};
 
     // An actor that has done nothing.
     pub(crate) fn new(alloc: Global) -> Runner
@@ -116,14 +128,16 @@ impl Runner {
         self.known.iter().all(|known| known.name.as_slice() != name || known.ranges.len() > 0)
     }
 
-    // The units that its running call has of the pool.
+    // The units of the pool that its running call would give back.
     pub(crate) fn held(&self) -> u64
         ensures units { result ≡ held_by self.now.running }
         ensures few { result < 2 ^ 32 }
     {
         match &self.running {
             Some(Running::Add(add)) => u64::from(add.units),
-            Some(Running::SetCorrupt | Running::Hist(_) | Running::Snapshot(_)) | None => 0,
+            Some(Running::Batch(batch)) => u64::from(batch.left),
+            Some(Running::SetCorrupt | Running::Hist(_) | Running::Delta(..) | Running::Snapshot(_))
+            | None => 0,
         }
     }
 
@@ -145,15 +159,44 @@ impl Runner {
         ensures fails { OnErr result (IsAsItWas self.old self.new) }
     {
         let known = &self.known[i];
-        let add = Add::start(shape, version, known, value, units);
-        let entry = Entry {
-            name: Vec::from_slice(alloc, &known.name)?,
-            key: key_of(&known.ranges, value),
-            units: u64::from(units),
-            amount: add.amount,
-        };
+        let amount = amount_of(&known.ranges, value, units);
+        let add = Add::start(shape, version, known, value, units, amount);
+        let entry = entry_of(alloc, known, key_of(&known.ranges, value), units, amount)?;
         self.entries.push(entry)?;
         self.running = Some(Running::Add(add));
+        Ok(())
+    }
+
+    // It begins to count the items of a batch in a histogram that it knows, and then to add its sum.
+    pub(crate) fn begin_batch(
+        &mut self,
+        alloc: Global,
+        shape: Shape,
+        version: u64,
+        i: usize,
+        items: &[(i32, u32)],
+        sum: i64,
+        cost: u32,
+    ) -> Result<(), AllocError>
+        requires near { i < vec_len self.old.known }
+        requires lawful { (known : Known) → get_elem? self.old.known.items i ≡ some known → spec_fault known.spec ≡ None }
+        requires ranges { (known : Known) → get_elem? self.old.known.items i ≡ some known → known.ranges ≡ boundaries_of known.spec }
+        requires bucketed { (known : Known) → get_elem? self.old.known.items i ≡ some known → has_buckets known.spec ≡ true }
+        ensures begins { IfOk result (λ _. (known : Known) → get_elem? self.old.known.items i ≡ some known → BeginsBatch shape version known items.now sum cost self.old self.new) }
+        ensures fails { OnErr result (IsAsItWas self.old self.new) }
+    {
+        let known = &self.known[i];
+        let batch = Batch {
+            histogram: known.reference,
+            items: new_items(alloc, shape, version, known, items)?,
+            added: 0,
+            sum,
+            cost,
+            left: cost,
+        };
+        let mut entries = batch_entries(alloc, known, items, sum)?;
+        self.entries.append(&mut entries)?;
+        self.running = Some(Running::Batch(batch));
         Ok(())
     }
 
@@ -175,6 +218,29 @@ impl Runner {
                 self.begun = self.ended;
                 self.running = None;
                 Stepped::Done(Answer::Refused(why))
+            }
+        }
+    }
+
+    // What becomes of it by what a step of its `batch` said.
+    fn batch_said(&mut self, said: BatchStep) -> Stepped
+        requires within { self.old.ended + added_of said ≤ vec_len self.old.entries }
+        ensures { IsBatchSaid self.old said self.new result }
+    {
+        self.begun = self.entries.len();
+        match said {
+            BatchStep::More => Stepped::More,
+            BatchStep::Done => {
+                self.ended = self.begun;
+                self.running = None;
+                Stepped::Done(Answer::Added)
+            }
+            BatchStep::Refused(refusal) => {
+                self.ended += refusal.added;
+                self.entries.truncate(self.ended);
+                self.begun = self.ended;
+                self.running = None;
+                Stepped::Done(Answer::BatchRefused(refusal))
             }
         }
     }
@@ -222,6 +288,73 @@ impl Runner {
                 self.running = None;
                 Stepped::Done(Answer::Refused(why))
             }
+        }
+    }
+
+    // It begins to take of a histogram that it knows.
+    pub(crate) fn begin_delta(
+        &mut self,
+        alloc: Global,
+        version: u64,
+        i: usize,
+    ) -> Result<(), AllocError>
+        requires near { i < vec_len self.old.known }
+        requires lawful { (known : Known) → get_elem? self.old.known.items i ≡ some known → spec_fault known.spec ≡ None }
+        requires bucketed { (known : Known) → get_elem? self.old.known.items i ≡ some known → has_buckets known.spec ≡ true }
+        ensures begins { IfOk result (λ _. (known : Known) → get_elem? self.old.known.items i ≡ some known → BeginsDelta version known self.old self.new) }
+        ensures fails { OnErr result (IsAsItWas self.old self.new) }
+    {
+        let known = &self.known[i];
+        let taker = Taker::start(alloc, version, known)?;
+        let fresh = Taken {
+            name: Vec::from_slice(alloc, &known.name)?,
+            counts: Vec::with_capacity(alloc, taker.counts.capacity())?,
+            sum: 0,
+        };
+        self.taken.reserve(1)?;
+        self.running = Some(Running::Delta(taker, Some(fresh)));
+        Ok(())
+    }
+
+    // Its running delta stands last in what its deltas took, from its first event on.
+    fn show(&mut self)
+        requires room { (taker : Taker) (fresh : Taken) → self.old.running ≡ Some (runs.Delta taker (Some fresh)) → vec_len self.old.taken < vec_capacity self.old.taken }
+        ensures { (taker : Taker) (fresh : Option Taken) → self.old.running ≡ Some (runs.Delta taker fresh) → IsNowShown taker fresh self.old self.new }
+    {
+        if let Some(Running::Delta(_, fresh)) = &mut self.running {
+            if let Some(taken) = fresh.take() {
+                self.taken.push_reserved(taken);
+            }
+        }
+    }
+
+    // Its delta has ended, with this of the sum, and is answered with what it listed.
+    fn end_delta(&mut self, sum: i64) -> Stepped
+        requires takes { TakesOfOne self.old.running }
+        requires some { 0 < vec_len self.old.taken }
+        ensures { (taker : Taker) (fresh : Option Taken) → self.old.running ≡ Some (runs.Delta taker fresh) → HasEndedDelta taker sum self.old self.new result }
+    {
+        draw_sum(&mut self.taken, sum);
+        let Some(Running::Delta(taker, _)) = self.running.take() else {
+            return Stepped::More;
+        };
+        let Taker { counts, .. } = taker;
+        Stepped::Done(Answer::Delta(Delta { counts, sum }))
+    }
+
+    // What becomes of it by what a step of its `delta` said.
+    fn delta_said(&mut self, said: TakerStep) -> Stepped
+        requires place { HasPlace said self.old.running self.old.taken }
+        ensures { (taker : Taker) (fresh : Option Taken) → self.old.running ≡ Some (runs.Delta taker fresh) → IsDeltaSaid taker fresh self.old said self.new result }
+    {
+        self.show();
+        match said {
+            TakerStep::More => Stepped::More,
+            TakerStep::Took(key, units) => {
+                draw(&mut self.taken, key, units);
+                Stepped::More
+            }
+            TakerStep::Done(sum) => self.end_delta(sum),
         }
     }
 
@@ -284,9 +417,17 @@ impl Runner {
                 let said = add.step(words);
                 self.add_said(said)
             }
+            Some(Running::Delta(taker, _)) => {
+                let said = taker.step(words);
+                self.delta_said(said)
+            }
             Some(Running::Snapshot(looker)) => {
                 let said = looker.step(words);
                 self.snapshot_said(said)
+            }
+            Some(Running::Batch(batch)) => {
+                let said = batch.step(words);
+                self.batch_said(said)
             }
             None => Stepped::More,
         }

@@ -75,7 +75,7 @@ impl Taker {
     ghost use Rattle.segment_machine.specs.Actor.{has_buckets};
     ghost use Rattle.hist_core.specs.Runner.{known_of};
     ghost use Rattle.hist_core.specs.declared.taker.Stage.TheVariants.{LoadingSingle, TakingPacked, LoadingCounts, LoadingCount, Raising, LoadingSum, Swapping};
-    ghost use Rattle.hist_core.specs.Taker.{IsSomeTaker, IsStarted, TakerSteps, Lists, IsBehindSingle, behind_bucket, IsTaken, mark_of};
+    ghost use Rattle.hist_core.specs.Taker.{IsSomeTaker, IsStarted, TakerSteps, Lists, IsBehindSingle, HasBegun, behind_bucket, IsTaken, mark_of};
 
     // It begins to take of a known histogram with buckets: it loads the single word. There is room for all buckets.
     pub(crate) fn start(alloc: Global, version: u64, known: &Known) -> Result<Taker, AllocError>
@@ -120,6 +120,9 @@ impl Taker {
         requires stands { ∥ IsSomeTaker (length words.now) self.old ∥₁ }
         ensures steps { TakerSteps self.old words.now self.new words.now result }
         ensures lists { Lists self.old self.new result }
+        ensures room { vec_capacity self.new.counts ≡ vec_capacity self.old.counts }
+        ensures begun { HasBegun self.new.stage }
+        ensures of { self.new.histogram ≡ self.old.histogram }
     {
         let word = words[self.histogram as usize + HISTOGRAM_SINGLE];
         self.stage = self.behind_single(word);
@@ -146,6 +149,9 @@ impl Taker {
         requires stands { ∥ IsSomeTaker (length words.old) self.old ∥₁ }
         ensures steps { TakerSteps self.old words.old self.new words.new result }
         ensures lists { Lists self.old self.new result }
+        ensures room { vec_capacity self.new.counts ≡ vec_capacity self.old.counts }
+        ensures begun { HasBegun self.new.stage }
+        ensures of { self.new.histogram ≡ self.old.histogram }
     {
         let at = self.histogram as usize + HISTOGRAM_SINGLE_MARK;
         let mark = fetch_max(words, at, units);
@@ -159,6 +165,9 @@ impl Taker {
         requires stands { ∥ IsSomeTaker (length words.now) self.old ∥₁ }
         ensures steps { TakerSteps self.old words.now self.new words.now result }
         ensures lists { Lists self.old self.new result }
+        ensures room { vec_capacity self.new.counts ≡ vec_capacity self.old.counts }
+        ensures begun { HasBegun self.new.stage }
+        ensures of { self.new.histogram ≡ self.old.histogram }
     {
         let counts = words[self.histogram as usize + HISTOGRAM_COUNTS];
         let mounted = Mounted {
@@ -191,6 +200,9 @@ impl Taker {
         requires stands { ∥ IsSomeTaker (length words.now) self.old ∥₁ }
         ensures steps { TakerSteps self.old words.now self.new words.now result }
         ensures lists { Lists self.old self.new result }
+        ensures room { vec_capacity self.new.counts ≡ vec_capacity self.old.counts }
+        ensures begun { HasBegun self.new.stage }
+        ensures of { self.new.histogram ≡ self.old.histogram }
     {
         let count = words[mounted.counts as usize + (BLOCK_HEADER + bucket)];
         let total = mounted.total(bucket, count);
@@ -225,6 +237,9 @@ impl Taker {
         requires stands { ∥ IsSomeTaker (length words.old) self.old ∥₁ }
         ensures steps { TakerSteps self.old words.old self.new words.new result }
         ensures lists { Lists self.old self.new result }
+        ensures room { vec_capacity self.new.counts ≡ vec_capacity self.old.counts }
+        ensures begun { HasBegun self.new.stage }
+        ensures of { self.new.histogram ≡ self.old.histogram }
     {
         let mark = fetch_max(words, self.mark_of(mounted, bucket), total);
         self.stage = self.behind_bucket(mounted, bucket);
@@ -237,6 +252,9 @@ impl Taker {
         requires stands { ∥ IsSomeTaker (length words.now) self.old ∥₁ }
         ensures steps { TakerSteps self.old words.now self.new words.now result }
         ensures lists { Lists self.old self.new result }
+        ensures room { vec_capacity self.new.counts ≡ vec_capacity self.old.counts }
+        ensures begun { HasBegun self.new.stage }
+        ensures of { self.new.histogram ≡ self.old.histogram }
     {
         let sum = words[self.histogram as usize + HISTOGRAM_SUM].cast_signed();
         self.stage = Stage::Swapping { sum };
@@ -249,6 +267,9 @@ impl Taker {
         requires stands { ∥ IsSomeTaker (length words.old) self.old ∥₁ }
         ensures steps { TakerSteps self.old words.old self.new words.new result }
         ensures lists { Lists self.old self.new result }
+        ensures room { vec_capacity self.new.counts ≡ vec_capacity self.old.counts }
+        ensures begun { HasBegun self.new.stage }
+        ensures of { self.new.histogram ≡ self.old.histogram }
     {
         let at = self.histogram as usize + HISTOGRAM_SUM_MARK;
         let mark = swap(words, at, sum.cast_unsigned());
@@ -260,6 +281,9 @@ impl Taker {
         requires stands { ∥ IsSomeTaker (length words.old) self.old ∥₁ }
         ensures steps { TakerSteps self.old words.old self.new words.new result }
         ensures lists { Lists self.old self.new result }
+        ensures room { vec_capacity self.new.counts ≡ vec_capacity self.old.counts }
+        ensures begun { HasBegun self.new.stage }
+        ensures of { self.new.histogram ≡ self.old.histogram }
     {
         match self.stage {
             Stage::LoadingSingle => self.load_single(words),

@@ -23,6 +23,8 @@ ghost use Rattle.hist_core.specs.Board.{IsReached};
 
 impl World {
     ghost use Rattle.std.specs.Prelude.{◌≡◌, ◌≢◌, ◌≤◌, ◌<◌, ◌⊎◌, ℕ, true, Ok, Err, OnOk, OnErr, IfOk, IfErr, IsOk, MatchOption, MatchResult, vec_len};
+    ghost use Rattle.std.specs.List.{All};
+    ghost use Rattle.hist_core.specs.Taker.{AreUnits};
     ghost use Rattle.segment_image.specs.Checks.{first_fault};
     ghost use Rattle.alloc_core.specs.Layout.{IsShape};
     ghost use Rattle.segment_machine.specs.State.{State};
@@ -84,47 +86,54 @@ impl World {
         self.board.words.as_slice()
     }
 
-    /// The entries of an actor's ended calls and, from its first event on, those of its running call.
+    /// The entries of an actor's ended calls and, from its first event on, those of its running call. An actor that is not there has
+    /// none.
     pub fn begun(&self, actor: usize) -> &[Entry]
-        requires { actor < vec_len self.now.board.runners }
         ensures { result.now ≡ begun_of self.now.board actor }
     {
+        if actor >= self.board.runners.len() {
+            return &[];
+        }
         let runner = &self.board.runners[actor];
         &runner.entries[..runner.begun]
     }
 
-    /// The entries of an actor's ended calls, in order.
+    /// The entries of an actor's ended calls, in order. An actor that is not there has none.
     pub fn ended(&self, actor: usize) -> &[Entry]
-        requires { actor < vec_len self.now.board.runners }
         ensures { result.now ≡ ended_of self.now.board actor }
     {
+        if actor >= self.board.runners.len() {
+            return &[];
+        }
         let runner = &self.board.runners[actor];
         &runner.entries[..runner.ended]
     }
 
-    /// Whether a call of an actor is known to be one that can begin so far. Of a `Snapshot` it does not tell.
+    /// Whether a call of an actor is one that can begin so far.
     pub fn can_begin(&self, actor: usize, call: &Call) -> bool
         ensures { result ≡ true → CanBegin actor self.now.board call.now }
     {
         match call {
             Call::Hist(..) | Call::SetCorrupt => true,
-            Call::Add(name, ..) => {
+            Call::Add(name, ..)
+            | Call::Delta(name)
+            | Call::Snapshot(name)
+            | Call::Batch(name, ..) => {
                 actor >= self.board.runners.len() || self.board.runners[actor].is_bucketed(name)
             }
-            _ => false,
         }
     }
 
-    /// An actor begins a call, which asks for a histogram, counts a value, looks at a histogram, or marks the segment as corrupt.
-    /// The other calls are to come, and so are those on a sparse histogram: `can_begin` tells of
-    /// an `Add` whether it is none of these.
+    /// An actor begins a call, which asks for a histogram, counts a value or a batch, takes of a histogram or looks at it, or marks the
+    /// segment as corrupt. Calls on a sparse histogram are to come: `can_begin` tells whether it is none of these.
     ///
     /// `NoActor` where there is no such actor, then `Busy` where a call of it is going on, then `Unknown` where the call is of a
     /// histogram and no `Hist` of the actor was answered with one of that name, then `NoMemory`. Where the call needs no event it
     /// has ended: a `Hist` that is refused `BadName`, `BadSpec` or `TooLarge`, and one of a name that the actor knows; an `Add`
-    /// that is refused `ZeroCount`, or `NoUnits` where it counts more units than the pool has. All actors draw on one pool of
-    /// 4,294,967,295 units: a call takes its units with its begin, and gives them back where it is refused later. No word of the
-    /// segment changes.
+    /// that is refused `ZeroCount`, or `NoUnits` where it counts more units than the pool has; a `Batch` that is refused so, with
+    /// no item counted, and one of no items and sum 0, which is `Added`. All actors draw on one pool of 4,294,967,295 units: a call
+    /// takes its units with its begin, and gives them back where it is refused later. A `Batch` costs the units of its items, and
+    /// no fewer than its sum has times 2^31 in size, rounded up. No word of the segment changes.
     pub fn begin(&mut self, actor: usize, call: &Call) -> Result<Begun, WorldFault>
         requires { CanBegin actor self.old.board call.now }
         ensures faults { MatchOption (first_fault (begin_checks self.old.board actor call.now)) (IfErr result (λ fault. (fault ≡ WorldFault.NoMemory) × TakesMemory call.now)) (λ fault. result ≡ Err fault) }
@@ -154,22 +163,35 @@ impl World {
                 };
                 Ok(board.begin_snapshot(actor, place)?)
             }
+            Call::Delta(name) => {
+                let Some(place) = board.place_of(actor, name) else {
+                    return Err(WorldFault::Unknown);
+                };
+                Ok(board.begin_delta(actor, place)?)
+            }
+            Call::Batch(name, items, sum) => {
+                let Some(place) = board.place_of(actor, name) else {
+                    return Err(WorldFault::Unknown);
+                };
+                Ok(board.begin_batch(actor, place, items, *sum)?)
+            }
             Call::SetCorrupt => {
                 board.begin_set_corrupt(actor);
                 Ok(Begun::Going)
             }
-            _ => unreachable!(),
         }
     }
 
-    /// An actor goes on with its call by one event. `Added` puts what the call counted at the end of `ended`; nothing else
-    /// changes that. Units of a call that is refused come back to the pool.
+    /// An actor goes on with its call by one event. `Added` puts what the call counted at the end of `ended`; a `BatchRefused` puts
+    /// the entries of the items there that are counted, and their units are spent; nothing else changes that. The other units of a
+    /// call that is refused come back to the pool. A `Snapshot` answers what the actor saw since it began: of each key at least the
+    /// units that it had accepted and those that it had seen before; so does its redundant count.
     ///
     /// `NoActor` where there is no such actor, then `Idle` where no call of it is going on. It takes no memory.
     pub fn step(&mut self, actor: usize) -> Result<Stepped, WorldFault>
         ensures faults { MatchOption (first_fault (step_checks self.old.board actor)) (IsOk result) (λ fault. result ≡ Err fault) }
         ensures fault { OnErr result (self.new.board ≡ self.old.board) }
-        ensures steps { OnOk result ((state : State) → IsReachedAs self.old.board state → StepsTo self.old.board actor state self.new.board) }
+        ensures steps { IfOk result (λ said. (state : State) → IsReachedAs self.old.board state → StepsTo self.old.board actor state self.new.board said) }
         ensures others { OnOk result (OthersStay actor self.old.board self.new.board) }
         ensures says { IfOk result (λ said. Says actor self.old.board self.new.board said) }
     {
@@ -183,11 +205,15 @@ impl World {
         Ok(board.step(actor))
     }
 
-    /// What an actor's deltas took, in order; the last may still be going on.
+    /// What an actor's deltas took, in order. A running one stands last from its first event on, so far as it went. The keys of
+    /// each ascend, at every moment. An actor that is not there took nothing.
     pub fn taken(&self, actor: usize) -> &[Taken]
-        requires { actor < vec_len self.now.board.runners }
-        ensures { result.now ≡ taken_of self.now.board actor }
+        ensures items { result.now ≡ taken_of self.now.board actor }
+        ensures ascending { ∥ All (λ taken. AreUnits taken.counts.items) result.now ∥₁ }
     {
+        if actor >= self.board.runners.len() {
+            return &[];
+        }
         self.board.runners[actor].taken.as_slice()
     }
 }

@@ -10,3 +10,4 @@ pub mod NameKeys
 pub mod NameSets
 pub mod Gathered
 pub mod Gathers
+pub mod Lawful

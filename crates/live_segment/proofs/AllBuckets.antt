@@ -26,11 +26,12 @@ use Rattle.live_segment.specs.Steps.{IsSame, Pass}
 use Rattle.live_segment.proofs.OneBucket.{takes_not, takes_then}
 use Rattle.live_segment.proofs.Seeing.{took_bucket}
 
--- ---- keys that ascend
+-- one more behind some of which all are so
+pub all_push : {X : Type 0} (P : X → Type 0) (xs : List X) (x : X) → AllByRecursion P xs → P x → AllByRecursion P (xs ++ x ∷ [])
+all_push P [] x all last = (last, all)
+all_push P (y ∷ xs) x (first, rest) last = (first, all_push P xs x rest last)
 
-all_push : (P : ℤ → Type 0) (keys : List ℤ) (key : ℤ) → AllByRecursion P keys → P key → AllByRecursion P (keys ++ key ∷ [])
-all_push P [] key all last = (last, all)
-all_push P (k ∷ keys) key (first, rest) last = (first, all_push P keys key rest last)
+-- ---- keys that ascend
 
 sorted_push : (keys : List ℤ) (key : ℤ) → IsStrictlySortedBy int_cmp keys → AllByRecursion (λ k. int_cmp k key ≡ Less) keys
     → IsStrictlySortedBy int_cmp (keys ++ key ∷ [])

@@ -1,13 +1,12 @@
 -- What a call that takes or looks leaves of what a recorder keeps.
-use Rattle.std.proofs.Common.{◌≡◌, refl, sym, ap, ◌∙◌, subst}
-use Rattle.std.specs.Prelude.{List, ◌++◌}
+use Rattle.std.proofs.Common.{◌≡◌, ap, ◌∙◌}
+use Rattle.std.specs.Prelude.{List}
 use Rattle.segment_machine.specs.declared.actor.Actor.{Actor}
 use Rattle.segment_machine.specs.declared.actor.Known.{Known}
 use Rattle.segment_machine.specs.Actor.{is_bound, is_opener}
 use Rattle.segment_machine.specs.Taking.{is_looking}
 use Rattle.live_segment.specs.declared.rule.Setting.{Setting}
 use Rattle.live_segment.specs.Deltas.{HasTaken}
-use Rattle.live_segment.specs.Onward.{Grows}
 use Rattle.live_segment.specs.Rule.{IsOf}
 use Rattle.live_segment.specs.Snapshots.{HasSnapshot}
 use Rattle.live_segment.specs.Steps.{IsAtRest}

@@ -53,7 +53,7 @@ notes_refused [] c = refl
 notes_refused (x ∷ xs) c = refl
 
 -- what a call holds that has begun with one more
-holds_more : (name : List ℕ) (items : List (ℤ × ℕ)) (item : ℤ × ℕ) (u : Units)
+pub holds_more : (name : List ℕ) (items : List (ℤ × ℕ)) (item : ℤ × ℕ) (u : Units)
     → holding name (items ++ item ∷ []) u
     ≡ record u { share = u.share - units_of (items ++ item ∷ []); held = record { name = name; units = units_of (items ++ item ∷ []) } ∷ [] }
 holds_more name [] item u = refl

@@ -7,7 +7,7 @@ mod Sharing
 mod Seated
 mod Tries
 mod Ranks
-mod Proceeding
+pub mod Proceeding
 mod Ended
 mod Beginning
 mod Apart
@@ -69,8 +69,11 @@ mod ItemsCounted
 mod ItemsRefused
 mod SumWithin
 mod SumAdded
+mod LastItem
+mod Unsummed
 mod Added
 mod Adds
+mod Batches
 mod FirstValues
 mod Given
 mod ValuesListed

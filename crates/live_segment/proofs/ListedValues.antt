@@ -13,15 +13,12 @@ use Rattle.segment_machine.specs.Firsts.{ComesFirst}
 use Rattle.segment_machine.specs.Made.{SawOther, SawSample}
 use Rattle.live_segment.specs.Onward.{Grows}
 use Rattle.live_segment.specs.Values.{KeysStandOnce, ListsValues, Passes}
+use Rattle.live_segment.proofs.AllBuckets.{all_push}
 use Rattle.live_segment.proofs.FirstValues.{other_value}
 use Rattle.live_segment.proofs.SampleSearches.{other_still, others_still}
 use Rattle.live_segment.proofs.Showing.{still}
 
 -- ---- lists
-
-all_push : {X : Type 0} (P : X → Type 0) (xs : List X) (x : X) → AllByRecursion P xs → P x → AllByRecursion P (xs ++ x ∷ [])
-all_push P [] x all last = (last, all)
-all_push P (y ∷ xs) x (first, rest) last = (first, all_push P xs x rest last)
 
 -- what comes first still does where more stand behind
 first_behind : {X : Type 0} (other is : X → Type 0) (list : List X) (x y : X) → ComesFirst other is list x → ComesFirst other is (list ++ y ∷ []) x

@@ -24,7 +24,7 @@ use Rattle.segment_invariant.proofs.Counting.Samples.{sample_met}
 use Rattle.segment_invariant.proofs.Lists.Elements.{at_from, split_at}
 use Rattle.live_segment.specs.declared.rule.Setting.{Setting}
 use Rattle.live_segment.specs.Rule.{Runs}
-use Rattle.live_segment.specs.Samples.{LoadsSumOfValues, SamplesStandBehind}
+use Rattle.live_segment.specs.Samples.{LoadsSum, SamplesStandBehind}
 use Rattle.live_segment.specs.Steps.{Sat}
 use Rattle.live_segment.proofs.Allowed.{does_at}
 use Rattle.live_segment.proofs.Once.{once_in}
@@ -97,9 +97,9 @@ stand_behind shape opened state kept id a mine lives histogram at value front be
     walked is apart met
 
 module _ (setting : Setting) (slots id : ℕ) (me : Sat) (word : ℕ) (records : is_opener me.0.role ≡ false) where
-  pub sums_values : (at : ℕ) → word ≡ at + 11 + 1 → Ready me.0 (taking_event (load_sum at))
-      → Allows (Runs setting) slots id me word (change setting.version (taking_event (load_sum at))) (LoadsSumOfValues word me)
-  sums_values at is ready s run wide mine small =
+  pub loads_sum : (at : ℕ) → word ≡ at + 11 + 1 → Ready me.0 (taking_event (load_sum at))
+      → Allows (Runs setting) slots id me word (change setting.version (taking_event (load_sum at))) (LoadsSum word me)
+  loads_sum at is ready s run wide mine small =
       let (view, act, valid, holds, told) =
       does_at setting slots id me word records (λ (x : ℕ). taking_event (load_sum x)) at (omega (arith, is)) (λ y e. omega (arith, is, e)) ready s run wide mine small in
       let live : me.0.hand.place ≢ Spent = λ e. true≢false (sym (ap is_bound e) ∙ ready.0) in

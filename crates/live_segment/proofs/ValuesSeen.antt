@@ -1,13 +1,11 @@
 -- A snapshot looks at the samples of a sparse histogram, record by record.
-use Rattle.std.proofs.Common.{◌≡◌, ◌≢◌, ℕ, suc, ◌+◌, ◌-◌, ◌*◌, ◌/◌, ◌<◌, ◌≤◌, ℤ, true, false, true≢false, map, List, [], ◌∷◌, ◌++◌, drop, length, Option, Some, None, inl, inr, ⊎_elim, refl, sym, ap, subst, ◌∙◌, arith}
+use Rattle.std.proofs.Common.{◌≡◌, ◌≢◌, ℕ, ◌+◌, ◌-◌, ◌*◌, ◌/◌, ◌<◌, ◌≤◌, ℤ, false, true≢false, map, List, [], ◌∷◌, ◌++◌, length, Option, Some, None, inl, inr, ⊎_elim, refl, sym, ap, subst, ◌∙◌, arith}
 use Rattle.std.specs.Int.{cast_signed, cast_unsigned, w64}
 use Rattle.std.specs.List.{All, Contains}
 use Rattle.std.proofs.Math.ListN.{get_or}
-use Rattle.std.proofs.lemmas.List.{append-nil, append_assoc, map-append}
+use Rattle.std.proofs.lemmas.List.{map-append}
 use Rattle.std.proofs.lemmas.List.Elements.{Contains-append_left, Contains-append_right, Contains-push}
 use Rattle.std.proofs.lemmas.List.Sorted.{All-permutation, Contains-permutation, IsPermutation-map}
-use lib.ListN.{get_elem?}
-use mathlib.Core.Option.{some}
 use Rattle.bucket_ranges.specs.declared.spec.Spec.TheVariants as spec
 use Rattle.hist_core.specs.declared.answer.Snapshot.{Snapshot}
 use Rattle.segment_image.specs.Shape.{Dimensions}
@@ -15,7 +13,7 @@ use Rattle.segment_machine.specs.declared.actor.Actor.{Actor}
 use Rattle.segment_machine.specs.declared.actor.Known.{Known}
 use Rattle.segment_machine.specs.declared.actor.Since.{Since}
 use Rattle.segment_machine.specs.declared.seen.Seen.{Seen}
-use Rattle.segment_machine.specs.Actor.{SawCount, Sparse, has_buckets, is_bound, is_opener, known_at, looking}
+use Rattle.segment_machine.specs.Actor.{SawCount, has_buckets, is_bound, is_opener, known_at, looking}
 use Rattle.segment_machine.specs.Calls.{sight}
 use Rattle.segment_machine.specs.Event.{Event, next, walking_event}
 use Rattle.segment_machine.specs.Made.{IsFirstSample, SawSample}
@@ -29,7 +27,7 @@ use Rattle.live_segment.specs.Holders.{MayStep, table_of}
 use Rattle.live_segment.specs.Onward.{SeesOn}
 use Rattle.live_segment.specs.Records.{StandOnce}
 use Rattle.live_segment.specs.Rule.{IsOf}
-use Rattle.live_segment.specs.Samples.{CountsSample, HasUnits, SamplesStandBehind, SeesSample}
+use Rattle.live_segment.specs.Samples.{CountsSample, SamplesStandBehind, SeesSample}
 use Rattle.live_segment.specs.Snapshots.{HasLooked}
 use Rattle.live_segment.specs.Steps.{IsAtRest, IsSame, Pass, Stepped}
 use Rattle.live_segment.specs.Telling.{KnowsAlone, MayDo, Noted}

@@ -37,9 +37,9 @@ SamplesAreFew a =
 abbrev pub LoadsCountOfSample : ℕ → Sat → ℕ → Sat → Type 0
 LoadsCountOfSample word me found me' = DoesAt (λ at. taking_event (load_count at)) word me found me' × SamplesAreFew me.0
 
--- the sum of a sparse histogram is loaded, by a recorder that met its samples there, and no block twice
-abbrev pub LoadsSumOfValues : ℕ → Sat → ℕ → Sat → Type 0
-LoadsSumOfValues word me found me' = DoesAt (λ histogram. taking_event (load_sum histogram)) word me found me' × SamplesStandBehind me.0
+-- The sum of a histogram is loaded: of what its recorder met, each sample stands behind the record of its histogram, and no block twice.
+abbrev pub LoadsSum : ℕ → Sat → ℕ → Sat → Type 0
+LoadsSum word me found me' = DoesAt (λ histogram. taking_event (load_sum histogram)) word me found me' × SamplesStandBehind me.0
     × StandOnce me.0.seen.chain
 
 -- It has seen more words of published records and more counts, and looks at no histogram with buckets; otherwise it is as it was.

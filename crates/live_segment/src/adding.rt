@@ -21,6 +21,7 @@ impl Segment {
     // Adds a sample.
     //
     // `Corrupt` or `Full` where a block was needed for it and none could be claimed.
+    #[inline(always)]
     pub(crate) fn add_sample(
         &self,
         seat: &mut Pass,
@@ -44,6 +45,7 @@ impl Segment {
     // Counts units of a value.
     //
     // `Corrupt` or `Full` where a block was needed for them and none could be claimed: then the call has ended.
+    #[inline(always)]
     pub(crate) fn count_value(
         &self,
         seat: &mut Pass,

@@ -20,6 +20,32 @@ impl Segment {
     ghost use Rattle.live_segment.specs.Steps.{IsAtRest, IsSame};
     ghost use Rattle.live_segment.specs.Working.{CountsAlone};
 
+    // Counts a batch: its items, and then its sum, where that is not 0.
+    //
+    // `Corrupt` or `Full` where a block was needed for an item and none could be claimed: then those before it are counted, and the
+    // sum is not added.
+    pub(crate) fn count_batch(
+        &self,
+        seat: &mut Pass,
+        histogram: &KnownHistogram,
+        items: &[(i32, u32)],
+        sum: i64,
+    ) -> Result<(), BatchRefusal>
+        requires seat { (seat.old.table_id ≡ table_of self.now) × IsOf self.now.setting seat.old.me.0 }
+        requires right { KnowsRight self.now.setting seat.old.me.0 histogram.now }
+        requires rests { IsAtRest seat.old.me.0 }
+        requires units { All (λ item. 1 ≤ item.1) items.now × (batch_cost items.now sum ≤ seat.old.me.0.units.share) }
+        ensures same { IsSame seat.old seat.new }
+        ensures rests { IsAtRest seat.new.me.0 }
+        ensures outcome { MatchResult result (λ _. IsBatched (known_view histogram.now) items.now sum seat.old.me.0 seat.new.me.0) (λ refusal. IsCutShort (known_view histogram.now) items.now refusal seat.old.me.0 seat.new.me.0) }
+    {
+        if sum == 0 {
+            self.count_unsummed(seat, histogram, items)
+        } else {
+            self.count_summed(seat, histogram, items, sum)
+        }
+    }
+
     // Counts a batch with a sum: its items, and then the sum.
     fn count_summed(
         &self,
@@ -39,6 +65,35 @@ impl Segment {
     {
         self.count_items(seat, histogram, items)?;
         self.add_sum(seat, histogram.reference, sum);
+        Ok(())
+    }
+
+    // Counts a batch without a sum: its last item ends it.
+    fn count_unsummed(
+        &self,
+        seat: &mut Pass,
+        histogram: &KnownHistogram,
+        items: &[(i32, u32)],
+    ) -> Result<(), BatchRefusal>
+        requires seat { (seat.old.table_id ≡ table_of self.now) × IsOf self.now.setting seat.old.me.0 }
+        requires right { KnowsRight self.now.setting seat.old.me.0 histogram.now }
+        requires rests { IsAtRest seat.old.me.0 }
+        requires units { All (λ item. 1 ≤ item.1) items.now × (units_of items.now ≤ seat.old.me.0.units.share) }
+        ensures same { IsSame seat.old seat.new }
+        ensures rests { IsAtRest seat.new.me.0 }
+        ensures outcome { MatchResult result (λ _. IsBatched (known_view histogram.now) items.now (pos 0) seat.old.me.0 seat.new.me.0) (λ refusal. IsCutShort (known_view histogram.now) items.now refusal seat.old.me.0 seat.new.me.0) }
+    {
+        let [front @ .., last] = items else {
+            return Ok(());
+        };
+        self.count_items(seat, histogram, front)?;
+        if let Err(why) = self.count_value(seat, histogram, last.0, last.1) {
+            return Err(BatchRefusal {
+                added: front.len(),
+                why,
+            });
+        }
+        self.add_last(seat, histogram.reference, u64::from(last.1));
         Ok(())
     }
 

@@ -61,6 +61,7 @@ impl Segment {
     // Counts units of a bucket of a histogram: in its single word, or in its counts, which it makes where there are none.
     //
     // `Corrupt` or `Full` where no block could be claimed for the counts: then the call has ended.
+    #[inline(always)]
     pub(crate) fn count_in_bucket(
         &self,
         seat: &mut Pass,

@@ -1,6 +1,6 @@
 //! How a recorder takes a delta of a histogram: of each bucket the units that no delta has taken yet, and of the sum what is new.
 
-ghost use Rattle.std.specs.Prelude.{◌≡◌, ◌<◌, ◌+◌, ◌-◌, ◌/◌, ◌≤◌, true, false, ℕ, ℤ, List, [], Some, length, vec_capacity};
+ghost use Rattle.std.specs.Prelude.{◌≡◌, ◌⊎◌, ◌<◌, ◌+◌, ◌-◌, ◌/◌, ◌≤◌, true, false, ℕ, ℤ, List, [], Some, length, vec_capacity};
 ghost use Rattle.std.specs.List.{Contains};
 ghost use Rattle.bucket_ranges.specs.declared.spec.Spec.TheVariants.{Sparse};
 ghost use Rattle.bucket_ranges.specs.Spec.{buckets_of};
@@ -159,9 +159,9 @@ impl Segment {
         }
     }
 
-    // The delta takes what is new of the sum, and ends.
+    // The delta takes what is new of the sum, once it has taken of all buckets or of all samples, and ends.
     fn take_sum(&self, seat: &mut Pass, histogram: &KnownHistogram) -> i64
-        requires may { MayTakeSum self.now (known_view histogram.now) seat.old }
+        requires may { MayTakeSum self.now (known_view histogram.now) seat.old ⊎ HasTakenValues self.now (known_view histogram.now) seat.old }
         requires room { histogram.now.reference + 15 ≤ self.now.setting.shape.size }
         ensures same { IsSame seat.old seat.new }
         ensures taken { HasTakenSum (known_view histogram.now) result seat.old.me.0 seat.new.me.0 }
@@ -241,22 +241,6 @@ impl Segment {
         }
     }
 
-    // The delta takes what is new of the sum, once it has taken of all samples, and ends.
-    fn take_sum_of_values(&self, seat: &mut Pass, histogram: &KnownHistogram) -> i64
-        requires may { HasTakenValues self.now (known_view histogram.now) seat.old }
-        requires room { histogram.now.reference + 15 ≤ self.now.setting.shape.size }
-        ensures same { IsSame seat.old seat.new }
-        ensures taken { HasTakenSum (known_view histogram.now) result seat.old.me.0 seat.new.me.0 }
-    {
-        let sum = self
-            .load_sum_of_values(seat, histogram.reference)
-            .cast_signed();
-        let mark = self
-            .swap_sum_mark(seat, histogram.reference, sum)
-            .cast_signed();
-        sum - mark
-    }
-
     // A delta of a sparse histogram. There is room for as many values as fit in a segment. It answers what it took of the sum.
     pub(crate) fn delta_of_values(
         &self,
@@ -275,7 +259,7 @@ impl Segment {
         let first = self.take_next(seat, histogram.reference);
         self.take_values(seat, histogram, first, taken);
         sort_by_key(taken);
-        self.take_sum_of_values(seat, histogram)
+        self.take_sum(seat, histogram)
     }
 
     // How many keys a histogram may have: its buckets, or as many values as records fit in a segment.

@@ -10,6 +10,7 @@ mod adding;
 mod allocation;
 mod batching;
 mod comparing;
+mod costs;
 mod counting;
 mod deltas;
 mod fault;

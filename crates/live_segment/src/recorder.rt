@@ -9,11 +9,12 @@ ghost use Rattle.live_segment.specs.Walks.{HasCome};
 ghost use Rattle.std.specs.List.{All};
 ghost use Rattle.std.proofs.Props.{props};
 
+use crate::costs::{price, units_of_items};
 use crate::records::WalkPlace;
 use crate::rule::Pass;
 use crate::segment::Segment;
 use bucket_ranges::{Ranges, Spec};
-use hist_core::{Asked, Delta, Refusal, Snapshot};
+use hist_core::{Asked, BatchRefusal, Delta, Refusal, Snapshot};
 use segment_image::layout::{BLOCK_LEAST, FLAG_CORRUPT, HEADER_WORDS};
 use std::alloc::{AllocError, Global};
 
@@ -88,6 +89,7 @@ impl<'a> Recorder<'a> {
     ghost use Rattle.segment_machine.specs.declared.actor.Known.{Known};
     ghost use Rattle.live_segment.specs.Adding.{add_checks, AnswersSample};
     ghost use Rattle.live_segment.specs.Allocation.{spoiled};
+    ghost use Rattle.live_segment.specs.Batching.{batch_checks, IsBatched, IsCutShort};
     ghost use Rattle.live_segment.specs.Cursors.{AnswersNext, gift};
     ghost use Rattle.live_segment.specs.Holders.{view_of_recorder, IsSameRecorder, Knows, Means};
     ghost use Rattle.live_segment.specs.Records.{HasWalked};
@@ -187,6 +189,8 @@ impl<'a> Recorder<'a> {
     /// `ZeroCount` where there are none and `NoUnits` where the share has fewer, both before anything has happened; then `Corrupt` or
     /// `Full` where a block was needed for them and none could be claimed. Log, share and deltas are then as before, and no count, sum,
     /// mark or redundant count has changed. It takes no memory.
+    // Inlined with the calls on its way: what a call keeps in memory, the next atomic step waits for.
+    #[inline(always)]
     pub fn add(&mut self, histogram: Hist, value: i32, count: u32) -> Result<(), Refusal>
         requires { Knows self.old histogram }
         ensures same { IsSameRecorder self.old self.new }
@@ -202,6 +206,40 @@ impl<'a> Recorder<'a> {
         self.segment
             .add_sample(&mut self.seat, known, value, count)?;
         self.units -= count;
+        Ok(())
+    }
+
+    /// Counts a batch: units of values, in order, of a histogram that it knows, and then an amount that is added to the sum. Where all
+    /// are counted, an entry of amount 0 for each item stands at the end of the log, and behind them one of no units for the sum,
+    /// where that is not 0. Their cost is taken from the share: as many units as the items have, and no fewer than the size of the sum
+    /// has times 2^31, rounded up. One of no items and no sum needs no event.
+    ///
+    /// `ZeroCount` where an item has no units and `NoUnits` where the share has fewer than it costs, both before anything has happened
+    /// and with no item counted; then `Corrupt` or `Full` where a block was needed for an item and none could be claimed. Then the
+    /// items before it are counted, as many as the refusal says, and only their units are taken; the sum is not added. It takes no
+    /// memory.
+    pub fn batch(
+        &mut self,
+        histogram: Hist,
+        items: &[(i32, u32)],
+        sum: i64,
+    ) -> Result<(), BatchRefusal>
+        requires { Knows self.old histogram }
+        ensures same { IsSameRecorder self.old self.new }
+        ensures answer { MatchOption (first_fault (batch_checks (view_of_recorder self.old) items.now sum)) ((known : Known) → Means self.old histogram known → MatchResult result (λ _. IsBatched known items.now sum (view_of_recorder self.old) (view_of_recorder self.new)) (λ refusal. IsCutShort known items.now refusal (view_of_recorder self.old) (view_of_recorder self.new))) (λ why. (result ≡ Err (record { added = 0; why = why })) × (self.new ≡ self.old)) }
+    {
+        let cost = match price(items, sum, self.units) {
+            Ok(cost) => cost,
+            Err(why) => return Err(BatchRefusal { added: 0, why }),
+        };
+        let counted = self
+            .segment
+            .count_batch(&mut self.seat, &self.known[histogram.index], items, sum);
+        if let Err(refusal) = counted {
+            self.units -= units_of_items(&items[..refusal.added]) as u32;
+            return Err(refusal);
+        }
+        self.units -= cost;
         Ok(())
     }
 
@@ -303,5 +341,22 @@ impl<'a> Recorder<'a> {
         ensures given { (view_of_recorder self.new).done.given ≡ (view_of_recorder self.old).done.given ++ gift cursor result }
     {
         self.segment.next_shared(&mut self.seat, cursor)
+    }
+}
+
+#[cfg(test)]
+impl<'a> Recorder<'a> {
+    // Its segment, its seat and the histograms that it knows, for a test that takes its steps one by one.
+    pub(crate) fn into_steps(self) -> (&'a Segment, Pass, Vec<KnownHistogram>)
+        ensures seat { (result.1.table_id ≡ result.0.now.table.shared.table_id) × IsOf result.0.now.setting result.1.me.0 × IsAtRest result.1.me.0 }
+        ensures right { All (KnowsRight result.0.now.setting result.1.me.0) result.2.items }
+    {
+        let Recorder {
+            segment,
+            seat,
+            known,
+            ..
+        } = self;
+        (segment, seat, known)
     }
 }

@@ -103,12 +103,15 @@ impl Segment {
         add_packed(self.setting.version, word, totals);
     }
 
-    // The sum of a histogram, and its redundant count, which is loaded last.
+    // The sum of a histogram, and its redundant count, which is loaded last. No sample that was met stands before the record of its
+    // histogram.
     fn look_at_sum(&self, seat: &mut Pass, histogram: u64) -> (i64, u64)
         requires may { MayStep self.now seat.old (taking_event (load_sum histogram)) }
         requires room { histogram + 15 ≤ self.now.setting.shape.size }
         ensures same { IsSame seat.old seat.new }
         ensures view { seat.new.me.0 ≡ saw_sum seat.old.me.0 histogram result.0 result.1 }
+        ensures behind { SamplesStandBehind seat.old.me.0 }
+        ensures once { StandOnce seat.old.me.0.seen.chain }
     {
         let sum = self.load_sum(seat, histogram).cast_signed();
         let redundant = self.load_redundant(seat, histogram);
@@ -185,20 +188,6 @@ impl Segment {
         }
     }
 
-    // The sum of a sparse histogram, once its samples were met, and its redundant count, which is loaded last.
-    fn look_at_sum_of_values(&self, seat: &mut Pass, histogram: u64) -> (i64, u64)
-        requires may { MayStep self.now seat.old (taking_event (load_sum histogram)) }
-        requires room { histogram + 15 ≤ self.now.setting.shape.size }
-        ensures same { IsSame seat.old seat.new }
-        ensures view { seat.new.me.0 ≡ saw_sum seat.old.me.0 histogram result.0 result.1 }
-        ensures behind { SamplesStandBehind seat.old.me.0 }
-        ensures once { StandOnce seat.old.me.0.seen.chain }
-    {
-        let sum = self.load_sum_of_values(seat, histogram).cast_signed();
-        let redundant = self.load_redundant(seat, histogram);
-        (sum, redundant)
-    }
-
     // What a sparse histogram has: the totals are empty, and there is room for as many values as fit in a segment.
     pub(crate) fn snapshot_of_values(
         &self,
@@ -218,7 +207,7 @@ impl Segment {
         let first = self.look_next(seat, histogram.reference);
         self.look_at_values(seat, histogram, first, &mut totals);
         sort_by_key(&mut totals);
-        let (sum, redundant) = self.look_at_sum_of_values(seat, histogram.reference);
+        let (sum, redundant) = self.look_at_sum(seat, histogram.reference);
         let snapshot = Snapshot {
             counts: totals,
             sum,

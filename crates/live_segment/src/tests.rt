@@ -1,14 +1,32 @@
 //! Tests of what no clause says: that calls succeed, each at its least and its most.
 
-ghost use Rattle.std.specs.Prelude.{IfOk};
-ghost use Rattle.live_segment.specs.Holders.{IsMadeWith};
+ghost use Rattle.std.specs.Prelude.{◌≡◌};
 
-use crate::{Hist, OpenFault, Opener, Recorder, Segment};
-use bucket_ranges::{CustomValues, Spec};
+mod batches;
+mod deltas;
+mod memory;
+mod packing;
+mod turns;
+
+use crate::{OpenFault, Recorder, Segment};
+use bucket_ranges::Spec;
 use hist_core::Refusal;
+use hist_core::packing::DISABLED_BIT;
 use segment_image::Image;
-use std::alloc::{AllocError, Global};
+use std::alloc::Global;
 use std::test::Fail;
+
+// Spends a share of three units. Whether a sample of too many, and one of none, are refused.
+fn spends_all(recorder: &mut Recorder) -> Result<bool, Refusal>
+    ensures { recorder.new.seat.table_id ≡ recorder.old.seat.table_id }
+{
+    let histogram = recorder.hist(b"A", &Spec::Boolean)?;
+    recorder.add(histogram, 1, 2)?;
+    let more = recorder.add(histogram, 1, 2);
+    recorder.add(histogram, 1, 1)?;
+    let none = recorder.add(histogram, 1, 0);
+    Ok(matches!(more, Err(Refusal::NoUnits)) && matches!(none, Err(Refusal::ZeroCount)))
+}
 
 #[test]
 fn shares_of_a_recorder(rt: HostRuntime) -> Result<(), Fail> {
@@ -21,11 +39,13 @@ fn shares_of_a_recorder(rt: HostRuntime) -> Result<(), Fail> {
             Err(Refusal::NoUnits)
         )
     );
-    recorder.set_corrupt();
+    assert!(rt; spends_all(&mut recorder)? && recorder.units() == 0);
     opener.join(recorder);
-    assert!(rt; opener.units() == u32::MAX && opener.outstanding() == 0);
+    assert!(rt; opener.units() == 4_294_967_292 && opener.outstanding() == 0);
     let image = segment.close(opener);
-    assert!(rt; image.words().len() == 128 && image.words()[4] == 7 && image.words()[6] == 1);
+    let words = image.words();
+    assert!(rt; words.len() == 128 && words[4] == 7 && words[25] == 4_294_967_299);
+    assert!(rt; stand(words, 27, &[3, 0, 3]));
     Ok(())
 }
 
@@ -64,6 +84,11 @@ fn refusals_of_create(rt: HostRuntime) -> Result<(), Fail> {
 
 // The cookie of a claimed block.
 const CLAIMED: u64 = 0xC879_9269;
+
+// A single word that is off, with this below its highest bit.
+fn off_with(rest: u64) -> u64 {
+    DISABLED_BIT | rest
+}
 
 // Whether words have these from an index on.
 fn stand(words: &[u64], from: usize, wanted: &[u64]) -> bool {
@@ -214,12 +239,13 @@ fn refusals_of_hist(rt: HostRuntime) -> Result<(), Fail> {
 }
 
 #[test]
-fn hist_of_a_corrupt_segment(rt: HostRuntime) -> Result<(), Fail> {
+fn corrupt_segment(rt: HostRuntime) -> Result<(), Fail> {
     let (segment, mut opener) = Segment::create(rt.alloc(), 128, 64, 7, 0, 1)?;
-    let mut first = opener.recorder(&segment, 0)?;
+    let mut first = opener.recorder(&segment, 1)?;
     let mut second = opener.recorder(&segment, 0)?;
-    assert!(rt; refusal_of(&mut first, b"A", &Spec::Boolean) == 0);
+    let histogram = first.hist(b"A", &Spec::Boolean)?;
     first.set_corrupt();
+    first.add(histogram, 1, 1)?;
     assert!(rt; refusal_of(&mut second, b"A", &Spec::Boolean) == 0);
     assert!(rt; refusal_of(&mut second, b"B", &Spec::Boolean) == 8);
     assert!(rt; refusal_of(&mut second, b"A", &linear(1, 2, 3)) == 10);
@@ -239,52 +265,5 @@ fn records_and_a_shared_cursor(rt: HostRuntime) -> Result<(), Fail> {
     assert!(rt; first.next_shared(0).is_none());
     second.hist(b"C", &Spec::Boolean)?;
     assert!(rt; first.next_shared(0) == Some(48) && first.fresh_records()?[..] == [48]);
-    Ok(())
-}
-
-// The same again where memory was refused at the first time.
-fn segment_again(alloc: Global) -> Result<(Segment, Opener), OpenFault>
-    ensures { IfOk result (λ made. IsMadeWith made.0 made.1) }
-{
-    match Segment::create(alloc, 128, 64, 7, 1, 1) {
-        Err(OpenFault::NoMemory) => Segment::create(alloc, 128, 64, 7, 1, 1),
-        made => made,
-    }
-}
-
-fn custom_again(alloc: Global) -> Result<Spec, AllocError> {
-    let values = match Vec::from_slice(alloc, &[2, 0, 1, 2]) {
-        Err(AllocError) => Vec::from_slice(alloc, &[2, 0, 1, 2])?,
-        Ok(values) => values,
-    };
-    Ok(Spec::Custom(CustomValues::from(values)))
-}
-
-fn hist_again(recorder: &mut Recorder, name: &[u8], spec: &Spec) -> Result<Hist, Refusal> {
-    match recorder.hist(name, spec) {
-        Err(Refusal::NoMemory) => recorder.hist(name, spec),
-        answer => answer,
-    }
-}
-
-fn records_again(recorder: &mut Recorder) -> Result<Vec<u64>, Refusal> {
-    match recorder.fresh_records() {
-        Err(Refusal::NoMemory) => recorder.fresh_records(),
-        answer => answer,
-    }
-}
-
-// It passes too where any one allocation fails.
-#[test]
-fn refused_memory_once(rt: HostRuntime) -> Result<(), Fail> {
-    let custom = custom_again(rt.alloc())?;
-    let (segment, mut opener) = segment_again(rt.alloc())?;
-    let mut recorder = opener.recorder(&segment, 3)?;
-    let first = hist_again(&mut recorder, b"A", &custom)?;
-    let second = hist_again(&mut recorder, b"B", &Spec::Boolean)?;
-    assert!(rt; records_again(&mut recorder)?[..] == [16, 34] && recorder.units() == 3);
-    assert!(rt; hist_again(&mut recorder, b"A", &custom)? == first);
-    assert!(rt; hist_again(&mut recorder, b"B", &Spec::Boolean)? == second && first != second);
-    assert!(rt; records_again(&mut recorder)?.is_empty());
     Ok(())
 }

@@ -5,17 +5,23 @@ use Rattle.clap.specs.declared.error.Error.{Error}
 use Rattle.clap.specs.declared.error.kind.ErrorKind.{ErrorKind}
 use Rattle.clap.specs.declared.error.kind.ErrorKind.TheVariants.{DisplayHelp, DisplayVersion, OutOfMemory}
 use Rattle.persist_report_core.specs.declared.fault.CliFault.{CliFault}
-use Rattle.persist_report_core.specs.declared.fault.CliFault.TheVariants.{Read, Write, TooLong, NotWords, Image, NoMemory}
+use Rattle.persist_report_core.specs.declared.fault.CliFault.TheVariants.{Read, Write, TooLong, NotWords, Image, BadLine, Refused, Gate, Merge, NoThread, NoMemory}
 use Rattle.persist_report.specs.declared.failure.Failure.{Failure}
 use Rattle.persist_report.specs.declared.failure.Failure.TheVariants.{Usage, Fault}
 
--- the status of a fault: 3 for bytes that are no image, 4 for a device that failed, 5 for want of memory
+-- the status of a fault: 3 for bytes that are no image or no script, and for what is refused; 4 for a device that failed;
+-- 5 for want of a thread or of memory
 abbrev pub fault_status : CliFault → ℕ
 fault_status Read = 4
 fault_status Write = 4
 fault_status TooLong = 3
 fault_status NotWords = 3
 fault_status (Image fault) = 3
+fault_status (BadLine number) = 3
+fault_status (Refused number why) = 3
+fault_status Gate = 3
+fault_status (Merge name why) = 3
+fault_status NoThread = 5
 fault_status NoMemory = 5
 
 -- the status of a failure: 2 for a command line that asks for nothing that the program does

@@ -31,14 +31,17 @@ impl Failure {
     }
 }
 
-/// The status of a fault: 3 where the bytes are no image, 4 where a device failed, and 5 for want of memory.
+/// The status of a fault: 3 where the bytes are no image or no script, or what they ask for is refused; 4 where a device
+/// failed; 5 for want of a thread or of memory.
 fn fault_status(fault: &CliFault) -> u8
     ensures { result ≡ fault_status fault.now }
 {
     match fault {
         CliFault::TooLong | CliFault::NotWords | CliFault::Image(_) => 3,
+        CliFault::BadLine(_) | CliFault::Refused { .. } => 3,
+        CliFault::Gate | CliFault::Merge { .. } => 3,
         CliFault::Read | CliFault::Write => 4,
-        CliFault::NoMemory => 5,
+        CliFault::NoThread | CliFault::NoMemory => 5,
     }
 }
 

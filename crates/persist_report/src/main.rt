@@ -1,9 +1,11 @@
-//! The program `persist_report`: reads the image of a segment and writes its histograms as a report.
+//! The program `persist_report`: writes the histograms of an image as a report, runs scripts, and merges images.
 #![tactic(auto)]
 
 mod failure;
+mod files;
 mod request;
 mod run;
+mod workers;
 
 use std::process::ExitCode;
 

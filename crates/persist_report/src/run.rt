@@ -4,22 +4,26 @@ ghost use Rattle.std.specs.Prelude.{IfErr};
 ghost use Rattle.persist_report.specs.Failure.{UsageIsMistake};
 
 use crate::failure::Failure;
+use crate::files::{merge_files_into, report_file, run_file};
 use crate::request::{Request, not_text};
-use persist_report_core::{CliFault, report};
-use segment_image::Watched;
+use persist_report_core::CliFault;
 use std::rt::{Env, Files};
-use std::{env, fs, io};
+use std::sync::Wait;
+use std::thread::Threads;
+use std::{env, io};
 
 /// Does what the arguments ask for.
 ///
 /// `Usage` where they ask for nothing that the program does; `Fault` where the request failed, `NoMemory` also
 /// where there was none to read the arguments, and `Write` also where a help or version text could not be written.
-pub fn run<R: Env + Files + Input + Print + AllocGlobal>(rt: &R) -> Result<(), Failure>
+pub fn run<R: Env + Files + Input + Print + AllocGlobal + Threads + Wait>(
+    rt: &R,
+) -> Result<(), Failure>
     ensures { IfErr result UsageIsMistake }
 {
     let words = words(rt)?;
     match Request::of(rt.alloc(), words.as_slice()) {
-        Ok(Request::Report { file }) => report_to_output(rt, file)?,
+        Ok(request) => meet(rt, request)?,
         Err(error) if error.use_stderr() => return Err(Failure::from(error)),
         Err(shown) => rt.print(shown).map_err(|_| CliFault::Write)?,
     }
@@ -38,17 +42,17 @@ fn words<R: Env + AllocGlobal>(rt: &R) -> Result<Vec<String>, Failure>
     }
 }
 
-/// Writes the report of the image in a file, or on standard input, to standard output.
-fn report_to_output<R: Files + Input + Print + AllocGlobal>(
+fn meet<R: Files + Input + Print + AllocGlobal + Threads + Wait>(
     rt: &R,
-    file: Option<&str>,
+    request: Request<'_>,
 ) -> Result<(), CliFault> {
-    let mut writer = Watched::new(io::writer(rt));
-    match file {
-        Some(path) => {
-            let image = fs::open(rt, path).map_err(|_| CliFault::Read)?;
-            report(rt.alloc(), &mut Watched::new(image), &mut writer)
-        }
-        None => report(rt.alloc(), &mut Watched::new(rt.reader()), &mut writer),
+    match request {
+        Request::Report { file } => report_file(rt, file),
+        Request::Run {
+            script,
+            out,
+            workers,
+        } => run_file(rt, script, out, workers),
+        Request::Merge { base, dead, out } => merge_files_into(rt, base, dead, out),
     }
 }

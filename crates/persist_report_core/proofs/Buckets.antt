@@ -1,31 +1,17 @@
 -- The buckets of a lawful spec and their boundaries.
-use Rattle.std.proofs.Common.{◌≡◌, ◌≢◌, ◌∙◌, map, ℕ, ◌+◌, ◌<◌, ◌≤◌, Bool, true, false, List, [], ◌∷◌, length, Option, Some, None, if◌then◌else◌, All, ap, refl, arith}
+use Rattle.std.proofs.Common.{◌≡◌, ◌≢◌, ◌∙◌, map, ℕ, ◌+◌, ◌<◌, ◌≤◌, List, length, None, ap, refl, arith}
 use Rattle.std.proofs.Common.{ℤ, pos, get_or, drop, sym}
 use Rattle.std.proofs.lemmas.Grind.{get_or_after_one}
 use Rattle.persist_report_core.specs.Text.{highs_of}
 use Rattle.persist_report_core.specs.Readable.{IsCounted}
 use Rattle.std.specs.Prelude.{◌+ℤ◌}
 use Rattle.std.proofs.lemmas.List.{length-drop, length-map, get_or-map}
-use Rattle.std.proofs.lemmas.List.Elements.{All-cons}
-use Rattle.segment_image.specs.Checks.{first_fault}
 use Rattle.bucket_ranges.specs.declared.spec.Spec.{Spec}
 use Rattle.bucket_ranges.specs.declared.spec.Spec.TheVariants.{Linear, Boolean, Custom, Sparse}
 use Rattle.bucket_ranges.specs.Spec.{spec_fault, buckets_of}
 use Rattle.bucket_ranges.specs.Ranges.{boundaries_of}
 use Rattle.bucket_ranges.proofs.Ascent.{is_linear-from_checks, boundaries_of-split}
 use Rattle.bucket_ranges.proofs.Customs.{is_custom-from_checks, length-distinct}
-
--- a check that comes first, where none fails
-no_first_fault : {F : Type 0} (failed : Bool) (fault : F) (rest : Option F) → (if failed then Some fault else rest) ≡ None → (failed ≡ false) × (rest ≡ None)
-no_first_fault false fault rest e = (refl, e)
-no_first_fault true fault rest e = absurd (cc e)
-
--- where none fails, each check passes
-pub all_pass : {F : Type 0} (checks : List (Bool × F)) → first_fault checks ≡ None → All (λ check. check.0 ≡ false) checks
-all_pass [] e = λ k d h. absurd (omega (arith, h))
-all_pass (check ∷ rest) e =
-    let (here, later) = no_first_fault check.0 check.1 (first_fault rest) e in
-    All-cons (λ check. check.0 ≡ false) check rest here (all_pass rest later)
 
 -- a lawful spec has at most 1,000 buckets
 pub few_buckets : (spec : Spec) → spec_fault spec ≡ None → buckets_of spec ≤ 1000

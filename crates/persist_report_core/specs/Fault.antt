@@ -14,6 +14,11 @@ cli_fault_number cli.Write = 2
 cli_fault_number cli.TooLong = 3
 cli_fault_number cli.NotWords = 4
 cli_fault_number (cli.Image fault) = 5
+cli_fault_number (cli.BadLine number) = 6
+cli_fault_number (cli.Refused number why) = 7
+cli_fault_number cli.Gate = 8
+cli_fault_number (cli.Merge name why) = 9
+cli_fault_number cli.NoThread = 10
 cli_fault_number cli.NoMemory = 11
 
 -- the fault of a call whose reading of words failed

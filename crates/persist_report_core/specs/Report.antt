@@ -5,7 +5,7 @@ use Rattle.segment_image.specs.Head.{header_of}
 use Rattle.segment_image.specs.declared.head.SegmentHead.{SegmentHead}
 use Rattle.bucket_ranges.specs.Reading.{Reading, IsReading}
 use Rattle.persist_report_core.specs.declared.fault.CliFault.{CliFault}
-use Rattle.persist_report_core.specs.declared.fault.CliFault.TheVariants.{Read, Write, TooLong, NotWords, Image, NoMemory}
+use Rattle.persist_report_core.specs.declared.fault.CliFault.TheVariants.{Read, Write, TooLong, NotWords, Image, BadLine, Refused, Gate, Merge, NoThread, NoMemory}
 use Rattle.persist_report_core.specs.Text.{IsTextOf}
 
 -- the words of 64 bits that the bytes are; a number past them would have the bytes of another word
@@ -23,11 +23,17 @@ pub record IsReportOf (bytes : List ℕ) (text : List ℕ) : Type 0 where
   pub reading_is : IsReading words head reading
   pub text_is : IsTextOf reading text
 
--- A fault has its cause in the bytes of the image. Devices that fail and want of memory have none there.
+-- A fault has its cause in the bytes of the image. Devices that fail and want of memory have none there. The faults of
+-- scripts, of merges and of workers come of no image alone.
 abbrev pub IsCausedBy : List ℕ → CliFault → Type 0
 IsCausedBy bytes Read = ⊤
 IsCausedBy bytes Write = ⊤
 IsCausedBy bytes TooLong = 8388608 < length bytes
 IsCausedBy bytes NotWords = (length bytes ≤ 8388608) × (length bytes % 8 ≢ 0)
 IsCausedBy bytes (Image fault) = (words : List ℕ) × AreWordsOf bytes words × (header_of words ≡ Err fault)
+IsCausedBy bytes (BadLine number) = ⊥
+IsCausedBy bytes (Refused number why) = ⊥
+IsCausedBy bytes Gate = ⊥
+IsCausedBy bytes (Merge name why) = ⊥
+IsCausedBy bytes NoThread = ⊥
 IsCausedBy bytes NoMemory = ⊤

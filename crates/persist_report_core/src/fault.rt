@@ -1,19 +1,21 @@
-//! Why there is no report.
+//! Why a call of the program did not do its work.
 
+use hist_core::Refusal;
 use segment_image::{ImageFault, ReadFault};
 use std::alloc::AllocError;
+use std::fmt;
 use thiserror::Error;
 
 /// Why a call of the program did not do its work.
-#[derive(Clone, Copy, Debug, PartialEq, Eq, Error)]
+#[derive(Debug, PartialEq, Eq, Drop, Error)]
 pub enum CliFault {
-    /// A read of the image failed.
+    /// A read of an image or of the script failed.
     #[error("Read")]
     Read,
-    /// A write of the report failed, or its flush did. How much went out is not said.
+    /// A write of an image or of a report failed, or its flush did. How much went out is not said.
     #[error("Write")]
     Write,
-    /// The image has more than 8,388,608 bytes.
+    /// The image has more than 8,388,608 bytes, or the script more than 16,777,216.
     #[error("TooLong")]
     TooLong,
     /// The number of the image's bytes is no multiple of eight.
@@ -22,9 +24,37 @@ pub enum CliFault {
     /// The image's header has this fault.
     #[error("Image {0}")]
     Image(ImageFault),
-    /// There was no memory for the image or for its report.
+    /// The record of the script with this number has no lawful form or place, or names no histogram.
+    #[error("BadLine {0}")]
+    BadLine(u32),
+    /// What the record of the script with this number asks for is refused; never for want of memory.
+    #[error("Refused {number} {why}")]
+    Refused { number: u32, why: Refusal },
+    /// The gate let a worker not go on.
+    #[error("Gate")]
+    Gate,
+    /// The merge stopped at the histogram of this name; never for want of memory.
+    #[error("Merge {letters} {why}", letters = Letters(.name))]
+    Merge { name: Vec<u8>, why: Refusal },
+    /// A worker could not be started.
+    #[error("NoThread")]
+    NoThread,
+    /// There was no memory for what was read, for what was to be written, or for the work between.
     #[error("NoMemory")]
     NoMemory,
+}
+
+// The bytes of a name as text: those of a lawful name are letters, digits and signs of ASCII.
+#[derive(Clone, Copy)]
+struct Letters<'a>(&'a [u8]);
+
+impl fmt::Display for Letters<'_> {
+    fn fmt<W: fmt::Write>(&self, f: &mut fmt::Formatter<W>) -> fmt::Result {
+        for byte in self.0 {
+            f.write_char(char::from(*byte))?;
+        }
+        Ok(())
+    }
 }
 
 impl CliFault {
@@ -41,6 +71,11 @@ impl CliFault {
             CliFault::TooLong => 3,
             CliFault::NotWords => 4,
             CliFault::Image(_) => 5,
+            CliFault::BadLine(_) => 6,
+            CliFault::Refused { .. } => 7,
+            CliFault::Gate => 8,
+            CliFault::Merge { .. } => 9,
+            CliFault::NoThread => 10,
             CliFault::NoMemory => 11,
         }
     }

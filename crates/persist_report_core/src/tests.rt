@@ -1,5 +1,7 @@
 use crate::{CliFault, report};
-use segment_image::Watched;
+use bucket_ranges::SpecFault;
+use hist_core::Refusal;
+use segment_image::{ImageFault, Watched};
 use std::alloc::{AllocError, Global};
 use std::io;
 use std::io::Write;
@@ -119,6 +121,35 @@ fn failing_writes(rt: HostRuntime) -> Result<(), Fail> {
         let (came, made, text) = write_to(rt.alloc(), failing)?;
         assert_eq!(rt; (came, made), (fault, calls));
         assert_eq!(rt; text.as_slice(), &REPORT[..len]);
+    }
+    Ok(())
+}
+
+// The fault of a merge that stopped at a histogram; each byte of its name is one letter.
+fn merge_fault(alloc: Global, name: &[u8]) -> Result<CliFault, AllocError> {
+    let name = Vec::from_slice(alloc, name)?;
+    let why = Refusal::NoUnits;
+    Ok(CliFault::Merge { name, why })
+}
+
+#[test]
+fn fault_texts(rt: HostRuntime) -> Result<(), Fail> {
+    let alloc = rt.alloc();
+    let why = Refusal::BadSpec(SpecFault::TooFew);
+    let texts = [
+        (CliFault::Image(ImageFault::BadCookie), "Image BadCookie"),
+        (CliFault::BadLine(1), "BadLine 1"),
+        (
+            CliFault::Refused { number: 2, why },
+            "Refused 2 BadSpec TooFew",
+        ),
+        (CliFault::Gate, "Gate"),
+        (merge_fault(alloc, b"A\\'")?, "Merge A\\' NoUnits"),
+        (CliFault::NoThread, "NoThread"),
+        (CliFault::NoMemory, "NoMemory"),
+    ];
+    for (fault, text) in texts {
+        assert_eq!(rt; fault.to_string(alloc)?.as_str(), text);
     }
     Ok(())
 }

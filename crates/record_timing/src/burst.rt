@@ -1,9 +1,8 @@
 //! One burst: threads record beside one another, and the time from their start to the end of the last.
 
-ghost use Rattle.std.specs.Prelude.{◌<◌, length};
 ghost use Rattle.live_segment.specs.Holders.{IsMadeWith, Knows};
 
-use crate::plan::Plan;
+use crate::plan::{Plan, VALUES};
 use anyhow::{Result, bail};
 use hist_core::Refusal;
 use live_segment::{Hist, Opener, Recorder, Segment};
@@ -70,21 +69,18 @@ fn record_into(
     recorder: &mut Recorder,
     histogram: Hist,
     samples: u32,
-    values: &[i32],
+    values: &[i32; VALUES],
 ) -> Result<(), Refusal>
-    requires knows { Knows recorder.old histogram }
-    requires some { 0 < length values.now }
+    requires { Knows recorder.old histogram }
 {
     for i in 0..samples as usize {
-        recorder.add(histogram, values[i % values.len()], 1)?;
+        recorder.add(histogram, values[i % VALUES], 1)?;
     }
     Ok(())
 }
 
 // Records the samples of a thread.
-fn record(plan: Plan, values: &[i32], job: Job) -> Result<(), Refusal>
-    requires some { 0 < length values.now }
-{
+fn record(plan: Plan, values: &[i32; VALUES], job: Job) -> Result<(), Refusal> {
     let Job {
         mut recorder,
         histograms,
@@ -111,11 +107,8 @@ fn check(answers: &[Result<(), Refusal>]) -> Result<()> {
 pub(crate) fn time<R: Threads + Clock + AllocGlobal + Sync>(
     rt: &R,
     plan: Plan,
-    values: &[i32],
+    values: &[i32; VALUES],
 ) -> Result<u128> {
-    if values.is_empty() {
-        bail!("there are no values");
-    }
     let alloc = rt.alloc();
     let (segment, mut opener) = Segment::create(alloc, 1 << 20, 1 << 16, 7, 0, 1)?;
     let samples = plan.histograms().saturating_mul(plan.samples());

@@ -48,10 +48,10 @@ fn read_parameters(rt: &(impl Env + Alloc)) -> Result<Parameters> {
 
 fn main(rt: HostRuntime) -> Result<()> {
     let Parameters { plan, bursts } = read_parameters(&rt)?;
-    let values = plan.values(rt.alloc())?;
+    let values = plan.values();
     let mut least = u128::MAX;
     for _ in 0..bursts {
-        least = least.min(burst::time(&rt, plan, values.as_slice())?);
+        least = least.min(burst::time(&rt, plan, &values)?);
     }
     let (histograms, samples) = (plan.histograms(), plan.samples());
     println!(rt; "each thread: {histograms} histograms, {samples} samples of each")?;

@@ -1,13 +1,13 @@
 //! What a burst records.
 
 use bucket_ranges::Spec;
-use std::alloc::{AllocError, Global};
 
 const MOST_PACKED: u32 = 65_535;
 
 const MOUNTED_SAMPLES: u32 = 1_000_000;
 
-const VALUES: usize = 4096;
+/// How many values come again and again.
+pub(crate) const VALUES: usize = 4096;
 
 /// What a burst records.
 #[derive(Clone, Copy)]
@@ -46,18 +46,15 @@ impl Plan {
 
     /// The values of the samples, again and again: one that is in no range of the ends, or values in no order, of one that
     /// fits each bucket to one beyond the greatest.
-    pub(crate) fn values(&self, alloc: Global) -> Result<Vec<i32>, AllocError> {
-        let mut values = Vec::with_capacity(alloc, VALUES)?;
+    pub(crate) fn values(&self) -> [i32; VALUES] {
+        let mut values = [5000; VALUES];
         let mut state: u32 = 1;
-        for _ in 0..VALUES {
+        for value in values.iter_mut() {
             state = state.wrapping_mul(1_664_525).wrapping_add(1_013_904_223);
-            let value = if self.packed {
-                5000
-            } else {
-                (state >> 8) % 10_100
-            };
-            values.push(value as i32)?;
+            if !self.packed {
+                *value = ((state >> 8) % 10_100) as i32;
+            }
         }
-        Ok(values)
+        values
     }
 }

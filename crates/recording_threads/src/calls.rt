@@ -13,10 +13,13 @@ use std::alloc::Global;
 const CALLS: u32 = 120;
 
 /// The units of a thread. No call asks for more than it has left.
-pub(crate) const UNITS: u32 = CALLS * MOST_COUNT;
+pub(crate) const UNITS: u32 = CALLS * MOST_ITEMS * MOST_COUNT;
 
 // The greatest count of a sample: no single word holds so many.
 const MOST_COUNT: u32 = 70_000;
+
+// The most items of a batch.
+const MOST_ITEMS: u32 = 4;
 
 /// The names of the histograms.
 pub(crate) const NAMES: [&str; 4] = ["boolean", "custom", "linear", "sparse"];
@@ -29,11 +32,20 @@ pub(crate) struct Sample {
     pub(crate) count: u32,
 }
 
-/// What a thread did: its recorder, its samples, and what it was answered.
+/// A batch that was accepted: values with their counts, and what it adds to the sum.
+#[derive(Drop)]
+pub(crate) struct Batch {
+    pub(crate) name: &'static str,
+    pub(crate) items: Vec<(i32, u32)>,
+    pub(crate) sum: i64,
+}
+
+/// What a thread did: its recorder, its samples and batches, and what it was answered.
 #[derive(Drop)]
 pub(crate) struct Done<'a> {
     pub(crate) recorder: Recorder<'a>,
     pub(crate) samples: Vec<Sample>,
+    pub(crate) batches: Vec<Batch>,
     pub(crate) deltas: Vec<(&'static str, Delta)>,
     pub(crate) snapshots: Vec<(&'static str, Snapshot)>,
 }
@@ -82,6 +94,7 @@ fn put<T: Drop>(list: &mut Vec<T>, item: T) -> Result<(), Refusal> {
 // A thread at work.
 #[derive(Drop)]
 struct Worker<'a> {
+    alloc: Global,
     done: Done<'a>,
     histograms: Vec<(&'static str, Hist)>,
     numbers: Numbers,
@@ -120,6 +133,20 @@ fn sample_of(numbers: &mut Numbers, name: &'static str) -> Sample {
     Sample { name, value, count }
 }
 
+// A batch of a few values, whose sum is not theirs, and is often 0.
+fn batch_of(alloc: Global, numbers: &mut Numbers, name: &'static str) -> Result<Batch, Refusal> {
+    let mut items = Vec::new(alloc);
+    for _ in 0..numbers.below(MOST_ITEMS + 1) {
+        let Sample { value, count, .. } = sample_of(numbers, name);
+        put(&mut items, (value, count))?;
+    }
+    let sum = match numbers.below(4) {
+        0 => 0,
+        _ => i64::from(numbers.below(2001)) - 1000,
+    };
+    Ok(Batch { name, items, sum })
+}
+
 impl<'a> Worker<'a> {
     fn add(&mut self, name: &'static str, histogram: Hist) -> Result<(), Refusal>
         requires { Knows self.old.done.recorder histogram }
@@ -130,6 +157,18 @@ impl<'a> Worker<'a> {
             .recorder
             .add(histogram, sample.value, sample.count)?;
         put(&mut self.done.samples, sample)
+    }
+
+    fn batch(&mut self, name: &'static str, histogram: Hist) -> Result<(), Refusal>
+        requires { Knows self.old.done.recorder histogram }
+        ensures { IsBeside self.old.done.recorder self.new.done.recorder }
+    {
+        let batch = batch_of(self.alloc, &mut self.numbers, name)?;
+        self.done
+            .recorder
+            .batch(histogram, batch.items.as_slice(), batch.sum)
+            .map_err(|refusal| refusal.why)?;
+        put(&mut self.done.batches, batch)
     }
 
     fn take(&mut self, name: &'static str, histogram: Hist) -> Result<(), Refusal>
@@ -163,6 +202,7 @@ impl<'a> Worker<'a> {
         match kind {
             0 => self.take(name, histogram),
             1 => self.look(name, histogram),
+            2..=4 => self.batch(name, histogram),
             _ => self.add(name, histogram),
         }
     }
@@ -178,9 +218,11 @@ pub(crate) fn run<'a>(
 {
     let histograms = meet_all(alloc, &mut recorder, seed as usize % NAMES.len())?;
     let mut worker = Worker {
+        alloc,
         done: Done {
             recorder,
             samples: Vec::new(alloc),
+            batches: Vec::new(alloc),
             deltas: Vec::new(alloc),
             snapshots: Vec::new(alloc),
         },

@@ -1,6 +1,6 @@
 //! The lines that a round prints.
 
-use crate::calls::Sample;
+use crate::calls::{Batch, Sample};
 use hist_core::{Delta, Snapshot};
 use std::io;
 
@@ -15,6 +15,14 @@ fn show_units(rt: &impl Print, counts: &[(i32, u64)]) -> io::Result<()> {
 pub(crate) fn show_sample(rt: &impl Print, sample: Sample) -> io::Result<()> {
     let Sample { name, value, count } = sample;
     println!(rt; "sample,{name},{value},{count}")
+}
+
+pub(crate) fn show_batch(rt: &impl Print, batch: &Batch) -> io::Result<()> {
+    print!(rt; "batch,{},{}", batch.name, batch.sum)?;
+    for (value, count) in batch.items.iter() {
+        print!(rt; ",{value},{count}")?;
+    }
+    println!(rt; "")
 }
 
 pub(crate) fn show_delta(rt: &impl Print, name: &str, delta: &Delta) -> io::Result<()> {

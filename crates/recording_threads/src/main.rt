@@ -1,11 +1,12 @@
 //! Threads record beside one another into one segment, and what they recorded is printed beside what the image tells.
 //!
 //! `recording_threads record THREADS SEED ROUNDS`: each round is a new segment, in which each of THREADS threads makes some
-//! hundred calls by its own recorder, which SEED decides: samples of all kinds of histograms, deltas and snapshots. Then
-//! all are joined, one more delta of each histogram is taken, and the segment is closed. A round prints
+//! hundred calls by its own recorder, which SEED decides: samples and batches of all kinds of histograms, deltas and
+//! snapshots. Then all are joined, one more delta of each histogram is taken, and the segment is closed. A round prints
 //!
 //!     round,NUMBER,VERSION
 //!     sample,NAME,VALUE,COUNT                 for each sample, those of a thread in their order
+//!     batch,NAME,SUM,VALUE,COUNT..            for each batch, those of a thread in their order
 //!     delta,NAME,SUM,KEY,UNITS..              for each delta
 //!     snapshot,NAME,SUM,REDUNDANT,KEY,UNITS.. for each snapshot
 //!     report                                  and behind this line the report of the image

@@ -5,7 +5,7 @@ ghost use Rattle.live_segment.specs.Holders.{IsMadeWith, table_of};
 ghost use Rattle.recording_threads.specs.Holders.{GivesBack, IsBeside, IsDoneAt, IsJobAt};
 
 use crate::calls::{Done, NAMES, UNITS, run, spec_of};
-use crate::lines::{show_delta, show_sample, show_snapshot};
+use crate::lines::{show_batch, show_delta, show_sample, show_snapshot};
 use anyhow::Result;
 use hist_core::Refusal;
 use live_segment::{Opener, Recorder, Segment};
@@ -69,6 +69,9 @@ fn run_all<'a, R: Threads + Sync>(
 fn show_done(rt: &impl Print, done: &Done) -> io::Result<()> {
     for sample in done.samples.iter() {
         show_sample(rt, *sample)?;
+    }
+    for batch in done.batches.iter() {
+        show_batch(rt, batch)?;
     }
     for (name, delta) in done.deltas.iter() {
         show_delta(rt, name, delta)?;

@@ -1,1 +1,6 @@
 mod Items
+pub mod Merged
+mod Batches
+mod Underway
+pub mod Readings
+pub mod MergedImage

@@ -1,1 +1,4 @@
 pub mod Remainder
+pub mod Merge
+pub mod Parts
+pub mod Image

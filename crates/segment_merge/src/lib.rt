@@ -1,9 +1,13 @@
 //! What a dead segment counted is merged into a segment that lives.
 //!
-//! So far it says what that is: of each histogram of a reading the units, and the part of the sum, that its deltas have not
-//! taken. The merge itself comes.
+//! Of each histogram of a reading that is the units, and the part of the sum, that its deltas have not taken. [`merge`] adds them by a
+//! recorder of the segment that lives, one batch for each histogram, and reports what it added.
 #![tactic(auto)]
 
+mod merging;
 mod remainder;
+#[cfg(test)]
+mod tests;
 
+pub use merging::{MergeReport, MergeStop, merge};
 pub use remainder::{Remainder, remainder_of};

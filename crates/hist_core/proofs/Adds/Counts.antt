@@ -1,5 +1,5 @@
 -- An `add` counts its units, adds its amount to the sum, and notes its units in the redundant count.
-use Rattle.std.proofs.Common.{◌≡◌, ℕ, ◌+◌, ◌%◌, ◌^◌, ◌<◌, ◌≤◌, ℤ, pos, Bool, true, false, List, [], ◌∷◌, length, refl, sym, ap, subst, arith, inl, inr, ⊎_elim, ◌∙◌}
+use Rattle.std.proofs.Common.{◌≡◌, ℕ, ◌+◌, ◌%◌, ◌^◌, ◌<◌, ◌≤◌, ℤ, pos, Bool, true, false, not, List, [], ◌∷◌, ◌++◌, map, filter, length, refl, sym, ap, subst, arith, inl, inr, ⊎_elim, ◌∙◌}
 use Rattle.std.specs.Prelude.{slice_set, if◌then◌else◌}
 use Rattle.std.specs.Ordering.{int_eq}
 use Rattle.std.proofs.Props.{props}
@@ -15,14 +15,14 @@ use Rattle.segment_machine.specs.Counting.{add_count}
 use Rattle.bucket_ranges.specs.Ranges.{boundaries_of}
 use Rattle.bucket_ranges.specs.declared.spec.Spec.{Spec}
 use Rattle.segment_machine.specs.Made.{IsFirstSample}
-use Rattle.segment_machine.specs.Entry.{key_of, has_ended, is_counted}
+use Rattle.segment_machine.specs.Entry.{fresh, key_of, has_ended, is_counted}
 use Rattle.segment_machine.specs.Event.{Event, next, counting_event}
 use Rattle.hist_core.specs.declared.add.Add.{Add}
 use Rattle.hist_core.specs.declared.add.AddStep.TheVariants.{More}
 use Rattle.hist_core.specs.declared.add.Stage.{Stage}
 use Rattle.hist_core.specs.declared.add.Stage.TheVariants.{Counting, Summing, Noting}
 use Rattle.hist_core.specs.Goes.{Goes}
-use Rattle.hist_core.specs.Add.{IsCounting, HasEntry, IsSomeAdd, StandsAtStage, IsAdd, AddGives, behind_count}
+use Rattle.hist_core.specs.Add.{Amid, IsCounting, HasEntry, IsSomeAdd, StandsAtStage, IsAdd, AddGives, behind_count}
 use Rattle.hist_core.proofs.Adds.Entries.{still_open, only_open, only_changed, counting_of}
 use Rattle.segment_machine.specs.Packing.{CountsIn}
 
@@ -35,44 +35,46 @@ counts_on shape known add stage counting = record {
   within = counting.within;
   some = counting.some;
   lawful = counting.lawful;
-  amount = counting.amount;
   buckets = counting.buckets;
   fits = counting.fits;
   bucket = counting.bucket;
 }
 
 -- once its units are counted, its amount comes next, or its units
-pub behind_stands : (shape : Dimensions) (known : Known) (add : Add) (b : Actor) → MayTurn b → HasEntry known add b true false
-    → StandsAtStage shape known (record add { stage = behind_count add.amount }) b (behind_count add.amount)
-behind_stands shape known add b turns has = by (int_eq add.amount (pos 0)) refl
+pub behind_stands : (shape : Dimensions) (known : Known) (amid : Amid) (add : Add) (b : Actor) → MayTurn b → HasEntry known amid add b true false
+    → StandsAtStage shape known amid (record add { stage = behind_count add.amount }) b (behind_count add.amount)
+behind_stands shape known amid add b turns has = by (int_eq add.amount (pos 0)) refl
   where
-    by : (none : Bool) → int_eq add.amount (pos 0) ≡ none → let stage = if none then Noting else Summing in StandsAtStage shape known (record add { stage = stage }) b stage
-    by true e = (turns, (false, has, e))
+    by : (none : Bool) → int_eq add.amount (pos 0) ≡ none → let stage = if none then Noting else Summing in StandsAtStage shape known amid (record add { stage = stage }) b stage
+    by true e = (turns, subst (λ (n : Bool). HasEntry known amid add b true (not n)) (sym e) has)
     by false e = (turns, has, e)
 
-module _ (shape : Dimensions) (known : Known) (add : Add) (a : Actor) (is : IsAdd shape known add a) (counted summed : Bool) (has : HasEntry known add a counted summed) where
+module _ (shape : Dimensions) (known : Known) (amid : Amid) (add : Add) (a : Actor) (is : IsAdd shape known amid add a) (counted summed : Bool) (has : HasEntry known amid add a counted summed) where
   -- its entry goes on
   goes_on : has_ended (counting_of known add counted summed) ≡ false
   goes_on = still_open (counting_of known add counted summed) refl is.counting.some
 
   pub next_is : IsNext a (counting_of known add counted summed)
-  next_is = ([], only_open (counting_of known add counted summed) a.entries.running has goes_on)
+  next_is = (
+    filter (λ c. not (has_ended c)) (map fresh amid.behind),
+    ap (filter (λ c. not (has_ended c))) has ∙ only_open (counting_of known add counted summed) (map fresh amid.behind) goes_on amid.before is.over,
+  )
 
-  pub changed_is : (f : MachineCounting → MachineCounting) → change_next f a.entries.running ≡ f (counting_of known add counted summed) ∷ []
-  changed_is f = only_changed (counting_of known add counted summed) a.entries.running has goes_on f
+  pub changed_is : (f : MachineCounting → MachineCounting) → change_next f a.entries.running ≡ amid.before ++ f (counting_of known add counted summed) ∷ map fresh amid.behind
+  changed_is f = ap (change_next f) has ∙ only_changed (counting_of known add counted summed) (map fresh amid.behind) goes_on f amid.before is.over
 
 -- it may make room: nothing is counted of its entry, and it takes nothing
-pub counts_in : (shape : Dimensions) (known : Known) (add : Add) (a : Actor) → IsAdd shape known add a → HasEntry known add a false false → CountsIn a known
-counts_in shape known add a is has = (is.rests, λ c first. by c (first_is c first))
+pub counts_in : (shape : Dimensions) (known : Known) (amid : Amid) (add : Add) (a : Actor) → IsAdd shape known amid add a → HasEntry known amid add a false false → CountsIn a known
+counts_in shape known amid add a is has = (is.rests, λ c first. by c (first_is c first))
   where
     first_is : (c : MachineCounting) → IsNext a c → counting_of known add false false ≡ c
-    first_is c first = let same : (counting_of known add false false ∷ []) ≡ c ∷ first.0 =
-        sym (only_open (counting_of known add false false) a.entries.running has (still_open (counting_of known add false false) refl is.counting.some)) ∙ first.1 in cc same
+    first_is c first = let mine = next_is shape known amid add a is false false has in
+        let same : counting_of known add false false ∷ mine.0 ≡ c ∷ first.0 = sym mine.1 ∙ first.1 in cc same
 
     by : (c : MachineCounting) → counting_of known add false false ≡ c → (is_counted c ≡ false) × (c.entry.name ≡ known.name)
     by c same = subst (λ (d : MachineCounting). (is_counted d ≡ false) × (d.entry.name ≡ known.name)) same (is.counting.some, refl)
 
-module _ (shape : Dimensions) (known : Known) (add : Add) (a : Actor) (words : List ℕ) (is : IsAdd shape known add a) where
+module _ (shape : Dimensions) (known : Known) (amid : Amid) (add : Add) (a : Actor) (words : List ℕ) (is : IsAdd shape known amid add a) where
   -- its record lies in the words
   pub is_inside : length words ≡ shape.size → (add.histogram + 15 ≤ length words) × (length words ≤ 1048576)
   is_inside long =
@@ -80,8 +82,8 @@ module _ (shape : Dimensions) (known : Known) (add : Add) (a : Actor) (words : L
 
   -- ---- a count
   module _ (at : ℕ) (counts : add.stage ≡ Counting at) where
-    stands : StandsAtStage shape known add a (Counting at)
-    stands = subst (StandsAtStage shape known add a) counts is.stands
+    stands : StandsAtStage shape known amid add a (Counting at)
+    stands = subst (StandsAtStage shape known amid add a) counts is.stands
 
     pub count_inside : length words ≡ shape.size → at < length words
     count_inside long = subst (λ (n : ℕ). at < n) (sym long) stands.2
@@ -92,11 +94,11 @@ module _ (shape : Dimensions) (known : Known) (add : Add) (a : Actor) (words : L
     abbrev acted : Actor
     acted = next a event (word_at words at)
 
-    is_counted_then : HasEntry known add acted true false
-    is_counted_then = changed_is shape known add a is false false stands.0 (λ c. record c { counted = true })
+    is_counted_then : HasEntry known amid add acted true false
+    is_counted_then = changed_is shape known amid add a is false false stands.0 (λ c. record c { counted = true })
 
     pub counts_so : (new_words : List ℕ) → new_words ≡ slice_set words at ((word_at words at + add.units) % 2 ^ 64)
-        → Goes shape.size add.version a words new_words (AddGives shape known (record add { stage = behind_count add.amount }) More a)
+        → Goes shape.size add.version a words new_words (AddGives shape known amid (record add { stage = behind_count add.amount }) More a)
     counts_so new_words are = record {
       before = [];
       at = a;
@@ -105,7 +107,7 @@ module _ (shape : Dimensions) (known : Known) (add : Add) (a : Actor) (words : L
       ready = (
         counting_of known add false false,
         known,
-        (next_is shape known add a is false false stands.0, is.counting.some),
+        (next_is shape known amid add a is false false stands.0, is.counting.some),
         refl,
         refl,
         ⊎_elim (λ (look, (place, some, off, (knows, here, has)), there). inl (look, add.bucket, (place, some, off, (knows, here, has)), is.counting.bucket has, there))
@@ -142,7 +144,8 @@ module _ (shape : Dimensions) (known : Known) (add : Add) (a : Actor) (words : L
             alone = is.alone;
             rests = is.rests;
             held = is.held;
-            stands = behind_stands shape known add acted refl is_counted_then;
+            over = is.over;
+            stands = behind_stands shape known amid add acted refl is_counted_then;
           },
         ),
       );
@@ -150,4 +153,4 @@ module _ (shape : Dimensions) (known : Known) (add : Add) (a : Actor) (words : L
 
 -- the record of an `add` that stands somewhere lies in so many words, which are few
 pub some_inside : (add : Add) (words : List ℕ) → ∥ IsSomeAdd (length words) add ∥₁ → (add.histogram + 15 ≤ length words) × (length words ≤ 1048576)
-some_inside add words stands = ∥∥₁_elim stands (hlevel props) (λ (shape, known, a, long, is). is_inside shape known add a words is long)
+some_inside add words stands = ∥∥₁_elim stands (hlevel props) (λ (shape, known, amid, a, long, is). is_inside shape known amid add a words is long)

@@ -12,7 +12,7 @@ use Rattle.hist_core.specs.declared.add.Add.{Add}
 use Rattle.hist_core.specs.declared.add.AddStep.TheVariants.{More}
 use Rattle.hist_core.specs.declared.add.Stage.{Stage}
 use Rattle.hist_core.specs.Goes.{Goes}
-use Rattle.hist_core.specs.Add.{Aside, StaysOpen, StandsAtStage, IsAdd, AddGives}
+use Rattle.hist_core.specs.Add.{Amid, Aside, StaysOpen, StandsAtStage, IsAdd, AddGives}
 use Rattle.hist_core.proofs.Adds.Counts.{counts_on}
 use Rattle.std.specs.List.{Contains}
 use Rattle.segment_machine.specs.Actor.{known_at}
@@ -67,10 +67,10 @@ packing_aside a (add_moved counts bucket units) found =
 
 -- ---- a step
 
-module _ (shape : Dimensions) (known : Known) (add : Add) (a : Actor) (is : IsAdd shape known add a) (stage : Stage) where
+module _ (shape : Dimensions) (known : Known) (amid : Amid) (add : Add) (a : Actor) (is : IsAdd shape known amid add a) (stage : Stage) where
   -- it goes on from another stage
-  pub goes_still : (b : Actor) → Aside a b → StaysOpen a b → StandsAtStage shape known (record add { stage = stage }) b stage
-      → AddGives shape known (record add { stage = stage }) More a b
+  pub goes_still : (b : Actor) → Aside a b → StaysOpen a b → StandsAtStage shape known amid (record add { stage = stage }) b stage
+      → AddGives shape known amid (record add { stage = stage }) More a b
   goes_still b beside (units, entries) stands = (
     beside,
     (units, entries),
@@ -83,6 +83,7 @@ module _ (shape : Dimensions) (known : Known) (add : Add) (a : Actor) (is : IsAd
       alone = ap (λ (l : List Known). known_at l known.reference) beside.names ∙ is.alone;
       rests = ap (λ d. d.taking) beside.deltas ∙ is.rests;
       held = ap (λ u. u.held) units ∙ is.held;
+      over = is.over;
       stands = stands;
     },
   )
@@ -96,8 +97,8 @@ module _ (shape : Dimensions) (known : Known) (add : Add) (a : Actor) (is : IsAd
     acted = next a event found
 
     pub acts_on : Ready a event → new_words ≡ after shape.size add.version event words → Aside a acted × StaysOpen a acted
-        → (Learned a event found → StandsAtStage shape known (record add { stage = stage }) acted stage)
-        → Goes shape.size add.version a words new_words (AddGives shape known (record add { stage = stage }) More a)
+        → (Learned a event found → StandsAtStage shape known amid (record add { stage = stage }) acted stage)
+        → Goes shape.size add.version a words new_words (AddGives shape known amid (record add { stage = stage }) More a)
     acts_on ready are beside stands = record {
       before = [];
       at = a;
@@ -110,7 +111,7 @@ module _ (shape : Dimensions) (known : Known) (add : Add) (a : Actor) (is : IsAd
 
   pub packs_on : (words new_words : List ℕ) (e : PackingEvent) → Ready a (packing_event e) → new_words ≡ after shape.size add.version (packing_event e) words
       → (Learned a (packing_event e) (word_at words (spot shape.size (packing_event e)))
-      → StandsAtStage shape known (record add { stage = stage }) (next a (packing_event e) (word_at words (spot shape.size (packing_event e)))) stage)
-      → Goes shape.size add.version a words new_words (AddGives shape known (record add { stage = stage }) More a)
+      → StandsAtStage shape known amid (record add { stage = stage }) (next a (packing_event e) (word_at words (spot shape.size (packing_event e)))) stage)
+      → Goes shape.size add.version a words new_words (AddGives shape known amid (record add { stage = stage }) More a)
   packs_on words new_words e ready are stands =
       acts_on words new_words (packing_event e) ready are (packing_aside a e (word_at words (spot shape.size (packing_event e)))) stands

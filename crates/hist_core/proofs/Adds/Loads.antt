@@ -20,12 +20,12 @@ use Rattle.hist_core.specs.declared.add.Add.{Add}
 use Rattle.hist_core.specs.declared.add.AddStep.TheVariants.{More}
 use Rattle.hist_core.specs.declared.add.Stage.TheVariants.{LoadingCounts, Counting}
 use Rattle.hist_core.specs.Goes.{Goes}
-use Rattle.hist_core.specs.Add.{StandsAtStage, IsAdd, AddGives}
+use Rattle.hist_core.specs.Add.{Amid, StandsAtStage, IsAdd, AddGives}
 use Rattle.hist_core.proofs.Adds.Counts.{counts_on}
 
-module _ (shape : Dimensions) (known : Known) (add : Add) (a : Actor) (words : List ℕ) (is : IsAdd shape known add a) (loads : add.stage ≡ LoadingCounts) where
-  stands : StandsAtStage shape known add a LoadingCounts
-  stands = subst (StandsAtStage shape known add a) loads is.stands
+module _ (shape : Dimensions) (known : Known) (amid : Amid) (add : Add) (a : Actor) (words : List ℕ) (is : IsAdd shape known amid add a) (loads : add.stage ≡ LoadingCounts) where
+  stands : StandsAtStage shape known amid add a LoadingCounts
+  stands = subst (StandsAtStage shape known amid add a) loads is.stands
 
   abbrev found : ℕ
   found = word_at words (known.reference + 8)
@@ -69,7 +69,7 @@ module _ (shape : Dimensions) (known : Known) (add : Add) (a : Actor) (words : L
     count_at : (at : ℕ) → at ≡ (found + (4 + add.bucket)) % 2 ^ 64 → at ≡ found + 4 + add.bucket
     count_at at is_sum = let inside = counts_inside in let bucket = bucket_inside.0 in let many = is.lawful_shape.many in omega (arith, is_sum, inside, bucket, many)
 
-    then_stands : (at : ℕ) → at ≡ (found + (4 + add.bucket)) % 2 ^ 64 → StandsAtStage shape known (record add { stage = Counting at }) acted (Counting at)
+    then_stands : (at : ℕ) → at ≡ (found + (4 + add.bucket)) % 2 ^ 64 → StandsAtStage shape known amid (record add { stage = Counting at }) acted (Counting at)
     then_stands at is_sum = (
       stands.1,
       inl (looking, (looks_on, counts_are, (stands.2.0, refl, stands.2.4), has_them), count_at at is_sum),
@@ -77,7 +77,7 @@ module _ (shape : Dimensions) (known : Known) (add : Add) (a : Actor) (words : L
     )
 
   pub loads_so : (at : ℕ) → at ≡ (word_at words (add.histogram + 8) + (4 + add.bucket)) % 2 ^ 64
-      → Goes shape.size add.version a words words (AddGives shape known (record add { stage = Counting at }) More a)
+      → Goes shape.size add.version a words words (AddGives shape known amid (record add { stage = Counting at }) More a)
   loads_so at is_sum = record {
     before = [];
     at = a;
@@ -108,6 +108,7 @@ module _ (shape : Dimensions) (known : Known) (add : Add) (a : Actor) (words : L
           alone = is.alone;
           rests = is.rests;
           held = is.held;
+          over = is.over;
           stands = then_stands learned at (is_sum ∙ ap (λ (r : ℕ). (word_at words (r + 8) + (4 + add.bucket)) % 2 ^ 64) (sym is.counting.reference));
         },
       ),

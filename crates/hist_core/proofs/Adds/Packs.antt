@@ -22,7 +22,7 @@ use Rattle.hist_core.specs.declared.add.AddStep.TheVariants.{More}
 use Rattle.hist_core.specs.declared.add.Stage.{Stage}
 use Rattle.hist_core.specs.declared.add.Stage.TheVariants.{LoadingSingle, Packing, LoadingCounts, SeekingCounts, Allocating, Mounting, Purging, LoadingAgain, Disabling, Moving, Counting, Summing, Noting}
 use Rattle.hist_core.specs.Goes.{Goes}
-use Rattle.hist_core.specs.Add.{IsCounting, Looks, HasSeenSingle, HasEntry, IsBehindSingle, StandsAtStage, IsAdd, AddGives, IsSomeAdd, behind_count}
+use Rattle.hist_core.specs.Add.{Amid, IsCounting, Looks, HasSeenSingle, HasEntry, IsBehindSingle, StandsAtStage, IsAdd, AddGives, IsSomeAdd, behind_count}
 use Rattle.hist_core.proofs.Adds.Going.{packs_on}
 use Rattle.hist_core.proofs.Looks.{looks_there, on_units, HasUnits}
 use Rattle.std.proofs.Props.{props}
@@ -38,7 +38,7 @@ few_such shape known add counting has =
 
 -- ---- the single word is loaded
 
-module _ (shape : Dimensions) (known : Known) (add : Add) (a : Actor) (words : List ℕ) (is : IsAdd shape known add a) where
+module _ (shape : Dimensions) (known : Known) (amid : Amid) (add : Add) (a : Actor) (words : List ℕ) (is : IsAdd shape known amid add a) where
   abbrev load : PackingEvent
   load = load_single known.reference
 
@@ -73,8 +73,8 @@ module _ (shape : Dimensions) (known : Known) (add : Add) (a : Actor) (words : L
         by (inr units) = inr units.some
 
     -- where it goes on to a stage of which nothing has happened yet
-    module _ (entry : HasEntry known add a false false) where
-      stood : (stage : Stage) → IsBehindSingle add found stage → IsSingleOf a known.reference found → StandsAtStage shape known (record add { stage = stage }) looking stage
+    module _ (entry : HasEntry known amid add a false false) where
+      stood : (stage : Stage) → IsBehindSingle add found stage → IsSingleOf a known.reference found → StandsAtStage shape known amid (record add { stage = stage }) looking stage
       stood LoadingCounts off learned = (has, entry, (found, (look_of a.hand.place known.reference).counts, looks_then, seen_then, off))
       stood (Packing old new) (on, same, packs) learned = (
         has,
@@ -98,39 +98,39 @@ module _ (shape : Dimensions) (known : Known) (add : Add) (a : Actor) (words : L
       stood Noting is learned = absurd is
 
   module _ (loads : add.stage ≡ LoadingSingle) where
-    stands : StandsAtStage shape known add a LoadingSingle
-    stands = subst (StandsAtStage shape known add a) loads is.stands
+    stands : StandsAtStage shape known amid add a LoadingSingle
+    stands = subst (StandsAtStage shape known amid add a) loads is.stands
 
     pub loads_single_so : (stage : Stage) → IsBehindSingle add (word_at words (add.histogram + 9)) stage
-        → Goes shape.size add.version a words words (AddGives shape known (record add { stage = stage }) More a)
-    loads_single_so stage behind = packs_on shape known add a is stage words words load (stands.2, (known, has_them stands.0)) (sym (set-get_or words (known.reference + 9) 0))
+        → Goes shape.size add.version a words words (AddGives shape known amid (record add { stage = stage }) More a)
+    loads_single_so stage behind = packs_on shape known amid add a is stage words words load (stands.2, (known, has_them stands.0)) (sym (set-get_or words (known.reference + 9) 0))
         (λ learned. stood stands.0 stands.1 stage (subst (λ (r : ℕ). IsBehindSingle add (word_at words (r + 9)) stage) (sym is.counting.reference) behind) learned)
 
   -- ---- its units are packed
 
   module _ (old new : ℕ) (packs : add.stage ≡ Packing old new) where
-    stood_to_pack : StandsAtStage shape known add a (Packing old new)
-    stood_to_pack = subst (StandsAtStage shape known add a) packs is.stands
+    stood_to_pack : StandsAtStage shape known amid add a (Packing old new)
+    stood_to_pack = subst (StandsAtStage shape known amid add a) packs is.stands
 
     abbrev pack_them : PackingEvent
     pack_them = pack known.reference old new
 
     -- it stands where the word was as it was, or was not
     stands_packed : (same : Bool) → let b = after_pack same a known.reference new found in let stage = if same then behind_count add.amount else LoadingSingle in
-        StandsAtStage shape known (record add { stage = stage }) b stage
-    stands_packed true = behind_stands shape known add (after_pack true a known.reference new found) refl (changed_is shape known add a is false false stood_to_pack.1 (λ c. record c { counted = true }))
+        StandsAtStage shape known amid (record add { stage = stage }) b stage
+    stands_packed true = behind_stands shape known amid add (after_pack true a known.reference new found) refl (changed_is shape known amid add a is false false stood_to_pack.1 (λ c. record c { counted = true }))
     stands_packed false = (stood_to_pack.0, stood_to_pack.1, refl)
 
     pub packs_so : (new_words : List ℕ) (same : Bool) → (word_at words (add.histogram + 9) == old) ≡ same
         → new_words ≡ atomic.after (atomic.exchange (add.histogram + 9) old new) words
-        → let stage = if same then behind_count add.amount else LoadingSingle in Goes shape.size add.version a words new_words (AddGives shape known (record add { stage = stage }) More a)
+        → let stage = if same then behind_count add.amount else LoadingSingle in Goes shape.size add.version a words new_words (AddGives shape known amid (record add { stage = stage }) More a)
     packs_so new_words same is_same are = let stage = if same then behind_count add.amount else LoadingSingle in
-        packs_on shape known add a is stage words new_words pack_them (
+        packs_on shape known amid add a is stage words new_words pack_them (
           counting_of known add false false,
           record { histogram = known.reference; single = Some old; counts = stood_to_pack.2.0.0 },
           known,
           add.bucket,
-          (next_is shape known add a is false false stood_to_pack.1, is.counting.some),
+          (next_is shape known amid add a is false false stood_to_pack.1, is.counting.some),
           (stood_to_pack.2.0.1, refl, refl, stood_to_pack.2.1, has_them stood_to_pack.0),
           refl,
           is.counting.bucket stood_to_pack.0,
@@ -138,11 +138,11 @@ module _ (shape : Dimensions) (known : Known) (add : Add) (a : Actor) (words : L
         )
         (are ∙ ap (λ (r : ℕ). atomic.after (atomic.exchange (r + 9) old new) words) (sym is.counting.reference)
         ∙ sym (makes_so shape.size add.version (packing_event pack_them) (atomic.exchange (known.reference + 9) old new) refl refl words))
-        (λ learned. subst (λ (b : Bool). StandsAtStage shape known (record add { stage = stage }) (after_pack b a known.reference new found) stage)
+        (λ learned. subst (λ (b : Bool). StandsAtStage shape known amid (record add { stage = stage }) (after_pack b a known.reference new found) stage)
         (sym (ap (λ (r : ℕ). word_at words (r + 9) == old) is.counting.reference ∙ is_same)) (stands_packed same))
 
 -- the bucket of an `add` that stands somewhere, in a histogram with buckets, is one of at most 1,000
-pub small_bucket : (add : Add) (n : ℕ) → ((shape : Dimensions) (known : Known) (a : Actor) → IsAdd shape known add a → has_buckets known.spec ≡ true)
+pub small_bucket : (add : Add) (n : ℕ) → ((shape : Dimensions) (known : Known) (amid : Amid) (a : Actor) → IsAdd shape known amid add a → has_buckets known.spec ≡ true)
     → ∥ IsSomeAdd n add ∥₁ → add.bucket < 1000
 small_bucket add n has stands =
-    ∥∥₁_elim stands (hlevel props) (λ (shape, known, a, long, is). few_such shape known add is.counting (has shape known a is))
+    ∥∥₁_elim stands (hlevel props) (λ (shape, known, amid, a, long, is). few_such shape known add is.counting (has shape known amid a is))

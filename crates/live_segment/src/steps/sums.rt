@@ -1,9 +1,9 @@
-//! The steps that load the count of a sample of a sparse histogram, and the sum once its samples were met.
+//! The steps that load the count of a sample of a sparse histogram, and the sum of a histogram.
 
 ghost use Rattle.std.specs.Prelude.{◌+◌, ◌<◌, ◌≤◌};
 ghost use Rattle.segment_machine.specs.Event.{taking_event};
 ghost use Rattle.segment_machine.specs.Taking.{load_count, load_sum};
-ghost use Rattle.live_segment.specs.Samples.{LoadsCountOfSample, LoadsSumOfValues, SamplesAreFew, SamplesStandBehind};
+ghost use Rattle.live_segment.specs.Samples.{LoadsCountOfSample, LoadsSum, SamplesAreFew, SamplesStandBehind};
 ghost use Rattle.live_segment.specs.Records.{StandOnce};
 
 use crate::rule::{Announcement, Pass};
@@ -19,10 +19,10 @@ impl Play<Announcement, Actor> for LoadCountOfSample {
     ghost then = { λ st. LoadsCountOfSample st.word };
 }
 
-pub(crate) struct LoadSumOfValues;
+pub(crate) struct LoadSum;
 
-impl Play<Announcement, Actor> for LoadSumOfValues {
-    ghost then = { λ st. LoadsSumOfValues st.word };
+impl Play<Announcement, Actor> for LoadSum {
+    ghost then = { λ st. LoadsSum st.word };
 }
 
 impl Segment {
@@ -41,8 +41,8 @@ impl Segment {
             .load::<LoadCountOfSample>(seat, FIRST + at as usize)
     }
 
-    // No sample of a histogram stands before its record.
-    pub(crate) fn load_sum_of_values(&self, seat: &mut Pass, histogram: u64) -> u64
+    // No sample stands before the record of its histogram, and no block twice, among those that were met.
+    pub(crate) fn load_sum(&self, seat: &mut Pass, histogram: u64) -> u64
         requires may { MayStep self.now seat.old (taking_event (load_sum histogram)) }
         requires room { histogram + 15 ≤ self.now.setting.shape.size }
         ensures step { Stepped seat.old (taking_event (load_sum histogram)) result seat.new }
@@ -51,6 +51,6 @@ impl Segment {
     {
         self.table
             .shared
-            .load::<LoadSumOfValues>(seat, FIRST + histogram as usize + HISTOGRAM_SUM)
+            .load::<LoadSum>(seat, FIRST + histogram as usize + HISTOGRAM_SUM)
     }
 }

@@ -5,7 +5,7 @@ ghost use Rattle.segment_image.specs.declared.layout.TheConstants.{BLOCK_NEXT, H
 ghost use Rattle.segment_machine.specs.Event.{packing_event, taking_event, walking_event};
 ghost use Rattle.segment_machine.specs.Packing.{load_single};
 ghost use Rattle.segment_machine.specs.Walking.{load_next};
-ghost use Rattle.segment_machine.specs.Taking.{load_count, raise_mark, raise_single_mark, load_sum, swap_sum_mark, load_redundant};
+ghost use Rattle.segment_machine.specs.Taking.{load_count, raise_mark, raise_single_mark, swap_sum_mark, load_redundant};
 ghost use Rattle.live_segment.specs.Steps.{DoesAt};
 ghost use Rattle.live_segment.specs.Taking.{Answers, BeginsDelta, BeginsSnapshot, EndsDelta};
 
@@ -14,8 +14,7 @@ use crate::segment::Segment;
 use crate::steps::FIRST;
 use atomic_table::Play;
 use segment_image::layout::{
-    BLOCK_NEXT, HISTOGRAM_REDUNDANT, HISTOGRAM_SINGLE, HISTOGRAM_SINGLE_MARK, HISTOGRAM_SUM,
-    HISTOGRAM_SUM_MARK,
+    BLOCK_NEXT, HISTOGRAM_REDUNDANT, HISTOGRAM_SINGLE, HISTOGRAM_SINGLE_MARK, HISTOGRAM_SUM_MARK,
 };
 use segment_machine::Actor;
 
@@ -59,12 +58,6 @@ pub(crate) struct RaiseSingleMark;
 
 impl Play<Announcement, Actor> for RaiseSingleMark {
     ghost then = { λ st. DoesAt (λ histogram. taking_event (raise_single_mark histogram st.first)) st.word };
-}
-
-pub(crate) struct LoadSum;
-
-impl Play<Announcement, Actor> for LoadSum {
-    ghost then = { λ st. DoesAt (λ histogram. taking_event (load_sum histogram)) st.word };
 }
 
 pub(crate) struct SwapSumMark;
@@ -173,16 +166,6 @@ impl Segment {
             FIRST + histogram as usize + HISTOGRAM_SINGLE_MARK,
             least,
         )
-    }
-
-    pub(crate) fn load_sum(&self, seat: &mut Pass, histogram: u64) -> u64
-        requires may { MayStep self.now seat.old (taking_event (load_sum histogram)) }
-        requires room { histogram + 15 ≤ self.now.setting.shape.size }
-        ensures { Stepped seat.old (taking_event (load_sum histogram)) result seat.new }
-    {
-        self.table
-            .shared
-            .load::<LoadSum>(seat, FIRST + histogram as usize + HISTOGRAM_SUM)
     }
 
     // The sum that was loaded becomes the sum mark, and the delta ends.

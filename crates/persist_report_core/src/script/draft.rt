@@ -28,7 +28,7 @@ pub(crate) struct Draft {
 fn bad_line(number: u32) -> ScriptFault
     ensures { result ≡ ScriptFault.BadLine number }
 {
-    ScriptFault::BadLine(u64::from(number))
+    ScriptFault::BadLine(number)
 }
 
 /// The script that the first record opens, by what it asks for.
@@ -83,10 +83,10 @@ impl Draft {
     {
         let hist = self.place(number, name)?;
         if count == 0 {
-            return Err(ScriptFault::ZeroCount(u64::from(number)));
+            return Err(ScriptFault::ZeroCount(number));
         }
         if u64::from(count) > self.pool - self.taken {
-            return Err(ScriptFault::NoUnits(u64::from(number)));
+            return Err(ScriptFault::NoUnits(number));
         }
         self.taken += u64::from(count);
         let kind = CallKind::Add { value, count };

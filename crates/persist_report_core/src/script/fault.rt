@@ -18,13 +18,13 @@ pub enum ScriptFault {
     /// The record has no lawful form, a number out of its type, an unlawful shape or an unknown name, or stands out
     /// of order.
     #[error("BadLine {0}")]
-    BadLine(u64),
+    BadLine(u32),
     /// The record adds no unit.
     #[error("ZeroCount {0}")]
-    ZeroCount(u64),
+    ZeroCount(u32),
     /// The record adds more units than the pool has left.
     #[error("NoUnits {0}")]
-    NoUnits(u64),
+    NoUnits(u32),
 }
 
 impl ScriptFault {

@@ -1,10 +1,10 @@
-use Rattle.std.proofs.Common.{◌≡◌, ◌∙◌, ℕ, ◌+◌, ◌-◌, ◌<◌, ◌≤◌, ◌∷◌, ◌++◌, [], pos, length, take, get_or, vec_capacity, rules, arith, ap, sym, All, nat_lt, true, false}
+use Rattle.std.proofs.Common.{◌∙◌, ◌-◌, ◌<◌, ◌∷◌, ◌++◌, [], length, vec_capacity, rules, arith, ap, sym}
 use Rattle.std.proofs.lemmas.Bool.Decides.{nat_tests}
 use Rattle.std.proofs.lemmas.List.{take_all}
 use Rattle.std.proofs.lemmas.Slice.Zip.{length-zip}
 use Rattle.std.specs.List.{filter_map, zip}
 use Rattle.segment_merge.specs.Remainder.{left_of}
-use Rattle.segment_merge.proofs.Items.{items_before, items_before-none, items_before-some}
+use Rattle.segment_merge.proofs.Items.{items_before-none, items_before-some}
 use Rattle.segment_merge.proofs.remainder.remainder_of.Goals as goal
 use Rattle.segment_merge.proofs.remainder.remainder_of.Goals.{then-mark-units, else-mark-units}
 

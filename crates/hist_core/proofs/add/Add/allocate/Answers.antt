@@ -5,13 +5,13 @@ use Rattle.hist_core.proofs.add.Add.allocate.Goals as goal
 
 pub step-said-requires-clause-long : goal.step-said-requires-clause-long
 step-said-requires-clause-long c = ∥∥₁_elim c.requires.stands (hlevel props)
-    (λ (shape, known, a, long, is). asks_long shape known c.args.self.now a c.args.words.now is c.in-Allocating.alloc c.in-Allocating.is long)
+    (λ (shape, known, amid, a, long, is). asks_long shape known amid c.args.self.now a c.args.words.now is c.in-Allocating.alloc c.in-Allocating.is long)
 
 pub step-said-requires-clause-running : goal.step-said-requires-clause-running
 step-said-requires-clause-running c = ∥∥₁_elim c.requires.stands (hlevel props)
-    (λ (shape, known, a, long, is). asks_more shape known c.args.self.now a c.args.words.now is c.in-Allocating.alloc c.in-Allocating.is)
+    (λ (shape, known, amid, a, long, is). asks_more shape known amid c.args.self.now a c.args.words.now is c.in-Allocating.alloc c.in-Allocating.is)
 
 pub returns-in-Allocating-clause-steps : goal.returns-in-Allocating-clause-steps
-returns-in-Allocating-clause-steps c = λ shape known a long is.
-    allocates_so shape known c.args.self.now a c.args.words.now is c.in-Allocating.alloc c.in-Allocating.is long c.step-said.new.self c.step-said.new.words
+returns-in-Allocating-clause-steps c = λ shape known amid a long is.
+    allocates_so shape known amid c.args.self.now a c.args.words.now is c.in-Allocating.alloc c.in-Allocating.is long c.step-said.new.self c.step-said.new.words
     c.step-said.result c.allocated.new.self c.allocated.result c.step-said.ensures.step c.step-said.ensures.more c.allocated.ensures

@@ -22,16 +22,16 @@ bounds-words-self c = let inside = some_inside c.args.self.now c.args.words.now 
 
 pub count_in-requires : goal.count_in-requires
 count_in-requires c =
-    let small = small_bucket c.args.self.now _ (λ shape known a is. (subst (StandsAtStage shape known c.args.self.now a) c.requires.loads is.stands).0) c.requires.stands in
+    let small = small_bucket c.args.self.now _ (λ shape known amid a is. (subst (StandsAtStage shape known amid c.args.self.now a) c.requires.loads is.stands).0) c.requires.stands in
     omega (arith, small)
 
 pub returns-clause-steps : goal.returns-clause-steps
-returns-clause-steps c = λ shape known a long is.
+returns-clause-steps c = λ shape known amid a long is.
     let add = c.args.self.now in
-    let gives : Stage → Type 0 = λ stage. Goes shape.size add.version a c.args.words.now c.args.words.now (AddGives shape known (record add { stage = stage }) More a) in
+    let gives : Stage → Type 0 = λ stage. Goes shape.size add.version a c.args.words.now c.args.words.now (AddGives shape known amid (record add { stage = stage }) More a) in
     elim c.if-old-ge-DISABLED_BIT.branch [
       | then-old-ge-DISABLED_BIT w ↦ subst gives (sym (w.self-is ∙ ap Counting w.count_in.ensures))
-          (loads_off shape known add a c.args.words.now is c.args.counts c.requires.loads (le-leb (2 ^ 63) _ (let off = w.if-old-ge-DISABLED_BIT.true in omega (arith, off))))
+          (loads_off shape known amid add a c.args.words.now is c.args.counts c.requires.loads (le-leb (2 ^ 63) _ (let off = w.if-old-ge-DISABLED_BIT.true in omega (arith, off))))
       | else-old-ge-DISABLED_BIT w ↦ subst gives (sym w.self-is)
-          (loads_on_word shape known add a c.args.words.now is c.args.counts c.requires.loads (lt-leb (2 ^ 63) _ (let on = w.if-old-ge-DISABLED_BIT.false in omega (arith, on))))
+          (loads_on_word shape known amid add a c.args.words.now is c.args.counts c.requires.loads (lt-leb (2 ^ 63) _ (let on = w.if-old-ge-DISABLED_BIT.false in omega (arith, on))))
     ]

@@ -16,9 +16,9 @@ bounds-words-self c = let inside = some_inside c.args.self.now c.args.words.now 
 
 pub count_in-requires : goal.count_in-requires
 count_in-requires c =
-    let small = small_bucket c.args.self.now _ (λ shape known a is. (subst (StandsAtStage shape known c.args.self.now a) c.requires.loads is.stands).0) c.requires.stands in
+    let small = small_bucket c.args.self.now _ (λ shape known amid a is. (subst (StandsAtStage shape known amid c.args.self.now a) c.requires.loads is.stands).0) c.requires.stands in
     omega (arith, small)
 
 pub returns-clause-steps : goal.returns-clause-steps
-returns-clause-steps c = λ shape known a long is.
-    loads_so shape known c.args.self.now a c.args.words.now is c.requires.loads _ c.count_in.ensures
+returns-clause-steps c = λ shape known amid a long is.
+    loads_so shape known amid c.args.self.now a c.args.words.now is c.requires.loads _ c.count_in.ensures

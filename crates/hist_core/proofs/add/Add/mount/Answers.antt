@@ -17,14 +17,14 @@ pub exchange-counts-requires : goal.exchange-counts-requires
 exchange-counts-requires c = let inside = some_inside c.args.self.now c.args.words.now c.requires.stands in omega (arith, inside.0)
 
 pub returns-clause-steps : goal.returns-clause-steps
-returns-clause-steps c = λ shape known a long is.
+returns-clause-steps c = λ shape known amid a long is.
     let add = c.args.self.now in
-    let gives : Stage → Type 0 = λ stage. Goes shape.size add.version a c.args.words.now c.exchange-counts.new.words (AddGives shape known (record add { stage = stage }) More a) in
+    let gives : Stage → Type 0 = λ stage. Goes shape.size add.version a c.args.words.now c.exchange-counts.new.words (AddGives shape known amid (record add { stage = stage }) More a) in
     elim c.if-counts-eq0.branch [
       | then-counts-eq0 w ↦ subst gives (sym w.self-is)
-          (mounts_so shape known add a c.args.words.now is c.args.at c.requires.mounts c.exchange-counts.new.words true
+          (mounts_so shape known amid add a c.args.words.now is c.args.at c.requires.mounts c.exchange-counts.new.words true
           (eq-eqb _ 0 (sym c.exchange-counts.ensures.found ∙ w.if-counts-eq0.true)) c.exchange-counts.ensures.words)
       | else-counts-eq0 w ↦ subst gives (sym (w.self-is ∙ ap (λ (n : ℕ). Purging c.args.at n) c.exchange-counts.ensures.found))
-          (mounts_so shape known add a c.args.words.now is c.args.at c.requires.mounts c.exchange-counts.new.words false
+          (mounts_so shape known amid add a c.args.words.now is c.args.at c.requires.mounts c.exchange-counts.new.words false
           (ne_eqb _ 0 (λ e. w.if-counts-eq0.false (c.exchange-counts.ensures.found ∙ e))) c.exchange-counts.ensures.words)
     ]

@@ -15,12 +15,12 @@ pub exchange-requires : goal.exchange-requires
 exchange-requires c = let inside = some_inside c.args.self.now c.args.words.now c.requires.stands in omega (arith, inside.0)
 
 pub returns-then-exchange-old-clause-steps : goal.returns-then-exchange-old-clause-steps
-returns-then-exchange-old-clause-steps c = λ shape known a long is.
-    subst (λ (n : Add). Goes shape.size c.args.self.now.version a c.args.words.now c.exchange.new.words (AddGives shape known n More a)) (sym c.counted.ensures)
-    (packs_so shape known c.args.self.now a c.args.words.now is c.args.old c.args.new c.requires.packs c.exchange.new.words true
+returns-then-exchange-old-clause-steps c = λ shape known amid a long is.
+    subst (λ (n : Add). Goes shape.size c.args.self.now.version a c.args.words.now c.exchange.new.words (AddGives shape known amid n More a)) (sym c.counted.ensures)
+    (packs_so shape known amid c.args.self.now a c.args.words.now is c.args.old c.args.new c.requires.packs c.exchange.new.words true
     (eq-eqb _ c.args.old (sym c.exchange.ensures.found ∙ c.if-exchange-old.true)) c.exchange.ensures.words)
 
 pub returns-else-exchange-old-clause-steps : goal.returns-else-exchange-old-clause-steps
-returns-else-exchange-old-clause-steps c = λ shape known a long is.
-    packs_so shape known c.args.self.now a c.args.words.now is c.args.old c.args.new c.requires.packs c.exchange.new.words false
+returns-else-exchange-old-clause-steps c = λ shape known amid a long is.
+    packs_so shape known amid c.args.self.now a c.args.words.now is c.args.old c.args.new c.requires.packs c.exchange.new.words false
     (ne_eqb _ c.args.old (λ e. c.if-exchange-old.false (c.exchange.ensures.found ∙ e))) c.exchange.ensures.words

@@ -18,15 +18,15 @@ bounds-words-self c = let inside = some_inside c.args.self.now c.args.words.now 
 
 pub begin_allocating-requires-clause-lawful : goal.begin_allocating-requires-clause-lawful
 begin_allocating-requires-clause-lawful c =
-    ∥∥₁_elim c.requires.stands (hlevel props) (λ (shape, known, a, long, is). subst IsShape (sym is.counting.shaped) is.lawful_shape)
+    ∥∥₁_elim c.requires.stands (hlevel props) (λ (shape, known, amid, a, long, is). subst IsShape (sym is.counting.shaped) is.lawful_shape)
 
 pub begin_allocating-requires-clause-one_page : goal.begin_allocating-requires-clause-one_page
 begin_allocating-requires-clause-one_page c = ∥∥₁_elim c.requires.stands (hlevel props)
-    (λ (shape, known, a, long, is). subst (λ (d : Dimensions). 4 + 2 * c.args.self.now.buckets ≤ d.page) (sym is.counting.shaped) is.counting.fits)
+    (λ (shape, known, amid, a, long, is). subst (λ (d : Dimensions). 4 + 2 * c.args.self.now.buckets ≤ d.page) (sym is.counting.shaped) is.counting.fits)
 
 pub returns-then-counts-eq0-clause-steps : goal.returns-then-counts-eq0-clause-steps
-returns-then-counts-eq0-clause-steps c = λ shape known a long is.
-    seeks_none shape known c.args.self.now a c.args.words.now is c.requires.seeks c.begin_allocating.new.self c.begin_allocating.result c.begin_allocating.ensures
+returns-then-counts-eq0-clause-steps c = λ shape known amid a long is.
+    seeks_none shape known amid c.args.self.now a c.args.words.now is c.requires.seeks c.begin_allocating.new.self c.begin_allocating.result c.begin_allocating.ensures
 
 pub returns-clause-steps : goal.returns-clause-steps
-returns-clause-steps c = λ shape known a long is. seeks_some shape known c.args.self.now a c.args.words.now is c.requires.seeks c.if-counts-eq0.false
+returns-clause-steps c = λ shape known amid a long is. seeks_some shape known amid c.args.self.now a c.args.words.now is c.requires.seeks c.if-counts-eq0.false

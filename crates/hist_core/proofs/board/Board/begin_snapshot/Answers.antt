@@ -52,8 +52,8 @@ returns-clause-begins c =
     let place : IsPlaceOf old c.args.actor c.requires.known.0 c.args.place = c.requires.known.1 in
     let same = some-injective place.1.0 r (sym place.1.1 ∙ at) in
     let known_there = subst (λ (x : Runner). get_elem? x.known.items c.args.place ≡ some place.0) same place.1.2 in
-    snapshot_begins old _ c.args.actor r c.begin_snapshot.new.self at c.args.place place.0 known_there (c.in_ok-begin_snapshot.ensures.begins place.0 known_there)
-    (c.requires.bucketed place.0 (r, at, known_there)) (c.requires.rests r at) refl refl refl refl refl
+    snapshot_begins old _ c.args.actor r c.begin_snapshot.new.self at c.args.place place.0 known_there (c.requires.rests r at) refl refl refl refl refl
+    (c.in_ok-begin_snapshot.ensures.begins place.0 known_there) (c.requires.bucketed place.0 (r, at, known_there))
 
 pub returns-clause-others : goal.returns-clause-others
 returns-clause-others c =

@@ -1,15 +1,18 @@
-use Rattle.std.proofs.Common.{◌≡◌, ◌+◌, ◌-◌, ℤ, w32, inl, refl, sym, ap, subst, ◌∙◌, vec_len, arith}
+use Rattle.std.proofs.Common.{◌≡◌, ◌+◌, ◌-◌, [], ◌∷◌, ℤ, w32, inl, refl, sym, ap, subst, ◌∙◌, vec_len, arith}
 use Rattle.std.proofs.lemmas.Int.{to_z-of_z}
 use Rattle.hist_core.specs.Runner.{BeginsAdd}
 use mathlib.Core.Option.{some, some-injective}
 use lib.ListN.{get_elem?}
 use Rattle.atomic_table.proofs.Lists.{set_else}
 use Rattle.hist_core.specs.declared.runner.Runner.{Runner}
-use Rattle.hist_core.specs.Board.{IsPlaceOf}
+use Rattle.bucket_ranges.specs.Ranges.{boundaries_of}
+use Rattle.segment_machine.specs.Entry.{key_of, sample_entry}
+use Rattle.hist_core.specs.declared.runner.Running.TheVariants.{Add}
+use Rattle.hist_core.specs.Board.{IsPlaceOf, CountsValue}
 use Rattle.hist_core.proofs.Asking.{as_it_stood, place_below}
 use Rattle.hist_core.proofs.Beginnings.{as_before}
 use Rattle.hist_core.proofs.Boards.{is_there, same_state, lawful_now, ranges_now, quiet_now}
-use Rattle.hist_core.proofs.Opening.{add_begins, add_begun, on_err}
+use Rattle.hist_core.proofs.Opening.{add_stands, count_begins, count_begun, on_err}
 use Rattle.hist_core.proofs.board.Board.start_add.Goals as goal
 
 pub begin_add-requires-clause-near : goal.begin_add-requires-clause-near
@@ -67,10 +70,12 @@ returns-clause-begins c =
     let place : IsPlaceOf old c.args.actor c.requires.known.0 c.args.place = c.requires.known.1 in
     let same = some-injective place.1.0 r (sym place.1.1 ∙ at) in
     let known_there = subst (λ (x : Runner). get_elem? x.known.items c.args.place ≡ some place.0) same place.1.2 in
-    add_begins old _ c.args.actor r c.begin_add.new.self at c.args.place place.0 known_there c.args.value c.args.count
-    (subst (λ (n : ℤ). BeginsAdd old.shape old.version place.0 n c.args.count r c.begin_add.new.self) (to_z-of_z w32 c.args.value c.ranges.value)
-    (c.in_ok-begin_add.ensures.begins place.0 known_there)) c.requires.some.0 (c.requires.bucketed place.0 (r, at, known_there)) (c.requires.rests r at)
-    refl refl refl (let some_units = c.requires.some.1 in let count = c.from.ensures in omega (arith, some_units, count)) refl c.requires.reached
+    let starts = subst (λ (n : ℤ). BeginsAdd old.shape old.version place.0 n c.args.count r c.begin_add.new.self) (to_z-of_z w32 c.args.value c.ranges.value)
+    (c.in_ok-begin_add.ensures.begins place.0 known_there) in
+    count_begins old _ c.args.actor r c.begin_add.new.self at c.args.place place.0 known_there _ (Add starts.add) c.args.count starts.begins (c.requires.rests r at)
+    refl refl refl (let some_units = c.requires.some.1 in let count = c.from.ensures in omega (arith, some_units, count)) refl c.requires.reached tt tt
+    (λ a run lawful versions alone. add_stands old.shape old.version place.0 c.args.value c.args.count r c.begin_add.new.self starts c.args.place known_there
+    c.requires.some.0 (c.requires.bucketed place.0 (r, at, known_there)) (c.requires.rests r at) a run lawful versions alone)
 
 pub returns-clause-others : goal.returns-clause-others
 returns-clause-others c =
@@ -84,7 +89,10 @@ returns-clause-says c = λ name place.
     let known_there = subst (λ (x : Runner). get_elem? x.known.items c.args.place ≡ some place.0) same place.1.2 in
     let quiet = quiet_now old c.requires.reached c.args.actor r at (c.requires.rests r at) in
     let pooled : old.units - c.from.result + c.args.count ≡ old.units = (let some_units = c.requires.some.1 in let count = c.from.ensures in omega (arith, some_units, count)) in
-    add_begun old _ c.args.actor r c.begin_add.new.self at c.args.place place.0 known_there c.args.value c.args.count
-    (subst (λ (n : ℤ). BeginsAdd old.shape old.version place.0 n c.args.count r c.begin_add.new.self) (to_z-of_z w32 c.args.value c.ranges.value)
-    (c.in_ok-begin_add.ensures.begins place.0 known_there)) c.requires.some.0 (c.requires.bucketed place.0 (r, at, known_there)) (c.requires.rests r at)
-    refl refl refl pooled refl c.requires.reached name place.2 quiet.0 quiet.1
+    let starts = subst (λ (n : ℤ). BeginsAdd old.shape old.version place.0 n c.args.count r c.begin_add.new.self) (to_z-of_z w32 c.args.value c.ranges.value)
+    (c.in_ok-begin_add.ensures.begins place.0 known_there) in
+    let its = starts.started in
+    count_begun old _ c.args.actor r c.begin_add.new.self at c.args.place place.0 known_there _ (Add starts.add) c.args.count starts.begins (c.requires.rests r at)
+    refl refl refl pooled refl name place.2 quiet.0 quiet.1 (CountsValue c.args.value c.args.count) (its.counts, its.holds)
+    (λ boundaries. sample_entry name boundaries (c.args.value, c.args.count) ∷ [])
+    (λ j. record { name = place.2 j; key = key_of (boundaries_of place.0.spec) (its.counts j); units = its.holds j; amount = its.amounts j } ∷ []) _ refl

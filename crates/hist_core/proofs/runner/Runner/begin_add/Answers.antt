@@ -1,4 +1,5 @@
-use Rattle.std.proofs.Common.{◌≡◌, refl, sym, ap, subst, ◌∙◌, vec_len, ℤ, w32, w64, to_z, of_z, rules}
+use Rattle.std.specs.Prelude.{unsigned_abs}
+use Rattle.std.proofs.Common.{◌≤◌, ◌*◌, [], ◌∷◌, ◌≡◌, refl, sym, ap, subst, ◌∙◌, vec_len, ℤ, w32, w64, to_z, of_z, rules}
 use Rattle.std.proofs.lemmas.Int.{to_z-of_z}
 use Rattle.hist_core.specs.Add.{IsStarted}
 use mathlib.Core.Option.{some-injective}
@@ -34,25 +35,32 @@ key_of-requires c =
 
 pub returns-clause-begins : goal.returns-clause-begins
 returns-clause-begins c = λ known at.
-    let list = c.args.self.now.known in let here = c.index-known.result.now in let runner = c.args.self.now in let value = c.args.value in let units = c.args.units in
+    let list = c.args.self.now.known in let here = c.index-known.result.now in let value = c.args.value in let units = c.args.units in
     let same : here ≡ known = some-injective here known (sym (is_there list.items (vec_len list) c.args.i here list.ok.0 c.requires.near c.index-known.ensures) ∙ at) in
     let add = c.start-add.result in
-    let started : IsStarted c.args.shape c.args.version (known_of known) value units add =
-    subst (λ (p : Known × ℤ). IsStarted c.args.shape c.args.version (known_of p.0) p.1 units add) (λ i. (same i, to_z-of_z w32 value c.ranges.value i)) c.start-add.ensures in
+    let amount_held : to_z w64 (of_z w64 c.amount_of-amount.result) ≡ c.amount_of-amount.result = search rules in
+    let value_held : to_z w32 (of_z w32 value) ≡ value = to_z-of_z w32 value c.ranges.value in
+    let ranges_are = (λ j. (same j).ranges) ∙ c.requires.ranges known at in
+    let amount_is : to_z w64 (of_z w64 c.amount_of-amount.result) ≡ amount_of (boundaries_of known.spec) (value, units) =
+    amount_held ∙ (c.amount_of-amount.ensures.amount ∙ (λ i. amount_of (ranges_are i) (value_held i, units))) in
+    let started : IsStarted c.args.shape c.args.version (known_of known) value units (amount_of (boundaries_of known.spec) (value, units)) add =
+    subst (λ (p : Known × ℤ × ℤ). IsStarted c.args.shape c.args.version (known_of p.0) p.1 units p.2 add) (λ i. (same i, value_held i, amount_is i)) c.start-add.ensures in
     let key : c.key_of.result ≡ key_of (boundaries_of known.spec) add.value =
-    c.key_of.ensures ∙ (λ i. key_of (((λ j. (same j).ranges) ∙ c.requires.ranges known at) i) ((to_z-of_z w32 value c.ranges.value ∙ sym started.counts) i)) in
+    c.key_of.ensures ∙ (λ i. key_of (ranges_are i) ((value_held ∙ sym started.counts) i)) in
     let key_held : to_z w32 (of_z w32 c.key_of.result) ≡ c.key_of.result = search rules in
-    let amount_held : to_z w64 (of_z w64 add.amount) ≡ add.amount = search rules in
     record {
       add = add;
       started = started;
-      entry = record { name = c.in_ok-from_slice.field-0; key = to_z w32 (of_z w32 c.key_of.result); units = c.from.result; amount = to_z w64 (of_z w64 add.amount) };
-      entry_is = λ i. record {
-        name = (c.in_ok-from_slice.ensures.items ∙ (c.deref.ensures.value ∙ ap (λ (k : Known). k.name.items) same)) i;
-        key = (key_held ∙ key) i;
-        units = (c.from.ensures ∙ sym started.holds) i;
-        amount = (amount_held ∙ started.amount ∙ (λ j. amount_of (boundaries_of known.spec) (sym started.counts j, sym started.holds j))) i;
+      small = subst (λ n. unsigned_abs n ≤ 2147483648 * units) (sym (started.amounts ∙ sym amount_is ∙ amount_held)) c.amount_of-amount.ensures.small;
+      begins = record {
+        pending = c.in_ok-entry.entry ∷ [];
+        pending_are = ap (λ e. e ∷ []) (c.in_ok-entry.ensures ∙ (λ i. record {
+          name = (same i).name.items;
+          key = (key_held ∙ key) i;
+          units = sym started.holds i;
+          amount = (amount_is ∙ sym started.amounts) i;
+        }));
+        entries_are = c.in_ok-push.ensures.items;
+        is = refl;
       };
-      entries = c.in_ok-push.ensures.items;
-      is = refl;
     }

@@ -1,6 +1,6 @@
-use Rattle.std.proofs.Common.{◌≡◌, ◌∙◌, true, false, ℤ, w32, to_z, of_z, List, ℕ, refl, sym, ap, subst, vec_len, arith, rules}
+use Rattle.std.proofs.Common.{◌≡◌, ◌∙◌, true, false, ℤ, w32, w64, to_z, of_z, List, ℕ, refl, sym, ap, subst, vec_len, arith, rules}
 use Rattle.std.specs.Prelude.{Ok, IfErr}
-use Rattle.hist_core.specs.Board.{HistBegins, AddBegins, SnapshotBegins, IsPlaceOf}
+use Rattle.hist_core.specs.Board.{HistBegins, AddBegins, DeltaBegins, SnapshotBegins, BatchBegins, IsPlaceOf}
 use mathlib.Core.Option.{some, some-injective}
 use lib.ListN.{get_elem?}
 use Rattle.segment_invariant.proofs.Lists.Elements.{contains_at}
@@ -55,14 +55,14 @@ invariant_of-self-in-Add c = record {
   reached = ∥∥₁_elim c.args.self.now.reached (hlevel props) (λ (state, reach). let did = c.begin_add.ensures.begins state reach in ∣ (did.0, did.2) ∣₁);
 }
 
-pub returns-in_default-place_of-clause-faults : goal.returns-in_default-place_of-clause-faults
-returns-in_default-place_of-clause-faults c =
+pub returns-in_default-clause-faults : goal.returns-in_default-clause-faults
+returns-in_default-clause-faults c =
     let board = c.args.self.now.board in let r = c.index.result.now in
     let at = is_there board.runners.items (vec_len board.runners) c.args.actor r board.runners.ok.0 (omega (arith, c.if-actor-len.false, c.len.ensures)) c.index.ensures in
     third_of_three _ _ _ _ _ _ _ _ (lt-leb (vec_len board.runners) c.args.actor (omega (arith, c.if-actor-len.false, c.len.ensures)))
     (runs_as board c.args.actor r at ∙ sym c.is_some.ensures ∙ c.if-is_some.false)
     (by_name board c.args.actor c.deref-in-Add.result.now c.args.call.now (ap named_by c.in-Add.is ∙ ap some (sym c.deref-in-Add.ensures.value)) true
-    (lacks_it board c.args.actor c.deref-in-Add.result.now r at c.in_default-place_of.ensures.none)) refl
+    (lacks_it board c.args.actor c.deref-in-Add.result.now r at c.in_default.ensures.none)) refl
 
 pub returns-in_err-begin_add-in-Add-clause-faults : goal.returns-in_err-begin_add-in-Add-clause-faults
 returns-in_err-begin_add-in-Add-clause-faults c =
@@ -153,14 +153,14 @@ invariant_of-self-in-Snapshot c = record {
   reached = ∥∥₁_elim c.args.self.now.reached (hlevel props) (λ (state, reach). ∣ (state, c.begin_snapshot.ensures.begins state reach) ∣₁);
 }
 
-pub returns-in_default-place_of-2-clause-faults : goal.returns-in_default-place_of-2-clause-faults
-returns-in_default-place_of-2-clause-faults c =
+pub returns-in_default-place_of-clause-faults : goal.returns-in_default-place_of-clause-faults
+returns-in_default-place_of-clause-faults c =
     let board = c.args.self.now.board in let r = c.index.result.now in
     let at = is_there board.runners.items (vec_len board.runners) c.args.actor r board.runners.ok.0 (omega (arith, c.if-actor-len.false, c.len.ensures)) c.index.ensures in
     third_of_three _ _ _ _ _ _ _ _ (lt-leb (vec_len board.runners) c.args.actor (omega (arith, c.if-actor-len.false, c.len.ensures)))
     (runs_as board c.args.actor r at ∙ sym c.is_some.ensures ∙ c.if-is_some.false)
     (by_name board c.args.actor c.deref-in-Snapshot.result.now c.args.call.now (ap named_by c.in-Snapshot.is ∙ ap some (sym c.deref-in-Snapshot.ensures.value)) true
-    (lacks_it board c.args.actor c.deref-in-Snapshot.result.now r at c.in_default-place_of-2.ensures.none)) refl
+    (lacks_it board c.args.actor c.deref-in-Snapshot.result.now r at c.in_default-place_of.ensures.none)) refl
 
 pub returns-in_err-begin_snapshot-in-Snapshot-clause-faults : goal.returns-in_err-begin_snapshot-in-Snapshot-clause-faults
 returns-in_err-begin_snapshot-in-Snapshot-clause-faults c =
@@ -187,3 +187,114 @@ returns-in_ok-begin_snapshot-in-Snapshot-clause-says c =
     (subst (λ (name : List ℕ). SnapshotBegins c.args.actor name c.args.self.now.board c.begin_snapshot.new.self c.in_ok-begin_snapshot-in-Snapshot.field-0)
     c.deref-in-Snapshot.ensures.value
     (c.in_ok-begin_snapshot-in-Snapshot.ensures.says c.deref-in-Snapshot.result.now c.in-Some-place_of.ensures.found))
+
+pub begin_delta-requires-clause-rests : goal.begin_delta-requires-clause-rests
+begin_delta-requires-clause-rests c =
+    let board = c.args.self.now.board in let r = c.index.result.now in
+    let at = is_there board.runners.items (vec_len board.runners) c.args.actor r board.runners.ok.0 (omega (arith, c.if-actor-len.false, c.len.ensures)) c.index.ensures in
+    is_resting board c.args.actor r at (sym c.is_some.ensures ∙ c.if-is_some.false)
+
+pub begin_delta-requires-clause-bucketed : goal.begin_delta-requires-clause-bucketed
+begin_delta-requires-clause-bucketed c = λ known (r, here, at).
+    let board = c.args.self.now.board in
+    let can = subst (CanBegin c.args.actor board) c.in-Delta.is c.requires in
+    let found : IsPlaceOf board c.args.actor c.deref-in-Delta.result.now c.in-Some-place_of-2.place = c.in-Some-place_of-2.ensures.found in
+    let one : found.1.0 ≡ r = some-injective found.1.0 r (sym found.1.1 ∙ here) in
+    let same : found.0 ≡ known = some-injective found.0 known (sym found.1.2 ∙ (ap (λ (x : Runner). get_elem? x.known.items c.in-Some-place_of-2.place) one ∙ at)) in
+    can r known here (contains_at r.known.items c.in-Some-place_of-2.place known at) (ap (λ (k : Known). k.name.items) (sym same) ∙ (found.2 ∙ c.deref-in-Delta.ensures.value))
+
+pub invariant_of-self-in-Delta : goal.invariant_of-self-in-Delta
+invariant_of-self-in-Delta c = record {
+  reached = ∥∥₁_elim c.args.self.now.reached (hlevel props) (λ (state, reach). ∣ (state, c.begin_delta.ensures.begins state reach) ∣₁);
+}
+
+pub returns-in_default-place_of-2-clause-faults : goal.returns-in_default-place_of-2-clause-faults
+returns-in_default-place_of-2-clause-faults c =
+    let board = c.args.self.now.board in let r = c.index.result.now in
+    let at = is_there board.runners.items (vec_len board.runners) c.args.actor r board.runners.ok.0 (omega (arith, c.if-actor-len.false, c.len.ensures)) c.index.ensures in
+    third_of_three _ _ _ _ _ _ _ _ (lt-leb (vec_len board.runners) c.args.actor (omega (arith, c.if-actor-len.false, c.len.ensures)))
+    (runs_as board c.args.actor r at ∙ sym c.is_some.ensures ∙ c.if-is_some.false)
+    (by_name board c.args.actor c.deref-in-Delta.result.now c.args.call.now (ap named_by c.in-Delta.is ∙ ap some (sym c.deref-in-Delta.ensures.value)) true
+    (lacks_it board c.args.actor c.deref-in-Delta.result.now r at c.in_default-place_of-2.ensures.none)) refl
+
+pub returns-in_err-begin_delta-in-Delta-clause-faults : goal.returns-in_err-begin_delta-in-Delta-clause-faults
+returns-in_err-begin_delta-in-Delta-clause-faults c =
+    let board = c.args.self.now.board in let r = c.index.result.now in
+    let at = is_there board.runners.items (vec_len board.runners) c.args.actor r board.runners.ok.0 (omega (arith, c.if-actor-len.false, c.len.ensures)) c.index.ensures in
+    none_of_three _ _ _ _ _ _ _ _ (lt-leb (vec_len board.runners) c.args.actor (omega (arith, c.if-actor-len.false, c.len.ensures)))
+    (runs_as board c.args.actor r at ∙ sym c.is_some.ensures ∙ c.if-is_some.false)
+    (by_name board c.args.actor c.deref-in-Delta.result.now c.args.call.now (ap named_by c.in-Delta.is ∙ ap some (sym c.deref-in-Delta.ensures.value)) false
+    (knows_it board c.args.actor c.deref-in-Delta.result.now c.in-Some-place_of-2.place c.in-Some-place_of-2.ensures.found))
+    (subst (λ (call : Call). IfErr c.from_residual-in_err-begin_delta-in-Delta.result (λ fault. (fault ≡ NoMemory) × TakesMemory call)) (sym c.in-Delta.is) (search rules))
+
+pub returns-in_ok-begin_delta-in-Delta-clause-faults : goal.returns-in_ok-begin_delta-in-Delta-clause-faults
+returns-in_ok-begin_delta-in-Delta-clause-faults c =
+    let board = c.args.self.now.board in let r = c.index.result.now in
+    let at = is_there board.runners.items (vec_len board.runners) c.args.actor r board.runners.ok.0 (omega (arith, c.if-actor-len.false, c.len.ensures)) c.index.ensures in
+    none_of_three _ _ _ _ _ _ _ _ (lt-leb (vec_len board.runners) c.args.actor (omega (arith, c.if-actor-len.false, c.len.ensures)))
+    (runs_as board c.args.actor r at ∙ sym c.is_some.ensures ∙ c.if-is_some.false)
+    (by_name board c.args.actor c.deref-in-Delta.result.now c.args.call.now (ap named_by c.in-Delta.is ∙ ap some (sym c.deref-in-Delta.ensures.value)) false
+    (knows_it board c.args.actor c.deref-in-Delta.result.now c.in-Some-place_of-2.place c.in-Some-place_of-2.ensures.found)) tt
+
+pub returns-in_ok-begin_delta-in-Delta-clause-says : goal.returns-in_ok-begin_delta-in-Delta-clause-says
+returns-in_ok-begin_delta-in-Delta-clause-says c =
+    subst (λ (call : Call). BeginSays c.args.actor call c.args.self.now.board c.begin_delta.new.self c.in_ok-begin_delta-in-Delta.field-0) (sym c.in-Delta.is)
+    (subst (λ (name : List ℕ). DeltaBegins c.args.actor name c.args.self.now.board c.begin_delta.new.self c.in_ok-begin_delta-in-Delta.field-0)
+    c.deref-in-Delta.ensures.value
+    (c.in_ok-begin_delta-in-Delta.ensures.says c.deref-in-Delta.result.now c.in-Some-place_of-2.ensures.found))
+
+pub begin_batch-requires-clause-rests : goal.begin_batch-requires-clause-rests
+begin_batch-requires-clause-rests c =
+    let board = c.args.self.now.board in let r = c.index.result.now in
+    let at = is_there board.runners.items (vec_len board.runners) c.args.actor r board.runners.ok.0 (omega (arith, c.if-actor-len.false, c.len.ensures)) c.index.ensures in
+    is_resting board c.args.actor r at (sym c.is_some.ensures ∙ c.if-is_some.false)
+
+pub begin_batch-requires-clause-bucketed : goal.begin_batch-requires-clause-bucketed
+begin_batch-requires-clause-bucketed c = λ known (r, here, at).
+    let board = c.args.self.now.board in
+    let can = subst (CanBegin c.args.actor board) c.in-Batch.is c.requires in
+    let found : IsPlaceOf board c.args.actor c.deref-in-Batch.result.now c.in-Some-place_of-3.place = c.in-Some-place_of-3.ensures.found in
+    let one : found.1.0 ≡ r = some-injective found.1.0 r (sym found.1.1 ∙ here) in
+    let same : found.0 ≡ known = some-injective found.0 known (sym found.1.2 ∙ (ap (λ (x : Runner). get_elem? x.known.items c.in-Some-place_of-3.place) one ∙ at)) in
+    can r known here (contains_at r.known.items c.in-Some-place_of-3.place known at) (ap (λ (k : Known). k.name.items) (sym same) ∙ (found.2 ∙ c.deref-in-Batch.ensures.value))
+
+pub invariant_of-self-in-Batch : goal.invariant_of-self-in-Batch
+invariant_of-self-in-Batch c = record {
+  reached = ∥∥₁_elim c.args.self.now.reached (hlevel props) (λ (state, reach). let did = c.begin_batch.ensures.begins state reach in ∣ (did.0, did.2) ∣₁);
+}
+
+pub returns-in_default-place_of-3-clause-faults : goal.returns-in_default-place_of-3-clause-faults
+returns-in_default-place_of-3-clause-faults c =
+    let board = c.args.self.now.board in let r = c.index.result.now in
+    let at = is_there board.runners.items (vec_len board.runners) c.args.actor r board.runners.ok.0 (omega (arith, c.if-actor-len.false, c.len.ensures)) c.index.ensures in
+    third_of_three _ _ _ _ _ _ _ _ (lt-leb (vec_len board.runners) c.args.actor (omega (arith, c.if-actor-len.false, c.len.ensures)))
+    (runs_as board c.args.actor r at ∙ sym c.is_some.ensures ∙ c.if-is_some.false)
+    (by_name board c.args.actor c.deref-in-Batch.result.now c.args.call.now (ap named_by c.in-Batch.is ∙ ap some (sym c.deref-in-Batch.ensures.value)) true
+    (lacks_it board c.args.actor c.deref-in-Batch.result.now r at c.in_default-place_of-3.ensures.none)) refl
+
+pub returns-in_err-begin_batch-in-Batch-clause-faults : goal.returns-in_err-begin_batch-in-Batch-clause-faults
+returns-in_err-begin_batch-in-Batch-clause-faults c =
+    let board = c.args.self.now.board in let r = c.index.result.now in
+    let at = is_there board.runners.items (vec_len board.runners) c.args.actor r board.runners.ok.0 (omega (arith, c.if-actor-len.false, c.len.ensures)) c.index.ensures in
+    none_of_three _ _ _ _ _ _ _ _ (lt-leb (vec_len board.runners) c.args.actor (omega (arith, c.if-actor-len.false, c.len.ensures)))
+    (runs_as board c.args.actor r at ∙ sym c.is_some.ensures ∙ c.if-is_some.false)
+    (by_name board c.args.actor c.deref-in-Batch.result.now c.args.call.now (ap named_by c.in-Batch.is ∙ ap some (sym c.deref-in-Batch.ensures.value)) false
+    (knows_it board c.args.actor c.deref-in-Batch.result.now c.in-Some-place_of-3.place c.in-Some-place_of-3.ensures.found))
+    (subst (λ (call : Call). IfErr c.from_residual-in_err-begin_batch-in-Batch.result (λ fault. (fault ≡ NoMemory) × TakesMemory call)) (sym c.in-Batch.is) (search rules))
+
+pub returns-in_ok-begin_batch-in-Batch-clause-faults : goal.returns-in_ok-begin_batch-in-Batch-clause-faults
+returns-in_ok-begin_batch-in-Batch-clause-faults c =
+    let board = c.args.self.now.board in let r = c.index.result.now in
+    let at = is_there board.runners.items (vec_len board.runners) c.args.actor r board.runners.ok.0 (omega (arith, c.if-actor-len.false, c.len.ensures)) c.index.ensures in
+    none_of_three _ _ _ _ _ _ _ _ (lt-leb (vec_len board.runners) c.args.actor (omega (arith, c.if-actor-len.false, c.len.ensures)))
+    (runs_as board c.args.actor r at ∙ sym c.is_some.ensures ∙ c.if-is_some.false)
+    (by_name board c.args.actor c.deref-in-Batch.result.now c.args.call.now (ap named_by c.in-Batch.is ∙ ap some (sym c.deref-in-Batch.ensures.value)) false
+    (knows_it board c.args.actor c.deref-in-Batch.result.now c.in-Some-place_of-3.place c.in-Some-place_of-3.ensures.found)) tt
+
+pub returns-in_ok-begin_batch-in-Batch-clause-says : goal.returns-in_ok-begin_batch-in-Batch-clause-says
+returns-in_ok-begin_batch-in-Batch-clause-says c =
+    let held : to_z w64 (of_z w64 c.in-Batch.sum) ≡ c.in-Batch.sum = search rules in
+    subst (λ (call : Call). BeginSays c.args.actor call c.args.self.now.board c.begin_batch.new.self c.in_ok-begin_batch-in-Batch.field-0) (sym c.in-Batch.is)
+    (subst (λ (p : List ℕ × List (ℤ × ℕ) × ℤ). BatchBegins c.args.actor p.0 p.1 p.2 c.args.self.now.board c.begin_batch.new.self c.in_ok-begin_batch-in-Batch.field-0)
+    (λ i. (c.deref-in-Batch.ensures.value i, c.deref-in-Batch-2.ensures.value i, held i))
+    (c.in_ok-begin_batch-in-Batch.ensures.says c.deref-in-Batch.result.now c.in-Some-place_of-3.ensures.found))

@@ -25,7 +25,7 @@ step-requires-clause-busy c =
 
 pub invariant_of-self-2 : goal.invariant_of-self-2
 invariant_of-self-2 c = record {
-  reached = ∥∥₁_elim c.args.self.now.reached (hlevel props) (λ (state, reach). let did = c.step.ensures.steps state reach in ∣ (did.3.0, did.3.2) ∣₁);
+  reached = ∥∥₁_elim c.args.self.now.reached (hlevel props) (λ (state, reach). let did = c.step.ensures.steps state reach in ∣ (did.3.0, did.3.2.0) ∣₁);
 }
 
 pub returns-clause-faults : goal.returns-clause-faults

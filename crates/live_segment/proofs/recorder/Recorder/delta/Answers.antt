@@ -1,9 +1,7 @@
-use Rattle.std.proofs.Common.{◌≡◌, ℤ, FitsSigned, w64, rules, refl, sym, subst, ◌∙◌}
+use Rattle.std.proofs.Common.{ℤ, FitsSigned, w64, rules, sym, subst, ◌∙◌}
 use Rattle.std.proofs.lemmas.Int.{to_z-of_z}
-use Rattle.std.proofs.lemmas.Result.{err_from_is_err_and}
 use Rattle.segment_machine.specs.declared.actor.Known.{Known}
 use Rattle.live_segment.specs.Deltas.{HasTaken}
-use Rattle.live_segment.specs.Known.{known_view}
 use Rattle.live_segment.proofs.Adds.{meant}
 use Rattle.live_segment.proofs.Given.{taken_rests, taken_of, taken_names, taken_share}
 use Rattle.live_segment.proofs.Walked.{all_right, come_still}

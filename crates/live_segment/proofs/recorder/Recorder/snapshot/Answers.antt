@@ -1,8 +1,6 @@
-use Rattle.std.proofs.Common.{◌≡◌, refl, sym, ap, subst, ◌∙◌}
+use Rattle.std.proofs.Common.{refl, sym, ap, subst, ◌∙◌}
 use Rattle.std.proofs.lemmas.Result.{err_from_is_err_and}
-use Rattle.bucket_ranges.specs.declared.spec.Spec.TheVariants.{Sparse}
 use Rattle.segment_machine.specs.declared.actor.Known.{Known}
-use Rattle.live_segment.specs.Known.{known_view}
 use Rattle.live_segment.specs.Snapshots.{HasSnapshot}
 use Rattle.live_segment.proofs.Adds.{meant}
 use Rattle.live_segment.proofs.Given.{looked_rests, looked_of, looked_names, looked_share}

@@ -29,9 +29,9 @@ returns-clause-taken c =
     let known = known_view c.args.histogram.now in
     let (front, behind, split) = stands_there c.args.seat.now.me.0.seen.chain c.args.histogram.now.reference c.requires.right.met in
     let (passed, along) = c.take_values.ensures in
-    let fits : FitsSigned w64 c.take_sum_of_values.result = search rules in
-    subst (λ (d : ℤ). HasTaken known c.sort_by_key.new.counts.items d c.args.seat.now.me.0 c.take_sum_of_values.new.seat.me.0)
-    (sym (to_z-of_z w64 c.take_sum_of_values.result fits))
+    let fits : FitsSigned w64 c.take_sum.result = search rules in
+    subst (λ (d : ℤ). HasTaken known c.sort_by_key.new.counts.items d c.args.seat.now.me.0 c.take_sum.new.seat.me.0)
+    (sym (to_z-of_z w64 c.take_sum.result fits))
     (has_taken_values c.args.self.now known c.args.seat.now c.requires.seat.0 c.requires.seat.1 c.requires.rests c.requires.right.alone c.requires.sparse
     front behind split c.take_next-first.result c.take_next-first.new.seat c.take_next-first.ensures c.take_values.new.seat passed c.take_values.new.taken.items
-    c.sort_by_key.new.counts.items along c.sort_by_key.ensures c.take_sum_of_values.result c.take_sum_of_values.new.seat.me.0 c.take_sum_of_values.ensures.taken)
+    c.sort_by_key.new.counts.items along c.sort_by_key.ensures c.take_sum.result c.take_sum.new.seat.me.0 c.take_sum.ensures.taken)

@@ -1,20 +1,23 @@
-use Rattle.std.proofs.Common.{rules, ℕ, arith}
-use Rattle.segment_machine.specs.Event.{taking_event}
-use Rattle.segment_machine.specs.Taking.{load_sum}
-use Rattle.live_segment.proofs.Allowed.{does_at}
+use Rattle.std.proofs.Common.{rules, arith}
+use Rattle.live_segment.proofs.SamplesBehind.{loads_sum}
 use Rattle.live_segment.proofs.segment.Segment.load_sum.Goals as goal
 
 pub load-requires : goal.load-requires
 load-requires c = (
   search rules,
   search rules,
-  does_at c.args.self.now.table.shared.key _ _ _ _ c.requires.may.recorder (λ (x : ℕ). taking_event (load_sum x)) c.args.histogram
-      (omega arith) (λ y e. omega arith) c.requires.may.ready,
+  loads_sum c.args.self.now.table.shared.key _ _ _ _ c.requires.may.recorder c.args.histogram (omega arith) c.requires.may.ready,
 )
 
-pub returns : goal.returns
-returns c = let told = c.load.ensures.2 c.args.histogram (omega arith) in record {
+pub returns-clause-step : goal.returns-clause-step
+returns-clause-step c = let told = c.load.ensures.2.0 c.args.histogram (omega arith) in record {
   same = (c.load.ensures.0, c.load.ensures.1, told.1);
   view = told.0;
   learned = told.2;
 }
+
+pub returns-clause-behind : goal.returns-clause-behind
+returns-clause-behind c = c.load.ensures.2.1
+
+pub returns-clause-once : goal.returns-clause-once
+returns-clause-once c = c.load.ensures.2.2

@@ -11,5 +11,5 @@ returns-clause-view c =
     let fits : FitsSigned w64 c.cast_signed-sum.result = search rules in
     let sum : to_z w64 (of_z w64 c.cast_signed-sum.result) ≡ to_z w64 c.load_sum.result = to_z-of_z w64 c.cast_signed-sum.result fits ∙ c.cast_signed-sum.ensures in
     c.load_redundant-redundant.ensures.view
-    ∙ (ap (λ (a : Actor). next a (taking_event (load_redundant c.args.histogram)) c.load_redundant-redundant.result) c.load_sum.ensures.view
+    ∙ (ap (λ (a : Actor). next a (taking_event (load_redundant c.args.histogram)) c.load_redundant-redundant.result) c.load_sum.ensures.step.view
     ∙ ap (λ (s : ℤ). saw_sum c.args.seat.now.me.0 c.args.histogram s c.load_redundant-redundant.result) (sym sum))

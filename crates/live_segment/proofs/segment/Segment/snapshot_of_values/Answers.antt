@@ -1,4 +1,4 @@
-use Rattle.std.proofs.Common.{rules, ◌≡◌, ℤ, w64, FitsSigned, to_z, of_z, sym, ap, ◌∙◌, subst}
+use Rattle.std.proofs.Common.{rules, ℤ, w64, FitsSigned, to_z, of_z, sym, ap, ◌∙◌, subst}
 use Rattle.std.proofs.lemmas.Int.{to_z-of_z}
 use Rattle.hist_core.specs.declared.answer.Snapshot.{Snapshot}
 use Rattle.segment_machine.specs.declared.actor.Actor.{Actor}
@@ -31,8 +31,8 @@ look_at_values-requires-clause-comes c =
     comes c.args.self.now (known_view c.args.histogram.now) c.args.seat.now c.requires.seat.0 c.requires.seat.1 c.requires.rests c.requires.right.alone c.requires.sparse
     front behind split c.look_next-first.result c.look_next-first.new.seat c.look_next-first.ensures
 
-pub look_at_sum_of_values-sum-requires-clause-may : goal.look_at_sum_of_values-sum-requires-clause-may
-look_at_sum_of_values-sum-requires-clause-may c =
+pub look_at_sum-sum-requires-clause-may : goal.look_at_sum-sum-requires-clause-may
+look_at_sum-sum-requires-clause-may c =
     let known = known_view c.args.histogram.now in
     let (front, behind, split) = stands_there c.args.seat.now.me.0.seen.chain c.args.histogram.now.reference c.requires.right.met in
     let (passed, along) = c.look_at_values.ensures in
@@ -50,13 +50,13 @@ answer_with-requires-clause-may c =
     front behind split c.look_next-first.result c.look_next-first.new.seat c.look_next-first.ensures c.look_at_values.new.seat passed c.look_at_values.new.totals.items along in
     let a = c.args.seat.now.me.0 in
     let b = c.look_at_values.new.seat.me.0 in
-    let sum = c.look_at_sum_of_values-sum.result in
+    let sum = c.look_at_sum-sum.result in
     let fits : FitsSigned w64 sum.0 = search rules in
     let snapshot : Snapshot = record { counts = c.sort_by_key.new.counts; sum = to_z w64 (of_z w64 sum.0); redundant = sum.1 } in
-    may_answer known a b looked snapshot c.look_at_sum_of_values-sum.new.seat.me.0 c.requires.right.alone
+    may_answer known a b looked snapshot c.look_at_sum-sum.new.seat.me.0 c.requires.right.alone
     (saw_values known a b looked snapshot c.requires.sparse passed c.look_at_values.new.totals.items along.comes along.lists c.sort_by_key.ensures
-    c.look_at_sum_of_values-sum.ensures.behind c.look_at_sum_of_values-sum.ensures.once)
-    (c.look_at_sum_of_values-sum.ensures.view ∙ ap (λ (s : ℤ). saw_sum b known.reference s sum.1) (sym (to_z-of_z w64 sum.0 fits)))
+    c.look_at_sum-sum.ensures.behind c.look_at_sum-sum.ensures.once)
+    (c.look_at_sum-sum.ensures.view ∙ ap (λ (s : ℤ). saw_sum b known.reference s sum.1) (sym (to_z-of_z w64 sum.0 fits)))
 
 pub returns-clause-answer : goal.returns-clause-answer
 returns-clause-answer c =
@@ -67,15 +67,15 @@ returns-clause-answer c =
     front behind split c.look_next-first.result c.look_next-first.new.seat c.look_next-first.ensures c.look_at_values.new.seat passed c.look_at_values.new.totals.items along in
     let a = c.args.seat.now.me.0 in
     let b = c.look_at_values.new.seat.me.0 in
-    let sum = c.look_at_sum_of_values-sum.result in
+    let sum = c.look_at_sum-sum.result in
     let fits : FitsSigned w64 sum.0 = search rules in
     let snapshot : Snapshot = record { counts = c.sort_by_key.new.counts; sum = to_z w64 (of_z w64 sum.0); redundant = sum.1 } in
     subst (λ (s : Snapshot). HasSnapshot known a s c.answer_with.new.seat.me.0) (sym c.answer_with.ensures.answer)
     (has_snapshot known a b looked snapshot c.answer_with.new.seat.me.0
     (saw_values known a b looked snapshot c.requires.sparse passed c.look_at_values.new.totals.items along.comes along.lists c.sort_by_key.ensures
-    c.look_at_sum_of_values-sum.ensures.behind c.look_at_sum_of_values-sum.ensures.once)
+    c.look_at_sum-sum.ensures.behind c.look_at_sum-sum.ensures.once)
     (c.answer_with.ensures.view ∙ ap (λ (x : Actor). noted x (answers (answered_as x known snapshot)))
-    (c.look_at_sum_of_values-sum.ensures.view ∙ ap (λ (s : ℤ). saw_sum b known.reference s sum.1) (sym (to_z-of_z w64 sum.0 fits)))))
+    (c.look_at_sum-sum.ensures.view ∙ ap (λ (s : ℤ). saw_sum b known.reference s sum.1) (sym (to_z-of_z w64 sum.0 fits)))))
 
 pub returns-clause-units : goal.returns-clause-units
 returns-clause-units c =
@@ -86,9 +86,9 @@ returns-clause-units c =
     front behind split c.look_next-first.result c.look_next-first.new.seat c.look_next-first.ensures c.look_at_values.new.seat passed c.look_at_values.new.totals.items along in
     let a = c.args.seat.now.me.0 in
     let b = c.look_at_values.new.seat.me.0 in
-    let sum = c.look_at_sum_of_values-sum.result in
+    let sum = c.look_at_sum-sum.result in
     let fits : FitsSigned w64 sum.0 = search rules in
     let snapshot : Snapshot = record { counts = c.sort_by_key.new.counts; sum = to_z w64 (of_z w64 sum.0); redundant = sum.1 } in
     subst (λ (s : Snapshot). AreUnits s.counts.items) (sym c.answer_with.ensures.answer)
     (are_units known a b looked snapshot c.requires.sparse passed c.look_at_values.new.totals.items along.comes along.lists c.sort_by_key.ensures
-    c.look_at_sum_of_values-sum.ensures.behind c.look_at_sum_of_values-sum.ensures.once)
+    c.look_at_sum-sum.ensures.behind c.look_at_sum-sum.ensures.once)

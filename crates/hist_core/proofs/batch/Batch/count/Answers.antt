@@ -1,0 +1,35 @@
+use Rattle.std.proofs.Common.{length, refl, vec_len}
+use Rattle.std.proofs.Props.{props}
+use Rattle.std.proofs.Math.Logic.{∥∥₁_elim}
+use Rattle.hist_core.proofs.Boards.{is_there}
+use Rattle.hist_core.proofs.Batching.{adds_there, fits_there, item_on, same_on, refused_on}
+use Rattle.hist_core.proofs.batch.Batch.count.Goals as goal
+
+pub step-said-requires : goal.step-said-requires
+step-said-requires c =
+    let batch = c.args.self.now in let x = c.index_mut-item.result.now in
+    let at = is_there batch.items.items (vec_len batch.items) batch.added x batch.items.ok.0 c.requires.near c.index_mut-item.ensures.value in record {
+      stands = ∥∥₁_elim c.requires.stands (hlevel props) (λ (shape, known, a, long, is). ∣ adds_there shape known batch a is c.requires.near x at (length c.args.words.now) long ∣₁);
+    }
+
+pub item_said-requires-clause-few : goal.item_said-requires-clause-few
+item_said-requires-clause-few c =
+    let batch = c.args.self.now in let x = c.index_mut-item.result.now in
+    let at = is_there batch.items.items (vec_len batch.items) batch.added x batch.items.ok.0 c.requires.near c.index_mut-item.ensures.value in
+    ∥∥₁_elim c.requires.stands (hlevel props) (λ (shape, known, a, long, is). fits_there shape known batch a is c.requires.near x at)
+
+pub returns-clause-steps : goal.returns-clause-steps
+returns-clause-steps c = λ shape known a long is.
+    let batch = c.args.self.now in let x = c.index_mut-item.result.now in
+    let at = is_there batch.items.items (vec_len batch.items) batch.added x batch.items.ok.0 c.requires.near c.index_mut-item.ensures.value in
+    item_on shape known batch a is c.requires.near x at c.step-said.new.self c.step-said.ensures.same _ refl refl c.args.words.now c.step-said.new.words long
+    c.step-said.result c.step-said.ensures.steps c.item_said.new.self c.item_said.result c.item_said.ensures
+
+pub returns-clause-same : goal.returns-clause-same
+returns-clause-same c =
+    let batch = c.args.self.now in let x = c.index_mut-item.result.now in
+    let at = is_there batch.items.items (vec_len batch.items) batch.added x batch.items.ok.0 c.requires.near c.index_mut-item.ensures.value in
+    same_on batch x c.step-said.new.self at c.step-said.ensures.same _ refl refl c.step-said.result x.units c.item_said.new.self c.item_said.result c.item_said.ensures
+
+pub returns-clause-refused : goal.returns-clause-refused
+returns-clause-refused c = refused_on c.args.self.now _ c.item_said.new.self c.step-said.result c.index_mut-item.result.now.units c.item_said.result refl refl c.requires.near c.item_said.ensures

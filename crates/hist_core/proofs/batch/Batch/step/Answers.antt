@@ -1,0 +1,15 @@
+use Rattle.std.proofs.Common.{◌≤◌, sym, subst, arith, vec_len}
+use Rattle.std.proofs.Props.{props}
+use Rattle.std.proofs.Math.Logic.{∥∥₁_elim}
+use Rattle.hist_core.specs.Batch.{IsRefusedAt}
+use Rattle.hist_core.proofs.Batching.{not_more}
+use Rattle.hist_core.proofs.batch.Batch.step.Goals as goal
+
+pub add_sum-requires-clause-counted : goal.add_sum-requires-clause-counted
+add_sum-requires-clause-counted c =
+    let batch = c.args.self.now in
+    let most : batch.added ≤ vec_len batch.items = ∥∥₁_elim c.requires.stands (hlevel props) (λ (shape, known, a, long, is). not_more shape known batch a is) in
+    omega (arith, most, c.if-self-len.false, c.len.ensures)
+
+pub returns-else-self-len-clause-refused : goal.returns-else-self-len-clause-refused
+returns-else-self-len-clause-refused c = subst (IsRefusedAt c.args.self.now c.add_sum.new.self) (sym c.add_sum.ensures.done) tt

@@ -1,0 +1,22 @@
+use Rattle.std.proofs.Common.{◌≡◌, ◌-◌, ◌++◌, ◌∷◌, [], ℤ, w32, to_z, of_z, rules, length, refl, subst, ap, ◌∙◌, vec_len, arith}
+use mathlib.Core.Option.{some}
+use lib.ListN.{get_elem?}
+use Rattle.hist_core.specs.declared.entry.Taken.{Taken}
+use Rattle.hist_core.proofs.Boards.{is_there}
+use Rattle.hist_core.proofs.Deltas.{last_set_at}
+use Rattle.hist_core.proofs.drawing.draw.Goals as goal
+
+pub push_reserved-requires : goal.push_reserved-requires
+push_reserved-requires c =
+    let list = c.args.taken.now in let last = c.index_mut.result.now in
+    let at = is_there list.items (vec_len list) (c.len-last.result - 1) last list.ok.0 (omega (arith, c.len-last.ensures, c.requires.some)) c.index_mut.ensures.value in
+    let same : c.len-last.result - 1 ≡ length list.items - 1 = (let ok = list.ok.0 in omega (arith, ok, c.len-last.ensures)) in
+    c.requires.room last (subst (λ n. get_elem? list.items n ≡ some last) same at)
+
+pub returns : goal.returns
+returns c =
+    let list = c.args.taken.now in let last = c.index_mut.result.now in
+    let whole : to_z w32 (of_z w32 c.args.key) ≡ c.args.key = search rules in
+    let now : Taken = record last { counts = c.push_reserved.new.self } in
+    let parts = last_set_at list.items (vec_len list) (c.len-last.result - 1) last now list.ok.0 (omega (arith, c.len-last.ensures)) (omega (arith, c.requires.some)) c.index_mut.ensures.value in
+    (parts.0, last, now, parts.1, parts.2, (refl, c.push_reserved.ensures.items ∙ ap (λ (k : ℤ). last.counts.items ++ (k, c.args.units) ∷ []) whole, c.push_reserved.ensures.capacity))

@@ -1,0 +1,152 @@
+-- A `batch` that is going on.
+use Rattle.std.specs.Prelude.{◌≡◌, true, false, ◌⊎◌, ◌&&◌, Some, ◌==◌, if◌then◌else◌, ℕ, ◌+◌, ◌-◌, ◌≤◌, ◌<◌, ⊤, ℤ, pos, List, [], ◌∷◌, ◌++◌, length, map, take, drop, sum_by, vec_len}
+use Rattle.std.specs.List.{All, Contains}
+use Rattle.std.specs.Ordering.{int_eq}
+use Rattle.segment_image.specs.declared.layout.TheConstants.{HISTOGRAM_NAME}
+use Rattle.segment_image.specs.Shape.{Dimensions}
+use Rattle.alloc_core.specs.Layout.{IsShape}
+use Rattle.segment_machine.specs.declared.actor.Actor.{Actor}
+use Rattle.segment_machine.specs.declared.actor.Known.{Known}
+use Rattle.segment_machine.specs.declared.entry.Entry.{Entry}
+use Rattle.segment_machine.specs.Actor.{has_buckets, known_at}
+use Rattle.segment_machine.specs.Calls.{MayTurn}
+use Rattle.segment_machine.specs.Entry.{fresh, sum_entry, has_ended}
+use Rattle.segment_machine.specs.Note.{is_untouched}
+use Rattle.hist_core.specs.declared.add.Add.{Add}
+use Rattle.hist_core.specs.declared.add.AddStep.{AddStep}
+use Rattle.hist_core.specs.declared.add.AddStep.TheVariants as said
+use Rattle.hist_core.specs.declared.add.Stage.TheVariants.{LoadingSingle}
+use Rattle.hist_core.specs.declared.batch.Batch.{Batch}
+use Rattle.hist_core.specs.declared.batch.BatchStep.{BatchStep}
+use Rattle.hist_core.specs.declared.batch.BatchStep.TheVariants.{More, Done, Refused}
+use Rattle.hist_core.specs.Add.{Amid, IsAdd, IsCounting, IsCause, Aside, StaysOpen, counted_entry, ended_entry}
+use Rattle.hist_core.specs.Goes.{Goes}
+
+-- ---- what it counts
+
+-- an item as a sample: its value, and how many units of it
+abbrev pub sample_of : Add → ℤ × ℕ
+sample_of item = (item.value, item.units)
+
+-- the units of items
+abbrev pub units_among : List Add → ℕ
+units_among items = sum_by (λ item. item.units) items
+
+-- the entry of its sum, which is left out where that is 0
+abbrev pub sum_entries : List ℕ → ℤ → List Entry
+sum_entries name sum = if int_eq sum (pos 0) then [] else sum_entry name sum ∷ []
+
+-- its entries: that of each item, then that of its sum
+abbrev pub counted_entries : Known → Batch → List Entry
+counted_entries known batch = map (counted_entry known) batch.items.items ++ sum_entries known.name batch.sum
+
+-- it counts the same, and costs as much
+pub record IsSameBatch (old new : Batch) : Type 0 where
+  pub histogram : new.histogram ≡ old.histogram
+  pub samples : map sample_of new.items.items ≡ map sample_of old.items.items
+  pub entries : (known : Known) → map (counted_entry known) new.items.items ≡ map (counted_entry known) old.items.items
+  pub sum : new.sum ≡ old.sum
+  pub cost : new.cost ≡ old.cost
+
+-- An item: it counts some units of a value in a known histogram with buckets, and no amount.
+pub record IsItem (shape : Dimensions) (version : ℕ) (known : Known) (item : Add) : Type 0 where
+  pub counting : IsCounting shape known item
+  pub versioned : version ≡ item.version
+  pub bucketed : has_buckets known.spec ≡ true
+  pub amount : item.amount ≡ pos 0
+
+-- ---- where it stands
+
+-- the entries about that of an item: of those before it all has happened, of those behind it and of the sum nothing has
+abbrev pub amid_of : Known → Batch → List Add → List Add → Amid
+amid_of known batch done rest = record {
+  before = map (ended_entry known) done;
+  behind = map (counted_entry known) rest ++ sum_entries known.name batch.sum;
+  cost = batch.cost;
+}
+
+-- an item is counted, those before it are, and those behind it have not begun
+pub record CountsItem (shape : Dimensions) (known : Known) (batch : Batch) (a : Actor) : Type 0 where
+  pub done : List Add
+  pub item : Add
+  pub rest : List Add
+  pub are : batch.items.items ≡ done ++ item ∷ rest
+  pub added : batch.added ≡ length done
+  pub left : batch.left + units_among done ≡ batch.cost
+  pub waits : All (λ item. item.stage ≡ LoadingSingle) rest
+  pub stands : IsAdd shape known (amid_of known batch done rest) item a
+
+-- all items are counted, and its sum, which is not 0, is added next
+pub record SumsUp (known : Known) (batch : Batch) (a : Actor) : Type 0 where
+  pub added : batch.added ≡ length batch.items.items
+  pub turns : MayTurn a
+  pub some : int_eq batch.sum (pos 0) ≡ false
+  pub runs : a.entries.running ≡ map (ended_entry known) batch.items.items ++ fresh (sum_entry known.name batch.sum) ∷ []
+
+-- Its actor knows the histogram, whose record lies in the segment and which alone has its reference there, takes nothing, and holds the
+-- units, of which the items have no more.
+pub record IsBatch (shape : Dimensions) (known : Known) (batch : Batch) (a : Actor) : Type 0 where
+  pub reference : known.reference ≡ batch.histogram
+  pub within : batch.histogram + HISTOGRAM_NAME ≤ shape.size
+  pub segment : a.segment.shape ≡ shape
+  pub lawful_shape : IsShape shape
+  pub knows : Contains a.answers.names known
+  pub alone : known_at a.answers.names known.reference ≡ Some known
+  pub rests : a.deltas.taking ≡ false
+  pub held : a.units.held ≡ record { name = known.name; units = batch.cost } ∷ []
+  pub items : All (IsItem shape a.segment.version known) batch.items.items
+  pub enough : units_among batch.items.items ≤ batch.cost
+  pub stands : CountsItem shape known batch a ⊎ SumsUp known batch a
+
+-- ---- what a step makes of its actor
+
+-- the entries that run are these
+abbrev pub Runs : List Entry → Actor → Type 0
+Runs entries a = map (λ c. c.entry) a.entries.running ≡ entries
+
+-- all has happened of them
+abbrev pub HaveEnded : List Entry → Actor → Type 0
+HaveEnded entries a = Runs entries a × All (λ c. has_ended c ≡ true) a.entries.running
+
+-- all has happened of the first ones, of which none has added an amount, and nothing of the others
+pub record IsCutAt (added : ℕ) (entries : List Entry) (a : Actor) : Type 0 where
+  pub runs : Runs entries a
+  pub ended : All (λ c. has_ended c ≡ true) (take added a.entries.running)
+  pub untouched : All (λ c. is_untouched c ≡ true) (drop added a.entries.running)
+  pub unsummed : All (λ c. c.summed ≡ false) (take added a.entries.running)
+
+-- What a step says: it goes on; all of it is counted; or its next item is refused. Its actor may turn to another call then.
+abbrev pub BatchGives : Dimensions → Known → Batch → BatchStep → Actor → Actor → Type 0
+BatchGives shape known new More a b = Aside a b × StaysOpen a b × IsBatch shape known new b
+BatchGives shape known new Done a b = Aside a b × StaysOpen a b × MayTurn b × HaveEnded (counted_entries known new) b
+BatchGives shape known new (Refused refusal) a b =
+    Aside a b × StaysOpen a b × MayTurn b × IsCause refusal.why b × IsCutAt refusal.added (counted_entries known new) b
+    × (refusal.added ≤ length new.items.items) × (new.left + units_among (take refusal.added new.items.items) ≡ new.cost)
+
+-- what a step makes of the words, and of whatever actor stands so
+abbrev pub BatchSteps : Batch → List ℕ → Batch → List ℕ → BatchStep → Type 0
+BatchSteps old words new new_words said = (shape : Dimensions) (known : Known) (a : Actor) → length words ≡ shape.size
+    → IsBatch shape known old a → Goes shape.size a.segment.version a words new_words (BatchGives shape known new said a)
+
+-- a `batch` that stands so somewhere, in so many words
+abbrev pub IsSomeBatch : ℕ → Batch → Type 0
+IsSomeBatch n batch = (shape : Dimensions) × (known : Known) × (a : Actor) × (n ≡ shape.size) × IsBatch shape known batch a
+
+-- What becomes of it by what a step of its next item said: it goes on; the item is counted, and with the last one it has ended where no
+-- sum is to be added; or it is refused behind the items that are counted.
+abbrev pub IsItemSaid : Batch → AddStep → ℕ → Batch → BatchStep → Type 0
+IsItemSaid old said.More units new result = (new ≡ old) × (result ≡ More)
+IsItemSaid old said.Done units new result =
+    (new ≡ record old { added = old.added + 1; left = old.left - units })
+    × (result ≡ (if (old.added + 1 == vec_len old.items) && int_eq old.sum (pos 0) then Done else More))
+IsItemSaid old (said.Refused why) units new result = (new ≡ old) × (result ≡ Refused (record { added = old.added; why = why }))
+
+-- it is refused where that many items are counted, which are not all, and no more units are spent
+abbrev pub IsRefusedAt : Batch → Batch → BatchStep → Type 0
+IsRefusedAt old new (Refused refusal) = (refusal.added ≡ old.added) × (refusal.added < vec_len old.items) × (new.left ≡ old.left)
+IsRefusedAt old new said = ⊤
+
+-- the items that are counted where it is refused
+abbrev pub added_of : BatchStep → ℕ
+added_of (Refused refusal) = refusal.added
+added_of said = 0

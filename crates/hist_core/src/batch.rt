@@ -1,0 +1,105 @@
+//! A `batch` that is going on: it counts its items one after the other, and then adds its sum.
+
+ghost use Rattle.std.specs.Prelude.{◌≡◌, length};
+
+use crate::add::{Add, AddStep};
+use crate::counting::fetch_add;
+use crate::refusal::BatchRefusal;
+use segment_image::layout::HISTOGRAM_SUM;
+
+/// What a step of a `batch` says.
+#[derive(Clone, Copy, Debug, PartialEq, Eq)]
+pub(crate) enum BatchStep {
+    /// It goes on.
+    More,
+    /// Its items are counted, and its sum is added.
+    Done,
+    /// The next item is refused.
+    Refused(BatchRefusal),
+}
+
+/// A `batch` that is going on.
+#[derive(Debug, Drop)]
+pub(crate) struct Batch {
+    // The histogram's record.
+    pub(crate) histogram: u64,
+    // Its items, and how many of them are counted.
+    pub(crate) items: Vec<Add>,
+    pub(crate) added: usize,
+    // What it adds to the sum behind its items.
+    pub(crate) sum: i64,
+    // The units that it costs, and those of them that no counted item has spent.
+    pub(crate) cost: u32,
+    pub(crate) left: u32,
+}
+
+impl Batch {
+    ghost use Rattle.std.specs.Prelude.{◌<◌, ◌≤◌, vec_len};
+    ghost use Rattle.hist_core.specs.declared.batch.BatchStep.TheVariants.{Done};
+    ghost use Rattle.hist_core.specs.Batch.{BatchSteps, IsItemSaid, IsRefusedAt, IsSameBatch, IsSomeBatch};
+
+    // What becomes of it by what a step of its next item said, which has so many units.
+    fn item_said(&mut self, said: AddStep, units: u32) -> BatchStep
+        requires near { self.old.added < vec_len self.old.items }
+        requires few { units ≤ self.old.left }
+        ensures { IsItemSaid self.old said units self.new result }
+    {
+        match said {
+            AddStep::More => BatchStep::More,
+            AddStep::Done => {
+                self.left -= units;
+                self.added += 1;
+                if self.added == self.items.len() && self.sum == 0 {
+                    BatchStep::Done
+                } else {
+                    BatchStep::More
+                }
+            }
+            AddStep::Refused(why) => BatchStep::Refused(BatchRefusal {
+                added: self.added,
+                why,
+            }),
+        }
+    }
+
+    // It goes on with its next item.
+    fn count(&mut self, words: &mut [u64]) -> BatchStep
+        requires near { self.old.added < vec_len self.old.items }
+        requires stands { ∥ IsSomeBatch (length words.old) self.old ∥₁ }
+        ensures steps { BatchSteps self.old words.old self.new words.new result }
+        ensures same { IsSameBatch self.old self.new }
+        ensures refused { IsRefusedAt self.old self.new result }
+    {
+        let item = &mut self.items[self.added];
+        let units = item.units;
+        let said = item.step(words);
+        self.item_said(said, units)
+    }
+
+    // It adds its sum.
+    fn add_sum(&mut self, words: &mut [u64]) -> BatchStep
+        requires counted { self.old.added ≡ vec_len self.old.items }
+        requires stands { ∥ IsSomeBatch (length words.old) self.old ∥₁ }
+        ensures steps { BatchSteps self.old words.old self.new words.new result }
+        ensures same { self.new ≡ self.old }
+        ensures done { result ≡ Done }
+    {
+        let at = self.histogram as usize + HISTOGRAM_SUM;
+        fetch_add(words, at, self.sum.cast_unsigned());
+        BatchStep::Done
+    }
+
+    // Goes on by one event.
+    pub(crate) fn step(&mut self, words: &mut [u64]) -> BatchStep
+        requires stands { ∥ IsSomeBatch (length words.old) self.old ∥₁ }
+        ensures steps { BatchSteps self.old words.old self.new words.new result }
+        ensures same { IsSameBatch self.old self.new }
+        ensures refused { IsRefusedAt self.old self.new result }
+    {
+        if self.added < self.items.len() {
+            self.count(words)
+        } else {
+            self.add_sum(words)
+        }
+    }
+}

@@ -1,0 +1,34 @@
+-- A batch without a sum: its first items and its last one. Where the first ones are cut short, all of it is.
+use Rattle.std.proofs.Common.{◌≡◌, ◌+◌, ◌-◌, ◌≤◌, ℤ, ℕ, List, [], ◌∷◌, ◌++◌, map, take, length, get_or, sym, ap, ◌∙◌, subst, arith}
+use Rattle.std.proofs.Math.Seq.{take-length}
+use Rattle.std.proofs.lemmas.List.{take-append-le, take_more}
+use Rattle.atomic_table.proofs.Lists.{at_longer}
+use Rattle.segment_invariant.proofs.Lists.Elements.{below_length}
+use Rattle.hist_core.specs.declared.refusal.BatchRefusal.{BatchRefusal}
+use Rattle.bucket_ranges.specs.Ranges.{boundaries_of}
+use Rattle.bucket_ranges.specs.Tally.{units_of}
+use Rattle.segment_machine.specs.declared.actor.Actor.{Actor}
+use Rattle.segment_machine.specs.declared.actor.Known.{Known}
+use Rattle.segment_machine.specs.Actor.{log_of}
+use Rattle.segment_machine.specs.Entry.{item_entry}
+use Rattle.live_segment.specs.Adding.{Pays}
+use Rattle.live_segment.specs.Batching.{IsCutShort}
+
+pub front_and_last : (items : List (ℤ × ℕ)) (d : ℤ × ℕ) → 1 ≤ length items
+    → take (length items - 1) items ++ get_or items (length items - 1) d ∷ [] ≡ items
+front_and_last items d some =
+    let all : length items - 1 + 1 ≡ length items = omega (arith, some) in
+    sym (take_more items (length items - 1) d (omega (arith, some))) ∙ (ap (λ (n : ℕ). take n items) all ∙ take-length items)
+
+pub cut_before : (known : Known) (front behind : List (ℤ × ℕ)) (refusal : BatchRefusal) (old new : Actor) → IsCutShort known front refusal old new
+    → IsCutShort known (front ++ behind) refusal old new
+cut_before known front behind refusal old new cut =
+    let within = below_length front refusal.added cut.item cut.there in
+    let same : take refusal.added (front ++ behind) ≡ take refusal.added front = take-append-le refusal.added front behind (omega (arith, within)) in record {
+      item = cut.item;
+      there = at_longer front behind refusal.added cut.item cut.there;
+      logged = subst (λ (l : List (ℤ × ℕ)). log_of new ≡ log_of old ++ map (item_entry known.name (boundaries_of known.spec)) l) (sym same) cut.logged;
+      pays = subst (λ (l : List (ℤ × ℕ)). Pays known.name (units_of l) old new) (sym same) cut.pays;
+      lacks = cut.lacks;
+      onward = cut.onward;
+    }

@@ -1,0 +1,6 @@
+pub mod Parts
+pub mod Went
+pub mod Meetings
+pub mod Runs
+mod MergeFaults
+mod MergeOutcomes

@@ -1,0 +1,154 @@
+-- How recorders and openers go on, step by step.
+use Rattle.std.proofs.Common.{◌≡◌, ℕ, suc, ◌+◌, ◌-◌, ◌<◌, Bool, true, false, ◌||◌, ℤ, List, [], ◌∷◌, ◌++◌, map, length, slice_index_or, All, Contains, Some, inl, inr, refl, sym, ap, ◌∙◌, subst, arith, append_assoc, append-nil}
+use Rattle.std.specs.List.{flat_map, range_with_len}
+use Rattle.std.proofs.lemmas.List.{map-append}
+use Rattle.std.proofs.lemmas.List.Elements.{All-append, All-cons, Contains-append_left, Contains-append_right}
+use Rattle.bucket_ranges.specs.Spec.{SameSpec}
+use Rattle.bucket_ranges.specs.declared.spec.Spec.{Spec}
+use Rattle.segment_machine.specs.declared.actor.Actor.{Actor}
+use Rattle.segment_machine.specs.declared.actor.Known.{Known}
+use Rattle.segment_machine.specs.declared.entry.Counting.{Counting}
+use Rattle.segment_machine.specs.declared.entry.Entry.{Entry}
+use Rattle.segment_machine.specs.Actor.{log_of, outstanding_of}
+use Rattle.segment_machine.specs.Entry.{sample_entry}
+use Rattle.segment_machine.specs.Seats.{joined}
+use Rattle.segment_invariant.proofs.Consistency.Keys.{same_boundaries}
+use Rattle.live_segment.specs.declared.recorder.Hist.{Hist}
+use Rattle.live_segment.specs.Adding.{IsAdded}
+use Rattle.live_segment.specs.Deltas.{HasTaken}
+use Rattle.live_segment.specs.Hist.{IsAnsweredWith}
+use Rattle.persist_report_core.specs.declared.script.CallKind.TheVariants as kind
+use Rattle.persist_report_core.specs.Script.{HistRecord}
+use Rattle.persist_commands.specs.Entries.{entries_in}
+use Rattle.persist_commands.specs.Recording.{HandsOut, IsAskedIn, IsFresh, KnowsOf, WentOn, all_joined}
+
+-- ---- one after the other
+
+pub went_nowhere : (hists : List HistRecord) (old new : Actor) → new ≡ old → WentOn hists [] old new
+went_nowhere hists old new still = record {
+  first = ap (λ (a : Actor). a.entries.first) still;
+  logged = ap log_of still ∙ sym (append-nil (log_of old));
+  names = subst (λ (a : Actor). All (IsAskedIn hists) old.answers.names → All (IsAskedIn hists) a.answers.names) (sym still) (λ all. all);
+  spoiled = ap (λ (a : Actor). a.done.spoiled) still;
+}
+
+pub went_twice : (hists : List HistRecord) (xs ys : List Entry) (a b c : Actor) → WentOn hists xs a b → WentOn hists ys b c → WentOn hists (xs ++ ys) a c
+went_twice hists xs ys a b c one two = record {
+  first = two.first ∙ one.first;
+  logged = two.logged ∙ (ap (λ (l : List Entry). l ++ ys) one.logged ∙ append_assoc (log_of a) xs ys);
+  names = λ all. two.names (one.names all);
+  spoiled = two.spoiled ∙ one.spoiled;
+}
+
+-- an opener that hands out recorders records nothing
+pub went_handing : (hists : List HistRecord) (n : ℕ) (old new : Actor) → HandsOut n old new → WentOn hists [] old new
+went_handing hists n old new hands = record {
+  first = ap (λ e. e.first) hands.entries;
+  logged = ap (λ e. e.first ++ map (λ (c : Counting). c.entry) e.log) hands.entries ∙ sym (append-nil (log_of old));
+  names = subst (λ a. All (IsAskedIn hists) old.answers.names → All (IsAskedIn hists) a.names) (sym hands.answers) (λ all. all);
+  spoiled = ap (λ d. d.spoiled) hands.done;
+}
+
+-- ---- the calls of a recorder
+
+-- it was answered with the histogram of a `hist` record
+pub went_asking : (hists : List HistRecord) (hist : HistRecord) (histogram : Hist) (old new : Actor) → Contains hists hist
+    → IsAnsweredWith hist.name hist.spec histogram old new → WentOn hists [] old new
+went_asking hists hist histogram old new has (inl knew) = let (known, named, same, still) = knew in went_nowhere hists old new still
+went_asking hists hist histogram old new has (inr comes_to) =
+    let (none, at, rest) = comes_to in
+    let (asked, reference, is_asked, comes) = rest in
+    let looks = comes.looks in
+    let entries : new.entries ≡ old.entries = ap (λ (a : Actor). a.entries) comes.view ∙ ap (λ (a : Actor). a.entries) looks.same in
+    let names : new.answers.names ≡ old.answers.names ++ record { name = asked.name.items; spec = asked.spec; reference = reference } ∷ [] =
+    ap (λ (a : Actor). a.answers.names) comes.view in
+    let mine : IsAskedIn hists (record { name = asked.name.items; spec = asked.spec; reference = reference }) =
+    (hist, has, is_asked.named, subst (λ (s : Spec). SameSpec s hist.spec) (sym is_asked.specified) (refl, refl)) in record {
+      first = ap (λ e. e.first) entries;
+      logged = ap (λ e. e.first ++ map (λ (c : Counting). c.entry) e.log) entries ∙ sym (append-nil (log_of old));
+      names = λ all. subst (All (IsAskedIn hists)) (sym names)
+          (All-append (IsAskedIn hists) old.answers.names (record { name = asked.name.items; spec = asked.spec; reference = reference } ∷ []) all
+          (All-cons (IsAskedIn hists) (record { name = asked.name.items; spec = asked.spec; reference = reference }) [] mine (λ k d below. absurd (omega (arith, below)))));
+      spoiled = ap (λ (a : Actor). a.done.spoiled) comes.view ∙ ap (λ d. d.spoiled) looks.done.same;
+    }
+
+-- it added a sample
+pub went_adding : (hists : List HistRecord) (hist : HistRecord) (known : Known) (value : ℤ) (count : ℕ) (old new : Actor) → known.name ≡ hist.name
+    → SameSpec known.spec hist.spec → IsAdded known value count old new → WentOn hists (entries_in (Some hist) (kind.Add value count)) old new
+went_adding hists hist known value count old new named same added =
+    let on = added.onward in record {
+      first = ap (λ (a : Actor). a.entries.first) on.same;
+      logged = added.logged
+          ∙ (λ i. log_of old ++ sample_entry (named i) (same_boundaries known.spec hist.spec same i) (value, count) ∷ []);
+      names = subst (λ (l : List Known). All (IsAskedIn hists) old.answers.names → All (IsAskedIn hists) l) (sym (ap (λ (a : Actor). a.answers.names) on.same)) (λ all. all);
+      spoiled = ap (λ d. d.spoiled) on.done.same;
+    }
+
+-- it took a delta
+pub went_taking : (hists : List HistRecord) (known : Known) (counts : List (ℤ × ℕ)) (sum : ℤ) (old new : Actor) → HasTaken known counts sum old new
+    → WentOn hists [] old new
+went_taking hists known counts sum old new taken = record {
+  first = ap (λ (a : Actor). a.entries.first) taken.same;
+  logged = ap log_of taken.same ∙ sym (append-nil (log_of old));
+  names = subst (λ (l : List Known). All (IsAskedIn hists) old.answers.names → All (IsAskedIn hists) l) (sym (ap (λ (a : Actor). a.answers.names) taken.same)) (λ all. all);
+  spoiled = ap (λ (a : Actor). a.done.spoiled) taken.same;
+}
+
+-- ---- joins
+
+unspoiled : (b c : Bool) → c ≡ false → (b || c) ≡ b
+unspoiled true c none = refl
+unspoiled false c none = none
+
+-- an opener joins a recorder: it has gone on with what that recorder did
+pub went_joining : (hists : List HistRecord) (entries : List Entry) (opener fresh recorder : Actor) → IsFresh fresh → WentOn hists entries fresh recorder
+    → WentOn hists entries opener (joined opener recorder)
+went_joining hists entries opener fresh recorder is went =
+    let entries_of : List Counting → List Entry = map (λ (c : Counting). c.entry) in
+    let none : recorder.entries.first ≡ [] = went.first ∙ is.first in
+    let begun : log_of fresh ≡ [] = λ i. is.first i ++ entries_of (is.log i) in
+    let its : entries_of recorder.entries.log ≡ entries =
+    sym (ap (λ (l : List Entry). l ++ entries_of recorder.entries.log) none) ∙ (went.logged ∙ ap (λ (l : List Entry). l ++ entries) begun) in record {
+      first = refl;
+      logged = ap (λ (l : List Entry). opener.entries.first ++ l) (map-append (λ (c : Counting). c.entry) opener.entries.log recorder.entries.log)
+          ∙ (sym (append_assoc opener.entries.first (entries_of opener.entries.log) (entries_of recorder.entries.log))
+          ∙ ap (λ (l : List Entry). (opener.entries.first ++ entries_of opener.entries.log) ++ l) its);
+      names = λ all. All-append (IsAskedIn hists) opener.answers.names recorder.answers.names all
+          (went.names (subst (All (IsAskedIn hists)) (sym is.names) (λ k d below. absurd (omega (arith, below)))));
+      spoiled = unspoiled opener.done.spoiled recorder.done.spoiled (went.spoiled ∙ is.spoiled);
+    }
+
+-- what it knew it knows still, and what the recorder knew it knows too
+pub knows_joining : (opener recorder : Actor) (hist : HistRecord) → KnowsOf opener hist → KnowsOf (joined opener recorder) hist
+knows_joining opener recorder hist knows =
+    let (known, has, named, same) = knows in (known, Contains-append_left opener.answers.names recorder.answers.names known has, named, same)
+
+pub knows_of_recorder : (opener recorder : Actor) (hist : HistRecord) → KnowsOf recorder hist → KnowsOf (joined opener recorder) hist
+knows_of_recorder opener recorder hist knows =
+    let (known, has, named, same) = knows in (known, Contains-append_right opener.answers.names recorder.answers.names known has, named, same)
+
+-- a recorder that has gone on from nothing with the entries of a number
+abbrev pub Worked : List HistRecord → (ℕ → List Entry) → ℕ → Actor → Type 0
+Worked hists entries number a = (fresh : Actor) × IsFresh fresh × WentOn hists (entries number) fresh a
+
+-- recorders are joined, one behind the other
+pub went_joining_all : (hists : List HistRecord) (entries : ℕ → List Entry) (first : ℕ) (opener : Actor) (recorders : List Actor)
+    → ((k : ℕ) (d : Actor) → k < length recorders → Worked hists entries (first + k) (slice_index_or recorders k d))
+    → WentOn hists (flat_map entries (range_with_len first (length recorders))) opener (all_joined opener recorders)
+went_joining_all hists entries first opener [] each = went_nowhere hists opener opener refl
+went_joining_all hists entries first opener (recorder ∷ rest) each =
+    let (fresh, is, went) = each 0 recorder (omega arith) in
+    let mine : WentOn hists (entries first) fresh recorder = subst (λ n. WentOn hists (entries n) fresh recorder) (omega arith) went in
+    let others : (k : ℕ) (d : Actor) → k < length rest → Worked hists entries (first + 1 + k) (slice_index_or rest k d) =
+    λ k d below. subst (λ n. Worked hists entries n (slice_index_or rest k d)) (omega arith) (each (suc k) d (omega (arith, below))) in
+    went_twice hists (entries first) (flat_map entries (range_with_len (first + 1) (length rest))) opener (joined opener recorder) (all_joined (joined opener recorder) rest)
+    (went_joining hists (entries first) opener fresh recorder is mine) (went_joining_all hists entries (first + 1) (joined opener recorder) rest others)
+
+pub knows_joining_all : (opener : Actor) (recorders : List Actor) (hist : HistRecord) → KnowsOf opener hist → KnowsOf (all_joined opener recorders) hist
+knows_joining_all opener [] hist knows = knows
+knows_joining_all opener (recorder ∷ rest) hist knows = knows_joining_all (joined opener recorder) rest hist (knows_joining opener recorder hist knows)
+
+pub outstanding_joining : (opener : Actor) (recorders : List Actor)
+    → outstanding_of (all_joined opener recorders).role ≡ outstanding_of opener.role - length recorders
+outstanding_joining opener [] = omega arith
+outstanding_joining opener (recorder ∷ rest) = let others = outstanding_joining (joined opener recorder) rest in omega (arith, others)

@@ -1,0 +1,5 @@
+pub mod Parts
+pub mod Entries
+pub mod Recording
+pub mod Run
+pub mod MergeFiles

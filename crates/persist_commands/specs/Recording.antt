@@ -1,0 +1,121 @@
+-- What the recorders of a run have done.
+use Rattle.std.specs.Prelude.{◌≡◌, false, ℕ, ◌+◌, List, [], ◌∷◌, ◌++◌, slice_get, Option, Some, Ok, OnOk}
+use Rattle.std.specs.List.{All, Contains, flat_map, range_with_len}
+use Rattle.atomic_table.specs.Seated.{TableId}
+use Rattle.bucket_ranges.specs.Spec.{SameSpec}
+use Rattle.segment_machine.specs.declared.actor.Actor.{Actor}
+use Rattle.segment_machine.specs.declared.actor.Known.{Known}
+use Rattle.segment_machine.specs.declared.entry.Entry.{Entry}
+use Rattle.segment_machine.specs.Actor.{log_of, outstanding_of}
+use Rattle.segment_machine.specs.Seats.{joined}
+use Rattle.live_segment.specs.declared.recorder.Hist.{Hist}
+use Rattle.live_segment.specs.declared.recorder.Recorder.{Recorder}
+use Rattle.live_segment.specs.Hist.{IsNamed}
+use Rattle.live_segment.specs.Holders.{view_of_recorder}
+use Rattle.persist_report_core.specs.declared.script.Script as code
+use Rattle.persist_report_core.specs.Script.{HistRecord, Script, script_view}
+use Rattle.persist_commands.specs.declared.worker.Part.{Part}
+use Rattle.persist_commands.specs.declared.worker.Ended.{Ended}
+use Rattle.persist_commands.specs.Entries.{entries_of}
+use Rattle.persist_commands.specs.Parts.{part_of}
+
+-- ---- one recorder
+
+-- a recorder has done nothing
+pub record IsFresh (a : Actor) : Type 0 where
+  pub first : a.entries.first ≡ []
+  pub log : a.entries.log ≡ []
+  pub names : a.answers.names ≡ []
+  pub spoiled : a.done.spoiled ≡ false
+
+-- a histogram that a recorder knows is that of a `hist` record
+abbrev pub IsAskedIn : List HistRecord → Known → Type 0
+IsAskedIn hists known = (hist : HistRecord) × Contains hists hist × (known.name ≡ hist.name) × SameSpec known.spec hist.spec
+
+-- A recorder, or an opener, has gone on: these entries stand at the end of its log. All histograms that it came to know are those of `hist`
+-- records, and it has not set the corrupt flag.
+pub record WentOn (hists : List HistRecord) (entries : List Entry) (old new : Actor) : Type 0 where
+  pub first : new.entries.first ≡ old.entries.first
+  pub logged : log_of new ≡ log_of old ++ entries
+  pub names : All (IsAskedIn hists) old.answers.names → All (IsAskedIn hists) new.answers.names
+  pub spoiled : new.done.spoiled ≡ old.done.spoiled
+
+-- it knows the histogram of a `hist` record
+abbrev pub KnowsOf : Actor → HistRecord → Type 0
+KnowsOf a hist = (known : Known) × Contains a.answers.names known × (known.name ≡ hist.name) × SameSpec known.spec hist.spec
+
+-- the histograms that a recorder has asked for, each at the index of its `hist` record
+abbrev pub HaveMet : List HistRecord → Recorder → List (Option Hist) → Type 0
+HaveMet hists recorder met = (i : ℕ) (histogram : Hist) → slice_get met i ≡ Some (Some histogram)
+    → (hist : HistRecord) × (slice_get hists i ≡ Some hist) × IsNamed hist.name hist.spec recorder histogram
+
+-- a recorder has asked for all histograms of `hist` records, and has recorded nothing
+abbrev pub HasAsked : List HistRecord → Actor → Actor → Type 0
+HasAsked hists old new = WentOn hists [] old new × All (KnowsOf new) hists
+
+-- ---- an opener
+
+-- it has made so many recorders, and nothing else has become of it
+pub record HandsOut (recorders : ℕ) (old new : Actor) : Type 0 where
+  pub entries : new.entries ≡ old.entries
+  pub answers : new.answers ≡ old.answers
+  pub done : new.done ≡ old.done
+  pub outstanding : outstanding_of new.role ≡ outstanding_of old.role + recorders
+
+-- the histograms of `hist` records were made, by a recorder that is joined
+pub record HasOpened (hists : List HistRecord) (old new : Actor) : Type 0 where
+  pub went : WentOn hists [] old new
+  pub knows : All (KnowsOf new) hists
+  pub back : outstanding_of new.role ≡ outstanding_of old.role
+
+-- ---- workers
+
+-- the entries that a worker of some records
+abbrev pub entries_of_part : Script → ℕ → ℕ → List Entry
+entries_of_part script workers part = entries_of script.hists (part_of workers part script.calls)
+
+-- a worker has made all of its calls
+abbrev pub HasWorked : Script → ℕ → ℕ → Actor → Actor → Type 0
+HasWorked script workers part old new = WentOn script.hists (entries_of_part script workers part) old new
+
+-- a worker that is to be started: its number, the script, and a recorder of a segment that has done nothing
+pub record IsReady (segment : TableId) (script : code.Script) (workers number : ℕ) (part : Part) (has : code.Script) (recorder : Recorder) : Type 0 where
+  pub number_is : part.part ≡ number
+  pub workers_are : part.workers ≡ workers
+  pub script_is : has ≡ script
+  pub at : recorder.seat.table_id ≡ segment
+  pub fresh : IsFresh (view_of_recorder recorder)
+
+-- a worker that was started has ended: its recorder is of the same segment, and where it ended well it has made all of its calls
+pub record HasEnded (script : code.Script) (part : Part) (old : Recorder) (ended : Ended) : Type 0 where
+  pub at : ended.recorder.seat.table_id ≡ old.seat.table_id
+  pub worked : OnOk ended.outcome (HasWorked (script_view script) part.workers part.part (view_of_recorder old) (view_of_recorder ended.recorder))
+
+-- ---- all workers
+
+-- what a worker that has ended has done
+abbrev pub view_of_ended : Ended → Actor
+view_of_ended ended = view_of_recorder ended.recorder
+
+-- it ended well
+abbrev pub EndedWell : Ended → Type 0
+EndedWell ended = ended.outcome ≡ Ok tt
+
+-- it is of a segment
+abbrev pub EndedAt : TableId → Ended → Type 0
+EndedAt segment ended = ended.recorder.seat.table_id ≡ segment
+
+-- recorders are joined, one behind the other
+abbrev pub all_joined : Actor → List Actor → Actor
+all_joined opener [] = opener
+all_joined opener (recorder ∷ rest) = all_joined (joined opener recorder) rest
+
+-- the entries of all workers, those of each behind one another
+abbrev pub entries_of_all : Script → ℕ → List Entry
+entries_of_all script workers = flat_map (entries_of_part script workers) (range_with_len 0 workers)
+
+-- the calls of a script were made by so many workers, whose recorders are joined
+pub record HasRun (script : Script) (workers : ℕ) (old new : Actor) : Type 0 where
+  pub recorded : WentOn script.hists (entries_of_all script workers) old new
+  pub knows : All (KnowsOf old) script.hists → All (KnowsOf new) script.hists
+  pub back : outstanding_of new.role ≡ outstanding_of old.role

@@ -1,0 +1,94 @@
+-- What a script that was run leaves.
+use Rattle.std.specs.Prelude.{◌≡◌, ◌↔◌, ◌<◌, ◌≤◌, false, ℕ, ℤ, List, length, Ok, MatchResult, ⊤}
+use Rattle.std.specs.List.{Contains}
+use mathlib.Core.Option.{some}
+use lib.ListN.{get_elem?}
+use Rattle.segment_image.specs.Head.{header_of, head_of}
+use Rattle.bucket_ranges.specs.Spec.{SameSpec}
+use Rattle.bucket_ranges.specs.Reading.{Histogram, Reading, IsReading}
+use Rattle.segment_machine.specs.declared.entry.Entry.{Entry}
+use Rattle.segment_machine.specs.Entry.{tally_units, tally_sum, tally_noted}
+use Rattle.segment_promises.specs.Reads.{units_read, HasNoFault}
+use Rattle.hist_core.specs.declared.refusal.Refusal.TheVariants as refusal
+use Rattle.persist_report_core.specs.declared.fault.CliFault.{CliFault}
+use Rattle.persist_report_core.specs.declared.fault.CliFault.TheVariants as cli
+use Rattle.persist_report_core.specs.declared.script.fault.ScriptFault.{ScriptFault}
+use Rattle.persist_report_core.specs.declared.script.fault.ScriptFault.TheVariants as told
+use Rattle.persist_report_core.specs.Script.{HistRecord, Script, script_of}
+use Rattle.persist_report_core.specs.Text.{IsTextOf}
+use Rattle.persist_commands.specs.declared.stop.Stop.{Stop}
+use Rattle.persist_commands.specs.declared.stop.Stop.TheVariants as stop
+use Rattle.persist_commands.specs.Entries.{entries_of}
+
+-- a histogram that is read has what entries add up to: the units of each key, the sum, and all units as its redundant count
+pub record IsTallyOf (entries : List Entry) (h : Histogram) : Type 0 where
+  pub units : (key : ℤ) → units_read h key ≡ tally_units entries h.name key
+  pub sum : h.sum ≡ tally_sum entries h.name
+  pub redundant : h.redundant ≡ tally_noted entries h.name
+
+-- A reading of what a script records: no record is bad, the list does not stop, and nobody has found the segment corrupt. The names are
+-- exactly those of the `hist` records, each once and with their spec. Each histogram has the tally of the `add` records.
+pub record IsRecordingOf (script : Script) (reading : Reading) : Type 0 where
+  pub lawful : HasNoFault reading
+  pub named : (name : List ℕ) → ((h : Histogram) × Contains reading.hists h × (h.name ≡ name)) ↔ ((hist : HistRecord) × Contains script.hists hist × (hist.name ≡ name))
+  pub specified : (h : Histogram) (hist : HistRecord) → Contains reading.hists h → Contains script.hists hist → h.name ≡ hist.name → SameSpec h.spec hist.spec
+  pub once : (i j : ℕ) (g h : Histogram) → get_elem? reading.hists i ≡ some g → get_elem? reading.hists j ≡ some h → g.name ≡ h.name → i ≡ j
+  pub tallies : (h : Histogram) → Contains reading.hists h → IsTallyOf (entries_of script.hists script.calls) h
+  pub id : reading.id ≡ script.id
+  pub corrupt : reading.corrupt ≡ false
+
+-- Words are the image of a segment in which a script was run: it has the script's shape and id and is of version 2, and is read as what
+-- the script records.
+pub record IsImageOfRun (script : Script) (words : List ℕ) : Type 0 where
+  pub header : header_of words ≡ Ok (head_of words)
+  pub shape : (head_of words).shape ≡ script.shape
+  pub version : (head_of words).version ≡ 2
+  pub id : (head_of words).id ≡ script.id
+  pub reads : (reading : Reading) → IsReading words (head_of words) reading → IsRecordingOf script reading
+
+-- a text is the report of an image
+abbrev pub IsReportOfImage : List ℕ → List ℕ → Type 0
+IsReportOfImage words text = (reading : Reading) × IsReading words (head_of words) reading × IsTextOf reading text
+
+-- The bytes are a script that was run: the words are the image of the segment in which it was, and the text is their report.
+pub record IsRunOf (bytes words text : List ℕ) : Type 0 where
+  pub script : Script
+  pub script_is : script_of 4294967295 bytes ≡ Ok script
+  pub image : IsImageOfRun script words
+  pub report : IsReportOfImage words text
+
+-- ---- faults
+
+-- the fault of a run whose script was not read
+abbrev pub fault_of_script : ScriptFault → CliFault
+fault_of_script told.Read = cli.Read
+fault_of_script told.TooLong = cli.TooLong
+fault_of_script told.NoMemory = cli.NoMemory
+fault_of_script (told.BadLine number) = cli.BadLine number
+fault_of_script (told.ZeroCount number) = cli.Refused number refusal.ZeroCount
+fault_of_script (told.NoUnits number) = cli.Refused number refusal.NoUnits
+
+-- the fault of a run that has stopped
+abbrev pub fault_of_stop : Stop → CliFault
+fault_of_stop stop.NoThread = cli.NoThread
+fault_of_stop stop.NoMemory = cli.NoMemory
+fault_of_stop stop.Gate = cli.Gate
+fault_of_stop (stop.Refused number why) = cli.Refused number why
+
+-- a fault that the run of a lawful script may end with: its cause is not in the script's bytes alone
+abbrev pub MayEndRun : CliFault → Type 0
+MayEndRun cli.Write = ⊤
+MayEndRun cli.NoThread = ⊤
+MayEndRun cli.NoMemory = ⊤
+MayEndRun cli.Gate = ⊤
+MayEndRun (cli.Refused number why) = ⊤
+MayEndRun _ = ⊥
+
+-- A fault of a run has its cause in the bytes of the script: they are too many; or it is the first fault that they have as a script; or they
+-- have none, and it came later. A device that fails and want of memory have none there.
+abbrev pub IsFaultOfRun : List ℕ → CliFault → Type 0
+IsFaultOfRun bytes cli.Read = ⊤
+IsFaultOfRun bytes cli.NoMemory = ⊤
+IsFaultOfRun bytes cli.TooLong = 16777216 < length bytes
+IsFaultOfRun bytes fault =
+    (length bytes ≤ 16777216) × MatchResult (script_of 4294967295 bytes) (λ script. MayEndRun fault) (λ why. fault ≡ fault_of_script why)

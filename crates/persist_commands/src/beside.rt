@@ -1,0 +1,114 @@
+//! Jobs that run beside one another, each in a thread of its own.
+
+ghost use Rattle.std.specs.Prelude.{◌≡◌, ◌<◌, ℕ, length, slice_index_or, IfOk, All, ◌+◌, ◌*◌};
+
+use std::alloc::{AllocError, Global};
+use std::snapshot::Snapshot;
+use std::sync::Wait;
+use std::thread;
+use std::thread::{Promise, Scope, Threads};
+
+/// What a thread is to do.
+pub(crate) trait Job {
+    /// What it gives when it has ended.
+    type Output;
+
+    /// When it can be done.
+    ghost can_run: { Self → Type 0 };
+
+    /// What it may give.
+    ghost gives: { Self → Self.Output → Type 0 };
+
+    /// Does it.
+    fn run(self) -> Self::Output
+        requires { can_run self }
+        ensures { gives self result };
+}
+
+// That a thread's result is one that its job may give.
+#[derive(Drop)]
+struct Given<J> {
+    job: Snapshot<J>,
+}
+
+impl<J: Job<Output = X>, X> Promise<X> for Given<J> {
+    ghost kept_by = { λ given result. J.gives given.job.value result };
+}
+
+/// Why not all jobs were run.
+#[derive(Clone, Copy, Debug, PartialEq, Eq)]
+pub(crate) enum NotRun {
+    /// A thread could not be started.
+    NoThread,
+    /// There was no memory for the results.
+    NoMemory,
+}
+
+impl From<AllocError> for NotRun {
+    fn from(_: AllocError) -> NotRun {
+        NotRun::NoMemory
+    }
+}
+
+// Starts a thread for the last job, beside it those for the jobs before it, and joins it. There is to be room for the results of all.
+fn run_from<'s, 'e: 's, R: Threads, J: Job<Output = X> + Send + Drop + 's, X: Send + Drop + 's>(
+    rt: &R,
+    scope: &'s Scope<'s, &'e ()>,
+    alloc: Global,
+    all: usize,
+    mut jobs: Vec<J>,
+) -> Result<Vec<X>, NotRun>
+    requires { All (λ job. J.can_run job) jobs.items }
+    ensures len { IfOk result (λ done. length done.items ≡ length jobs.items) }
+    ensures each { IfOk result (λ done. (k : ℕ) (d : _) (e : _) → k < length jobs.items → J.gives (slice_index_or jobs.items k d) (slice_index_or done.items k e)) }
+{
+    let Some(job) = jobs.pop() else {
+        return Ok(Vec::with_capacity(alloc, all)?);
+    };
+    let given = Given {
+        job: Snapshot::of(&job),
+    };
+    let Ok(thread) = scope.spawn_with(
+        given,
+        move || -> X
+            requires { J.can_run job }
+            ensures { J.gives job result }
+        { job.run() },
+    ) else {
+        return Err(NotRun::NoThread);
+    };
+    let rest = run_from(rt, scope, alloc, all, jobs);
+    let last = thread.join(rt);
+    let mut done = rest?;
+    match done.push(last) {
+        Ok(()) => Ok(done),
+        Err(_) => Err(NotRun::NoMemory),
+    }
+}
+
+/// Runs each job in a thread of its own, beside the others, and gives their results in the order of the jobs. All threads that were
+/// started have ended then.
+///
+/// `NoThread` where one could not be started: those before it in the list are not started then.
+pub(crate) fn run_beside<R: Threads + Wait, J: Job<Output = X> + Send + Drop, X: Send + Drop>(
+    rt: &R,
+    alloc: Global,
+    jobs: Vec<J>,
+) -> Result<Vec<X>, NotRun>
+    requires { All (λ job. J.can_run job) jobs.items }
+    ensures len { IfOk result (λ done. length done.items ≡ length jobs.items) }
+    ensures each { IfOk result (λ done. (k : ℕ) (d : _) (e : _) → k < length jobs.items → J.gives (slice_index_or jobs.items k d) (slice_index_or done.items k e)) }
+{
+    thread::scope(
+        thread::scope_env(),
+        rt,
+        move |scope| -> Result<Vec<X>, NotRun>
+            requires { All (λ job. J.can_run job) jobs.items }
+            ensures len { IfOk result (λ done. length done.items ≡ length jobs.items) }
+            ensures each { IfOk result (λ done. (k : ℕ) (d : _) (e : _) → k < length jobs.items → J.gives (slice_index_or jobs.items k d) (slice_index_or done.items k e)) }
+        {
+            let all = jobs.len();
+            run_from(rt, scope, alloc, all, jobs)
+        },
+    )
+}

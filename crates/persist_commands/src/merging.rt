@@ -1,0 +1,142 @@
+//! Two images are merged into a new one.
+
+ghost use Rattle.std.specs.Prelude.{◌≡◌, ◌≢◌, ◌↔◌, ◌⊎◌, ◌++◌, ℕ, List, true, false, OnOk, IfOk, IfErr, IfSome, IsErrOf, All};
+ghost use Rattle.std.specs.Io.KnownBytes.{Appends};
+ghost use Rattle.image_reader.specs.Views.{reading_view};
+ghost use Rattle.live_segment.specs.Hist.{KnowsOn};
+ghost use Rattle.live_segment.specs.Holders.{view_of_recorder};
+ghost use Rattle.persist_commands.specs.MergeFiles.{AreMerged, IsImageOf, IsMergeFault, IsStopOf, fault_of_stop};
+ghost use Rattle.persist_report_core.specs.Report.{IsCausedBy};
+ghost use Rattle.segment_image.specs.Watched.{has_failed, is_flushed, watched_inner};
+ghost use Rattle.segment_image.specs.Words.{bytes_of_words};
+ghost use Rattle.segment_merge.specs.Image.{IsMergedImage};
+ghost use Rattle.segment_merge.specs.Merge.{IsMerged};
+ghost use Rattle.segment_merge.specs.Remainder.{HasRemainder};
+
+use crate::outputs::write_image;
+use hist_core::Refusal;
+use image_reader::Reading;
+use live_segment::{Recorder, Segment};
+use persist_report_core::CliFault;
+use segment_image::layout::VERSION_FROZEN;
+use segment_image::{Image, SegmentHead, Watched, header, read_words};
+use segment_merge::{MergeReport, MergeStop, merge};
+use std::alloc::Global;
+use std::io::{Read, Write};
+
+// An image has at most so many words.
+const MAX_WORDS: usize = 1_048_576;
+
+// An image that is merged: its header, and what it reads as.
+#[derive(Drop)]
+struct Input {
+    head: SegmentHead,
+    reading: Reading,
+}
+
+// The image that words are.
+fn image_of_words(alloc: Global, words: &[u64]) -> Result<Input, CliFault>
+    ensures image { IfOk result (λ input. IsImageOf (bytes_of_words words.now) input.head (reading_view input.reading)) }
+    ensures cause { IfErr result (λ fault. IsCausedBy (bytes_of_words words.now) fault) }
+    ensures other { IfErr result (λ fault. (fault ≢ CliFault.Read) × (fault ≢ CliFault.Write)) }
+{
+    let head = header(words)?;
+    let reading = image_reader::read(alloc, words)?;
+    Ok(Input { head, reading })
+}
+
+// The image that the reader has left.
+fn read_image<R: Read>(alloc: Global, reader: &mut Watched<R>) -> Result<Input, CliFault>
+    requires { has_failed reader.old ≡ false }
+    ensures image { IfOk result (λ input. IfSome (R.remaining (watched_inner reader.old)) (λ bytes. IsImageOf bytes input.head (reading_view input.reading))) }
+    ensures some { IfOk result (λ input. (bytes : List ℕ) × IsImageOf bytes input.head (reading_view input.reading)) }
+    ensures cause { IfErr result (λ fault. IfSome (R.remaining (watched_inner reader.old)) (λ bytes. IsCausedBy bytes fault)) }
+    ensures read { IsErrOf result CliFault.Read ↔ (has_failed reader.new ≡ true) }
+    ensures other { IfErr result (λ fault. fault ≢ CliFault.Write) }
+{
+    let words = read_words(alloc, reader, MAX_WORDS)?;
+    image_of_words(alloc, &words)
+}
+
+// Merges a reading whole.
+fn merge_whole(alloc: Global, recorder: &mut Recorder, reading: &Reading) -> Result<(), CliFault>
+    requires { All HasRemainder reading.now.hists.items }
+    ensures same { KnowsOn recorder.old recorder.new }
+    ensures merged { OnOk result (IsMerged (reading_view reading.now).hists (view_of_recorder recorder.old) (view_of_recorder recorder.new)) }
+    ensures fault { IfErr result (IsStopOf (reading_view reading.now).hists) }
+{
+    let Ok(report) = merge(alloc, recorder, reading) else {
+        return Err(CliFault::NoMemory);
+    };
+    let MergeReport { stopped, .. } = report;
+    match stopped {
+        None => Ok(()),
+        Some(stop) => Err(fault_of(stop)),
+    }
+}
+
+// The fault of a merge that stopped.
+fn fault_of(stop: MergeStop) -> CliFault
+    ensures { result ≡ fault_of_stop stop.name stop.why }
+{
+    let MergeStop { name, why, .. } = stop;
+    match why {
+        Refusal::NoMemory => CliFault::NoMemory,
+        why => CliFault::Merge { name, why },
+    }
+}
+
+// The image of a new segment, of the size, the page and the id of BASE, into which both are merged.
+fn merge_inputs(alloc: Global, base: &Input, dead: &Input) -> Result<Image, CliFault>
+    requires base { (bytes : List ℕ) × IsImageOf bytes base.now.head (reading_view base.now.reading) }
+    requires dead { (bytes : List ℕ) × IsImageOf bytes dead.now.head (reading_view dead.now.reading) }
+    ensures image { IfOk result (IsMergedImage base.now.head ((reading_view base.now.reading).hists ++ (reading_view dead.now.reading).hists)) }
+    ensures fault { IfErr result (IsStopOf ((reading_view base.now.reading).hists ++ (reading_view dead.now.reading).hists)) }
+{
+    let shape = base.head.shape;
+    let Ok((segment, mut opener)) = Segment::create(
+        alloc,
+        shape.size(),
+        shape.page(),
+        base.head.id,
+        0,
+        VERSION_FROZEN,
+    ) else {
+        return Err(CliFault::NoMemory);
+    };
+    let Ok(mut recorder) = opener.recorder(&segment, u32::MAX) else {
+        unreachable!()
+    };
+    merge_whole(alloc, &mut recorder, &base.reading)?;
+    merge_whole(alloc, &mut recorder, &dead.reading)?;
+    opener.join(recorder);
+    Ok(segment.close(opener))
+}
+
+/// Merges two images, and writes the image of a new segment: it has the size, the page and the id of the first one, BASE, and version 2.
+/// Its histograms are those of BASE and then of DEAD, with what deltas had not taken of them.
+///
+/// BASE is read and checked whole before DEAD. `Read` where a read of one fails; `TooLong`, `NotWords` and `Image` as for a report, of BASE
+/// and then of DEAD; `Merge` with the name of the histogram at which the merge stopped, and why; `NoMemory` where there is none. After each of
+/// these nothing was written. `Write` where the write or the flush fails.
+pub fn merge_files<A: Read, B: Read, W: Write>(
+    alloc: Global,
+    base: &mut Watched<A>,
+    dead: &mut Watched<B>,
+    out: &mut Watched<W>,
+) -> Result<(), CliFault>
+    requires base_sound { has_failed base.old ≡ false }
+    requires dead_sound { has_failed dead.old ≡ false }
+    requires out_sound { has_failed out.old ≡ false }
+    ensures image { OnOk result (IfSome (A.remaining (watched_inner base.old)) (λ first. IfSome (B.remaining (watched_inner dead.old)) (λ second. (words : List ℕ) × AreMerged first second words × Appends (W.contents (watched_inner out.old)) (W.contents (watched_inner out.new)) (bytes_of_words words)))) }
+    ensures cause { IfErr result (λ fault. IfSome (A.remaining (watched_inner base.old)) (λ first. IfSome (B.remaining (watched_inner dead.old)) (λ second. IsMergeFault first second fault))) }
+    ensures read { IsErrOf result CliFault.Read ↔ ((has_failed base.new ≡ true) ⊎ (has_failed dead.new ≡ true)) }
+    ensures write { IsErrOf result CliFault.Write ↔ (has_failed out.new ≡ true) }
+    ensures flushed { OnOk result (is_flushed out.new ≡ true) }
+    ensures untouched { IfErr result (λ fault. fault ≢ CliFault.Write → out.new ≡ out.old) }
+{
+    let first = read_image(alloc, base)?;
+    let second = read_image(alloc, dead)?;
+    let image = merge_inputs(alloc, &first, &second)?;
+    write_image(out, image.words())
+}

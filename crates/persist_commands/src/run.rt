@@ -1,0 +1,225 @@
+//! A script is run.
+
+ghost use Rattle.std.specs.Prelude.{◌≡◌, ◌≢◌, ◌↔◌, ◌⊎◌, ◌<◌, ◌≤◌, ℕ, List, false, true, length, map, slice_index_or, All, Ok, IfOk, IfErr, IfSome, OnOk, IsErrOf};
+ghost use Rattle.std.specs.Io.KnownBytes.{Appends};
+ghost use Rattle.segment_image.specs.Words.{bytes_of_words};
+ghost use Rattle.segment_image.specs.Watched.{has_failed, is_flushed, watched_inner};
+ghost use Rattle.live_segment.specs.Holders.{IsMadeWith, IsSameOpener, table_of, view_of_opener};
+ghost use Rattle.persist_report_core.specs.Script.{script_of, script_view};
+ghost use Rattle.persist_commands.specs.Recording.{EndedAt, EndedWell, HandsOut, HasRun, IsReady, all_joined, view_of_ended};
+ghost use Rattle.persist_commands.specs.Run.{IsFaultOfRun, IsImageOfRun, IsRunOf};
+
+use crate::beside::{NotRun, run_beside};
+use crate::gate::Gate;
+use crate::opening::make_histograms;
+use crate::outputs::{text_of_image, write_image, write_text};
+use crate::stop::{Stop, both};
+use crate::worker::{Ended, Part, Worker, units_of};
+use hist_core::Refusal;
+use live_segment::{Opener, Segment};
+use persist_report_core::{CliFault, Script, ScriptFault, read_script};
+use segment_image::layout::VERSION_FROZEN;
+use segment_image::{Image, Watched};
+use std::alloc::Global;
+use std::io::{Read, Write};
+use std::sync::Wait;
+use std::thread::Threads;
+
+// The units of a segment.
+const UNITS: u64 = 4_294_967_295;
+
+// The workers that are to be started, each with a recorder that has the units of its calls.
+fn make_workers<'w, G: Gate>(
+    alloc: Global,
+    segment: &'w Segment,
+    opener: &mut Opener,
+    script: &'w Script,
+    workers: u32,
+    gate: &'w G,
+) -> Result<Vec<Worker<'w, G>>, Stop>
+    requires made { IsMadeWith segment.now opener.old }
+    ensures made { IsMadeWith segment.entry.now opener.new }
+    ensures handed { OnOk result (HandsOut workers (view_of_opener opener.old) (view_of_opener opener.new)) }
+    ensures len { IfOk result (λ all. length all.items ≡ workers) }
+    ensures each { IfOk result (λ all. (k : ℕ) (d : _) → k < length all.items → IsReady (table_of segment.entry.now) script.entry.now workers k (slice_index_or all.items k d).part (slice_index_or all.items k d).script.now (slice_index_or all.items k d).recorder) }
+{
+    let mut all = Vec::new(alloc);
+    for number in 0..workers {
+        let part = Part {
+            part: number,
+            workers,
+        };
+        let recorder = match opener.recorder(segment, units_of(&script.calls, part)) {
+            Ok(recorder) => recorder,
+            Err(why) => return Err(Stop::refused(1, why)),
+        };
+        all.reserve(1)?;
+        all.push_reserved(Worker {
+            alloc,
+            script,
+            gate,
+            part,
+            recorder,
+        });
+    }
+    Ok(all)
+}
+
+// Joins the recorders of workers that have ended; well, where all have ended well.
+fn join_all(opener: &mut Opener, all: Vec<Ended>) -> Result<(), Stop>
+    requires at { All (EndedAt opener.old.seat.table_id) all.items }
+    ensures same { IsSameOpener opener.old opener.new }
+    ensures joined { view_of_opener opener.new ≡ all_joined (view_of_opener opener.old) (map view_of_ended all.entry.items) }
+    ensures well { OnOk result (All EndedWell all.entry.items) }
+{
+    let mut outcome = Ok(());
+    for ended in all {
+        let Ended {
+            recorder,
+            outcome: mine,
+        } = ended;
+        opener.join(recorder);
+        outcome = both(outcome, mine);
+    }
+    outcome
+}
+
+// The calls of a script are made by workers, and their recorders are joined.
+fn work<R: Threads + Wait, G: Gate + Sync>(
+    rt: &R,
+    alloc: Global,
+    segment: &Segment,
+    opener: &mut Opener,
+    script: &Script,
+    workers: u32,
+    gate: &G,
+) -> Result<(), Stop>
+    requires made { IsMadeWith segment.now opener.old }
+    requires some { 0 < workers }
+    ensures made { IsMadeWith segment.now opener.new }
+    ensures run { OnOk result (HasRun (script_view script.now) workers (view_of_opener opener.old) (view_of_opener opener.new)) }
+{
+    let all = make_workers(alloc, segment, opener, script, workers, gate)?;
+    match run_beside(rt, alloc, all) {
+        Ok(ended) => join_all(opener, ended),
+        Err(NotRun::NoThread) => Err(Stop::NoThread),
+        Err(NotRun::NoMemory) => Err(Stop::NoMemory),
+    }
+}
+
+// The image of the segment in which a script was run.
+fn record_script<R: Threads + Wait, G: Gate + Sync>(
+    rt: &R,
+    alloc: Global,
+    script: &Script,
+    workers: u32,
+    gate: &G,
+) -> Result<Image, Stop>
+    requires { 0 < workers }
+    ensures { IfOk result (IsImageOfRun (script_view script.now)) }
+{
+    let (size, page) = (script.shape.size(), script.shape.page());
+    let (segment, mut opener) = match Segment::create(
+        alloc,
+        size,
+        page,
+        script.id,
+        0,
+        VERSION_FROZEN,
+    ) {
+        Ok(made) => made,
+        Err(_) => return Err(Stop::NoMemory),
+    };
+    make_histograms(&segment, &mut opener, &script.hists)?;
+    work(rt, alloc, &segment, &mut opener, script, workers, gate)?;
+    Ok(segment.close(opener))
+}
+
+// The script that the reader has left, or its first fault.
+fn take_script<S: Read>(alloc: Global, reader: &mut Watched<S>) -> Result<Script, CliFault>
+    requires { has_failed reader.old ≡ false }
+    ensures script { IfOk result (λ script. IfSome (S.remaining (watched_inner reader.old)) (λ bytes. (length bytes ≤ 16777216) × (script_of 4294967295 bytes ≡ Ok (script_view script)))) }
+    ensures cause { IfErr result (λ fault. IfSome (S.remaining (watched_inner reader.old)) (λ bytes. IsFaultOfRun bytes fault)) }
+    ensures read { IsErrOf result CliFault.Read ↔ (has_failed reader.new ≡ true) }
+    ensures other { IfErr result (λ fault. fault ≢ CliFault.Write) }
+{
+    match read_script(alloc, reader, UNITS) {
+        Ok(script) => Ok(script),
+        Err(ScriptFault::Read) => Err(CliFault::Read),
+        Err(ScriptFault::TooLong) => Err(CliFault::TooLong),
+        Err(ScriptFault::NoMemory) => Err(CliFault::NoMemory),
+        Err(ScriptFault::BadLine(number)) => Err(CliFault::BadLine(number)),
+        Err(ScriptFault::ZeroCount(number)) => {
+            let why = Refusal::ZeroCount;
+            Err(CliFault::Refused { number, why })
+        }
+        Err(ScriptFault::NoUnits(number)) => {
+            let why = Refusal::NoUnits;
+            Err(CliFault::Refused { number, why })
+        }
+    }
+}
+
+// Writes an image and then its report.
+fn write_both<I: Write, W: Write>(
+    image_out: &mut Watched<I>,
+    report_out: &mut Watched<W>,
+    words: &[u64],
+    text: &[u8],
+) -> Result<(), CliFault>
+    requires image_sound { has_failed image_out.old ≡ false }
+    requires report_sound { has_failed report_out.old ≡ false }
+    ensures image { OnOk result (Appends (I.contents (watched_inner image_out.old)) (I.contents (watched_inner image_out.new)) (bytes_of_words words.now)) }
+    ensures report { OnOk result (Appends (W.contents (watched_inner report_out.old)) (W.contents (watched_inner report_out.new)) text.now) }
+    ensures fault { IfErr result (λ fault. fault ≡ CliFault.Write) }
+    ensures write { IsErrOf result CliFault.Write ↔ ((has_failed image_out.new ≡ true) ⊎ (has_failed report_out.new ≡ true)) }
+    ensures flushed { OnOk result ((is_flushed image_out.new ≡ true) × (is_flushed report_out.new ≡ true)) }
+    ensures unbegun { has_failed image_out.new ≡ true → report_out.new ≡ report_out.old }
+{
+    write_image(image_out, words)?;
+    write_text(report_out, text)
+}
+
+/// Runs the script that the reader has left, by 1 to 16 workers, each in a thread of its own. Writes the image of the segment in
+/// which it was run, and then the report of that image.
+///
+/// The histograms of the script are made first, in their order. Then each worker makes its calls, those whose number, from 0, leaves
+/// the worker's, less 1, when it is divided by the number of workers. The gate is asked before each, and told of it afterwards.
+///
+/// On `Ok`, the image has the script's shape and id and is of version 2. It is read as exactly the histograms of the script, each
+/// with its spec and with the counts and the sum that the `add` records add up to, whatever the number of workers. Both outputs are
+/// flushed.
+///
+/// `Read` where a read fails; `TooLong` where more than 16,777,216 bytes come; `BadLine` with the first record that has no lawful form;
+/// `Refused` with the first that adds no unit, or more than a segment has. Then, by the first of these that is met: `NoThread` where a
+/// worker could not be started, `NoMemory`, `Gate` where the gate did not let a call come, and `Refused` with the least record whose
+/// histogram or whose call was refused. After each of these nothing was written. `Write` where a write or a flush fails; where it is one of
+/// the image, the report is not begun.
+pub fn run_script<R: Threads + Wait, S: Read, I: Write, W: Write, G: Gate + Sync>(
+    rt: &R,
+    alloc: Global,
+    script: &mut Watched<S>,
+    image_out: &mut Watched<I>,
+    report_out: &mut Watched<W>,
+    workers: u32,
+    gate: &G,
+) -> Result<(), CliFault>
+    requires script_sound { has_failed script.old ≡ false }
+    requires image_sound { has_failed image_out.old ≡ false }
+    requires report_sound { has_failed report_out.old ≡ false }
+    requires workers { (1 ≤ workers) × (workers ≤ 16) }
+    ensures recorded { OnOk result (IfSome (S.remaining (watched_inner script.old)) (λ bytes. (words : List ℕ) × (text : List ℕ) × IsRunOf bytes words text
+        × Appends (I.contents (watched_inner image_out.old)) (I.contents (watched_inner image_out.new)) (bytes_of_words words)
+        × Appends (W.contents (watched_inner report_out.old)) (W.contents (watched_inner report_out.new)) text)) }
+    ensures cause { IfErr result (λ fault. IfSome (S.remaining (watched_inner script.old)) (λ bytes. IsFaultOfRun bytes fault)) }
+    ensures read { IsErrOf result CliFault.Read ↔ (has_failed script.new ≡ true) }
+    ensures write { IsErrOf result CliFault.Write ↔ ((has_failed image_out.new ≡ true) ⊎ (has_failed report_out.new ≡ true)) }
+    ensures flushed { OnOk result ((is_flushed image_out.new ≡ true) × (is_flushed report_out.new ≡ true)) }
+    ensures untouched { IfErr result (λ fault. fault ≢ CliFault.Write → (image_out.new ≡ image_out.old) × (report_out.new ≡ report_out.old)) }
+    ensures unbegun { has_failed image_out.new ≡ true → report_out.new ≡ report_out.old }
+{
+    let script = take_script(alloc, script)?;
+    let image = record_script(rt, alloc, &script, workers, gate)?;
+    let text = text_of_image(alloc, image.words())?;
+    write_both(image_out, report_out, image.words(), &text)
+}

@@ -1,0 +1,78 @@
+//! Why a run stops.
+
+ghost use Rattle.std.specs.Prelude.{◌≡◌, ◌↔◌, ◌⊎◌, Ok};
+
+use hist_core::Refusal;
+use persist_report_core::CliFault;
+use std::alloc::AllocError;
+
+/// Why nothing is written. The first kind that is met is told, and of refusals that of the record with the least number.
+#[derive(Clone, Copy, Debug, PartialEq, Eq)]
+pub(crate) enum Stop {
+    /// A worker could not be started.
+    NoThread,
+    /// There was no memory.
+    NoMemory,
+    /// The gate let a call not come.
+    Gate,
+    /// What the record of this number asks for was refused.
+    Refused { number: u32, why: Refusal },
+}
+
+impl From<AllocError> for Stop {
+    fn from(_: AllocError) -> Stop {
+        Stop::NoMemory
+    }
+}
+
+impl From<Stop> for CliFault {
+    ghost use Rattle.std.specs.Prelude.{◌≡◌};
+    ghost use Rattle.persist_commands.specs.Run.{fault_of_stop};
+
+    ghost from_gives = { λ stop result. result ≡ fault_of_stop stop };
+
+    fn from(stop: Stop) -> CliFault {
+        match stop {
+            Stop::NoThread => CliFault::NoThread,
+            Stop::NoMemory => CliFault::NoMemory,
+            Stop::Gate => CliFault::Gate,
+            Stop::Refused { number, why } => CliFault::Refused { number, why },
+        }
+    }
+}
+
+impl Stop {
+    /// The refusal of what a record asks for.
+    pub(crate) fn refused(number: u32, why: Refusal) -> Stop {
+        match why {
+            Refusal::NoMemory => Stop::NoMemory,
+            why => Stop::Refused { number, why },
+        }
+    }
+
+    // Those that are told first are least.
+    fn rank(&self) -> u64 {
+        match self {
+            Stop::NoThread => 0,
+            Stop::NoMemory => 1,
+            Stop::Gate => 2,
+            Stop::Refused { number, .. } => 3 + u64::from(*number),
+        }
+    }
+}
+
+/// How two workers ended together: well where both did.
+pub(crate) fn both(one: Result<(), Stop>, other: Result<(), Stop>) -> Result<(), Stop>
+    ensures well { (result ≡ Ok tt) ↔ ((one ≡ Ok tt) × (other ≡ Ok tt)) }
+    ensures either { (result ≡ one) ⊎ (result ≡ other) }
+{
+    match (one, other) {
+        (Ok(()), other) => other,
+        (one, Ok(())) => one,
+        (Err(one), Err(other)) => Err(if other.rank() < one.rank() {
+            other
+        } else {
+            one
+        }),
+    }
+}

@@ -1,0 +1,33 @@
+//! How many workers run a script.
+
+ghost use Rattle.std.specs.Prelude.{◌≡◌, ◌≤◌, IfSome, IsSome, ◌↔◌};
+
+/// A number of workers that may run a script: from 1 to 16.
+#[derive(Clone, Copy, Debug, PartialEq, Eq)]
+pub struct Workers {
+    count: u32,
+    ghost any: { 1 ≤ count },
+    ghost few: { count ≤ 16 },
+}
+
+impl Workers {
+    /// So many workers, where a script may be run by them.
+    pub fn of(count: u32) -> Option<Workers>
+        ensures all { IsSome result ↔ (1 ≤ count) × (count ≤ 16) }
+        ensures same { IfSome result (λ workers. workers.count ≡ count) }
+    {
+        if count < 1 || count > 16 {
+            return None;
+        }
+        Some(Workers { count })
+    }
+
+    /// How many they are.
+    pub fn count(&self) -> u32
+        ensures same { result ≡ self.now.count }
+        ensures any { 1 ≤ result }
+        ensures few { result ≤ 16 }
+    {
+        self.count
+    }
+}

@@ -1,0 +1,131 @@
+-- What a batch of what is left of a histogram is answered.
+use Rattle.std.proofs.Common.{◌≡◌, ℕ, ◌-◌, ◌==◌, nat_lt, false, ℤ, List, [], ◌∷◌, if◌then◌else◌, Option, Some, None, Result, Ok, Err, inl, inr, refl, sym, ap, ◌∙◌, subst, arith}
+use Rattle.std.specs.Prelude.{MatchOption, MatchResult, ⊤}
+use Rattle.std.specs.List.{list_any, filter_map, zip, cons_option}
+use Rattle.std.proofs.lemmas.Bool.{ne_eqb, or_from, cases_lt, lt-ltb, le-ltb}
+use Rattle.segment_image.specs.Checks.{first_fault}
+use Rattle.bucket_ranges.specs.Reading.{Histogram}
+use Rattle.segment_machine.specs.declared.actor.Actor.{Actor}
+use Rattle.segment_machine.specs.declared.actor.Known.{Known}
+use Rattle.hist_core.specs.declared.refusal.BatchRefusal.{BatchRefusal}
+use Rattle.hist_core.specs.declared.refusal.Refusal.{Refusal}
+use Rattle.hist_core.specs.declared.refusal.Refusal.TheVariants.{NoUnits}
+use Rattle.live_segment.specs.declared.recorder.Hist.{Hist}
+use Rattle.live_segment.specs.declared.recorder.Recorder.{Recorder}
+use Rattle.live_segment.specs.Batching.{IsBatched, IsCutShort, batch_checks}
+use Rattle.live_segment.specs.Hist.{KnowsOn}
+use Rattle.live_segment.specs.Holders.{IsSameRecorder, Means, view_of_recorder}
+use Rattle.live_segment.proofs.Callers.{same_names}
+use Rattle.live_segment.proofs.Proceeding.{grows_on, grows_same}
+use Rattle.segment_merge.specs.Merge.{HasFound, IsMerged, StopsAt, cost_left, items_left, sum_left}
+use Rattle.segment_merge.specs.Remainder.{left_of}
+use Rattle.segment_merge.proofs.Merged.{merged_one, stops_cut, stops_short}
+
+-- ---- no item is empty
+
+kept_some : (mark key_units : ℕ) (key : ℤ) (rest : List (ℤ × ℕ)) → list_any (λ (item : ℤ × ℕ). item.1 == 0) rest ≡ false
+    → list_any (λ (item : ℤ × ℕ). item.1 == 0) (cons_option (if nat_lt mark key_units then Some (key, key_units - mark) else None) rest) ≡ false
+kept_some mark units key rest none = elim (cases_lt mark units) [
+  | inl more ↦ rw (lt-ltb mark units more) (or_from (units - mark == 0) _ (ne_eqb (units - mark) 0 (λ same. absurd (omega (arith, same, more)))) none)
+  | inr none_left ↦ rw (le-ltb mark units none_left) none
+]
+
+none_empty : (pairs : List ((ℤ × ℕ) × ℕ)) → list_any (λ (item : ℤ × ℕ). item.1 == 0) (filter_map left_of pairs) ≡ false
+none_empty [] = refl
+none_empty (((key, units), mark) ∷ rest) = kept_some mark units key (filter_map left_of rest) (none_empty rest)
+
+-- so the batch is refused before anything happens only where it costs more than the share has
+checks_are : (h : Histogram) (a : Actor)
+    → first_fault (batch_checks a (items_left h) (sum_left h)) ≡ (if nat_lt a.units.share (cost_left h) then Some NoUnits else None)
+checks_are h a = rw (none_empty (zip h.counts h.marks)) refl
+
+-- ---- the answer
+
+-- what a batch says that it did
+abbrev pub IsBatchAnswer : Histogram → Known → Actor → Result ⊤ BatchRefusal → Actor → Type 0
+IsBatchAnswer h known a result b =
+    MatchOption (first_fault (batch_checks a (items_left h) (sum_left h)))
+    (MatchResult result (λ _. IsBatched known (items_left h) (sum_left h) a b) (λ refusal. IsCutShort known (items_left h) refusal a b))
+    (λ why. (result ≡ Err (record { added = 0; why = why })) × (b ≡ a))
+
+-- and what comes of it
+abbrev pub IsAddedOrStops : Histogram → Actor → Result ⊤ BatchRefusal → Actor → Type 0
+IsAddedOrStops h a result b =
+    MatchResult result (λ _. IsMerged (h ∷ []) a b) (λ refusal. StopsAt h refusal.added refusal.why a b)
+
+begun : (h : Histogram) (known : Known) (a b c : Actor) (result : Result ⊤ BatchRefusal) → HasFound h known a b
+    → MatchResult result (λ _. IsBatched known (items_left h) (sum_left h) b c) (λ refusal. IsCutShort known (items_left h) refusal b c)
+    → IsAddedOrStops h a result c
+begun h known a b c (Ok x) found batched = merged_one h known a b c found batched
+begun h known a b c (Err refusal) found cut = stops_cut h known refusal.added refusal.why a b c found cut
+
+pub batch_outcome : (h : Histogram) (known : Known) (a b c : Actor) (result : Result ⊤ BatchRefusal) → HasFound h known a b
+    → IsBatchAnswer h known b result c → IsAddedOrStops h a result c
+batch_outcome h known a b c result found answer = elim (cases_lt b.units.share (cost_left h)) [
+  | inl short ↦
+      let refused : first_fault (batch_checks b (items_left h) (sum_left h)) ≡ Some NoUnits =
+      checks_are h b ∙ rw (lt-ltb b.units.share (cost_left h) short) refl in
+      let says : (result ≡ Err (record { added = 0; why = NoUnits })) × (c ≡ b) = subst (λ (fault : Option Refusal). MatchOption fault
+      (MatchResult result (λ _. IsBatched known (items_left h) (sum_left h) b c) (λ refusal. IsCutShort known (items_left h) refusal b c))
+      (λ why. (result ≡ Err (record { added = 0; why = why })) × (c ≡ b))) refused answer in
+      subst (λ (r : Result ⊤ BatchRefusal). IsAddedOrStops h a r c) (sym says.0)
+      (subst (λ (m : Actor). StopsAt h 0 NoUnits a m) (sym says.1) (stops_short h known a b found short))
+  | inr enough ↦
+      let passed : first_fault (batch_checks b (items_left h) (sum_left h)) ≡ None =
+      checks_are h b ∙ rw (le-ltb b.units.share (cost_left h) enough) refl in
+      let says : MatchResult result (λ _. IsBatched known (items_left h) (sum_left h) b c) (λ refusal. IsCutShort known (items_left h) refusal b c) =
+      subst (λ (fault : Option Refusal). MatchOption fault
+      (MatchResult result (λ _. IsBatched known (items_left h) (sum_left h) b c) (λ refusal. IsCutShort known (items_left h) refusal b c))
+      (λ why. (result ≡ Err (record { added = 0; why = why })) × (c ≡ b))) passed answer in
+      begun h known a b c result found says
+]
+
+-- what the recorder's call says is that
+pub batch_says : (h : Histogram) (histogram : Hist) (known : Known) (items : List (ℤ × ℕ)) (sum : ℤ) (a b : Recorder) (result : Result ⊤ BatchRefusal)
+    → items ≡ items_left h → sum ≡ sum_left h → Means a histogram known
+    → MatchOption (first_fault (batch_checks (view_of_recorder a) items sum))
+    ((known : Known) → Means a histogram known → MatchResult result (λ _. IsBatched known items sum (view_of_recorder a) (view_of_recorder b)) (λ refusal. IsCutShort known items refusal (view_of_recorder a) (view_of_recorder b)))
+    (λ why. (result ≡ Err (record { added = 0; why = why })) × (b ≡ a))
+    → IsBatchAnswer h known (view_of_recorder a) result (view_of_recorder b)
+batch_says h histogram known items sum a b result items_are sum_is means says =
+    subst (λ (of : List (ℤ × ℕ) × ℤ). MatchOption (first_fault (batch_checks (view_of_recorder a) of.0 of.1))
+    (MatchResult result (λ _. IsBatched known of.0 of.1 (view_of_recorder a) (view_of_recorder b)) (λ refusal. IsCutShort known of.0 refusal (view_of_recorder a) (view_of_recorder b)))
+    (λ why. (result ≡ Err (record { added = 0; why = why })) × (view_of_recorder b ≡ view_of_recorder a)))
+    (λ i. (items_are i, sum_is i)) (seen (first_fault (batch_checks (view_of_recorder a) items sum)) says)
+  where
+    seen : (fault : Option Refusal)
+        → MatchOption fault
+        ((known : Known) → Means a histogram known → MatchResult result (λ _. IsBatched known items sum (view_of_recorder a) (view_of_recorder b)) (λ refusal. IsCutShort known items refusal (view_of_recorder a) (view_of_recorder b)))
+        (λ why. (result ≡ Err (record { added = 0; why = why })) × (b ≡ a))
+        → MatchOption fault
+        (MatchResult result (λ _. IsBatched known items sum (view_of_recorder a) (view_of_recorder b)) (λ refusal. IsCutShort known items refusal (view_of_recorder a) (view_of_recorder b)))
+        (λ why. (result ≡ Err (record { added = 0; why = why })) × (view_of_recorder b ≡ view_of_recorder a))
+    seen None done = done known means
+    seen (Some why) (refused, same) = (refused, ap view_of_recorder same)
+
+-- ---- the recorder
+
+-- it knows on, from one call to the next
+pub knows_then : (a b c : Recorder) → KnowsOn a b → KnowsOn b c → KnowsOn a c
+knows_then a b c first second = record {
+  segment = second.segment ∙ first.segment;
+  table = second.table ∙ first.table;
+  fresh = second.fresh ∙ first.fresh;
+  known = grows_on (view_of_recorder a).answers.names (view_of_recorder b).answers.names (view_of_recorder c).answers.names first.known second.known;
+}
+
+pub knows_same_on : (a b : Recorder) → IsSameRecorder a b → KnowsOn a b
+knows_same_on a b same = record {
+  segment = same.segment;
+  table = same.table;
+  fresh = same.fresh;
+  known = grows_same (view_of_recorder a).answers.names (view_of_recorder b).answers.names (same_names a b same);
+}
+
+pub knows_itself : (a : Recorder) → KnowsOn a a
+knows_itself a = record {
+  segment = refl;
+  table = refl;
+  fresh = refl;
+  known = grows_same (view_of_recorder a).answers.names (view_of_recorder a).answers.names refl;
+}

@@ -4,8 +4,8 @@ use Rattle.std.specs.Prelude.{Option, Some, None, Result, Ok, Err, vec_capacity}
 use Rattle.std.specs.declared.alloc.AllocError.{AllocError}
 use Rattle.bucket_ranges.specs.declared.spec.Spec.{Spec}
 use Rattle.alloc_core.specs.Layout.{IsShape}
-use Rattle.hist_core.specs.Asked.{IsAskedFor}
-use Rattle.hist_core.specs.declared.asked.Asked.{Asked}
+use Rattle.segment_calls.specs.Asked.{IsAskedFor}
+use Rattle.segment_calls.specs.declared.asked.Asked.{Asked}
 use Rattle.hist_core.specs.declared.call.Begun.{Begun}
 use Rattle.hist_core.specs.declared.call.Begun.TheVariants.{Going, Ended}
 use Rattle.std.proofs.lemmas.List.{map-append}

@@ -9,17 +9,17 @@ use lib.ListN.{get_elem?}
 use Rattle.atomic_table.proofs.Lists.{set_else, set_here}
 use Rattle.bucket_ranges.specs.declared.spec.Spec.{Spec}
 use Rattle.segment_image.specs.Shape.{Dimensions}
-use Rattle.hist_core.specs.Asked.{IsAskedFor}
+use Rattle.segment_calls.specs.Asked.{IsAskedFor}
 use Rattle.hist_core.specs.Board.{IsAsBefore, AsksFor, IsAnsweredAtOnce, HistBegins}
 use Rattle.hist_core.specs.Runner.{IsAsItWas, IsKnownAnswer, BeginsHist}
-use Rattle.hist_core.specs.declared.asked.Asked.{Asked}
+use Rattle.segment_calls.specs.declared.asked.Asked.{Asked}
 use Rattle.hist_core.specs.declared.board.Board.{Board}
 use Rattle.hist_core.specs.declared.call.Answer.{Answer}
 use Rattle.hist_core.specs.declared.call.Answer.TheVariants as answer
 use Rattle.hist_core.specs.declared.call.Begun.{Begun}
 use Rattle.hist_core.specs.declared.call.Begun.TheVariants.{Going, Ended}
 use Rattle.hist_core.specs.declared.hist.Known.{Known}
-use Rattle.hist_core.specs.declared.refusal.Refusal.TheVariants as why
+use Rattle.segment_calls.specs.declared.refusal.Refusal.TheVariants as why
 use Rattle.hist_core.specs.declared.runner.Runner.{Runner}
 use Rattle.hist_core.proofs.Asking.{place_below}
 

@@ -17,7 +17,7 @@ use Rattle.segment_machine.specs.Reached.{IsState, IsLent, IsReturned, new_state
 use Rattle.segment_machine.specs.Reached as machine
 use Rattle.segment_machine.specs.Seats.{giver, getter}
 use Rattle.segment_machine.specs.declared.actor.Answered.{Answered}
-use Rattle.segment_machine.specs.Actor.{is_opener, units_listed, units_of}
+use Rattle.segment_machine.specs.Actor.{is_opener, units_listed, units_of, AreApart}
 use Rattle.segment_invariant.proofs.Lists.Elements.{all_at, sum_at_least}
 use Rattle.alloc_core.proofs.Layouts.{length_shown}
 use Rattle.alloc_core.proofs.Owners.{set_at}
@@ -43,12 +43,12 @@ use Rattle.segment_invariant.proofs.Lists.Maps.{contains_map}
 use Rattle.hist_core.specs.declared.hist.Known.{Known}
 use Rattle.hist_core.specs.declared.runner.Runner.{Runner}
 use Rattle.hist_core.specs.declared.board.Board.{Board}
-use Rattle.hist_core.specs.declared.answer.Delta.{Delta}
-use Rattle.hist_core.specs.declared.answer.Snapshot.{Snapshot}
+use Rattle.segment_calls.specs.declared.answer.Delta.{Delta}
+use Rattle.segment_calls.specs.declared.answer.Snapshot.{Snapshot}
 use Rattle.hist_core.specs.declared.call.Stepped.{Stepped}
 use Rattle.hist_core.specs.declared.call.Stepped.TheVariants.{More, Done}
 use Rattle.hist_core.specs.declared.call.Answer.TheVariants as answer
-use Rattle.hist_core.specs.Goes.{AreApart, Goes}
+use Rattle.hist_core.specs.Goes.{Goes}
 use Rattle.hist_core.specs.Runner.{IsAnswer, IsTook, IsKnown, IsRun, IsSomeRun, Lands, Advances, held_by, looked_by, returned_by, StandsIn, known_of, pending_by}
 use Rattle.hist_core.specs.Board.{AreRun, IsReachedAs, IsReached, IsConsistentAs, IsReadAs, AreKnownFirst, HasSeen, HasTaken, IsPromised, StepsTo, BeginsFrom}
 use Rattle.bucket_ranges.specs.Ranges.{boundaries_of}

@@ -10,12 +10,10 @@ mod Beginnings
 mod Boards
 mod Buckets
 mod Deltas
-mod Letters
 mod Looks
 mod NewBoards
 mod Opening
 mod Parts
-mod Payloads
 mod Quiet
 mod Runners
 mod Snapshots

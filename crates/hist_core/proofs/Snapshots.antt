@@ -34,7 +34,8 @@ use Rattle.hist_core.specs.declared.looker.Stage.TheVariants.{LoadingSingle, Loa
 use Rattle.hist_core.specs.declared.mounted.Mounted.{Mounted}
 use Rattle.hist_core.specs.Goes.{Beside, Goes}
 use Rattle.hist_core.specs.Looker.{IsBehindSingle, IsLooker, IsPut, IsSomeLooker, LookerGives, SawBefore, StandsAtStage, behind_bucket}
-use Rattle.hist_core.specs.Mounted.{AreMounted, HasWord, SaysPacked, total_at}
+use Rattle.hist_core.specs.Mounted.{AreMounted, HasWord, total_at}
+use Rattle.segment_machine.specs.Form.{SaysPacked}
 use Rattle.hist_core.proofs.Looks.{looks_there}
 use Rattle.hist_core.proofs.Takes.Counts.{are_mounted, count_placed, may_load, saw_total, still_mounted, total_is}
 use Rattle.hist_core.proofs.Takes.Going.{taking_sees}

@@ -22,8 +22,8 @@ use Rattle.segment_invariant.specs.Consistent.{IsConsistent, IsHistogram, new_op
 use Rattle.segment_invariant.specs.Invariant.{Invariant}
 use Rattle.segment_promises.specs.Deltas.{IsEnough}
 use Rattle.segment_promises.specs.Reads.{HasNoFault, ReadsHead, ReadsNames, ReadsUnits, ReadsAmounts}
-use Rattle.hist_core.specs.declared.answer.Delta.{Delta as DeltaAnswer}
-use Rattle.hist_core.specs.declared.answer.Snapshot.{Snapshot as SnapshotAnswer}
+use Rattle.segment_calls.specs.declared.answer.Delta.{Delta as DeltaAnswer}
+use Rattle.segment_calls.specs.declared.answer.Snapshot.{Snapshot as SnapshotAnswer}
 use Rattle.hist_core.specs.declared.call.Stepped.{Stepped}
 use Rattle.hist_core.specs.declared.call.Stepped.TheVariants.{Done}
 use Rattle.hist_core.specs.declared.runner.Runner.{Runner}
@@ -35,15 +35,15 @@ use Rattle.hist_core.specs.declared.call.Answer.TheVariants as answer
 use Rattle.hist_core.specs.declared.call.Begun.{Begun}
 use Rattle.hist_core.specs.declared.call.Begun.TheVariants.{Going, Ended}
 use Rattle.hist_core.specs.declared.hist.Known.{Known}
-use Rattle.hist_core.specs.declared.refusal.Refusal.TheVariants as refusal
+use Rattle.segment_calls.specs.declared.refusal.Refusal.TheVariants as refusal
 use Rattle.hist_core.specs.declared.runner.Running.{Running}
 use Rattle.hist_core.specs.declared.runner.Running.TheVariants.{Hist, Add, Delta, Snapshot, Batch}
-use Rattle.hist_core.specs.Asked.{IsRefusedFor}
+use Rattle.segment_calls.specs.Asked.{IsRefusedFor}
 use Rattle.hist_core.specs.Runner.{IsFresh, IsRun, IsAsItWas, IsAnswer, IsTook, IsKnownAnswer, NoneHasName, Answers, entry_of, looked_by, pending_by, ended_by, begun_by}
 use Rattle.segment_machine.specs.Entry.{batch_cost, batch_entries, sample_entry, tally_noted}
 use Rattle.segment_machine.specs.declared.entry.Entry.{Entry as MachineEntry}
 use Rattle.hist_core.specs.Batch.{sample_of}
-use Rattle.hist_core.specs.declared.refusal.Refusal.{Refusal}
+use Rattle.segment_calls.specs.declared.refusal.Refusal.{Refusal}
 use Rattle.bucket_ranges.specs.Ranges.{boundaries_of}
 
 -- a new segment with so many actors, which have done nothing

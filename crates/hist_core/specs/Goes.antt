@@ -1,12 +1,9 @@
 -- How an actor goes on by one event.
-use Rattle.std.specs.Prelude.{◌≡◌, ◌≢◌, ℕ, List, ◌++◌}
-use mathlib.Core.Option.{some}
-use lib.ListN.{get_elem?}
+use Rattle.std.specs.Prelude.{◌≡◌, ℕ, List, ◌++◌}
 use Rattle.segment_image.specs.Words.{word_at}
 use Rattle.list_core.specs.Walk.{IsPrefix}
 use Rattle.segment_machine.specs.declared.actor.Actor.{Actor}
-use Rattle.segment_machine.specs.declared.actor.Own.{Own}
-use Rattle.segment_machine.specs.declared.place.Place.TheVariants.{Spent}
+use Rattle.segment_machine.specs.Actor.{AreApart}
 use Rattle.segment_machine.specs.declared.seen.Sighting.{Sighting}
 use Rattle.segment_machine.specs.Event.{Event, spot, after, next, Ready, Learned}
 use Rattle.segment_machine.specs.Note.{Note, Notes}
@@ -22,10 +19,6 @@ pub record Beside (a b : Actor) : Type 0 where
   pub names : b.answers.names ≡ a.answers.names
   pub chain : IsPrefix a.seen.chain b.seen.chain
   pub words : (more : List Sighting) × (b.seen.words ≡ a.seen.words ++ more)
-
--- no two blocks of its own begin at one word
-abbrev pub AreApart : Actor → Type 0
-AreApart a = a.hand.place ≢ Spent → (i j : ℕ) (x y : Own) → get_elem? a.hand.own i ≡ some x → get_elem? a.hand.own j ≡ some y → x.at ≡ y.at → i ≡ j
 
 -- An actor goes on by one event in words of a segment: it does an event that it may do, with notes before it and, once it has learned of
 -- the number that was found, behind it; the words become what the event makes of them; and then something holds of it.

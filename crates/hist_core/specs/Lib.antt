@@ -1,7 +1,5 @@
-pub mod Refusal
 pub mod WorldFault
 pub mod Goes
-pub mod Asked
 pub mod Hist
 pub mod Add
 pub mod Batch

@@ -15,7 +15,7 @@ use Rattle.segment_machine.specs.declared.actor.Known.{Known}
 use Rattle.segment_machine.specs.declared.place.Place.TheVariants.{SumLoaded}
 use Rattle.segment_machine.specs.Actor.{bucket_key, has_buckets, is_opener, known_at}
 use Rattle.segment_machine.specs.Calls.{MayTurn}
-use Rattle.segment_machine.specs.Form.{is_off}
+use Rattle.segment_machine.specs.Form.{is_off, SaysPacked}
 use Rattle.segment_machine.specs.Note.{SawAll, SawBucket}
 use Rattle.hist_core.specs.declared.mounted.Mounted.{Mounted}
 use Rattle.hist_core.specs.declared.looker.Looker.{Looker}
@@ -24,7 +24,7 @@ use Rattle.hist_core.specs.declared.looker.LookerStep.TheVariants.{More, Done}
 use Rattle.hist_core.specs.declared.looker.Stage.{Stage}
 use Rattle.hist_core.specs.declared.looker.Stage.TheVariants.{LoadingSingle, LoadingCounts, LoadingCount, LoadingSum, LoadingRedundant}
 use Rattle.hist_core.specs.Goes.{Beside, Goes}
-use Rattle.hist_core.specs.Mounted.{AreMounted, BeganBefore, HasWord, SaysPacked}
+use Rattle.hist_core.specs.Mounted.{AreMounted, BeganBefore, HasWord}
 
 -- ---- what it sees
 

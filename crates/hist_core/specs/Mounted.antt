@@ -1,7 +1,7 @@
 -- What an actor has loaded of a histogram with buckets since it began to look at it: its single word, and its counts.
 use Rattle.std.specs.Prelude.{◌≡◌, ◌≢◌, ◌⊎◌, true, ℕ, ◌+◌, ◌*◌, ◌%◌, ◌^◌, ◌≤◌, if◌then◌else◌, nat_eq, length, Option, Some, None}
 use Rattle.std.specs.Option.{option_eq}
-use Rattle.bucket_ranges.specs.Single.{packed_bucket, single_of, units_packed}
+use Rattle.bucket_ranges.specs.Single.{single_of, units_packed}
 use Rattle.bucket_ranges.specs.Spec.{buckets_of}
 use Rattle.segment_image.specs.declared.layout.TheConstants.{BLOCK_HEADER, HISTOGRAM_COUNTS, HISTOGRAM_SINGLE}
 use Rattle.segment_machine.specs.declared.actor.Actor.{Actor}
@@ -10,15 +10,11 @@ use Rattle.segment_machine.specs.declared.place.Look.{Look}
 use Rattle.segment_machine.specs.declared.place.Place.TheVariants.{Looking, CountLoaded}
 use Rattle.segment_machine.specs.Actor.{Buckets, SawSingle, word_seen}
 use Rattle.segment_machine.specs.Calls.{LooksOff}
-use Rattle.segment_machine.specs.Form.{is_off, units_in}
+use Rattle.segment_machine.specs.Form.{is_off, SaysPacked}
 use Rattle.segment_machine.specs.Note.{SawBucket}
 use Rattle.hist_core.specs.declared.mounted.Mounted.{Mounted}
 
--- ---- what a single word says
-
--- the bucket whose units a single word holds or held, and the units that it holds
-abbrev pub SaysPacked : ℕ → ℕ → ℕ → Option ℕ → ℕ → Type 0
-SaysPacked version buckets word packed kept = (packed ≡ packed_bucket (single_of version buckets word)) × (kept ≡ units_in (single_of version buckets word))
+-- ---- what a count says
 
 -- the units of a bucket whose count this is
 abbrev pub total_at : Mounted → ℕ → ℕ → ℕ

@@ -32,12 +32,12 @@ use Rattle.hist_core.specs.declared.add.AddStep.{AddStep}
 use Rattle.hist_core.specs.declared.add.AddStep.TheVariants as add
 use Rattle.hist_core.specs.Hist.{IsHist, IsBegun}
 use Rattle.hist_core.specs.Looker.{IsLooker, IsStarted as IsLookerStarted}
-use Rattle.hist_core.specs.declared.answer.Snapshot.{Snapshot as SnapshotAnswer}
+use Rattle.segment_calls.specs.declared.answer.Snapshot.{Snapshot as SnapshotAnswer}
 use Rattle.hist_core.specs.declared.looker.Looker.{Looker}
 use Rattle.hist_core.specs.declared.looker.LookerStep.{LookerStep}
 use Rattle.hist_core.specs.declared.looker.LookerStep.TheVariants as look
-use Rattle.hist_core.specs.declared.asked.Asked.{Asked}
-use Rattle.hist_core.specs.declared.refusal.Refusal.TheVariants as why
+use Rattle.segment_calls.specs.declared.asked.Asked.{Asked}
+use Rattle.segment_calls.specs.declared.refusal.Refusal.TheVariants as why
 use Rattle.hist_core.specs.declared.call.Answer.{Answer}
 use Rattle.hist_core.specs.declared.call.Begun.{Begun}
 use Rattle.hist_core.specs.declared.call.Begun.TheVariants.{Going, Ended}
@@ -51,7 +51,7 @@ use Rattle.hist_core.specs.declared.hist.Known.{Known}
 use Rattle.hist_core.specs.declared.entry.Entry.{Entry}
 use Rattle.hist_core.specs.declared.entry.Taken.{Taken}
 use Rattle.hist_core.specs.Taker.{AreUnits, HasBegun, IsTaker, IsStarted as IsTakerStarted}
-use Rattle.hist_core.specs.declared.answer.Delta.{Delta as DeltaAnswer}
+use Rattle.segment_calls.specs.declared.answer.Delta.{Delta as DeltaAnswer}
 use Rattle.hist_core.specs.declared.taker.Stage.TheVariants.{LoadingSingle}
 use Rattle.hist_core.specs.declared.taker.Taker.{Taker}
 use Rattle.hist_core.specs.declared.taker.TakerStep.{TakerStep}

@@ -18,7 +18,7 @@ use Rattle.segment_machine.specs.declared.place.Place.TheVariants.{SumLoaded}
 use Rattle.segment_machine.specs.declared.seen.Sighting.{Sighting}
 use Rattle.segment_machine.specs.Actor.{bucket_key, has_buckets, is_opener, known_at}
 use Rattle.segment_machine.specs.Calls.{MayTurn}
-use Rattle.segment_machine.specs.Form.{is_off}
+use Rattle.segment_machine.specs.Form.{is_off, SaysPacked}
 use Rattle.segment_machine.specs.Note.{TookAll, TookBucket}
 use Rattle.hist_core.specs.declared.mounted.Mounted.{Mounted}
 use Rattle.hist_core.specs.declared.taker.Stage.{Stage}
@@ -27,7 +27,7 @@ use Rattle.hist_core.specs.declared.taker.Taker.{Taker}
 use Rattle.hist_core.specs.declared.taker.TakerStep.{TakerStep}
 use Rattle.hist_core.specs.declared.taker.TakerStep.TheVariants.{More, Took, Done}
 use Rattle.hist_core.specs.Goes.{Goes}
-use Rattle.hist_core.specs.Mounted.{SaysPacked, HasWord, AreMounted, HasLoaded}
+use Rattle.hist_core.specs.Mounted.{HasWord, AreMounted, HasLoaded}
 
 -- ---- what is taken
 

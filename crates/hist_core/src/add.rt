@@ -4,10 +4,10 @@ ghost use Rattle.std.specs.Prelude.{◌≡◌, length};
 
 use crate::counting::fetch_add;
 use crate::hist::Known;
-use crate::packing::{DISABLED_BIT, off_word, packed_with, unpacked};
-use crate::refusal::Refusal;
 use alloc_core::event::{exchange, store};
 use alloc_core::{Alloc, AllocStep};
+use segment_calls::Refusal;
+use segment_calls::packing::{DISABLED_BIT, off_word, packed_with, unpacked};
 use segment_image::Shape;
 use segment_image::layout::{
     BLOCK_HEADER, BLOCK_TYPE, HISTOGRAM_COUNTS, HISTOGRAM_REDUNDANT, HISTOGRAM_SINGLE,

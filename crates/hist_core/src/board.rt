@@ -1,11 +1,10 @@
 //! The words of a segment, and the actors that call on it.
 
-use crate::asked::Asked;
 use crate::call::{Answer, Begun, Stepped};
-use crate::refusal::{BatchRefusal, Refusal};
 use crate::runner::{Runner, Running};
 use crate::telling::{are_some, batch_cost};
 use bucket_ranges::Spec;
+use segment_calls::{Asked, BatchRefusal, Refusal};
 use segment_image::Shape;
 use segment_image::layout::{
     HEADER_WORDS, QUEUE, QUEUE_COOKIE, QUEUE_SIZE, SEGMENT_COOKIE, STATE_READY, TYPE_PURGED,

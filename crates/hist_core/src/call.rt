@@ -1,7 +1,7 @@
 //! The calls of a world's actors, and what they answer.
 
-use crate::{BatchRefusal, Delta, Refusal, Snapshot};
 use bucket_ranges::Spec;
+use segment_calls::{BatchRefusal, Delta, Refusal, Snapshot};
 
 /// A call on a segment.
 #[derive(Debug, Drop)]

@@ -2,12 +2,11 @@
 
 ghost use Rattle.std.specs.Prelude.{◌≡◌, ◌≢◌, ◌≤◌, ◌<◌, ℕ, List, length};
 
-use crate::asked::Asked;
-use crate::refusal::Refusal;
 use alloc_core::event::store;
 use alloc_core::{Alloc, AllocStep};
 use bucket_ranges::{Ranges, Spec};
 use list_core::{PubStep, Publish, Walk, WalkStep};
+use segment_calls::{Asked, Refusal};
 use segment_image::Shape;
 use segment_image::layout::{BLOCK_HEADER, BLOCK_TYPE, HISTOGRAM_NAME_LENGTH, TYPE_HISTOGRAM};
 

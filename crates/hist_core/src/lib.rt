@@ -1,10 +1,8 @@
-//! The calls on a segment as plain data that runs, one event a step; and what they answer: why a call is refused, what a
-//! delta took, and what a snapshot saw, which are the types of every crate that runs a segment.
+//! The calls on a segment as plain data that runs, one event a step. What they answer are the types of `segment_calls`, as of
+//! every crate that runs a segment.
 #![tactic(auto)]
 
 mod add;
-mod answer;
-mod asked;
 mod batch;
 mod board;
 mod call;
@@ -15,8 +13,6 @@ mod fault;
 mod hist;
 mod looker;
 mod mounted;
-pub mod packing;
-mod refusal;
 mod runner;
 mod samples;
 mod taker;
@@ -25,10 +21,8 @@ mod telling;
 mod tests;
 mod world;
 
-pub use answer::{Delta, Snapshot};
-pub use asked::Asked;
 pub use call::{Answer, Begun, Call, Move, Stepped};
 pub use entry::{Entry, Taken};
 pub use fault::WorldFault;
-pub use refusal::{BatchRefusal, Refusal};
+pub use segment_calls::{BatchRefusal, Delta, Refusal, Snapshot};
 pub use world::{MAX_ACTORS, World};

@@ -5,8 +5,8 @@ ghost use Rattle.hist_core.specs.Looker.{blank_totals};
 
 use crate::hist::Known;
 use crate::mounted::Mounted;
-use crate::packing::{DISABLED_BIT, packed_in};
 use bucket_ranges::Ranges;
+use segment_calls::packing::{DISABLED_BIT, packed_in};
 use segment_image::layout::{
     BLOCK_HEADER, HISTOGRAM_COUNTS, HISTOGRAM_REDUNDANT, HISTOGRAM_SINGLE, HISTOGRAM_SUM,
 };

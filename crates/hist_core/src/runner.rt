@@ -1,19 +1,17 @@
 //! One actor of a world, with the call that it runs.
 
 use crate::add::{Add, AddStep};
-use crate::answer::{Delta, Snapshot};
-use crate::asked::Asked;
 use crate::batch::{Batch, BatchStep};
 use crate::call::{Answer, Begun, Stepped};
 use crate::drawing::{draw, draw_sum};
 use crate::entry::{Entry, Taken};
 use crate::hist::{Hist, HistStep, Known};
 use crate::looker::{Looker, LookerStep};
-use crate::refusal::Refusal;
 use crate::samples::{amount_of, key_of};
 use crate::taker::{Taker, TakerStep};
 use crate::telling::{batch_entries, entry_of, new_items};
 use alloc_core::event::set_bits;
+use segment_calls::{Asked, Delta, Refusal, Snapshot};
 use segment_image::Shape;
 use segment_image::layout::{FLAG_CORRUPT, FLAGS_WORD};
 use std::alloc::{AllocError, Global};

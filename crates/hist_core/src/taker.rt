@@ -4,8 +4,8 @@
 use crate::counting::{fetch_max, swap};
 use crate::hist::Known;
 use crate::mounted::Mounted;
-use crate::packing::{DISABLED_BIT, packed_in};
 use bucket_ranges::Ranges;
+use segment_calls::packing::{DISABLED_BIT, packed_in};
 use segment_image::layout::{
     BLOCK_HEADER, HISTOGRAM_COUNTS, HISTOGRAM_SINGLE, HISTOGRAM_SINGLE_MARK, HISTOGRAM_SUM,
     HISTOGRAM_SUM_MARK,

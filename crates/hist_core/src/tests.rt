@@ -1,21 +1,7 @@
-use crate::{Answer, BatchRefusal, Begun, Call, Refusal, Stepped, World, WorldFault};
-use bucket_ranges::{Spec, SpecFault};
-use std::alloc::{AllocError, Global};
+use crate::{Answer, Begun, Call, Refusal, Stepped, World, WorldFault};
+use bucket_ranges::Spec;
+use std::alloc::Global;
 use std::test::Fail;
-
-#[test]
-fn refusals_name_themselves(rt: HostRuntime) -> Result<(), Fail> {
-    let refused = Refusal::from(SpecFault::TooFew);
-    assert!(rt; format!(in rt.alloc(); "{refused}")?.as_str() == "BadSpec TooFew");
-    assert!(rt; Refusal::from(SpecFault::NoMemory) == Refusal::NoMemory);
-    assert!(rt; Refusal::from(AllocError).number() == 6);
-    let batch = BatchRefusal {
-        added: 2,
-        why: Refusal::Full,
-    };
-    assert!(rt; format!(in rt.alloc(); "{batch}")?.as_str() == "2 Full");
-    Ok(())
-}
 
 // The number of the fault that a move is answered with, 0 where there is none.
 fn fault_of<T: Drop>(answer: Result<T, WorldFault>) -> u32 {

@@ -19,7 +19,7 @@ use Rattle.segment_machine.specs.Counting.{add_count, load_counts}
 use Rattle.segment_machine.specs.Entry.{fresh, has_ended, is_counted}
 use Rattle.segment_machine.specs.Event.{counting_event, next}
 use Rattle.segment_promises.specs.Follows.{noted_by}
-use Rattle.hist_core.specs.declared.refusal.Refusal.{Refusal}
+use Rattle.segment_calls.specs.declared.refusal.Refusal.{Refusal}
 use Rattle.live_segment.specs.declared.counting.Packing.TheVariants.{Off, Passed}
 use Rattle.live_segment.specs.Mounting.{HasDisabled, HasMounted, HasNotMounted, MayMount, StandsOff}
 use Rattle.live_segment.specs.Refusing.{IsTurnedAway, MayGiveUp}

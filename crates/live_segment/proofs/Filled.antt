@@ -11,12 +11,11 @@ use native.Mathlib.Decide.{ℕ_discrete}
 use lib.ListN.{get_elem?}
 use Rattle.segment_machine.specs.declared.actor.Actor.{Actor}
 use Rattle.segment_machine.specs.declared.actor.Own.{Own}
-use Rattle.segment_machine.specs.Actor.{is_bound, is_opener}
+use Rattle.segment_machine.specs.Actor.{is_bound, is_opener, AreApart}
 use Rattle.segment_machine.specs.Allocating.{store_payload, stored}
 use Rattle.segment_machine.specs.Calls.{change_last, change_own}
 use Rattle.segment_machine.specs.Event.{allocating_event}
 use Rattle.segment_machine.specs.Publishing.{own_at}
-use Rattle.hist_core.specs.Goes.{AreApart}
 use Rattle.live_segment.specs.declared.segment.Segment.{Segment}
 use Rattle.live_segment.specs.Steps.{Pass, Stepped}
 use Rattle.live_segment.specs.Holders.{table_of, MayStep}

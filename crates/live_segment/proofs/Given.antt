@@ -11,7 +11,7 @@ use Rattle.live_segment.specs.Rule.{IsOf}
 use Rattle.live_segment.specs.Snapshots.{HasSnapshot}
 use Rattle.live_segment.specs.Steps.{IsAtRest}
 use Rattle.std.specs.Prelude.{ℕ, ℤ}
-use Rattle.hist_core.specs.declared.answer.Snapshot.{Snapshot}
+use Rattle.segment_calls.specs.declared.answer.Snapshot.{Snapshot}
 
 -- a delta
 module _ (known : Known) (delta : List (ℤ × ℕ)) (sum : ℤ) (old new : Actor) (taken : HasTaken known delta sum old new) where

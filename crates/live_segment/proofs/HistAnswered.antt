@@ -18,8 +18,8 @@ use Rattle.segment_machine.specs.Actor.{is_bound, is_opener, known_at}
 use Rattle.segment_machine.specs.Taking.{is_looking}
 use Rattle.segment_invariant.proofs.Lists.Elements.{below_length, index_at, from_map}
 use Rattle.segment_promises.proofs.Adopting.Opened.Blocks.{test_there}
-use Rattle.hist_core.specs.declared.asked.Asked.{Asked}
-use Rattle.hist_core.specs.Asked.{IsAskedFor}
+use Rattle.segment_calls.specs.declared.asked.Asked.{Asked}
+use Rattle.segment_calls.specs.Asked.{IsAskedFor}
 use Rattle.live_segment.specs.declared.recorder.KnownHistogram.{KnownHistogram}
 use Rattle.live_segment.specs.declared.rule.Setting.{Setting}
 use Rattle.live_segment.specs.Adding.{block_words}

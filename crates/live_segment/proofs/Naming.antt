@@ -18,7 +18,7 @@ use Rattle.segment_machine.specs.Made.{SawOtherSpec}
 use Rattle.segment_image.specs.Words.{bytes_of_words}
 use Rattle.segment_machine.specs.Walking.{IsFixed}
 use Rattle.segment_invariant.proofs.Walking.Words.{letters_long}
-use Rattle.hist_core.specs.declared.asked.Asked.{Asked}
+use Rattle.segment_calls.specs.declared.asked.Asked.{Asked}
 use Rattle.segment_machine.specs.Event.{walking_event}
 use Rattle.segment_machine.specs.Walking.{load_published}
 use Rattle.live_segment.specs.declared.segment.Segment.{Segment}

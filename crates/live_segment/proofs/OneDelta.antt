@@ -25,7 +25,7 @@ use Rattle.segment_machine.specs.Actor.{Buckets, SawCount, SawSingle, bucket_key
 use Rattle.segment_machine.specs.Calls.{back, form_seen, look_of, sight, sight_counts}
 use Rattle.segment_machine.specs.Counting.{load_counts}
 use Rattle.segment_machine.specs.Event.{Event, next, counting_event, packing_event, taking_event}
-use Rattle.segment_machine.specs.Form.{is_off, units_in}
+use Rattle.segment_machine.specs.Form.{is_off, units_in, SaysPacked}
 use Rattle.segment_machine.specs.Note.{TookBucket, noted, takes}
 use Rattle.segment_machine.specs.Packing.{load_single}
 use Rattle.segment_machine.specs.Taking.{Takes, raise_single_mark, single_key}
@@ -33,7 +33,7 @@ use Rattle.segment_invariant.proofs.Consistency.Keys.{packed_within}
 use Rattle.segment_invariant.proofs.Consistency.Marks.{packed_all}
 use Rattle.segment_invariant.proofs.Lists.Maps.{contains_map}
 use Rattle.live_segment.specs.declared.segment.Segment.{Segment}
-use Rattle.live_segment.specs.Deltas.{HasTakenBuckets, SaysPacked, TakesAt, TakesOn, TakesWord, units_of_key}
+use Rattle.live_segment.specs.Deltas.{HasTakenBuckets, TakesAt, TakesOn, TakesWord, units_of_key}
 use Rattle.live_segment.specs.Holders.{MayStep, table_of}
 use Rattle.live_segment.specs.Onward.{SeesOn}
 use Rattle.live_segment.specs.Rule.{IsOf}

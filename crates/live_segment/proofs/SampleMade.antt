@@ -6,16 +6,15 @@ use Rattle.std.specs.List.{Contains}
 use Rattle.std.proofs.lemmas.List.{append-nil}
 use Rattle.std.proofs.lemmas.List.Elements.{Contains-append_right}
 use Rattle.bucket_ranges.specs.Reading.{is_i32}
-use Rattle.hist_core.specs.declared.refusal.Refusal.{Refusal}
-use Rattle.hist_core.specs.declared.refusal.Refusal.TheVariants.{Full, Corrupt}
-use Rattle.hist_core.specs.Goes.{AreApart}
+use Rattle.segment_calls.specs.declared.refusal.Refusal.{Refusal}
+use Rattle.segment_calls.specs.declared.refusal.Refusal.TheVariants.{Full, Corrupt}
+use Rattle.segment_machine.specs.Actor.{AreApart, Sparse, is_bound, is_opener}
 use Rattle.segment_machine.specs.declared.actor.Actor.{Actor}
 use Rattle.segment_machine.specs.declared.actor.Known.{Known}
 use Rattle.segment_machine.specs.declared.actor.Made.TheVariants.{Sample}
 use Rattle.segment_machine.specs.declared.actor.Own.{Own}
 use Rattle.segment_machine.specs.declared.actor.Published.{Published}
 use Rattle.segment_machine.specs.declared.place.Place.TheVariants.{Idle}
-use Rattle.segment_machine.specs.Actor.{Sparse, is_bound, is_opener}
 use Rattle.segment_machine.specs.Allocating.{store_payload, stored}
 use Rattle.segment_machine.specs.Calls.{change_own}
 use Rattle.segment_machine.specs.Event.{allocating_event}

@@ -7,7 +7,7 @@ use Rattle.segment_image.specs.Shape.{Dimensions}
 use Rattle.bucket_ranges.specs.declared.spec.Spec.TheVariants as spec
 use Rattle.list_core.specs.Chain.{stops}
 use Rattle.list_core.specs.Walk.{IsPrefix}
-use Rattle.hist_core.specs.declared.refusal.Refusal.{Refusal}
+use Rattle.segment_calls.specs.declared.refusal.Refusal.{Refusal}
 use Rattle.segment_machine.specs.declared.actor.Actor.{Actor}
 use Rattle.segment_machine.specs.declared.actor.Known.{Known}
 use Rattle.segment_machine.specs.declared.actor.Made.TheVariants.{Sample}

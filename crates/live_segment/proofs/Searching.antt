@@ -28,7 +28,7 @@ use Rattle.segment_machine.specs.Taking.{is_looking}
 use Rattle.segment_machine.specs.Walking.{load_next, extended, records_met}
 use Rattle.segment_machine.proofs.Stages.Walks.{walks_agree}
 use Rattle.segment_invariant.proofs.Lists.Maps.{contains_map}
-use Rattle.hist_core.specs.declared.asked.Asked.{Asked}
+use Rattle.segment_calls.specs.declared.asked.Asked.{Asked}
 use Rattle.live_segment.specs.declared.finding.Search.TheVariants as search
 use Rattle.live_segment.specs.declared.segment.Segment.{Segment}
 use Rattle.live_segment.specs.Rule.{IsOf}

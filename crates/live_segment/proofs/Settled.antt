@@ -18,9 +18,9 @@ use Rattle.segment_machine.specs.Note.{declines, knows, noted}
 use Rattle.segment_promises.specs.Follows.{MayTell, noted_by}
 use Rattle.segment_machine.specs.Calls.{MayTurn}
 use Rattle.segment_machine.specs.Made.{SawOtherName}
-use Rattle.hist_core.specs.declared.asked.Asked.{Asked}
-use Rattle.hist_core.specs.declared.refusal.Refusal.{Refusal}
-use Rattle.hist_core.specs.declared.refusal.Refusal.TheVariants as why
+use Rattle.segment_calls.specs.declared.asked.Asked.{Asked}
+use Rattle.segment_calls.specs.declared.refusal.Refusal.{Refusal}
+use Rattle.segment_calls.specs.declared.refusal.Refusal.TheVariants as why
 use Rattle.live_segment.specs.declared.finding.Search.TheVariants as search
 use Rattle.live_segment.specs.Adding.{HasNoRoom}
 use Rattle.live_segment.specs.Allocation.{Allocates, filled, saw_free}

@@ -4,7 +4,7 @@ use Rattle.std.proofs.Math.Seq.{take-length}
 use Rattle.std.proofs.lemmas.List.{take-append-le, take_more}
 use Rattle.atomic_table.proofs.Lists.{at_longer}
 use Rattle.segment_invariant.proofs.Lists.Elements.{below_length}
-use Rattle.hist_core.specs.declared.refusal.BatchRefusal.{BatchRefusal}
+use Rattle.segment_calls.specs.declared.refusal.BatchRefusal.{BatchRefusal}
 use Rattle.bucket_ranges.specs.Ranges.{boundaries_of}
 use Rattle.bucket_ranges.specs.Tally.{units_of}
 use Rattle.segment_machine.specs.declared.actor.Actor.{Actor}

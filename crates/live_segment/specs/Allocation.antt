@@ -1,7 +1,7 @@
 -- What an allocation makes of a recorder: it has a block of its own, or why it has none.
 use Rattle.std.specs.Prelude.{◌≡◌, true, ℕ, ◌+◌, ◌-◌, ◌<◌, ◌≤◌, [], ◌∷◌, ◌++◌, Result, Ok, Err}
-use Rattle.hist_core.specs.declared.refusal.Refusal.{Refusal}
-use Rattle.hist_core.specs.declared.refusal.Refusal.TheVariants.{Full, Corrupt}
+use Rattle.segment_calls.specs.declared.refusal.Refusal.{Refusal}
+use Rattle.segment_calls.specs.declared.refusal.Refusal.TheVariants.{Full, Corrupt}
 use Rattle.alloc_core.specs.Alloc.{IsPlace}
 use Rattle.segment_image.specs.declared.layout.TheConstants.{BLOCK_LEAST}
 use Rattle.segment_machine.specs.declared.actor.Actor.{Actor}

@@ -3,9 +3,9 @@ use Rattle.std.specs.Prelude.{◌≡◌, Bool, true, false, ◌-◌, nat_lt, ◌
 use mathlib.Core.Option.{some}
 use lib.ListN.{get_elem?}
 use Rattle.std.specs.List.{list_any}
-use Rattle.hist_core.specs.declared.refusal.BatchRefusal.{BatchRefusal}
-use Rattle.hist_core.specs.declared.refusal.Refusal.{Refusal}
-use Rattle.hist_core.specs.declared.refusal.Refusal.TheVariants.{ZeroCount, NoUnits}
+use Rattle.segment_calls.specs.declared.refusal.BatchRefusal.{BatchRefusal}
+use Rattle.segment_calls.specs.declared.refusal.Refusal.{Refusal}
+use Rattle.segment_calls.specs.declared.refusal.Refusal.TheVariants.{ZeroCount, NoUnits}
 use Rattle.bucket_ranges.specs.Ranges.{boundaries_of}
 use Rattle.bucket_ranges.specs.Tally.{units_of}
 use Rattle.segment_machine.specs.declared.actor.Actor.{Actor}

@@ -10,8 +10,8 @@ use Rattle.segment_machine.specs.declared.seen.Seen.{Seen}
 use Rattle.segment_machine.specs.Actor.{word_seen}
 use Rattle.segment_machine.specs.Calls.{MayTurn}
 use Rattle.segment_machine.specs.Made.{SawName, SawOtherName, SawSpec, SawOtherSpec}
-use Rattle.hist_core.specs.declared.asked.Asked.{Asked}
-use Rattle.hist_core.specs.Asked.{IsAskedFor}
+use Rattle.segment_calls.specs.declared.asked.Asked.{Asked}
+use Rattle.segment_calls.specs.Asked.{IsAskedFor}
 use Rattle.live_segment.specs.Onward.{Grows}
 
 -- ---- what is asked for

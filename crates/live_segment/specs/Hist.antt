@@ -6,10 +6,10 @@ use Rattle.bucket_ranges.specs.declared.spec.Spec.{Spec}
 use Rattle.bucket_ranges.specs.Spec.{SameSpec}
 use Rattle.segment_machine.specs.declared.actor.Actor.{Actor}
 use Rattle.segment_machine.specs.declared.actor.Known.{Known}
-use Rattle.hist_core.specs.declared.asked.Asked.{Asked}
-use Rattle.hist_core.specs.declared.refusal.Refusal.{Refusal}
-use Rattle.hist_core.specs.declared.refusal.Refusal.TheVariants.{OtherSpec}
-use Rattle.hist_core.specs.Asked.{IsAskedFor, IsRefusedFor}
+use Rattle.segment_calls.specs.declared.asked.Asked.{Asked}
+use Rattle.segment_calls.specs.declared.refusal.Refusal.{Refusal}
+use Rattle.segment_calls.specs.declared.refusal.Refusal.TheVariants.{OtherSpec}
+use Rattle.segment_calls.specs.Asked.{IsAskedFor, IsRefusedFor}
 use Rattle.live_segment.specs.declared.recorder.Hist.{Hist}
 use Rattle.live_segment.specs.declared.recorder.KnownHistogram.{KnownHistogram}
 use Rattle.live_segment.specs.declared.recorder.Recorder.{Recorder}

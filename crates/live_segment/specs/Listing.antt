@@ -12,7 +12,7 @@ use Rattle.segment_machine.specs.Event.{Ready, allocating_event, publishing_even
 use Rattle.segment_machine.specs.Note.{Note, asks}
 use Rattle.segment_machine.specs.Publishing.{link, own_at}
 use Rattle.segment_machine.specs.Walking.{load_published}
-use Rattle.hist_core.specs.Goes.{AreApart}
+use Rattle.segment_machine.specs.Actor.{AreApart}
 use Rattle.live_segment.specs.declared.rule.Announcement.{Announcement}
 use Rattle.live_segment.specs.declared.rule.Announcement.TheVariants.{Answer, Histogram, Sample, Units}
 use Rattle.live_segment.specs.Steps.{Does, Pass, Sat}

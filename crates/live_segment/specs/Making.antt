@@ -7,8 +7,8 @@ use Rattle.segment_machine.specs.declared.actor.Own.{Own}
 use Rattle.segment_machine.specs.Calls.{MayTurn, change_last}
 use Rattle.segment_machine.specs.Publishing.{own_at}
 use Rattle.segment_machine.specs.Taking.{is_looking}
-use Rattle.hist_core.specs.declared.asked.Asked.{Asked}
-use Rattle.hist_core.specs.declared.refusal.Refusal.{Refusal}
+use Rattle.segment_calls.specs.declared.asked.Asked.{Asked}
+use Rattle.segment_calls.specs.declared.refusal.Refusal.{Refusal}
 use Rattle.live_segment.specs.declared.rule.Announcement.{Announcement}
 use Rattle.live_segment.specs.Allocation.{Allocates}
 use Rattle.live_segment.specs.Listing.{asked_for}

@@ -2,7 +2,7 @@
 use Rattle.std.specs.Prelude.{◌≡◌, true, false, ◌==◌, ℕ, ◌+◌, ℤ, if◌then◌else◌, List, [], ◌∷◌, take, drop, length, bit_and, None}
 use Rattle.std.specs.List.{All, filter}
 use Rattle.segment_image.specs.declared.layout.TheConstants.{FLAG_CORRUPT, FLAG_FULL, HISTOGRAM_COUNTS}
-use Rattle.hist_core.specs.declared.refusal.Refusal.{Refusal}
+use Rattle.segment_calls.specs.declared.refusal.Refusal.{Refusal}
 use Rattle.segment_machine.specs.declared.entry.Counting.{Counting}
 use Rattle.segment_machine.specs.declared.actor.Actor.{Actor}
 use Rattle.segment_machine.specs.declared.actor.Known.{Known}

@@ -10,7 +10,7 @@ use Rattle.segment_machine.specs.declared.actor.Made.TheVariants.{Histogram}
 use Rattle.segment_machine.specs.Calls.{MayTurn}
 use Rattle.segment_machine.specs.Made.{AreNameWords, IsFirstNamed, SawOtherName, SawOtherSpec}
 use Rattle.segment_machine.specs.Note.{MayNote, knows}
-use Rattle.hist_core.specs.declared.asked.Asked.{Asked}
+use Rattle.segment_calls.specs.declared.asked.Asked.{Asked}
 use Rattle.live_segment.specs.declared.finding.Search.{Search}
 use Rattle.live_segment.specs.declared.finding.Search.TheVariants.{Met, OtherSpec, End}
 use Rattle.live_segment.specs.Onward.{Grows, StaysApart}

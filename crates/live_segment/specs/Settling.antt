@@ -7,9 +7,9 @@ use Rattle.segment_machine.specs.Calls.{MayTurn}
 use Rattle.segment_machine.specs.Made.{SawOtherName}
 use Rattle.segment_machine.specs.Actor.{looking}
 use Rattle.segment_machine.specs.Note.{knows, MayNote}
-use Rattle.hist_core.specs.declared.asked.Asked.{Asked}
-use Rattle.hist_core.specs.declared.refusal.Refusal.{Refusal}
-use Rattle.hist_core.specs.declared.refusal.Refusal.TheVariants.{OtherSpec}
+use Rattle.segment_calls.specs.declared.asked.Asked.{Asked}
+use Rattle.segment_calls.specs.declared.refusal.Refusal.{Refusal}
+use Rattle.segment_calls.specs.declared.refusal.Refusal.TheVariants.{OtherSpec}
 use Rattle.live_segment.specs.declared.recorder.KnownHistogram.{KnownHistogram}
 use Rattle.live_segment.specs.Adding.{HasNoRoom}
 use Rattle.live_segment.specs.Answering.{HaveOneName}

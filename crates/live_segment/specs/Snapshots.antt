@@ -5,7 +5,7 @@ use mathlib.Core.Option.{some}
 use lib.ListN.{get_elem?}
 use Rattle.segment_image.specs.declared.layout.TheConstants.{HISTOGRAM_REDUNDANT}
 use Rattle.bucket_ranges.specs.Single.{single_of, units_packed}
-use Rattle.hist_core.specs.declared.answer.Snapshot.{Snapshot}
+use Rattle.segment_calls.specs.declared.answer.Snapshot.{Snapshot}
 use Rattle.segment_machine.specs.declared.actor.Actor.{Actor}
 use Rattle.segment_machine.specs.declared.actor.Known.{Known}
 use Rattle.segment_machine.specs.declared.place.Place.TheVariants.{SumLoaded}

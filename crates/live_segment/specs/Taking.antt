@@ -5,7 +5,7 @@ use Rattle.std.specs.Int.{cast_signed, w64}
 use Rattle.segment_image.specs.declared.layout.TheConstants.{HISTOGRAM_SUM_MARK}
 use Rattle.segment_machine.specs.declared.actor.Actor.{Actor}
 use Rattle.atomic_table.specs.Table.{Step}
-use Rattle.hist_core.specs.declared.answer.Snapshot.{Snapshot}
+use Rattle.segment_calls.specs.declared.answer.Snapshot.{Snapshot}
 use Rattle.segment_machine.specs.declared.actor.Answered.{Answered}
 use Rattle.segment_machine.specs.declared.actor.Known.{Known}
 use Rattle.segment_machine.specs.Actor.{is_opener}

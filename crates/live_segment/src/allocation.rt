@@ -11,7 +11,7 @@ ghost use Rattle.live_segment.specs.Allocation.{Allocates, claimed, IsLost};
 use crate::rule::Pass;
 use crate::segment::Segment;
 use alloc_core::{Planned, plan};
-use hist_core::Refusal;
+use segment_calls::Refusal;
 use segment_image::layout::{CLAIMED_COOKIE, FLAG_CORRUPT, WASTED_COOKIE};
 
 impl Segment {

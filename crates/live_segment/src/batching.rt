@@ -8,7 +8,7 @@ ghost use Rattle.segment_machine.specs.Entry.{batch_cost};
 use crate::recorder::KnownHistogram;
 use crate::rule::Pass;
 use crate::segment::Segment;
-use hist_core::{BatchRefusal, Refusal};
+use segment_calls::{BatchRefusal, Refusal};
 
 impl Segment {
     ghost use Rattle.live_segment.specs.Batching.{HasItems, HasNoted, IsBatched, IsCutShort, StopsAt};

@@ -8,7 +8,7 @@ ghost use Rattle.live_segment.specs.Finding.{IsAsked, Meets, SeesWords, ShowsWor
 
 use crate::rule::Pass;
 use crate::segment::Segment;
-use hist_core::Asked;
+use segment_calls::Asked;
 use segment_image::layout::{
     BLOCK_HEADER, BLOCK_TYPE, HISTOGRAM_BUCKETS, HISTOGRAM_KIND, HISTOGRAM_NAME,
     HISTOGRAM_NAME_LENGTH, TYPE_HISTOGRAM,

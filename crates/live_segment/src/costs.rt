@@ -8,7 +8,7 @@ ghost use Rattle.segment_machine.specs.declared.actor.Actor.{Actor};
 ghost use Rattle.segment_machine.specs.Entry.{batch_cost};
 ghost use Rattle.live_segment.specs.Batching.{batch_checks};
 
-use hist_core::Refusal;
+use segment_calls::Refusal;
 
 // The units of items; the greatest number where there are more.
 pub(crate) fn units_of_items(items: &[(i32, u32)]) -> u64

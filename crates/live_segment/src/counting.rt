@@ -3,8 +3,8 @@
 use crate::recorder::KnownHistogram;
 use crate::rule::Pass;
 use crate::segment::Segment;
-use hist_core::Refusal;
-use hist_core::packing::{DISABLED_BIT, packed_with};
+use segment_calls::Refusal;
+use segment_calls::packing::{DISABLED_BIT, packed_with};
 use segment_image::layout::BLOCK_HEADER;
 
 // How an attempt to pack units ended.

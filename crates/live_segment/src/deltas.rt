@@ -6,9 +6,9 @@ ghost use Rattle.bucket_ranges.specs.declared.spec.Spec.TheVariants.{Sparse};
 ghost use Rattle.bucket_ranges.specs.Spec.{buckets_of};
 ghost use Rattle.segment_machine.specs.declared.actor.Known.{Known};
 ghost use Rattle.segment_machine.specs.Actor.{bucket_key, has_buckets};
-ghost use Rattle.segment_machine.specs.Form.{is_off};
+ghost use Rattle.segment_machine.specs.Form.{is_off, SaysPacked};
 ghost use Rattle.segment_machine.specs.Note.{TookBucket};
-ghost use Rattle.live_segment.specs.Deltas.{AreUnits, HasTaken, HasTakenBuckets, HasTakenSample, HasTakenSum, MayTakeSample, MayTakeSum, SaysPacked, TakesAt, TakesOn, TakesValues, TakesWord, units_of_key};
+ghost use Rattle.live_segment.specs.Deltas.{AreUnits, HasTaken, HasTakenBuckets, HasTakenSample, HasTakenSum, MayTakeSample, MayTakeSum, TakesAt, TakesOn, TakesValues, TakesWord, units_of_key};
 ghost use Rattle.live_segment.specs.Known.{known_view, KnowsRight};
 ghost use Rattle.live_segment.specs.Values.{ComesTo, HasTakenValues, HoldsKeys, TakesAlong, TakesValue};
 ghost use Rattle.segment_image.specs.declared.layout.TheConstants.{QUEUE};
@@ -17,8 +17,7 @@ use crate::recorder::KnownHistogram;
 use crate::rule::Pass;
 use crate::samples::sort_by_key;
 use crate::segment::Segment;
-use bucket_ranges::SingleWord;
-use hist_core::packing::DISABLED_BIT;
+use segment_calls::packing::{DISABLED_BIT, packed_in};
 use segment_image::layout::{BLOCK_HEADER, BLOCK_LEAST, HEADER_WORDS, QUEUE, SAMPLE_MARK};
 
 // The counts of a histogram, as a delta found them in use.
@@ -29,19 +28,6 @@ pub(crate) struct Mounted {
     // The bucket whose units were packed, where there was one, and the units of it that the single word keeps.
     packed: Option<usize>,
     kept: u64,
-}
-
-// The bucket whose units a single word of a version holds or held, where there is one, and the units that it holds.
-fn packed_in(version: u64, word: u64, buckets: usize) -> (Option<usize>, u64)
-    requires few { buckets ≤ 65535 }
-    ensures { SaysPacked version buckets word result.0 result.1 }
-{
-    match SingleWord::of(version, word, buckets) {
-        Some(SingleWord::Packed { bucket, units }) => (Some(bucket), units),
-        Some(SingleWord::Frozen { bucket, units }) => (Some(bucket), units),
-        Some(SingleWord::Disabled { packed }) => (packed, 0),
-        _ => (None, 0),
-    }
 }
 
 impl Segment {

@@ -8,7 +8,7 @@ ghost use Rattle.live_segment.specs.Searching.{WalksAt, HasSearched, Searches};
 
 use crate::rule::Pass;
 use crate::segment::Segment;
-use hist_core::Asked;
+use segment_calls::Asked;
 use segment_image::layout::QUEUE;
 
 // How a search ended.

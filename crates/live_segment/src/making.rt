@@ -9,7 +9,7 @@ ghost use Rattle.live_segment.specs.Making.{HasBlock, HasFilled, Makes, SaysAske
 
 use crate::rule::{Announcement, Pass};
 use crate::segment::Segment;
-use hist_core::{Asked, Refusal};
+use segment_calls::{Asked, Refusal};
 use segment_image::layout::{BLOCK_HEADER, TYPE_HISTOGRAM};
 
 impl Segment {

@@ -6,8 +6,8 @@ ghost use Rattle.std.specs.Prelude.{◌≡◌, ◌==◌, ◌&&◌, nat_lt};
 use crate::recorder::KnownHistogram;
 use crate::rule::Pass;
 use crate::segment::Segment;
-use hist_core::Refusal;
-use hist_core::packing::{DISABLED_BIT, off_word};
+use segment_calls::Refusal;
+use segment_calls::packing::{DISABLED_BIT, off_word};
 use segment_image::layout::{BLOCK_HEADER, TYPE_COUNTS, VERSION_MOVING};
 
 // The units of a packed word stand below this, and the bucket above.

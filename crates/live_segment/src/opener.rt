@@ -8,7 +8,7 @@ ghost use Rattle.std.proofs.Props.{props};
 use crate::recorder::Recorder;
 use crate::rule::Pass;
 use crate::segment::Segment;
-use hist_core::Refusal;
+use segment_calls::Refusal;
 use std::alloc::Global;
 
 /// The most recorders that are made and not joined.

@@ -14,7 +14,7 @@ use crate::records::WalkPlace;
 use crate::rule::Pass;
 use crate::segment::Segment;
 use bucket_ranges::{Ranges, Spec};
-use hist_core::{Asked, BatchRefusal, Delta, Refusal, Snapshot};
+use segment_calls::{Asked, BatchRefusal, Delta, Refusal, Snapshot};
 use segment_image::layout::{BLOCK_LEAST, FLAG_CORRUPT, HEADER_WORDS};
 use std::alloc::{AllocError, Global};
 
@@ -95,7 +95,7 @@ impl<'a> Recorder<'a> {
     ghost use Rattle.live_segment.specs.Records.{HasWalked};
     ghost use Rattle.live_segment.specs.Fresh.{GivesFresh, given_fresh};
     ghost use Rattle.live_segment.specs.Hist.{IsAnsweredWith, IsKnownAt, IsNamed, IsRefusedWith, KnowsOn, NoneHasName};
-    ghost use Rattle.hist_core.specs.declared.refusal.Refusal.TheVariants.{NoMemory};
+    ghost use Rattle.segment_calls.specs.declared.refusal.Refusal.TheVariants.{NoMemory};
 
     // A recorder that has done nothing.
     pub(crate) fn new(alloc: Global, segment: &'a Segment, seat: Pass, units: u32) -> Recorder<'a>

@@ -1,7 +1,7 @@
 //! What holds of the words and of all who step on them.
 
 use atomic_table::{Seat, TableRule};
-use hist_core::{Asked, Snapshot};
+use segment_calls::{Asked, Snapshot};
 use segment_image::Shape;
 use segment_machine::Actor;
 

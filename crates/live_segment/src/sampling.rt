@@ -12,7 +12,7 @@ ghost use Rattle.live_segment.specs.Sampling.{ShowsValue, WalksBehind, FindsSamp
 use crate::recorder::KnownHistogram;
 use crate::rule::{Announcement, Pass};
 use crate::segment::Segment;
-use hist_core::Refusal;
+use segment_calls::Refusal;
 use segment_image::layout::{
     BLOCK_HEADER, QUEUE, SAMPLE_HISTOGRAM, SAMPLE_LEAST, SAMPLE_VALUE, TYPE_SAMPLE,
 };

@@ -12,7 +12,7 @@ use crate::finding::Search;
 use crate::recorder::KnownHistogram;
 use crate::rule::{Announcement, Pass};
 use crate::segment::Segment;
-use hist_core::{Asked, Refusal};
+use segment_calls::{Asked, Refusal};
 use segment_image::layout::QUEUE;
 
 impl Segment {

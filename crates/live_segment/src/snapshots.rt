@@ -1,7 +1,7 @@
 //! How a recorder answers a snapshot: it looks at all that is counted of a histogram, and notes what it saw.
 
 ghost use Rattle.std.specs.Prelude.{◌≡◌, ◌≤◌, ℕ, length, IfOk};
-ghost use Rattle.hist_core.specs.declared.answer.Snapshot.{Snapshot};
+ghost use Rattle.segment_calls.specs.declared.answer.Snapshot.{Snapshot};
 ghost use Rattle.live_segment.specs.declared.rule.Announcement.TheVariants.{Answer};
 ghost use Rattle.std.specs.List.{All};
 ghost use Rattle.segment_machine.specs.Calls.{IsUnits};
@@ -12,8 +12,8 @@ use crate::rule::{Announcement, Pass};
 use crate::samples::sort_by_key;
 use crate::segment::Segment;
 use bucket_ranges::{Ranges, SingleWord};
-use hist_core::Snapshot;
-use hist_core::packing::DISABLED_BIT;
+use segment_calls::Snapshot;
+use segment_calls::packing::DISABLED_BIT;
 use segment_image::layout::QUEUE;
 use std::alloc::{AllocError, Global};
 

@@ -10,8 +10,8 @@ mod turns;
 
 use crate::{OpenFault, Recorder, Segment};
 use bucket_ranges::Spec;
-use hist_core::Refusal;
-use hist_core::packing::DISABLED_BIT;
+use segment_calls::Refusal;
+use segment_calls::packing::DISABLED_BIT;
 use segment_image::Image;
 use std::alloc::Global;
 use std::test::Fail;

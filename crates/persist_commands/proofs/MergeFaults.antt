@@ -6,8 +6,8 @@ use Rattle.std.specs.declared.vec.Vec.{Vec}
 use Rattle.std.proofs.lemmas.List.Elements.{Contains-append_left, Contains-append_right}
 use Rattle.bucket_ranges.specs.Reading.{Histogram}
 use Rattle.segment_machine.specs.declared.actor.Actor.{Actor}
-use Rattle.hist_core.specs.declared.refusal.Refusal.{Refusal}
-use Rattle.hist_core.specs.declared.refusal.Refusal.TheVariants as refusal
+use Rattle.segment_calls.specs.declared.refusal.Refusal.{Refusal}
+use Rattle.segment_calls.specs.declared.refusal.Refusal.TheVariants as refusal
 use Rattle.segment_merge.specs.declared.merging.MergeReport.{MergeReport}
 use Rattle.segment_merge.specs.declared.merging.MergeStop.{MergeStop}
 use Rattle.segment_merge.specs.Merge.{IsStopped}

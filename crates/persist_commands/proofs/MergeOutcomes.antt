@@ -5,7 +5,7 @@ use Rattle.segment_image.specs.Checks.{first_fault}
 use Rattle.segment_image.specs.declared.head.SegmentHead.{SegmentHead}
 use Rattle.bucket_ranges.specs.Reading.{Reading}
 use Rattle.segment_machine.specs.declared.actor.Actor.{Actor}
-use Rattle.hist_core.specs.declared.refusal.Refusal.{Refusal}
+use Rattle.segment_calls.specs.declared.refusal.Refusal.{Refusal}
 use Rattle.live_segment.specs.declared.rule.Setting.{Setting}
 use Rattle.live_segment.specs.Rule.{first_view}
 use Rattle.live_segment.specs.Steps.{recorder_checks}

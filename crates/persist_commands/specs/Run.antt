@@ -9,7 +9,7 @@ use Rattle.bucket_ranges.specs.Reading.{Histogram, Reading, IsReading}
 use Rattle.segment_machine.specs.declared.entry.Entry.{Entry}
 use Rattle.segment_machine.specs.Entry.{tally_units, tally_sum, tally_noted}
 use Rattle.segment_promises.specs.Reads.{units_read, HasNoFault}
-use Rattle.hist_core.specs.declared.refusal.Refusal.TheVariants as refusal
+use Rattle.segment_calls.specs.declared.refusal.Refusal.TheVariants as refusal
 use Rattle.persist_report_core.specs.declared.fault.CliFault.{CliFault}
 use Rattle.persist_report_core.specs.declared.fault.CliFault.TheVariants as cli
 use Rattle.persist_report_core.specs.declared.script.fault.ScriptFault.{ScriptFault}

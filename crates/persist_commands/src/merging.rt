@@ -14,10 +14,10 @@ ghost use Rattle.segment_merge.specs.Merge.{IsMerged};
 ghost use Rattle.segment_merge.specs.Remainder.{HasRemainder};
 
 use crate::outputs::write_image;
-use hist_core::Refusal;
 use image_reader::Reading;
 use live_segment::{Recorder, Segment};
 use persist_report_core::CliFault;
+use segment_calls::Refusal;
 use segment_image::layout::VERSION_FROZEN;
 use segment_image::{Image, SegmentHead, Watched, header, read_words};
 use segment_merge::{MergeReport, MergeStop, merge};

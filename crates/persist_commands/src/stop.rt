@@ -2,8 +2,8 @@
 
 ghost use Rattle.std.specs.Prelude.{◌≡◌, ◌↔◌, ◌⊎◌, Ok};
 
-use hist_core::Refusal;
 use persist_report_core::CliFault;
+use segment_calls::Refusal;
 use std::alloc::AllocError;
 
 /// Why nothing is written. The first kind that is met is told, and of refusals that of the record with the least number.

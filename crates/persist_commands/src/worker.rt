@@ -11,9 +11,9 @@ ghost use Rattle.persist_commands.specs.Recording.{HasEnded, HasWorked, HaveMet,
 use crate::beside::Job;
 use crate::gate::Gate;
 use crate::stop::Stop;
-use hist_core::Refusal;
 use live_segment::{Hist, Recorder};
 use persist_report_core::{CallKind, Script, ScriptCall, ScriptHist};
+use segment_calls::Refusal;
 use std::alloc::{AllocError, Global};
 
 /// Which calls a worker makes: those whose number, from 0, leaves `part` when it is divided by the number of workers.

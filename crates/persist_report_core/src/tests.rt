@@ -1,6 +1,6 @@
 use crate::{CliFault, report};
 use bucket_ranges::SpecFault;
-use hist_core::Refusal;
+use segment_calls::Refusal;
 use segment_image::{ImageFault, Watched};
 use std::alloc::{AllocError, Global};
 use std::io;

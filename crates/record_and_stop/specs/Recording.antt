@@ -1,7 +1,7 @@
 -- What threads are given and give back.
 use Rattle.std.specs.Prelude.{◌≡◌, ◌<◌, ℕ, IfOk, IfSome, Result}
 use Rattle.atomic_table.specs.Seated.{TableId}
-use Rattle.hist_core.specs.declared.refusal.Refusal.{Refusal}
+use Rattle.segment_calls.specs.declared.refusal.Refusal.{Refusal}
 use Rattle.live_segment.specs.declared.recorder.Recorder.{Recorder}
 use Rattle.record_and_stop.specs.declared.recording.Outcome.{Outcome}
 

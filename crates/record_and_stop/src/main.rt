@@ -9,10 +9,10 @@ ghost use Rattle.record_and_stop.specs.Recording.{GivesBack, IsAt, IsJobAt, IsOu
 mod recording;
 
 use anyhow::Result;
-use hist_core::Refusal;
 use image_reader::Reading;
 use live_segment::{Opener, Recorder, Segment};
 use recording::{Accepted, Outcome, UNITS, record};
+use segment_calls::Refusal;
 use segment_image::{Watched, read_words, write_words};
 use std::alloc::{AllocError, Global};
 use std::thread;

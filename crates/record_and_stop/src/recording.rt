@@ -5,8 +5,8 @@ ghost use Rattle.live_segment.specs.Holders.{Knows};
 ghost use Rattle.record_and_stop.specs.Recording.{IsBeside};
 
 use bucket_ranges::Spec;
-use hist_core::Refusal;
 use live_segment::{Hist, Recorder};
+use segment_calls::Refusal;
 
 // How many calls a thread makes.
 const CALLS: u32 = 1000;

@@ -4,8 +4,8 @@ ghost use Rattle.live_segment.specs.Holders.{IsMadeWith, Knows};
 
 use crate::plan::{Plan, VALUES};
 use anyhow::{Result, bail};
-use hist_core::Refusal;
 use live_segment::{Hist, Opener, Recorder, Segment};
+use segment_calls::Refusal;
 use std::alloc::Global;
 use std::rt::Clock;
 use std::thread;

@@ -1,7 +1,7 @@
 -- Which segment recorders are of, as they go to threads and come back.
 use Rattle.std.specs.Prelude.{◌≡◌, ◌<◌, IfOk, Result}
 use Rattle.atomic_table.specs.Seated.{TableId}
-use Rattle.hist_core.specs.declared.refusal.Refusal.{Refusal}
+use Rattle.segment_calls.specs.declared.refusal.Refusal.{Refusal}
 use Rattle.live_segment.specs.declared.recorder.Recorder.{Recorder}
 use Rattle.live_segment.specs.Holders.{view_of_recorder}
 use Rattle.recording_threads.specs.declared.calls.Done.{Done}

@@ -5,8 +5,8 @@ ghost use Rattle.live_segment.specs.Holders.{Knows};
 ghost use Rattle.recording_threads.specs.Holders.{IsBeside};
 
 use bucket_ranges::{CustomValues, Spec};
-use hist_core::{Delta, Refusal, Snapshot};
 use live_segment::{Hist, Recorder};
+use segment_calls::{Delta, Refusal, Snapshot};
 use std::alloc::Global;
 
 /// How many calls a thread makes.

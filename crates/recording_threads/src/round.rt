@@ -7,9 +7,9 @@ ghost use Rattle.recording_threads.specs.Holders.{GivesBack, IsBeside, IsDoneAt,
 use crate::calls::{Done, NAMES, UNITS, run, spec_of};
 use crate::lines::{show_batch, show_delta, show_sample, show_snapshot};
 use anyhow::Result;
-use hist_core::Refusal;
 use live_segment::{Opener, Recorder, Segment};
 use persist_report_core::report;
+use segment_calls::Refusal;
 use segment_image::{Watched, write_words};
 use std::alloc::{AllocError, Global};
 use std::thread::Threads;

@@ -17,6 +17,7 @@ use Rattle.segment_machine.specs.declared.actor.Cost.{Cost}
 use Rattle.segment_machine.specs.declared.actor.Given.{Given}
 use Rattle.segment_machine.specs.declared.actor.Known.{Known}
 use Rattle.segment_machine.specs.declared.actor.Moment.{Moment}
+use Rattle.segment_machine.specs.declared.actor.Own.{Own}
 use Rattle.segment_machine.specs.declared.actor.Portion.{Portion}
 use Rattle.segment_machine.specs.declared.actor.Published.{Published}
 use Rattle.segment_machine.specs.declared.seen.Sighting.{Sighting}
@@ -229,3 +230,9 @@ accepted_by a = a.entries.inherited ++ log_of a
 -- that is kept here
 abbrev pub accepted_since : Actor → Actor → List Entry
 accepted_since opener a = drop (length opener.entries.first) a.entries.inherited ++ map (λ c. c.entry) a.entries.log
+
+-- ---- what it owns
+
+-- no two blocks of its own begin at one word
+abbrev pub AreApart : Actor → Type 0
+AreApart a = a.hand.place ≢ Spent → (i j : ℕ) (x y : Own) → get_elem? a.hand.own i ≡ some x → get_elem? a.hand.own j ≡ some y → x.at ≡ y.at → i ≡ j

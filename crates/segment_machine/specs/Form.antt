@@ -18,6 +18,10 @@ units_in (Some FrozenEmpty) = 0
 units_in (Some (Frozen bucket units)) = units
 units_in None = 0
 
+-- the bucket whose units a word holds or held, and the units that it holds
+abbrev pub SaysPacked : ℕ → ℕ → ℕ → Option ℕ → ℕ → Type 0
+SaysPacked version buckets word packed kept = (packed ≡ packed_bucket (single_of version buckets word)) × (kept ≡ units_in (single_of version buckets word))
+
 -- the word with which a word is disabled, or frozen
 abbrev pub off_word : ℕ → ℕ → ℕ
 off_word version word =

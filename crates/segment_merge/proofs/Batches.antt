@@ -7,9 +7,9 @@ use Rattle.segment_image.specs.Checks.{first_fault}
 use Rattle.bucket_ranges.specs.Reading.{Histogram}
 use Rattle.segment_machine.specs.declared.actor.Actor.{Actor}
 use Rattle.segment_machine.specs.declared.actor.Known.{Known}
-use Rattle.hist_core.specs.declared.refusal.BatchRefusal.{BatchRefusal}
-use Rattle.hist_core.specs.declared.refusal.Refusal.{Refusal}
-use Rattle.hist_core.specs.declared.refusal.Refusal.TheVariants.{NoUnits}
+use Rattle.segment_calls.specs.declared.refusal.BatchRefusal.{BatchRefusal}
+use Rattle.segment_calls.specs.declared.refusal.Refusal.{Refusal}
+use Rattle.segment_calls.specs.declared.refusal.Refusal.TheVariants.{NoUnits}
 use Rattle.live_segment.specs.declared.recorder.Hist.{Hist}
 use Rattle.live_segment.specs.declared.recorder.Recorder.{Recorder}
 use Rattle.live_segment.specs.Batching.{IsBatched, IsCutShort, batch_checks}

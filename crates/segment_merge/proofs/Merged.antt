@@ -18,9 +18,9 @@ use Rattle.segment_machine.specs.Actor.{cost_of, log_of}
 use Rattle.segment_machine.specs.Entry.{batch_entries, item_entry}
 use Rattle.segment_invariant.proofs.Consistency.Keys.{same_boundaries}
 use Rattle.segment_invariant.proofs.Lists.Elements.{contains_at}
-use Rattle.hist_core.specs.declared.asked.Asked.{Asked}
-use Rattle.hist_core.specs.declared.refusal.Refusal.{Refusal}
-use Rattle.hist_core.specs.declared.refusal.Refusal.TheVariants.{NoUnits}
+use Rattle.segment_calls.specs.declared.asked.Asked.{Asked}
+use Rattle.segment_calls.specs.declared.refusal.Refusal.{Refusal}
+use Rattle.segment_calls.specs.declared.refusal.Refusal.TheVariants.{NoUnits}
 use Rattle.live_segment.specs.declared.recorder.Hist.{Hist}
 use Rattle.live_segment.specs.Batching.{IsBatched, IsCutShort}
 use Rattle.live_segment.specs.Hist.{IsAnsweredWith, IsRefusedWith}

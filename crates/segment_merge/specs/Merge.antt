@@ -11,8 +11,8 @@ use Rattle.segment_machine.specs.declared.actor.Known.{Known}
 use Rattle.segment_machine.specs.declared.entry.Entry.{Entry}
 use Rattle.segment_machine.specs.Actor.{cost_of, log_of}
 use Rattle.segment_machine.specs.Entry.{batch_cost, batch_entries, item_entry}
-use Rattle.hist_core.specs.declared.refusal.Refusal.{Refusal}
-use Rattle.hist_core.specs.declared.refusal.Refusal.TheVariants.{NoUnits}
+use Rattle.segment_calls.specs.declared.refusal.Refusal.{Refusal}
+use Rattle.segment_calls.specs.declared.refusal.Refusal.TheVariants.{NoUnits}
 use Rattle.live_segment.specs.declared.recorder.Hist.{Hist}
 use Rattle.live_segment.specs.Batching.{IsCutShort}
 use Rattle.live_segment.specs.Hist.{IsAnsweredWith, IsRefusedWith, KnowsNamed}

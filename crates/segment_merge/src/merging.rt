@@ -3,7 +3,7 @@
 ghost use Rattle.std.specs.Prelude.{◌≡◌, ◌+◌, ◌≤◌, ◌<◌, ◌∷◌, [], vec_len, vec_capacity, IfOk, MatchResult};
 ghost use Rattle.std.specs.List.{All};
 ghost use Rattle.bucket_ranges.specs.Tally.{units_of};
-ghost use Rattle.hist_core.specs.declared.refusal.Refusal.TheVariants.{NoMemory};
+ghost use Rattle.segment_calls.specs.declared.refusal.Refusal.TheVariants.{NoMemory};
 ghost use Rattle.image_reader.specs.Views.{histogram_view, reading_view};
 ghost use Rattle.live_segment.specs.Hist.{KnowsOn};
 ghost use Rattle.live_segment.specs.Holders.{view_of_recorder};
@@ -12,9 +12,9 @@ ghost use Rattle.segment_merge.specs.Parts.{ArePartsOf, IsPartOf, Merges};
 ghost use Rattle.segment_merge.specs.Remainder.{HasRemainder, IsRemainderOf};
 
 use crate::remainder::{Remainder, remainder_of};
-use hist_core::{BatchRefusal, Refusal};
 use image_reader::{HistReading, Reading};
 use live_segment::Recorder;
+use segment_calls::{BatchRefusal, Refusal};
 use std::alloc::{AllocError, Global};
 
 /// Why a merge stopped at a histogram.

@@ -5,9 +5,9 @@ ghost use Rattle.segment_merge.specs.Remainder.{HasRemainder};
 
 use crate::{MergeReport, merge};
 use bucket_ranges::Spec;
-use hist_core::Refusal;
 use image_reader::{HistReading, Reading};
 use live_segment::Segment;
+use segment_calls::Refusal;
 use segment_image::Image;
 use std::alloc::{AllocError, Global};
 use std::test::Fail;

@@ -16,7 +16,7 @@ use Rattle.segment_machine.specs.declared.actor.Actor.{Actor}
 use Rattle.segment_machine.specs.declared.actor.Known.{Known}
 use Rattle.segment_machine.specs.declared.actor.Segment.{Segment}
 use Rattle.segment_machine.specs.declared.place.Place.TheVariants.{Looking}
-use Rattle.segment_machine.specs.Actor.{is_bound, Buckets}
+use Rattle.segment_machine.specs.Actor.{is_bound, Buckets, AreApart}
 use Rattle.segment_machine.specs.Allocating.{new_own}
 use Rattle.segment_machine.specs.Calls.{look_of, AreCountsOf, back}
 use Rattle.segment_machine.specs.Counting.{load_counts}
@@ -29,8 +29,8 @@ use Rattle.hist_core.specs.declared.add.AddStep.{AddStep}
 use Rattle.hist_core.specs.declared.add.AddStep.TheVariants.{More, Done, Refused}
 use Rattle.hist_core.specs.declared.add.Stage.{Stage}
 use Rattle.hist_core.specs.declared.add.Stage.TheVariants.{SeekingCounts, Allocating, Mounting, Purging, LoadingAgain}
-use Rattle.hist_core.specs.declared.refusal.Refusal.TheVariants as why
-use Rattle.hist_core.specs.Goes.{Beside, AreApart, Goes}
+use Rattle.segment_calls.specs.declared.refusal.Refusal.TheVariants as why
+use Rattle.hist_core.specs.Goes.{Beside, Goes}
 use Rattle.hist_core.specs.Add.{Amid, HasEntry, AreCounts, StandsAtStage, IsAdd, AddGives, BeginsToAllocate, IsAllocated}
 use Rattle.hist_core.proofs.Adds.Counts.{counts_in}
 use Rattle.hist_core.proofs.Adds.Entries.{counting_of}

@@ -7,7 +7,7 @@ use Rattle.segment_machine.specs.Calls.{MayTurn}
 use Rattle.segment_machine.specs.Entry.{fresh}
 use Rattle.hist_core.specs.declared.add.Add.{Add}
 use Rattle.hist_core.specs.declared.add.AddStep.TheVariants.{Refused}
-use Rattle.hist_core.specs.declared.refusal.Refusal.{Refusal}
+use Rattle.segment_calls.specs.declared.refusal.Refusal.{Refusal}
 use Rattle.hist_core.specs.Goes.{Beside}
 use Rattle.hist_core.specs.Add.{Amid, HasEntry, Aside, IsCause, AddGives}
 use Rattle.hist_core.proofs.Adds.Entries.{counting_of}

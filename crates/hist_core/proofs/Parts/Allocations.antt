@@ -23,7 +23,8 @@ use Rattle.segment_machine.proofs.Stages.Allocations.{allocations_agree}
 use Rattle.segment_machine.proofs.Stages.Publishes.{publishes_agree}
 use Rattle.segment_machine.proofs.Stages.Walks.{walks_agree}
 use Rattle.hist_core.proofs.Parts.Alone.{acts_there, makes_so, allocating_beside, publishing_beside}
-use Rattle.hist_core.specs.Goes.{Beside, AreApart, Goes}
+use Rattle.hist_core.specs.Goes.{Beside, Goes}
+use Rattle.segment_machine.specs.Actor.{AreApart}
 
 -- what was seen of the chain is the front of what is seen of it behind a next
 longer : (more : Bool) (chain : List ℕ) (found : ℕ) → IsPrefix chain (if more then chain ++ found ∷ [] else chain)

@@ -20,7 +20,7 @@ use Rattle.alloc_core.specs.Event as atomic
 use Rattle.segment_machine.specs.declared.actor.Actor.{Actor}
 use Rattle.segment_machine.specs.declared.actor.Own.{Own}
 use Rattle.segment_machine.specs.declared.place.Place.TheVariants.{Idle}
-use Rattle.segment_machine.specs.Actor.{is_bound}
+use Rattle.segment_machine.specs.Actor.{is_bound, AreApart}
 use Rattle.segment_machine.specs.Allocating.{new_own}
 use Rattle.segment_machine.specs.Calls.{change_own}
 use Rattle.segment_machine.specs.Note.{Note, Notes, noted, asks}
@@ -29,13 +29,13 @@ use Rattle.segment_machine.specs.Stages.{Allocates, StandsAt}
 use Rattle.segment_invariant.proofs.Lists.Elements.{at_from}
 use Rattle.segment_invariant.proofs.Lists.Ends.{own_found}
 use Rattle.list_core.proofs.Prefixes.{prefix_of_prefix}
-use Rattle.hist_core.specs.declared.refusal.Refusal.{Refusal}
-use Rattle.hist_core.specs.declared.refusal.Refusal.TheVariants as why
+use Rattle.segment_calls.specs.declared.refusal.Refusal.{Refusal}
+use Rattle.segment_calls.specs.declared.refusal.Refusal.TheVariants as why
 use Rattle.hist_core.specs.declared.hist.Hist.{Hist}
 use Rattle.hist_core.specs.declared.hist.HistStep.{HistStep}
 use Rattle.hist_core.specs.declared.hist.HistStep.TheVariants.{More, Refused}
 use Rattle.hist_core.specs.declared.hist.Stage.TheVariants.{Allocating, Filling}
-use Rattle.hist_core.specs.Goes.{Beside, AreApart, Goes}
+use Rattle.hist_core.specs.Goes.{Beside, Goes}
 use Rattle.hist_core.specs.Hist.{made_of, IsHist, StandsAtStage, HistGives, IsAllocated, IsCause}
 use Rattle.hist_core.proofs.Parts.Allocations.{allocates_on}
 use Rattle.hist_core.proofs.Parts.Walks.{others_still, goes_with, asks_on, some_to_compare_is}

@@ -23,8 +23,8 @@ use Rattle.hist_core.specs.declared.hist.Hist.{Hist}
 use Rattle.hist_core.specs.declared.hist.HistStep.{HistStep}
 use Rattle.hist_core.specs.declared.hist.HistStep.TheVariants.{More, Done, Refused}
 use Rattle.hist_core.specs.declared.hist.Stage.TheVariants.{Walking, Comparing}
-use Rattle.hist_core.specs.declared.refusal.Refusal.{Refusal}
-use Rattle.hist_core.specs.declared.refusal.Refusal.TheVariants as why
+use Rattle.segment_calls.specs.declared.refusal.Refusal.{Refusal}
+use Rattle.segment_calls.specs.declared.refusal.Refusal.TheVariants as why
 use Rattle.hist_core.specs.Goes.{Beside, Goes}
 use Rattle.hist_core.specs.Hist.{IsHist, StandsAtStage, HaveOtherNames, AreSame, Reaches, HistGives, IsMatched, IsDifferent, IsCause, asked_of, compared_place, compared_index, compared_word}
 use Rattle.segment_invariant.proofs.Walking.Words.{letters_long}

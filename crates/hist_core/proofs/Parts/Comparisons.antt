@@ -11,7 +11,7 @@ use Rattle.bucket_ranges.specs.declared.spec.Spec.{Spec}
 use Rattle.bucket_ranges.specs.declared.spec.Spec.TheVariants.{Linear, Boolean, Custom, Sparse}
 use Rattle.bucket_ranges.specs.Spec.{spec_fields, spec_ranges}
 use Rattle.hist_core.specs.declared.hist.Hist.{Hist}
-use Rattle.hist_core.specs.Asked.{payload_words}
+use Rattle.segment_calls.specs.Asked.{payload_words}
 use Rattle.hist_core.specs.Hist.{IsAsking, compared_place, compared_index, compared_word, comparisons}
 
 -- ---- words and their bytes

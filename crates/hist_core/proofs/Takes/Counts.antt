@@ -30,7 +30,7 @@ use Rattle.segment_machine.specs.Actor.{Buckets, is_bound, word_seen}
 use Rattle.segment_machine.specs.Calls.{AreCountsOf, CountsStay, look_of, sight, sight_counts}
 use Rattle.segment_machine.specs.Counting.{load_counts}
 use Rattle.segment_machine.specs.Event.{Event, next, counting_event, taking_event}
-use Rattle.segment_machine.specs.Form.{is_off}
+use Rattle.segment_machine.specs.Form.{is_off, SaysPacked}
 use Rattle.segment_machine.specs.Note.{SawBucket, TookBucket}
 use Rattle.segment_machine.specs.Taking.{at_count, load_count, MayLoadCount}
 use Rattle.hist_core.specs.declared.mounted.Mounted.{Mounted}
@@ -38,7 +38,7 @@ use Rattle.hist_core.specs.declared.taker.Stage.TheVariants.{LoadingCounts, Load
 use Rattle.hist_core.specs.declared.taker.Taker.{Taker}
 use Rattle.hist_core.specs.declared.taker.TakerStep.TheVariants.{More}
 use Rattle.hist_core.specs.Goes.{Goes}
-use Rattle.hist_core.specs.Mounted.{AreMounted, HasLoaded, HasWord, SaysPacked, look_at, total_at}
+use Rattle.hist_core.specs.Mounted.{AreMounted, HasLoaded, HasWord, look_at, total_at}
 use Rattle.hist_core.specs.Taker.{AreBelow, IsSomeTaker, IsTaker, IsUnderWay, StandsAtStage, TakerGives, TakesAside, behind_bucket}
 use Rattle.hist_core.proofs.Looks.{looks_again}
 use Rattle.hist_core.proofs.Takes.Going.{acts_on, buckets_are, goes_still, knows_it, same_way, split, taking_sees}

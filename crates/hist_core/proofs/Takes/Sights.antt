@@ -14,7 +14,8 @@ use Rattle.segment_machine.specs.Calls.{sight}
 use Rattle.segment_machine.specs.Note.{IsMarkOf, SawBucket, TookBucket}
 use Rattle.segment_invariant.proofs.Walking.Words.{word_still}
 use Rattle.hist_core.specs.declared.mounted.Mounted.{Mounted}
-use Rattle.hist_core.specs.Mounted.{BeganBefore, AreMounted, StandsAt, SaysPacked, look_at}
+use Rattle.hist_core.specs.Mounted.{BeganBefore, AreMounted, StandsAt, look_at}
+use Rattle.segment_machine.specs.Form.{SaysPacked}
 
 -- a list has grown at its end
 abbrev pub Grows : {X : Type 0} → List X → List X → Type 0

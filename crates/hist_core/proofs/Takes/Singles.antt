@@ -25,7 +25,7 @@ use Rattle.segment_machine.specs.declared.place.Place.TheVariants.{Looking}
 use Rattle.segment_machine.specs.Actor.{SawSingle, bucket_key, is_bound, known_at, known_buckets}
 use Rattle.segment_machine.specs.Calls.{back, form_seen, look_of, sight}
 use Rattle.segment_machine.specs.Event.{Event, next, packing_event, taking_event}
-use Rattle.segment_machine.specs.Form.{is_off, units_in}
+use Rattle.segment_machine.specs.Form.{is_off, units_in, SaysPacked}
 use Rattle.segment_machine.specs.Note.{TookBucket, noted, nothing_taken, takes}
 use Rattle.segment_machine.specs.Packing.{IsSingleOf, load_single}
 use Rattle.segment_machine.specs.Taking.{raise_single_mark, single_key}
@@ -35,7 +35,7 @@ use Rattle.hist_core.specs.declared.taker.Taker.{Taker}
 use Rattle.hist_core.specs.declared.taker.TakerStep.{TakerStep}
 use Rattle.hist_core.specs.declared.taker.TakerStep.TheVariants.{More, Took, Done}
 use Rattle.hist_core.specs.Goes.{Goes}
-use Rattle.hist_core.specs.Mounted.{HasWord, SaysPacked}
+use Rattle.hist_core.specs.Mounted.{HasWord}
 use Rattle.hist_core.specs.Taker.{AreBelow, AreUnits, IsBehindSingle, IsSomeTaker, IsTaken, IsTaker, IsUnderWay, StandsAtStage, TakerGives, TakesAside, TookBuckets}
 use Rattle.hist_core.proofs.Looks.{looks_there, on_units}
 use Rattle.hist_core.proofs.Takes.Going.{IsSame, same_still, same_taken, same_way, acts_on, buckets_are, goes_still, knows_it, long_ranges, split, takes_it}

@@ -48,7 +48,7 @@ impl Play<Announcement, Actor> for MoveTail {
 
 impl Segment {
     ghost use Rattle.std.specs.Prelude.{◌≡◌};
-    ghost use Rattle.hist_core.specs.Goes.{AreApart};
+    ghost use Rattle.segment_machine.specs.Actor.{AreApart};
     ghost use Rattle.live_segment.specs.Holders.{MayStep, table_of};
     ghost use Rattle.live_segment.specs.Steps.{Stepped};
     ghost use Rattle.live_segment.specs.Listing.{MayLink, HasLinked};

@@ -3,7 +3,7 @@
 use super::stand;
 use crate::Segment;
 use bucket_ranges::Spec;
-use hist_core::{BatchRefusal, Refusal};
+use segment_calls::{BatchRefusal, Refusal};
 use std::test::Fail;
 
 // Whether a batch was refused after so many items, for this cause.

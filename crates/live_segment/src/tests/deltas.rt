@@ -6,7 +6,7 @@ ghost use Rattle.live_segment.specs.Holders.{IsSameRecorder, Knows};
 use super::{off_with, stand};
 use crate::{Hist, Recorder, Segment};
 use bucket_ranges::Spec;
-use hist_core::Refusal;
+use segment_calls::Refusal;
 use segment_image::Image;
 use std::alloc::Global;
 use std::test::Fail;

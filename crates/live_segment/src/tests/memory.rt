@@ -8,7 +8,7 @@ ghost use Rattle.live_segment.specs.Hist.{KnowsOn};
 use super::{CLAIMED, stand};
 use crate::{Hist, OpenFault, Opener, Recorder, Segment};
 use bucket_ranges::{CustomValues, Spec};
-use hist_core::{Delta, Refusal, Snapshot};
+use segment_calls::{Delta, Refusal, Snapshot};
 use std::alloc::{AllocError, Global};
 use std::test::Fail;
 

@@ -5,7 +5,7 @@ ghost use Rattle.std.specs.Prelude.{◌≡◌};
 use super::{off_with, stand};
 use crate::{Recorder, Segment};
 use bucket_ranges::Spec;
-use hist_core::Refusal;
+use segment_calls::Refusal;
 use segment_image::Image;
 use std::alloc::Global;
 use std::test::Fail;

@@ -1,7 +1,7 @@
 use Rattle.std.proofs.Common.{◌≡◌, ℕ, suc, ◌<◌, ◌∷◌, List, All, length, slice_index_or, ap, subst, arith}
 use Rattle.std.specs.declared.result.Result.{Result}
 use Rattle.std.specs.Vec.Iter.{into_iter_items}
-use Rattle.hist_core.specs.declared.refusal.Refusal.{Refusal}
+use Rattle.segment_calls.specs.declared.refusal.Refusal.{Refusal}
 use Rattle.live_segment.specs.Holders.{table_of}
 use Rattle.record_and_stop.specs.declared.recording.Outcome.{Outcome}
 use Rattle.record_and_stop.specs.Recording.{IsOutcomeAt}

@@ -1,7 +1,7 @@
 use Rattle.std.proofs.Common.{◌∙◌, ℕ, ◌<◌, ◌∷◌, [], List, length, slice_index_or, arith, Ok, Err}
 use Rattle.std.specs.declared.result.Result.{Result}
 use Rattle.atomic_table.specs.Seated.{TableId}
-use Rattle.hist_core.specs.declared.refusal.Refusal.{Refusal}
+use Rattle.segment_calls.specs.declared.refusal.Refusal.{Refusal}
 use Rattle.live_segment.specs.Holders.{table_of}
 use Rattle.recording_threads.specs.declared.calls.Done.{Done}
 use Rattle.recording_threads.specs.declared.round.Job.{Job}

@@ -5,7 +5,7 @@ use Rattle.bucket_ranges.specs.Reading.{is_name}
 use Rattle.bucket_ranges.specs.Spec.{spec_fault, buckets_of}
 use Rattle.list_core.specs.Chain.{is_reference}
 use Rattle.segment_machine.specs.Made.{AreNameWords}
-use Rattle.hist_core.specs.Asked.{payload_words}
+use Rattle.segment_calls.specs.Asked.{payload_words}
 use Rattle.hist_core.proofs.hist.Hist.start.Goals as goal
 
 pub returns : goal.returns

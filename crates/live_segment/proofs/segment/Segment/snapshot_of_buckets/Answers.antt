@@ -5,7 +5,7 @@ use Rattle.std.proofs.lemmas.Int.{to_z-of_z}
 use Rattle.std.proofs.lemmas.List.{with_items_is}
 use Rattle.bucket_ranges.specs.Spec.{buckets_of}
 use Rattle.segment_machine.specs.declared.actor.Actor.{Actor}
-use Rattle.hist_core.specs.declared.answer.Snapshot.{Snapshot}
+use Rattle.segment_calls.specs.declared.answer.Snapshot.{Snapshot}
 use Rattle.segment_machine.specs.Note.{answers, noted}
 use Rattle.segment_invariant.proofs.Packing.OffForms.{few_buckets}
 use Rattle.live_segment.specs.Known.{known_view}

@@ -1,6 +1,6 @@
 use Rattle.std.proofs.Common.{rules, ℤ, w64, FitsSigned, to_z, of_z, sym, ap, ◌∙◌, subst}
 use Rattle.std.proofs.lemmas.Int.{to_z-of_z}
-use Rattle.hist_core.specs.declared.answer.Snapshot.{Snapshot}
+use Rattle.segment_calls.specs.declared.answer.Snapshot.{Snapshot}
 use Rattle.segment_machine.specs.declared.actor.Actor.{Actor}
 use Rattle.segment_machine.specs.Note.{answers, noted}
 use Rattle.live_segment.specs.Deltas.{AreUnits}

@@ -2,7 +2,8 @@ use Rattle.std.proofs.Common.{ℕ, ℤ, List, Option, ◌^◌, sym, subst, arith
 use Rattle.std.proofs.lemmas.Bool.{le-leb}
 use Rattle.bucket_ranges.specs.Spec.{buckets_of}
 use Rattle.segment_invariant.proofs.Packing.OffForms.{few_buckets}
-use Rattle.live_segment.specs.Deltas.{HasTakenBuckets, SaysPacked}
+use Rattle.live_segment.specs.Deltas.{HasTakenBuckets}
+use Rattle.segment_machine.specs.Form.{SaysPacked}
 use Rattle.live_segment.specs.Known.{known_view}
 use Rattle.live_segment.proofs.AllBuckets.{buckets_long}
 use Rattle.live_segment.proofs.Attempts.{is_on}
@@ -17,11 +18,11 @@ packed_in-packed-requires c =
 
 pub take_buckets-requires-clause-takes : goal.take_buckets-requires-clause-takes
 take_buckets-requires-clause-takes c =
-    takes_at c.args.self.now (known_view c.args.histogram.now) c.args.word c.args.seat.now c.requires.takes (le-leb (2 ^ 63) c.args.word (let off = c.if-word-ge-DISABLED_BIT.true in omega (arith, off))) c.load_counts-counts.result c.load_counts-counts.new.seat c.load_counts-counts.ensures.step _ _ (subst (λ (n : ℕ). SaysPacked c.args.self.now.setting.version n c.args.word c.packed_in-packed.result.0 c.packed_in-packed.result.1) (buckets_long c.args.histogram.now c.args.self.now.setting c.args.seat.now.me.0 c.requires.right c.requires.takes.bucketed _ c.len.ensures) c.packed_in-packed.ensures)
+    takes_at c.args.self.now (known_view c.args.histogram.now) c.args.word c.args.seat.now c.requires.takes (le-leb (2 ^ 63) c.args.word (let off = c.if-word-ge-DISABLED_BIT.true in omega (arith, off))) c.load_counts-counts.result c.load_counts-counts.new.seat c.load_counts-counts.ensures.step _ _ (subst (λ (n : ℕ). SaysPacked c.args.self.now.setting.version n c.args.word c.packed_in-packed.result.0 c.packed_in-packed.result.1) (buckets_long c.args.histogram.now c.args.self.now.setting c.args.seat.now.me.0 c.requires.right c.requires.takes.bucketed _ c.len.ensures) c.packed_in-packed.ensures.says)
 
 pub returns-in_default-clause-taken : goal.returns-in_default-clause-taken
 returns-in_default-clause-taken c =
     subst (λ (l : List (ℤ × ℕ)). HasTakenBuckets (known_view c.args.histogram.now) l c.args.seat.now.me.0 c.args.seat.now.me.0) (sym c.requires.room.0)
     (took_nothing c.args.self.now (known_view c.args.histogram.now) c.args.word c.args.seat.now c.requires.takes (is_on c.args.word (let on = c.if-word-ge-DISABLED_BIT.false in omega (arith, on))) c.packed_in-packed.result.1
     (subst (λ (p : Option ℕ). SaysPacked c.args.self.now.setting.version (buckets_of c.args.histogram.now.spec) c.args.word p c.packed_in-packed.result.1) c.in_default.is
-    (subst (λ (n : ℕ). SaysPacked c.args.self.now.setting.version n c.args.word c.packed_in-packed.result.0 c.packed_in-packed.result.1) (buckets_long c.args.histogram.now c.args.self.now.setting c.args.seat.now.me.0 c.requires.right c.requires.takes.bucketed _ c.len.ensures) c.packed_in-packed.ensures)))
+    (subst (λ (n : ℕ). SaysPacked c.args.self.now.setting.version n c.args.word c.packed_in-packed.result.0 c.packed_in-packed.result.1) (buckets_long c.args.histogram.now c.args.self.now.setting c.args.seat.now.me.0 c.requires.right c.requires.takes.bucketed _ c.len.ensures) c.packed_in-packed.ensures.says)))

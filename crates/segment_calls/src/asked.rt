@@ -7,7 +7,7 @@ ghost use Rattle.bucket_ranges.specs.Ranges.{boundaries_of};
 ghost use Rattle.bucket_ranges.specs.Reading.{is_name, is_name_byte};
 ghost use Rattle.bucket_ranges.specs.Spec.{spec_fault, spec_fields, spec_ranges, buckets_of};
 ghost use Rattle.segment_machine.specs.Made.{AreNameWords};
-ghost use Rattle.hist_core.specs.Asked.{IsPayloadFor, IsAskedFor, IsRefusedFor};
+ghost use Rattle.segment_calls.specs.Asked.{IsPayloadFor, IsAskedFor, IsRefusedFor};
 
 use crate::refusal::Refusal;
 use bucket_ranges::limits::MAX_NAME;

@@ -3,8 +3,8 @@ use Rattle.std.specs.Prelude.{None, OnOk}
 use Rattle.bucket_ranges.specs.declared.spec.Spec.{Spec}
 use Rattle.bucket_ranges.specs.Ranges.{boundaries_of}
 use Rattle.bucket_ranges.specs.Spec.{spec_fault, spec_ranges}
-use Rattle.hist_core.proofs.Payloads.{three_at_least, inner_are}
-use Rattle.hist_core.proofs.asked.push_spec_ranges.Goals as goal
+use Rattle.segment_calls.proofs.Payloads.{three_at_least, inner_are}
+use Rattle.segment_calls.proofs.asked.push_spec_ranges.Goals as goal
 
 pub push_ranges-requires : goal.push_ranges-requires
 push_ranges-requires c =

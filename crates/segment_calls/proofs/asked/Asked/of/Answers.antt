@@ -1,7 +1,7 @@
 use Rattle.std.proofs.Common.{ap, sym, ◌∙◌, arith, length, ℕ, List, ◌-◌}
 use Rattle.std.specs.Prelude.{slice_index}
-use Rattle.hist_core.proofs.Payloads.{of_ranges, too_large, last_word}
-use Rattle.hist_core.proofs.asked.Asked.of.Goals as goal
+use Rattle.segment_calls.proofs.Payloads.{of_ranges, too_large, last_word}
+use Rattle.segment_calls.proofs.asked.Asked.of.Goals as goal
 
 pub returns-then-is_larger_than : goal.returns-then-is_larger_than
 returns-then-is_larger_than c =

@@ -42,7 +42,7 @@ pub enum Refusal {
 
 impl Refusal {
     ghost use Rattle.std.specs.Prelude.{◌≡◌};
-    ghost use Rattle.hist_core.specs.Refusal.{refusal_number};
+    ghost use Rattle.segment_calls.specs.Refusal.{refusal_number};
 
     /// The refusal's number, from 1.
     pub fn number(&self) -> u32
@@ -65,7 +65,7 @@ impl Refusal {
 
 impl From<SpecFault> for Refusal {
     ghost use Rattle.std.specs.Prelude.{◌≡◌};
-    ghost use Rattle.hist_core.specs.Refusal.{refusal_of_spec};
+    ghost use Rattle.segment_calls.specs.Refusal.{refusal_of_spec};
 
     ghost from_gives = { λ fault result. result ≡ refusal_of_spec fault };
 
@@ -79,7 +79,7 @@ impl From<SpecFault> for Refusal {
 
 impl From<AllocError> for Refusal {
     ghost use Rattle.std.specs.Prelude.{◌≡◌};
-    ghost use Rattle.hist_core.specs.declared.refusal.Refusal.TheVariants.{NoMemory};
+    ghost use Rattle.segment_calls.specs.declared.refusal.Refusal.TheVariants.{NoMemory};
 
     ghost from_gives = { λ _ result. result ≡ NoMemory };
 

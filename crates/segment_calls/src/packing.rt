@@ -1,8 +1,7 @@
 //! What packing and disabling make of a single word.
 
 ghost use Rattle.std.specs.Prelude.{◌≡◌, ◌⊎◌, ◌/◌, ◌%◌, ◌^◌, ◌<◌, ◌≤◌, MatchOption};
-ghost use Rattle.segment_machine.specs.Form.{IsPacking, off_word};
-ghost use Rattle.hist_core.specs.Mounted.{SaysPacked};
+ghost use Rattle.segment_machine.specs.Form.{IsPacking, off_word, SaysPacked};
 
 use bucket_ranges::SingleWord;
 use bucket_ranges::limits::MAX_PACKED;

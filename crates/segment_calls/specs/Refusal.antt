@@ -2,8 +2,8 @@
 use Rattle.std.specs.Prelude.{ℕ}
 use Rattle.bucket_ranges.specs.declared.spec.SpecFault.{SpecFault}
 use Rattle.bucket_ranges.specs.declared.spec.SpecFault.TheVariants as spec
-use Rattle.hist_core.specs.declared.refusal.Refusal.{Refusal}
-use Rattle.hist_core.specs.declared.refusal.Refusal.TheVariants.{BadName, BadSpec, ZeroCount, NoUnits, TooMany, NoMemory, TooLarge, Corrupt, Full, OtherSpec}
+use Rattle.segment_calls.specs.declared.refusal.Refusal.{Refusal}
+use Rattle.segment_calls.specs.declared.refusal.Refusal.TheVariants.{BadName, BadSpec, ZeroCount, NoUnits, TooMany, NoMemory, TooLarge, Corrupt, Full, OtherSpec}
 
 -- the number of a refusal
 abbrev pub refusal_number : Refusal → ℕ

@@ -3,8 +3,8 @@ use Rattle.std.specs.Prelude.{slice_index, None}
 use Rattle.bucket_ranges.specs.declared.spec.Spec.{Spec}
 use Rattle.bucket_ranges.specs.Ranges.{boundaries_of}
 use Rattle.bucket_ranges.specs.Spec.{spec_fault, spec_fields}
-use Rattle.hist_core.proofs.Payloads.{three_at_least, fields_are}
-use Rattle.hist_core.proofs.asked.fields_of.Goals as goal
+use Rattle.segment_calls.proofs.Payloads.{three_at_least, fields_are}
+use Rattle.segment_calls.proofs.asked.fields_of.Goals as goal
 
 pub custom_fields-requires : goal.custom_fields-requires
 custom_fields-requires c =

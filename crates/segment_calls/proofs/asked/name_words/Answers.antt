@@ -1,7 +1,7 @@
 use Rattle.std.proofs.Common.{sym, ap, subst, ◌∙◌, List, ℕ, length, min}
 use Rattle.std.specs.Slice.Iter.{chunks_rest, chunks_size}
-use Rattle.hist_core.proofs.Letters.{HaveBytes, none_yet, all_of, one_word_more}
-use Rattle.hist_core.proofs.asked.name_words.Goals as goal
+use Rattle.segment_calls.proofs.Letters.{HaveBytes, none_yet, all_of, one_word_more}
+use Rattle.segment_calls.proofs.asked.name_words.Goals as goal
 
 pub loop-chunk-init : goal.loop-chunk-init
 loop-chunk-init c =

@@ -1,7 +1,7 @@
 use Rattle.std.proofs.Common.{◌≡◌}
 use Rattle.std.specs.Slice.Iter.{chunks_rest, chunks_size}
-use Rattle.hist_core.proofs.Letters.{HaveBytes}
-use Rattle.hist_core.proofs.asked.name_words.Given as goal
+use Rattle.segment_calls.proofs.Letters.{HaveBytes}
+use Rattle.segment_calls.proofs.asked.name_words.Given as goal
 
 abbrev pub invariant-loop-chunk : goal.invariant-loop-chunk
 invariant-loop-chunk l = record {

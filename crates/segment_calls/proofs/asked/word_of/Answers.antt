@@ -1,6 +1,6 @@
 use Rattle.std.proofs.Common.{ap, ◌∙◌, ◌++◌, List, ℕ, length, drop, ◌∷◌, []}
-use Rattle.hist_core.proofs.Letters.{zeros_behind}
-use Rattle.hist_core.proofs.asked.word_of.Goals as goal
+use Rattle.segment_calls.proofs.Letters.{zeros_behind}
+use Rattle.segment_calls.proofs.asked.word_of.Goals as goal
 
 pub returns : goal.returns
 returns c =

@@ -1,5 +1,5 @@
 use Rattle.std.proofs.Common.{◌%◌, ◌^◌, ◌≤◌, inr, ⊎_elim, arith}
-use Rattle.hist_core.proofs.packing.packed_with.Goals as goal
+use Rattle.segment_calls.proofs.packing.packed_with.Goals as goal
 
 pub returns : goal.returns
 returns c = λ formed.

@@ -1,8 +1,8 @@
 use Rattle.std.proofs.Common.{◌≡◌, List, ℕ, length, ◌++◌, ◌∷◌, [], take, drop, ◌-◌, sym, ap, ◌∙◌, arith, rules}
 use Rattle.std.proofs.lemmas.List.{append-nil}
 use Rattle.std.specs.Prelude.{slice_index}
-use Rattle.hist_core.proofs.Payloads.{one_range}
-use Rattle.hist_core.proofs.asked.push_ranges.Goals as goal
+use Rattle.segment_calls.proofs.Payloads.{one_range}
+use Rattle.segment_calls.proofs.asked.push_ranges.Goals as goal
 
 pub loop-i-init : goal.loop-i-init
 loop-i-init c = sym (append-nil c.args.words.now.items)

@@ -7,9 +7,9 @@ use Rattle.bucket_ranges.specs.Spec.{spec_fault, spec_fields, spec_ranges, bucke
 use Rattle.segment_image.specs.declared.layout.TheConstants.{BLOCK_HEADER, HISTOGRAM_NAME}
 use Rattle.segment_image.specs.Shape.{Dimensions}
 use Rattle.segment_machine.specs.Made.{AreNameWords}
-use Rattle.hist_core.specs.declared.asked.Asked.{Asked}
-use Rattle.hist_core.specs.declared.refusal.Refusal.{Refusal}
-use Rattle.hist_core.specs.declared.refusal.Refusal.TheVariants.{BadName, BadSpec, NoMemory, TooLarge}
+use Rattle.segment_calls.specs.declared.asked.Asked.{Asked}
+use Rattle.segment_calls.specs.declared.refusal.Refusal.{Refusal}
+use Rattle.segment_calls.specs.declared.refusal.Refusal.TheVariants.{BadName, BadSpec, NoMemory, TooLarge}
 
 -- ---- the words of its record
 

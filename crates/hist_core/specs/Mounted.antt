@@ -1,5 +1,5 @@
 -- What an actor has loaded of a histogram with buckets since it began to look at it: its single word, and its counts.
-use Rattle.std.specs.Prelude.{◌≡◌, ◌≢◌, ◌⊎◌, true, ℕ, ◌+◌, ◌*◌, ◌%◌, ◌^◌, ◌≤◌, if◌then◌else◌, nat_eq, length, Option, Some, None}
+use Rattle.std.specs.Prelude.{◌≡◌, ◌≢◌, ◌⊎◌, true, ℕ, ◌+◌, ◌*◌, ◌%◌, ◌^◌, ◌≤◌, if◌then◌else◌, nat_eq, length, Some, None}
 use Rattle.std.specs.Option.{option_eq}
 use Rattle.bucket_ranges.specs.Single.{single_of, units_packed}
 use Rattle.bucket_ranges.specs.Spec.{buckets_of}

@@ -17,13 +17,13 @@ use Rattle.segment_machine.specs.Note.{Note, begins}
 use Rattle.segment_promises.specs.Follows.{noted_by}
 use Rattle.live_segment.specs.Adding.{IsAdded}
 use Rattle.live_segment.specs.Finishing.{counted_entry, item_of, sample_of, HasSample, HasEnded}
-use Rattle.live_segment.specs.Onward.{DoesOn, GoesOn, SeesOn}
+use Rattle.segment_promises.specs.Onward.{DoesOn, GoesOn, SeesOn}
 use Rattle.live_segment.specs.Steps.{IsAtRest}
 use Rattle.live_segment.specs.Telling.{bucket_entry, entry_notes, KnowsAlone}
 use Rattle.live_segment.specs.Working.{counted_next, CountsAlone, HasCounted, MayCount}
 use Rattle.live_segment.proofs.Beginning.{notes_new}
 use Rattle.live_segment.proofs.Ended.{still_open, changed_behind}
-use Rattle.live_segment.proofs.Proceeding.{grows_on}
+use Rattle.segment_promises.proofs.Growing.{grows_on}
 
 none_before : (n : ℕ) → 0 + n ≡ n
 none_before n = omega arith

@@ -17,7 +17,7 @@ use Rattle.live_segment.specs.declared.recorder.KnownHistogram.{KnownHistogram}
 use Rattle.live_segment.specs.declared.rule.Setting.{Setting}
 use Rattle.live_segment.specs.Adding.{add_checks}
 use Rattle.live_segment.specs.Known.{known_view}
-use Rattle.live_segment.specs.Onward.{GoesOn}
+use Rattle.segment_promises.specs.Onward.{GoesOn}
 use Rattle.live_segment.specs.Rule.{IsOf}
 
 -- units of which the share has so many are not refused before anything happens

@@ -16,6 +16,7 @@ use Rattle.segment_machine.specs.declared.actor.Actor.{Actor}
 use Rattle.segment_machine.specs.declared.actor.Known.{Known}
 use Rattle.segment_machine.specs.Actor.{bucket_key, has_buckets}
 use Rattle.segment_machine.specs.Note.{TookBucket}
+use Rattle.segment_promises.proofs.Growing.{all_push}
 use Rattle.live_segment.specs.declared.deltas.Mounted.{Mounted}
 use Rattle.live_segment.specs.declared.segment.Segment.{Segment}
 use Rattle.live_segment.specs.declared.recorder.KnownHistogram.{KnownHistogram}
@@ -27,10 +28,6 @@ use Rattle.live_segment.proofs.OneBucket.{takes_not, takes_then}
 use Rattle.live_segment.proofs.Seeing.{took_bucket}
 
 -- one more behind some of which all are so
-pub all_push : {X : Type 0} (P : X → Type 0) (xs : List X) (x : X) → AllByRecursion P xs → P x → AllByRecursion P (xs ++ x ∷ [])
-all_push P [] x all last = (last, all)
-all_push P (y ∷ xs) x (first, rest) last = (first, all_push P xs x rest last)
-
 -- ---- keys that ascend
 
 sorted_push : (keys : List ℤ) (key : ℤ) → IsStrictlySortedBy int_cmp keys → AllByRecursion (λ k. int_cmp k key ≡ Less) keys

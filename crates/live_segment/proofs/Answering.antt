@@ -22,13 +22,14 @@ use Rattle.segment_machine.specs.Taking.{load_sum}
 use Rattle.segment_machine.specs.Note.{answers, MayNote, noted, SawAll, SawBucket}
 use Rattle.live_segment.specs.declared.segment.Segment.{Segment}
 use Rattle.live_segment.specs.Holders.{table_of, MayStep}
-use Rattle.live_segment.specs.Onward.{SeesOn}
+use Rattle.segment_promises.specs.Onward.{SeesOn}
 use Rattle.live_segment.specs.Snapshots.{blank_totals, HasLooked, HasSeenBuckets, HasSnapshot, saw_sum}
 use Rattle.live_segment.specs.Steps.{Pass, IsAtRest, IsSame}
 use Rattle.live_segment.specs.Taking.{answered_as}
 use Rattle.live_segment.specs.Telling.{KnowsAlone}
 use Rattle.live_segment.proofs.Beginning.{known_there}
-use Rattle.live_segment.proofs.Proceeding.{grows_by, grows_not, sees_on}
+use Rattle.segment_promises.proofs.Growing.{grows_by, grows_not}
+use Rattle.live_segment.proofs.Proceeding.{sees_on}
 
 -- what it had seen since it began to look it has still seen, where it sees more counts
 pub counted_since : (a : Actor) (more : List Sighting) → a.since.counts ≤ length a.seen.counts

@@ -26,12 +26,12 @@ use Rattle.live_segment.specs.declared.counting.Packing.TheVariants.{Packed, Off
 use Rattle.live_segment.specs.Holders.{table_of, MayStep}
 use Rattle.live_segment.specs.Rule.{IsOf}
 use Rattle.live_segment.specs.Steps.{Pass, IsSame, Stepped}
-use Rattle.live_segment.specs.Onward.{SeesOn}
+use Rattle.segment_promises.specs.Onward.{SeesOn}
 use Rattle.live_segment.specs.Telling.{MayPack, HasPacked, Noted, bucket_entry, bucket_notes}
 use Rattle.live_segment.specs.Working.{LooksOn, LooksFor, MayCount, Tries}
 use Rattle.live_segment.proofs.Proceeding.{looks_there, does_not, sees_not}
 use Rattle.live_segment.proofs.Beginning.{singled, sees_single, may_tell, is_next, only_begun, knows, looks_for, may_yet, looks_for_on, late, counted, counted_behind}
-use Rattle.live_segment.proofs.Ranks.{rank, on_units, leads_higher, last_rank, last_most, last_is, last_leads}
+use Rattle.segment_promises.proofs.Ranks.{rank, on_units, leads_higher, last_rank, last_most, last_is, last_leads}
 
 -- whether a word is off
 pub is_on : (word : ℕ) → word < 2 ^ 63 → is_off word ≡ false

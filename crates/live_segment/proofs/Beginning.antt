@@ -24,11 +24,12 @@ use Rattle.segment_machine.specs.Note.{Note, begins, goes_on}
 use Rattle.segment_promises.specs.Follows.{MayTell, noted_by}
 use Rattle.segment_invariant.proofs.Lists.Elements.{all_from, each_of_one}
 use Rattle.segment_invariant.proofs.Lists.Maps.{contains_map}
-use Rattle.live_segment.specs.Onward.{SeesOn}
+use Rattle.segment_promises.specs.Onward.{SeesOn}
 use Rattle.live_segment.specs.Telling.{bucket_entry, entry_notes, opening_notes}
 use Rattle.live_segment.specs.Working.{CountsAlone, HaveEnded, IsOpenTo, LooksOn, MayCount, MayGoOn, HasNotBegun, Waits, HasBegun, LooksFor, HasCounted, counted_next}
 use Rattle.live_segment.proofs.Ended.{goes_on_with, next_behind, notes_nothing}
-use Rattle.live_segment.proofs.Proceeding.{does_not, grows_by, grows_not, proceeds_on}
+use Rattle.live_segment.proofs.Proceeding.{does_not, proceeds_on}
+use Rattle.segment_promises.proofs.Growing.{grows_by, grows_not}
 
 -- ---- what is known
 

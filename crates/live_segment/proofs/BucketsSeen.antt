@@ -25,14 +25,15 @@ use Rattle.segment_invariant.proofs.Lists.Pairs.{element_at}
 use Rattle.live_segment.specs.declared.segment.Segment.{Segment}
 use Rattle.live_segment.specs.Holders.{table_of, MayStep}
 use Rattle.live_segment.specs.Looking.{StandsAt, MayLookAt, HasLookedAt}
-use Rattle.live_segment.specs.Onward.{SeesOn}
+use Rattle.segment_promises.specs.Onward.{SeesOn}
 use Rattle.live_segment.specs.Rule.{IsOf}
 use Rattle.live_segment.specs.Snapshots.{HavePacked, HasLooked, HasSeenBuckets}
 use Rattle.live_segment.specs.Steps.{Pass, IsAtRest, Stepped}
 use Rattle.live_segment.specs.Telling.{KnowsAlone, MayDo, Noted}
 use Rattle.live_segment.proofs.Attempts.{is_on}
 use Rattle.live_segment.proofs.Beginning.{known_there, sees_single}
-use Rattle.live_segment.proofs.Proceeding.{grows_by, grows_not, looks_again, looks_there}
+use Rattle.segment_promises.proofs.Growing.{grows_by, grows_not}
+use Rattle.live_segment.proofs.Proceeding.{looks_again, looks_there}
 use Rattle.live_segment.proofs.Sightings.{seen_now}
 
 -- a place at the counts of a histogram is free

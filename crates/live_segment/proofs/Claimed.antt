@@ -5,9 +5,9 @@ use Rattle.segment_machine.specs.declared.actor.Actor.{Actor}
 use Rattle.segment_machine.specs.declared.place.Place.TheVariants.{Idle}
 use Rattle.segment_machine.specs.declared.seen.Seen.{Seen}
 use Rattle.live_segment.specs.Allocation.{Allocates}
-use Rattle.live_segment.specs.Onward.{SeesOn}
+use Rattle.segment_promises.specs.Onward.{SeesOn}
 use Rattle.live_segment.specs.Working.{LooksOn}
-use Rattle.live_segment.proofs.Proceeding.{grows_by, grows_not}
+use Rattle.segment_promises.proofs.Growing.{grows_by, grows_not}
 
 -- it has seen a free pointer that is no earlier
 sees_free : (a : Seen) (free : ℕ) → a.free ≤ free → SeesOn a (record a { free = free })

@@ -16,14 +16,14 @@ use Rattle.segment_machine.specs.Entry.{fresh, has_ended}
 use Rattle.segment_machine.specs.Event.{counting_event}
 use Rattle.segment_machine.specs.Note.{is_untouched}
 use Rattle.segment_promises.specs.Follows.{noted_by}
-use Rattle.live_segment.specs.Onward.{SeesOn}
+use Rattle.segment_promises.specs.Onward.{SeesOn}
 use Rattle.live_segment.specs.Refusing.{MayEnd, MayGiveUp, how_many_ended}
 use Rattle.live_segment.specs.Steps.{Pass}
 use Rattle.live_segment.specs.Telling.{Noted, entry_notes}
 use Rattle.live_segment.specs.Working.{CountsAlone, HasCounted, HaveEnded, IsOpenTo}
 use Rattle.live_segment.proofs.Beginning.{counted, is_next, only_begun}
 use Rattle.live_segment.proofs.Ended.{how_many, how_many_before, still_open}
-use Rattle.live_segment.proofs.Proceeding.{grows_by, grows_not}
+use Rattle.segment_promises.proofs.Growing.{grows_by, grows_not}
 use Rattle.live_segment.proofs.Refusing.{may_at_rest}
 
 -- it has seen a count more

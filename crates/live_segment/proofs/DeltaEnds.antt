@@ -20,7 +20,7 @@ use Rattle.segment_invariant.proofs.Notes.Amounts.{last_changed}
 use Rattle.live_segment.specs.declared.segment.Segment.{Segment}
 use Rattle.live_segment.specs.Deltas.{HasTaken, HasTakenBuckets, HasTakenSum, MayTakeSum, TakesOn, TakesWord, taken_as, with_sum, with_units}
 use Rattle.live_segment.specs.Holders.{MayStep}
-use Rattle.live_segment.specs.Onward.{SeesOn}
+use Rattle.segment_promises.specs.Onward.{SeesOn}
 use Rattle.live_segment.specs.Steps.{IsSame, Pass, Stepped}
 use Rattle.live_segment.specs.Telling.{MayDo, Noted}
 use Rattle.live_segment.proofs.Beginning.{sees_single}

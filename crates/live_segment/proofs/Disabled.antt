@@ -27,11 +27,12 @@ use Rattle.live_segment.specs.Mounting.{MayMount, HasDisabled}
 use Rattle.live_segment.specs.Rule.{IsOf}
 use Rattle.live_segment.specs.Steps.{Pass, IsSame, Stepped}
 use Rattle.live_segment.specs.Working.{CountsWithin, LooksAt, LooksOn}
-use Rattle.live_segment.proofs.Proceeding.{does_not, grows_by, grows_not, looks_again, looks_on}
+use Rattle.live_segment.proofs.Proceeding.{does_not, looks_again, looks_on}
+use Rattle.segment_promises.proofs.Growing.{grows_by, grows_not}
 use Rattle.live_segment.proofs.Beginning.{singled}
 use Rattle.live_segment.proofs.Attempts.{is_on}
 use Rattle.live_segment.proofs.Mounted.{mounts_on}
-use Rattle.live_segment.proofs.Ranks.{rank, leads_higher, last_rank, last_most, last_is, last_leads}
+use Rattle.segment_promises.proofs.Ranks.{rank, leads_higher, last_rank, last_most, last_is, last_leads}
 
 -- a word with which one is disabled is off
 off_is : (version word : ℕ) → is_off (off_word version word) ≡ true

@@ -26,12 +26,12 @@ use Rattle.segment_invariant.specs.Invariant.{Invariant}
 use Rattle.segment_invariant.proofs.Blocks.Pieces.{first_piece, free_least, free_within, one_piece, piece_ends, piece_from, pieces_apart, some_first}
 use Rattle.segment_invariant.proofs.Counting.Samples.{sample_met}
 use Rattle.live_segment.specs.declared.rule.Setting.{Setting}
-use Rattle.live_segment.specs.Onward.{Grows}
+use Rattle.segment_promises.specs.Onward.{Grows}
 use Rattle.live_segment.specs.Rule.{Runs}
 use Rattle.live_segment.specs.Samples.{LoadsCountOfSample, MeetsSample, SamplesAreFew}
 use Rattle.live_segment.specs.Steps.{Sat}
 use Rattle.live_segment.proofs.Allowed.{does_at}
-use Rattle.live_segment.proofs.Showing.{still}
+use Rattle.segment_promises.proofs.Growing.{still}
 
 -- ---- numbers
 

@@ -25,7 +25,7 @@ use Rattle.live_segment.specs.declared.rule.Setting.{Setting}
 use Rattle.live_segment.specs.Adding.{block_words}
 use Rattle.live_segment.specs.Hist.{IsKnownAt, KnowsNone, NoneHasName}
 use Rattle.live_segment.specs.Known.{known_view, KnowsRight}
-use Rattle.live_segment.specs.Onward.{Grows}
+use Rattle.segment_promises.specs.Onward.{Grows}
 use Rattle.live_segment.specs.Rule.{IsOf}
 use Rattle.live_segment.specs.Searching.{asked_at}
 use Rattle.live_segment.specs.Settling.{ComesToKnow, IsKnownAs, LooksAround}

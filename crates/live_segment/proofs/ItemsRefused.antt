@@ -26,7 +26,7 @@ use Rattle.segment_promises.specs.Follows.{noted_by}
 use Rattle.live_segment.specs.Adding.{LacksBlock}
 use Rattle.live_segment.specs.Batching.{HasItems, StopsAt, ended_item, holding}
 use Rattle.live_segment.specs.Finishing.{item_of}
-use Rattle.live_segment.specs.Onward.{DoesOn, GoesOn, Grows, SeesOn}
+use Rattle.segment_promises.specs.Onward.{DoesOn, GoesOn, Grows, SeesOn}
 use Rattle.live_segment.specs.Refusing.{IsNotCounted, given_up, how_many_ended, refusing_notes}
 use Rattle.live_segment.specs.Steps.{IsAtRest}
 use Rattle.live_segment.specs.Working.{HasBegun, LooksFor, Proceeds}

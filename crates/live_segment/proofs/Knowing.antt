@@ -8,7 +8,7 @@ use Rattle.segment_machine.specs.Actor.{known_at}
 use Rattle.live_segment.specs.declared.recorder.KnownHistogram.{KnownHistogram}
 use Rattle.live_segment.specs.declared.rule.Setting.{Setting}
 use Rattle.live_segment.specs.Known.{KnowsRight}
-use Rattle.live_segment.specs.Onward.{Grows}
+use Rattle.segment_promises.specs.Onward.{Grows}
 
 module _ (setting : Setting) (a b : Actor) (names : b.answers.names ≡ a.answers.names) (chain : Grows a.seen.chain b.seen.chain) where
   pub right_on : (known : KnownHistogram) → KnowsRight setting a known → KnowsRight setting b known

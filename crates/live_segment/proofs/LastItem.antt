@@ -20,7 +20,7 @@ use Rattle.segment_machine.specs.Note.{ends}
 use Rattle.segment_machine.specs.Taking.{is_looking}
 use Rattle.live_segment.specs.Batching.{HasItems, IsBatched, ended_item}
 use Rattle.live_segment.specs.Finishing.{HasEnded, IsSummed, counted_entry, item_of}
-use Rattle.live_segment.specs.Onward.{DoesOn, GoesOn, SeesOn}
+use Rattle.segment_promises.specs.Onward.{DoesOn, GoesOn, SeesOn}
 use Rattle.live_segment.specs.Steps.{IsAtRest, IsSame, Pass}
 use Rattle.live_segment.specs.Telling.{KnowsAlone, MayDo, Noted}
 use Rattle.live_segment.specs.Working.{HasCounted, Proceeds, counted_next}
@@ -29,7 +29,8 @@ use Rattle.live_segment.proofs.Finished.{ends_so, may_last}
 use Rattle.live_segment.proofs.Items.{entries, one_more}
 use Rattle.live_segment.proofs.ItemsCounted.{ended_items, entries_begun, entries_ended, units_begun}
 use Rattle.live_segment.proofs.ItemsRefused.{holds_more}
-use Rattle.live_segment.proofs.Proceeding.{grows_on, proceeds_on}
+use Rattle.segment_promises.proofs.Growing.{grows_on}
+use Rattle.live_segment.proofs.Proceeding.{proceeds_on}
 
 -- no items and no sum are nothing
 pub cost_of_items : (items : List (ℤ × ℕ)) → batch_cost items (pos 0) ≡ units_of items

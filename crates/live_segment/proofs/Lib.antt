@@ -6,14 +6,12 @@ mod CursorSteps
 mod Sharing
 mod Seated
 mod Tries
-mod Ranks
 pub mod Proceeding
 mod Ended
 mod Beginning
 mod Apart
 mod Attempts
 mod Listed
-mod ListedValues
 mod Owned
 mod Published
 mod OnWay
@@ -35,12 +33,10 @@ mod SampleWords
 mod SampleCounts
 mod SamplesBehind
 mod FewSamples
-mod SortedKeys
 mod Disabled
 mod CountsAlone
 mod Counted
 mod ValueCounted
-mod ValueWalks
 mod Walked
 mod Seeing
 mod OneBucket
@@ -74,7 +70,6 @@ mod Unsummed
 mod Added
 mod Adds
 mod Batches
-mod FirstValues
 mod Given
 mod ValuesListed
 mod ValuesTaken

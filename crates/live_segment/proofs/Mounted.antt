@@ -37,13 +37,14 @@ use Rattle.live_segment.specs.Allocation.{Allocates, filled, saw_free}
 use Rattle.live_segment.specs.Refusing.{given_up}
 use Rattle.live_segment.specs.Holders.{table_of, MayStep}
 use Rattle.live_segment.specs.Mounting.{SawNoNone, LoadsCounts, MayMount, HasBlank, HasMounted, HasNotMounted}
-use Rattle.live_segment.specs.Onward.{SeesOn}
+use Rattle.segment_promises.specs.Onward.{SeesOn}
 use Rattle.live_segment.specs.Rule.{opened_of, Runs}
 use Rattle.live_segment.specs.Steps.{Pass, Sat, Stepped}
 use Rattle.live_segment.specs.Working.{CountsWithin, LooksOn}
 use Rattle.live_segment.proofs.Allowed.{does_at}
 use Rattle.live_segment.proofs.Claimed.{looks_claimed, looks_refused}
-use Rattle.live_segment.proofs.Proceeding.{does_not, grows_by, grows_not, looks_on, looks_there}
+use Rattle.live_segment.proofs.Proceeding.{does_not, looks_on, looks_there}
+use Rattle.segment_promises.proofs.Growing.{grows_by, grows_not}
 use Rattle.live_segment.proofs.Refusing.{only_given_up}
 
 -- ---- the counts reference

@@ -25,7 +25,8 @@ use Rattle.live_segment.specs.declared.segment.Segment.{Segment}
 use Rattle.live_segment.specs.Rule.{IsOf}
 use Rattle.live_segment.specs.Steps.{Pass, Stepped}
 use Rattle.live_segment.specs.Finding.{IsAsked, SeesWords, ShowsName, ShowsSpec, ShowsWords}
-use Rattle.live_segment.proofs.Showing.{still, sees_one, seen_one}
+use Rattle.segment_promises.proofs.Growing.{still}
+use Rattle.live_segment.proofs.Showing.{sees_one, seen_one}
 
 -- ---- the words of a payload
 

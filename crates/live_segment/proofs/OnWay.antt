@@ -20,14 +20,14 @@ use Rattle.live_segment.specs.declared.segment.Segment.{Segment}
 use Rattle.live_segment.specs.Rule.{IsOf}
 use Rattle.live_segment.specs.Steps.{Pass, Stepped}
 use Rattle.live_segment.specs.Holders.{table_of, MayStep}
-use Rattle.live_segment.specs.Onward.{Grows}
-use Rattle.live_segment.specs.Records.{StandOnce}
+use Rattle.segment_promises.specs.Onward.{Grows}
+use Rattle.segment_promises.specs.Values.{StandOnce}
 use Rattle.live_segment.specs.Finding.{Meets, SeesWords}
 use Rattle.live_segment.specs.Searching.{HasSearched}
 use Rattle.live_segment.specs.Walks.{IsOnWay}
-use Rattle.live_segment.proofs.Sharing.{extended_end, extended_grows, reference_behind}
+use Rattle.segment_promises.proofs.Growing.{extended_end, extended_grows, reference_behind}
 use Rattle.live_segment.proofs.Apart.{behind_apart}
-use Rattle.live_segment.proofs.Searching.{last_of, last_least, last_most, last_stands}
+use Rattle.segment_promises.proofs.Furthest.{last_of, last_least, last_most, last_stands}
 use Rattle.live_segment.proofs.Walked.{all_given}
 
 module _ (segment : Segment) (old : Pass) (given : List ℕ) (at : ℕ) (table : old.table_id ≡ table_of segment) (records : is_opener old.me.0.role ≡ false)

@@ -4,7 +4,7 @@ use Rattle.std.proofs.Math.ListN.{get_or}
 use Rattle.std.proofs.lemmas.List.{get_or_append_left}
 use Rattle.list_core.specs.Chain.{stops, IsLinked}
 use Rattle.list_core.specs.Walk.{IsPrefix}
-use Rattle.live_segment.specs.Records.{StandOnce}
+use Rattle.segment_promises.specs.Values.{StandOnce}
 
 -- no block stands twice in the front of a list
 pub once_in : (words chain order : List ℕ) → IsPrefix chain order → IsLinked words order → StandOnce chain

@@ -33,9 +33,10 @@ use Rattle.live_segment.specs.declared.segment.Segment.{Segment}
 use Rattle.live_segment.specs.Deltas.{TakesAt, TakesOn, units_of_key, with_units}
 use Rattle.live_segment.specs.Holders.{MayStep}
 use Rattle.live_segment.specs.Looking.{StandsAt}
-use Rattle.live_segment.specs.Onward.{SeesOn}
+use Rattle.segment_promises.specs.Onward.{SeesOn}
 use Rattle.live_segment.specs.Steps.{IsSame, Pass, Stepped}
-use Rattle.live_segment.proofs.Proceeding.{grows_by, grows_not, sees_on, sees_not}
+use Rattle.segment_promises.proofs.Growing.{grows_by, grows_not}
+use Rattle.live_segment.proofs.Proceeding.{sees_on, sees_not}
 use Rattle.live_segment.proofs.Seeing.{saw_bucket, saw_single, saw_word}
 
 -- ---- units that are taken one after the other

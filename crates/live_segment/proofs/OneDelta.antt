@@ -35,7 +35,7 @@ use Rattle.segment_invariant.proofs.Lists.Maps.{contains_map}
 use Rattle.live_segment.specs.declared.segment.Segment.{Segment}
 use Rattle.live_segment.specs.Deltas.{HasTakenBuckets, TakesAt, TakesOn, TakesWord, units_of_key}
 use Rattle.live_segment.specs.Holders.{MayStep, table_of}
-use Rattle.live_segment.specs.Onward.{SeesOn}
+use Rattle.segment_promises.specs.Onward.{SeesOn}
 use Rattle.live_segment.specs.Rule.{IsOf}
 use Rattle.live_segment.specs.Steps.{IsAtRest, IsSame, Pass, Stepped}
 use Rattle.live_segment.specs.Taking.{MayBeginDelta, HasBegunDelta}
@@ -43,8 +43,9 @@ use Rattle.live_segment.specs.Telling.{KnowsAlone, Noted}
 use Rattle.live_segment.proofs.Beginning.{known_there}
 use Rattle.live_segment.proofs.BucketsSeen.{counts_there}
 use Rattle.live_segment.proofs.OneBucket.{long_still, marked, none_packed, nothing_more, saw_here, sees_count, takes_by, takes_not, takes_of}
-use Rattle.live_segment.proofs.Proceeding.{grows_by, grows_not, looks_again, looks_there}
-use Rattle.live_segment.proofs.Ranks.{on_units}
+use Rattle.segment_promises.proofs.Growing.{grows_by, grows_not}
+use Rattle.live_segment.proofs.Proceeding.{looks_again, looks_there}
+use Rattle.segment_promises.proofs.Ranks.{on_units}
 
 -- ---- it begins
 

@@ -10,13 +10,14 @@ use Rattle.segment_machine.specs.Note.{TookSample}
 use Rattle.segment_machine.specs.Taking.{IsLaterSample}
 use Rattle.live_segment.specs.declared.segment.Segment.{Segment}
 use Rattle.live_segment.specs.Deltas.{HasTakenSample, MayTakeSample, TakesOn, TakesValues, units_of_key}
-use Rattle.live_segment.specs.Onward.{SeesOn}
+use Rattle.segment_promises.specs.Onward.{SeesOn}
 use Rattle.live_segment.specs.Samples.{CountsSample, HasUnits, SeesSample}
 use Rattle.live_segment.specs.Steps.{IsSame, Pass}
-use Rattle.live_segment.specs.Values.{Passes, TakesValue}
+use Rattle.segment_promises.specs.Values.{Passes}
+use Rattle.live_segment.specs.Values.{TakesValue}
 use Rattle.live_segment.proofs.OneBucket.{nothing_more, takes_by, takes_then}
 use Rattle.live_segment.proofs.OneSample.{values_on}
-use Rattle.live_segment.proofs.Proceeding.{grows_not}
+use Rattle.segment_promises.proofs.Growing.{grows_not}
 
 module _ (segment : Segment) (known : Known) (at : ℕ) (old mid : Pass) (takes : TakesValues segment known old) (same : IsSame old mid)
     (sees : SeesSample old.me.0 mid.me.0) where

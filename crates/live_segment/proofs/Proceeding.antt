@@ -1,7 +1,6 @@
 -- A call of a recorder goes on, step by step.
-use Rattle.std.proofs.Common.{◌≡◌, ℕ, ◌==◌, Bool, true, false, if◌then◌else◌, List, [], ◌∷◌, ◌++◌, refl, sym, ap, subst, ◌∙◌, arith}
+use Rattle.std.proofs.Common.{◌≡◌, ℕ, ◌==◌, Bool, true, false, if◌then◌else◌, refl, ap, ◌∙◌, arith}
 use Rattle.std.proofs.lemmas.Bool.{eqb-true, eq-eqb}
-use Rattle.std.proofs.lemmas.List.{append_assoc}
 use Rattle.segment_machine.specs.declared.actor.Actor.{Actor}
 use Rattle.segment_machine.specs.declared.actor.Done.{Done}
 use Rattle.segment_machine.specs.declared.seen.Seen.{Seen}
@@ -9,23 +8,9 @@ use Rattle.segment_machine.specs.declared.place.Look.{Look}
 use Rattle.segment_machine.specs.declared.place.Place.{Place}
 use Rattle.segment_machine.specs.declared.place.Place.TheVariants.{Looking}
 use Rattle.segment_machine.specs.Calls.{look_of, nothing_of}
-use Rattle.live_segment.specs.Onward.{Grows, DoesOn, SeesOn}
+use Rattle.segment_promises.specs.Onward.{DoesOn, SeesOn}
+use Rattle.segment_promises.proofs.Growing.{grows_not, grows_on}
 use Rattle.live_segment.specs.Working.{Proceeds, LooksOn}
-
--- ---- lists that grow
-
-pub grows_by : {X : Type 0} (list more : List X) → Grows list (list ++ more)
-grows_by list more = (more, refl)
-
-pub grows_not : {X : Type 0} (list : List X) → Grows list list
-grows_not [] = ([], refl)
-grows_not (x ∷ list) = let (more, is) = grows_not list in (more, ap (λ l. x ∷ l) is)
-
-pub grows_same : {X : Type 0} (old new : List X) → new ≡ old → Grows old new
-grows_same old new same = subst (Grows old) (sym same) (grows_not old)
-
-pub grows_on : {X : Type 0} (a b c : List X) → Grows a b → Grows b c → Grows a c
-grows_on a b c (more, first) (rest, second) = (more ++ rest, second ∙ (ap (λ l. l ++ rest) first ∙ append_assoc a more rest))
 
 -- ---- what is done and seen
 

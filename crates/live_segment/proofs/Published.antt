@@ -20,14 +20,14 @@ use Rattle.live_segment.specs.declared.rule.Announcement.{Announcement}
 use Rattle.live_segment.specs.declared.segment.Segment.{Segment}
 use Rattle.live_segment.specs.Holders.{table_of, MayStep}
 use Rattle.live_segment.specs.Listing.{asked_for, asking_notes, link_notes, MayLink, HasLinked}
-use Rattle.live_segment.specs.Onward.{Grows}
+use Rattle.segment_promises.specs.Onward.{Grows}
 use Rattle.live_segment.specs.Publishing.{IsFilledAs, HasPublished, owed_as}
 use Rattle.live_segment.specs.Rule.{IsOf}
 use Rattle.live_segment.specs.Steps.{Pass, IsSame, Stepped}
 use Rattle.live_segment.specs.Telling.{Noted}
 use Rattle.live_segment.proofs.Owned.{own_there, own_changed, others_stay}
-use Rattle.live_segment.proofs.Proceeding.{grows_by, grows_not, grows_on}
-use Rattle.live_segment.proofs.Sharing.{reference_within, same_on}
+use Rattle.segment_promises.proofs.Growing.{grows_by, grows_not, grows_on, reference_within}
+use Rattle.live_segment.proofs.Sharing.{same_on}
 
 -- the block as it waits: its next is stored, and it may have been said what it is to hold
 abbrev queued : Own → Option Made → Own

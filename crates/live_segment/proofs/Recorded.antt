@@ -13,7 +13,7 @@ use Rattle.live_segment.specs.Finding.{IsAsked}
 use Rattle.live_segment.specs.Holders.{table_of}
 use Rattle.live_segment.specs.Making.{HasFilled, HasMade, SaysAsked}
 use Rattle.live_segment.specs.Publishing.{HasPublished, HasPublishedFor}
-use Rattle.live_segment.specs.Onward.{Grows}
+use Rattle.segment_promises.specs.Onward.{Grows}
 use Rattle.live_segment.specs.Rule.{IsOf}
 use Rattle.live_segment.specs.Searching.{asked_at}
 use Rattle.live_segment.specs.Steps.{Pass, IsSame}

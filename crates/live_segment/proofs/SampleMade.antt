@@ -24,7 +24,7 @@ use Rattle.live_segment.specs.declared.segment.Segment.{Segment}
 use Rattle.live_segment.specs.Adding.{HasNoRoom}
 use Rattle.live_segment.specs.Allocation.{Allocates, claimed, filled, saw_free}
 use Rattle.live_segment.specs.Holders.{table_of, MayStep}
-use Rattle.live_segment.specs.Onward.{DoesOn, SeesOn}
+use Rattle.segment_promises.specs.Onward.{DoesOn, SeesOn}
 use Rattle.live_segment.specs.Publishing.{HasPublished, IsFilledAs}
 use Rattle.live_segment.specs.Refusing.{given_up}
 use Rattle.live_segment.specs.Sampling.{HasMadeSample, HasNotMadeSample}
@@ -32,7 +32,8 @@ use Rattle.live_segment.specs.Steps.{Pass, Stepped}
 use Rattle.live_segment.specs.Working.{LooksOn}
 use Rattle.live_segment.proofs.Claimed.{looks_claimed, looks_refused}
 use Rattle.live_segment.proofs.Filled.{Apart, changed_there, found_there}
-use Rattle.live_segment.proofs.Proceeding.{does_not, grows_same, looks_on, sees_not}
+use Rattle.live_segment.proofs.Proceeding.{does_not, looks_on, sees_not}
+use Rattle.segment_promises.proofs.Growing.{grows_same}
 use Rattle.live_segment.proofs.Refusing.{only_given_up}
 
 -- ---- its words

@@ -19,16 +19,16 @@ use Rattle.live_segment.specs.declared.recorder.KnownHistogram.{KnownHistogram}
 use Rattle.live_segment.specs.declared.rule.Setting.{Setting}
 use Rattle.live_segment.specs.declared.sampling.SampleSearch.TheVariants as search
 use Rattle.live_segment.specs.Known.{known_view, KnowsRight}
-use Rattle.live_segment.specs.Onward.{DoesOn}
+use Rattle.segment_promises.specs.Onward.{DoesOn}
 use Rattle.live_segment.specs.Refusing.{MayGiveUp}
 use Rattle.live_segment.specs.Rule.{IsOf}
 use Rattle.live_segment.specs.Sampling.{FindsSample, HasMadeNoSample, HasMadeSample, HasNotMadeSample, HasSampleOf, LacksSampleOf, SawNone, WalksBehind}
 use Rattle.live_segment.specs.Searching.{HasSearched}
 use Rattle.live_segment.specs.Working.{LooksOn}
 use Rattle.live_segment.proofs.Beginning.{known_there}
-use Rattle.live_segment.proofs.Proceeding.{does_not, grows_same, looks_on}
+use Rattle.live_segment.proofs.Proceeding.{does_not, looks_on}
+use Rattle.segment_promises.proofs.Growing.{grows_same, others_still}
 use Rattle.live_segment.proofs.Refusing.{only_given_up}
-use Rattle.live_segment.proofs.SampleSearches.{others_still}
 
 -- ---- a walk begins
 

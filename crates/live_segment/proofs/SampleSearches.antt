@@ -1,15 +1,13 @@
 -- A search for the sample of a value: what a recorder knows once it has loaded the next of the block where its walk stands, and once it has
 -- looked at the record that it met.
-use Rattle.std.proofs.Common.{◌≡◌, ◌≢◌, ℕ, ◌+◌, ◌≤◌, ℤ, ◌==◌, true, false, not, List, [], ◌∷◌, ◌++◌, map, inl, inr, refl, sym, ap, subst, ◌∙◌}
+use Rattle.std.proofs.Common.{◌≡◌, ◌≢◌, ℕ, ◌+◌, ◌≤◌, ℤ, ◌==◌, true, false, not, List, [], ◌∷◌, ◌++◌, map, refl, sym, ap, subst, ◌∙◌}
 use Rattle.std.specs.List.{All, Contains, filter}
-use Rattle.std.proofs.Math.ListN.{get_or}
 use Rattle.std.proofs.lemmas.List.{append_assoc}
 use Rattle.std.proofs.lemmas.List.Elements.{All-push, All-contains, Contains-append_left}
 use Rattle.segment_machine.specs.declared.actor.Actor.{Actor}
 use Rattle.segment_machine.specs.declared.actor.Given.{Given}
 use Rattle.segment_machine.specs.declared.actor.Made.TheVariants as made
 use Rattle.segment_machine.specs.declared.actor.Published.{Published}
-use Rattle.segment_machine.specs.declared.seen.Seen.{Seen}
 use Rattle.segment_machine.specs.declared.seen.Sighting.{Sighting}
 use Rattle.segment_machine.specs.Actor.{is_opener}
 use Rattle.segment_machine.specs.Event.{walking_event}
@@ -21,25 +19,14 @@ use Rattle.live_segment.specs.declared.segment.Segment.{Segment}
 use Rattle.live_segment.specs.Rule.{IsOf}
 use Rattle.live_segment.specs.Steps.{Pass, Stepped}
 use Rattle.live_segment.specs.Holders.{table_of, MayStep}
-use Rattle.live_segment.specs.Onward.{Grows}
-use Rattle.live_segment.specs.Records.{StandOnce, KnowsOwnSamples}
+use Rattle.segment_promises.specs.Values.{StandOnce}
+use Rattle.live_segment.specs.Records.{KnowsOwnSamples}
 use Rattle.live_segment.specs.Finding.{Meets, SeesWords}
 use Rattle.live_segment.specs.Searching.{HasSearched}
 use Rattle.live_segment.specs.Sampling.{FindsSample, ShowsValue, WalksBehind}
 use Rattle.live_segment.specs.Walks.{IsOnWay}
 use Rattle.live_segment.proofs.OnWay as way
-use Rattle.live_segment.proofs.Showing.{still}
-
--- ---- what was seen stays
-
-pub other_still : (a b : Seen) → Grows a.words b.words → (histogram : ℕ) (value : ℤ) (at : ℕ) → SawOther a histogram value at → SawOther b histogram value at
-other_still a b grows histogram value at (inl (tag, seen, other)) = inl (tag, still a.words b.words grows (at + 2) tag seen, other)
-other_still a b grows histogram value at (inr (inl (of, seen, other))) = inr (inl (of, still a.words b.words grows (at + 4) of seen, other))
-other_still a b grows histogram value at (inr (inr (word, seen, other))) = inr (inr (word, still a.words b.words grows (at + 5) word seen, other))
-
-pub others_still : (a b : Seen) → Grows a.words b.words → (histogram : ℕ) (value : ℤ) (given : List ℕ) → All (SawOther a histogram value) given
-    → All (SawOther b histogram value) given
-others_still a b grows histogram value given others k d inside = other_still a b grows histogram value (get_or given k d) (others k d inside)
+use Rattle.segment_promises.proofs.Growing.{others_still}
 
 -- ---- a next
 

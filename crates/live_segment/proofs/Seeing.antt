@@ -12,7 +12,7 @@ use Rattle.segment_machine.specs.declared.seen.Sighting.{Sighting}
 use Rattle.segment_machine.specs.Actor.{SawCount, SawSingle, word_seen}
 use Rattle.segment_machine.specs.Note.{IsMarkOf, SawBucket, TookBucket}
 use Rattle.segment_invariant.proofs.Walking.Words.{word_still}
-use Rattle.live_segment.specs.Onward.{Grows, SeesOn}
+use Rattle.segment_promises.specs.Onward.{Grows, SeesOn}
 
 -- what stands behind the front of a list still stands there when it has grown
 behind : {X : Type 0} (front : ℕ) (old new : List X) (x : X) → front ≤ length old → Grows old new → Contains (drop front old) x → Contains (drop front new) x

@@ -27,9 +27,10 @@ use Rattle.live_segment.specs.Allocation.{Allocates, filled, saw_free}
 use Rattle.live_segment.specs.Answering.{HaveOneName}
 use Rattle.live_segment.specs.Making.{HasMade, Makes}
 use Rattle.live_segment.specs.Settling.{IsRefusedBy, LooksAround, LooksUp, Owes, OwesAs, Settles}
-use Rattle.live_segment.specs.Onward.{DoesOn}
+use Rattle.segment_promises.specs.Onward.{DoesOn}
 use Rattle.live_segment.specs.Searching.{HasMadeNone, HasSearched, Searches, WalksAt, asked_at}
-use Rattle.live_segment.proofs.Proceeding.{does_not, does_on, grows_not, grows_same, sees_on}
+use Rattle.live_segment.proofs.Proceeding.{does_not, does_on, sees_on}
+use Rattle.segment_promises.proofs.Growing.{grows_not, grows_same}
 use Rattle.live_segment.proofs.Refusing.{at_rest}
 use Rattle.live_segment.proofs.Searching.{others_still}
 

@@ -1,13 +1,11 @@
 -- A try of a call on a shared cursor: what a recorder knows once it has loaded the cursor and the next behind it, and once its exchange
 -- took or came too late.
-use Rattle.std.proofs.Common.{◌≡◌, ◌≢◌, ℕ, ◌+◌, ◌-◌, ◌*◌, ◌<◌, ◌≤◌, ◌==◌, ◌&&◌, Bool, true, false, true≢false, not, if◌then◌else◌, List, [], ◌∷◌, ◌++◌, length, set, slice_index, inr, refl, sym, ap, subst, ◌∙◌, ⊎_elim, eq-eqb, ne_eqb, arith, All, Option, Some, None}
+use Rattle.std.proofs.Common.{◌≡◌, ◌≢◌, ℕ, ◌+◌, ◌-◌, ◌*◌, ◌<◌, ◌≤◌, ◌==◌, Bool, true, false, if◌then◌else◌, List, [], ◌∷◌, ◌++◌, length, set, slice_index, inr, refl, sym, ap, subst, ◌∙◌, eq-eqb, ne_eqb, arith, All, Option, Some, None}
 use Rattle.std.specs.List.{Contains}
-use Rattle.std.proofs.lemmas.Bool.{or_cases, and_parts, eqb-true, leb-true}
 use Rattle.std.proofs.lemmas.List.{append-nil, append_assoc, set-set, set-get_or, get_or-set_same}
 use Rattle.std.proofs.lemmas.List.Elements.{All-push}
 use Rattle.segment_image.specs.Shape.{Dimensions}
-use Rattle.alloc_core.specs.Layout.{IsShape}
-use Rattle.list_core.specs.Chain.{is_reference, stops}
+use Rattle.list_core.specs.Chain.{is_reference}
 use Rattle.list_core.specs.Walk.{IsPrefix}
 use Rattle.segment_machine.specs.declared.actor.Actor.{Actor}
 use Rattle.segment_machine.specs.declared.place.Place.{Place}
@@ -17,29 +15,14 @@ use Rattle.segment_machine.specs.Actor.{is_bound, is_opener}
 use Rattle.segment_machine.specs.Calls.{sight}
 use Rattle.segment_machine.specs.Cursors.{load_cursor, move_cursor, after_cursor}
 use Rattle.segment_machine.specs.Event.{cursor_event, walking_event, next}
-use Rattle.segment_machine.specs.Walking.{load_next, extended, behind, records_met, IsNextOf}
+use Rattle.segment_machine.specs.Walking.{load_next, behind, records_met, IsNextOf}
 use Rattle.live_segment.specs.declared.segment.Segment.{Segment}
 use Rattle.live_segment.specs.Rule.{IsOf}
 use Rattle.live_segment.specs.Steps.{Pass, IsSame, Stepped}
 use Rattle.live_segment.specs.Holders.{table_of, MayStep}
-use Rattle.live_segment.specs.Onward.{Grows}
+use Rattle.segment_promises.specs.Onward.{Grows}
+use Rattle.segment_promises.proofs.Growing.{grows_on, extended_grows, extended_end, reference_within, reference_behind}
 use Rattle.live_segment.specs.Cursors.{AnswersNext, IsLate, IsGivenNext, IsAtEnd, StandsBehind, at_cursor, ended_at}
-
--- ---- numbers
-
--- a reference lies within a segment of a lawful shape
-pub reference_within : (shape : Dimensions) (at : ℕ) → IsShape shape → is_reference shape.size at ≡ true → at + 5 ≤ shape.size
-reference_within shape at shaped is =
-    let from = shaped.wide in
-    let to = shaped.one in
-    ⊎_elim (λ queue. let e = eqb-true at 12 queue in omega (arith, e, from, to))
-    (λ record_is. leb-true (at + 5) shape.size (and_parts _ _ record_is).1) (or_cases _ _ is)
-
--- one that is no queue block is behind the header
-pub reference_behind : (size at : ℕ) → is_reference size at ≡ true → at ≢ 12 → (16 ≤ at) × (at + 5 ≤ size)
-reference_behind size at is miss =
-    ⊎_elim (λ queue. absurd (miss (eqb-true at 12 queue)))
-    (λ record_is. let (low, high) = and_parts _ _ record_is in (leb-true 16 at low, leb-true (at + 5) size high)) (or_cases _ _ is)
 
 -- ---- what came before
 
@@ -58,26 +41,6 @@ late_not cursor a free = record {
 -- a test whether a number is another
 same_test : (n : ℕ) → (n == n) ≡ true
 same_test n = eq-eqb n n refl
-
--- the chain that it has seen only grows
-pub extended_grows : (chain : List ℕ) (at found : ℕ) → Grows chain (extended chain at found)
-extended_grows chain at found = by ((slice_index (stops chain) (length chain) == at) && not (found == 12))
-  where
-    by : (b : Bool) → Grows chain (if b then chain ++ found ∷ [] else chain)
-    by true = (found ∷ [], refl)
-    by false = ([], sym (append-nil chain))
-
-pub grows_on : {X : Type 0} (a b c : List X) → Grows a b → Grows b c → Grows a c
-grows_on a b c (xs, first) (ys, second) = (xs ++ ys, second ∙ (ap (λ l. l ++ ys) first ∙ append_assoc a xs ys))
-
--- at the end of the list nothing is added to the chain
-pub extended_end : (chain : List ℕ) (at found : ℕ) → found ≡ 12 → extended chain at found ≡ chain
-extended_end chain at found end = by (slice_index (stops chain) (length chain) == at) (found == 12) (eq-eqb found 12 end)
-  where
-    by : (b e : Bool) → e ≡ true → (if b && not e then chain ++ found ∷ [] else chain) ≡ chain
-    by true true is = refl
-    by true false is = absurd (true≢false (sym is))
-    by false e is = refl
 
 -- where a recorder stands that has loaded the next behind a shared cursor
 behind_end : (cursor at found : ℕ) → found ≡ 12 → behind (CursorLoaded cursor at) at found ≡ Idle

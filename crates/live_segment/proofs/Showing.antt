@@ -13,18 +13,14 @@ use Rattle.segment_machine.specs.Actor.{is_opener, word_seen}
 use Rattle.segment_machine.specs.Calls.{sight}
 use Rattle.segment_machine.specs.Event.{walking_event}
 use Rattle.segment_machine.specs.Walking.{load_published, IsFixed, IsFixedBehind}
-use Rattle.segment_invariant.proofs.Walking.Words.{word_still}
 use Rattle.live_segment.specs.declared.segment.Segment.{Segment}
 use Rattle.live_segment.specs.Holders.{table_of, MayStep}
-use Rattle.live_segment.specs.Onward.{Grows}
+use Rattle.segment_promises.specs.Onward.{Grows}
 use Rattle.live_segment.specs.Steps.{Pass, IsSame, Stepped}
 use Rattle.live_segment.specs.Finding.{Meets, SeesWords, ShowsWords}
-use Rattle.live_segment.proofs.Proceeding.{grows_on}
+use Rattle.segment_promises.proofs.Growing.{grows_on, still}
 
 -- ---- what was seen stays
-
-pub still : (a b : List Sighting) → Grows a b → (at word : ℕ) → word_seen a at ≡ Some word → word_seen b at ≡ Some word
-still a b (more, is) at word seen = ap (λ (l : List Sighting). word_seen l at) is ∙ word_still a at word more seen
 
 fixed_behind : (a b : Actor) (at index : ℕ) → Grows a.seen.words b.seen.words → IsFixedBehind a at index → IsFixedBehind b at index
 fixed_behind a b at index grows (inl field) = inl field

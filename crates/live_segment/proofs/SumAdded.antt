@@ -25,7 +25,7 @@ use Rattle.segment_machine.specs.Note.{Note, begins, ends, goes_on}
 use Rattle.segment_machine.specs.Taking.{is_looking}
 use Rattle.segment_promises.specs.Follows.{MayTell, noted_by}
 use Rattle.live_segment.specs.Batching.{HasItems, IsBatched, ended_item}
-use Rattle.live_segment.specs.Onward.{DoesOn, GoesOn, SeesOn}
+use Rattle.segment_promises.specs.Onward.{DoesOn, GoesOn, SeesOn}
 use Rattle.live_segment.specs.Steps.{IsAtRest, IsSame, Pass}
 use Rattle.live_segment.specs.Telling.{HasSum, KnowsAlone, MaySum, Noted, opening_notes, sum_cost, sum_notes}
 use Rattle.live_segment.proofs.Beginning.{known_there}

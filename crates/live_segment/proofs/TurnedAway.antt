@@ -23,7 +23,7 @@ use Rattle.segment_promises.specs.Follows.{noted_by}
 use Rattle.live_segment.specs.Adding.{IsRefused}
 use Rattle.live_segment.specs.Finishing.{item_of}
 use Rattle.live_segment.specs.Telling.{bucket_entry}
-use Rattle.live_segment.specs.Onward.{DoesOn, GoesOn, SeesOn}
+use Rattle.segment_promises.specs.Onward.{DoesOn, GoesOn, SeesOn}
 use Rattle.live_segment.specs.Refusing.{given_up, how_many_ended, refusing_notes, IsNotCounted, IsTurnedAway}
 use Rattle.live_segment.specs.Steps.{IsAtRest}
 use Rattle.live_segment.specs.Working.{HasBegun, LooksFor}

@@ -20,21 +20,20 @@ use Rattle.segment_invariant.proofs.Lists.Maps.{contains_map}
 use Rattle.live_segment.specs.declared.segment.Segment.{Segment}
 use Rattle.live_segment.specs.Deltas.{HasTaken, HasTakenSum, MayTakeSum, TakesValues}
 use Rattle.live_segment.specs.Holders.{table_of}
-use Rattle.live_segment.specs.Onward.{SeesOn}
-use Rattle.live_segment.specs.Records.{StandOnce}
+use Rattle.segment_promises.specs.Onward.{SeesOn}
+use Rattle.segment_promises.specs.Values.{StandOnce, AreSorted, ComesTo, Passes, first_of}
 use Rattle.live_segment.specs.Rule.{IsOf}
 use Rattle.live_segment.specs.Samples.{SamplesStandBehind}
 use Rattle.live_segment.specs.Steps.{IsAtRest, IsSame, Pass}
 use Rattle.live_segment.specs.Taking.{HasBegunDelta, MayBeginDelta}
 use Rattle.live_segment.specs.Telling.{KnowsAlone, Noted}
-use Rattle.live_segment.specs.Values.{AreSorted, ComesTo, HasTakenValues, Passes, TakesAlong, first_of}
+use Rattle.live_segment.specs.Values.{HasTakenValues, TakesAlong}
 use Rattle.live_segment.proofs.Apart.{behind_apart, behind_free}
 use Rattle.live_segment.proofs.Beginning.{known_there}
 use Rattle.live_segment.proofs.DeltaEnds.{kept_all, sees_all}
-use Rattle.live_segment.proofs.FirstValues.{not_both}
-use Rattle.live_segment.proofs.Proceeding.{grows_not}
-use Rattle.live_segment.proofs.Sharing.{extended_grows}
-use Rattle.live_segment.proofs.ValueWalks.{comes_first}
+use Rattle.segment_promises.proofs.FirstValues.{not_both}
+use Rattle.segment_promises.proofs.Growing.{grows_not, extended_grows}
+use Rattle.segment_promises.proofs.ValueWalks.{comes_first}
 
 -- ---- at the end of the list
 

@@ -10,12 +10,11 @@ use Rattle.segment_machine.specs.Actor.{Sparse}
 use Rattle.segment_machine.specs.Made.{SawSample}
 use Rattle.segment_machine.specs.Taking.{IsLaterSample}
 use Rattle.segment_invariant.proofs.Lists.Elements.{at_from, split_at}
-use Rattle.live_segment.specs.Onward.{Grows}
-use Rattle.live_segment.specs.Records.{StandOnce}
-use Rattle.live_segment.specs.Values.{ListsOf, ListsValues, Passes, listed_of}
-use Rattle.live_segment.proofs.FirstValues.{Shows, later_sample}
-use Rattle.live_segment.proofs.ListedValues.{lists_on, lists_one, lists_still}
-use Rattle.live_segment.proofs.Proceeding.{grows_not}
+use Rattle.segment_promises.specs.Onward.{Grows}
+use Rattle.segment_promises.specs.Values.{StandOnce, ListsOf, ListsValues, Passes, listed_of}
+use Rattle.segment_promises.proofs.FirstValues.{Shows, later_sample}
+use Rattle.segment_promises.proofs.ListedValues.{lists_on, lists_one, lists_still}
+use Rattle.segment_promises.proofs.Growing.{grows_not}
 
 -- what it saw of each record
 shows_all : (Does : ℤ → ℕ → Type 0) (seen : Seen) (histogram : ℕ) (list : List ℕ) → AllByRecursion (Passes Does seen histogram) list

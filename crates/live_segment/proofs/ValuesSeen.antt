@@ -24,27 +24,28 @@ use Rattle.segment_machine.proofs.Values.{value_word}
 use Rattle.live_segment.specs.declared.segment.Segment.{Segment}
 use Rattle.live_segment.specs.Deltas.{AreUnits}
 use Rattle.live_segment.specs.Holders.{MayStep, table_of}
-use Rattle.live_segment.specs.Onward.{SeesOn}
-use Rattle.live_segment.specs.Records.{StandOnce}
+use Rattle.segment_promises.specs.Onward.{SeesOn}
+use Rattle.segment_promises.specs.Values.{StandOnce, AreSorted, ComesTo, ListsOf, ListsValues, listed_of}
 use Rattle.live_segment.specs.Rule.{IsOf}
 use Rattle.live_segment.specs.Samples.{CountsSample, SamplesStandBehind, SeesSample}
 use Rattle.live_segment.specs.Snapshots.{HasLooked}
 use Rattle.live_segment.specs.Steps.{IsAtRest, IsSame, Pass, Stepped}
 use Rattle.live_segment.specs.Telling.{KnowsAlone, MayDo, Noted}
-use Rattle.live_segment.specs.Values.{AreSorted, ComesTo, HasListed, HasTotal, ListsOf, ListsValues, LooksAlong, LooksAtValues, SeesMore, listed_of}
+use Rattle.live_segment.specs.Values.{HasListed, HasTotal, LooksAlong, LooksAtValues, SeesMore}
 use Rattle.live_segment.proofs.Answering.{answered, began, redundant_last, saw_still, summed}
 use Rattle.live_segment.proofs.Apart.{behind_apart, behind_free}
 use Rattle.live_segment.proofs.Beginning.{known_there}
-use Rattle.live_segment.proofs.ListedValues.{lists_nothing, lists_still}
+use Rattle.segment_promises.proofs.ListedValues.{lists_nothing, lists_still}
 use Rattle.live_segment.proofs.OneBucket.{long_still}
-use Rattle.live_segment.proofs.Proceeding.{grows_not, sees_not, sees_on}
+use Rattle.segment_promises.proofs.Growing.{grows_not, extended_grows}
+use Rattle.live_segment.proofs.Proceeding.{sees_not, sees_on}
 use Rattle.live_segment.proofs.Seeing.{saw_count}
-use Rattle.live_segment.proofs.Sharing.{extended_grows, same_on}
-use Rattle.live_segment.proofs.SortedKeys.{one_place, once_still}
+use Rattle.live_segment.proofs.Sharing.{same_on}
+use Rattle.segment_promises.proofs.SortedKeys.{one_place, once_still}
 use Rattle.live_segment.proofs.ValuesDelta.{all_passed, did_with}
 use Rattle.live_segment.proofs.ValuesListed.{lists_then}
-use Rattle.live_segment.proofs.ValueWalks.{behind_it, comes_first, left_of, passed_few, split_at_it}
-use Rattle.live_segment.proofs.ValueWalks as way
+use Rattle.segment_promises.proofs.ValueWalks.{behind_it, comes_first, left_of, passed_few, split_at_it}
+use Rattle.segment_promises.proofs.ValueWalks as way
 
 -- ---- it sees more
 

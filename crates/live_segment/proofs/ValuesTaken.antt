@@ -14,20 +14,20 @@ use Rattle.segment_machine.specs.Walking.{extended, load_next}
 use Rattle.live_segment.specs.declared.segment.Segment.{Segment}
 use Rattle.live_segment.specs.Deltas.{TakesOn, TakesValues}
 use Rattle.live_segment.specs.Holders.{MayStep}
-use Rattle.live_segment.specs.Onward.{SeesOn}
-use Rattle.live_segment.specs.Records.{StandOnce}
+use Rattle.segment_promises.specs.Onward.{SeesOn}
+use Rattle.segment_promises.specs.Values.{StandOnce, ComesTo, ListsValues, listed_of}
 use Rattle.live_segment.specs.Steps.{IsSame, Pass, Stepped}
-use Rattle.live_segment.specs.Values.{ComesTo, ListsValues, TakesAlong, TakesValue, listed_of}
+use Rattle.live_segment.specs.Values.{TakesAlong, TakesValue}
 use Rattle.live_segment.proofs.Apart.{behind_apart, behind_free}
-use Rattle.live_segment.proofs.ListedValues.{lists_nothing, lists_still}
+use Rattle.segment_promises.proofs.ListedValues.{lists_nothing, lists_still}
 use Rattle.live_segment.proofs.OneBucket.{nothing_more, takes_by, takes_not, takes_then}
 use Rattle.live_segment.proofs.OneSample.{values_on}
-use Rattle.live_segment.proofs.Proceeding.{grows_not}
+use Rattle.segment_promises.proofs.Growing.{grows_not, extended_grows}
 use Rattle.live_segment.proofs.Seeing.{saw_count}
-use Rattle.live_segment.proofs.Sharing.{extended_grows, same_on}
+use Rattle.live_segment.proofs.Sharing.{same_on}
 use Rattle.live_segment.proofs.ValuesListed.{lists_then}
-use Rattle.live_segment.proofs.ValueWalks.{left_of, one_there}
-use Rattle.live_segment.proofs.ValueWalks as way
+use Rattle.segment_promises.proofs.ValueWalks.{left_of, one_there}
+use Rattle.segment_promises.proofs.ValueWalks as way
 
 -- what was taken of a sample stays taken
 pub took_still : (a b : Actor) → b.since ≡ a.since → SeesOn a.seen b.seen → a.since.singles ≤ length a.seen.singles → a.since.counts ≤ length a.seen.counts

@@ -29,18 +29,19 @@ use Rattle.live_segment.specs.declared.segment.Segment.{Segment}
 use Rattle.live_segment.specs.Rule.{Runs, IsOf, opened_of}
 use Rattle.live_segment.specs.Steps.{Pass, Sat, IsSame, Stepped}
 use Rattle.live_segment.specs.Holders.{table_of, MayStep}
-use Rattle.live_segment.specs.Onward.{Grows, StaysApart}
+use Rattle.segment_promises.specs.Onward.{Grows, StaysApart}
 use Rattle.live_segment.specs.declared.recorder.KnownHistogram.{KnownHistogram}
 use Rattle.live_segment.specs.declared.records.WalkPlace.{WalkPlace}
 use Rattle.live_segment.specs.Known.{KnowsRight}
-use Rattle.live_segment.specs.Records.{StandOnce, LoadsNext, HasWalked}
+use Rattle.segment_promises.specs.Values.{StandOnce}
+use Rattle.live_segment.specs.Records.{LoadsNext, HasWalked}
 use Rattle.live_segment.specs.Walks.{HasCome, WalksOn}
 use Rattle.live_segment.proofs.Allowed.{does_at}
 use Rattle.live_segment.proofs.Apart.{behind_apart}
 use Rattle.live_segment.proofs.Once.{once_in}
 use Rattle.live_segment.proofs.OwnNames.{knows_own_names}
 use Rattle.live_segment.proofs.OwnSamples.{knows_own_samples}
-use Rattle.live_segment.proofs.Sharing.{extended_end, extended_grows, grows_on, reference_behind}
+use Rattle.segment_promises.proofs.Growing.{extended_end, extended_grows, grows_on, reference_behind}
 
 -- ---- its step
 

@@ -15,7 +15,7 @@ use Rattle.segment_machine.specs.Calls.{IsKeyOfBucket}
 use Rattle.segment_machine.specs.Entry.{key_of, sample_entry}
 use Rattle.segment_machine.specs.Form.{is_off, IsPacking}
 use Rattle.segment_machine.specs.Made.{SawOther}
-use Rattle.live_segment.specs.Onward.{GoesOn}
+use Rattle.segment_promises.specs.Onward.{GoesOn}
 
 -- ---- accepted
 

@@ -19,7 +19,7 @@ use Rattle.segment_machine.specs.Counting.{note_next}
 use Rattle.segment_machine.specs.Entry.{batch_cost, batch_entries, item_entry}
 use Rattle.live_segment.specs.Adding.{Pays, LacksBlock}
 use Rattle.segment_promises.specs.Follows.{noted_by}
-use Rattle.live_segment.specs.Onward.{GoesOn}
+use Rattle.segment_promises.specs.Onward.{GoesOn}
 use Rattle.live_segment.specs.Steps.{IsAtRest}
 use Rattle.live_segment.specs.Telling.{entry_notes}
 use Rattle.live_segment.specs.Working.{Proceeds, counted_next}

@@ -15,7 +15,7 @@ use Rattle.segment_machine.specs.Calls.{sight}
 use Rattle.segment_machine.specs.Cursors.{load_cursor, move_cursor}
 use Rattle.segment_machine.specs.Event.{cursor_event}
 use Rattle.segment_machine.specs.Walking.{extended, records_met, IsNextOf}
-use Rattle.live_segment.specs.Onward.{Grows}
+use Rattle.segment_promises.specs.Onward.{Grows}
 use Rattle.live_segment.specs.Steps.{DoesAt, Sat}
 
 -- ---- its steps

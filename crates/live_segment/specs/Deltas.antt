@@ -1,5 +1,5 @@
 -- What a delta makes of its recorder: what it takes on its way, and what it has taken when it ends.
-use Rattle.std.specs.Prelude.{◌≡◌, ◌≢◌, true, false, ℕ, ◌+◌, ◌<◌, ◌≤◌, ℤ, ◌+ℤ◌, List, [], ◌∷◌, ◌++◌, length, map, nat_lt, if◌then◌else◌, Option, Some, None}
+use Rattle.std.specs.Prelude.{◌≡◌, ◌≢◌, true, false, ℕ, ◌+◌, ◌<◌, ◌≤◌, ℤ, ◌+ℤ◌, List, [], ◌∷◌, ◌++◌, length, map, nat_lt, if◌then◌else◌, Some, None}
 use Rattle.std.specs.List.{All, Contains}
 use Rattle.std.specs.List.Sorted.{IsStrictlySortedBy}
 use Rattle.std.specs.Ordering.{int_cmp}
@@ -21,7 +21,7 @@ use Rattle.live_segment.specs.declared.deltas.Mounted.{Mounted}
 use Rattle.live_segment.specs.declared.segment.Segment.{Segment}
 use Rattle.live_segment.specs.Holders.{table_of}
 use Rattle.live_segment.specs.Looking.{StandsAt}
-use Rattle.live_segment.specs.Onward.{SeesOn}
+use Rattle.segment_promises.specs.Onward.{SeesOn}
 use Rattle.live_segment.specs.Rule.{IsOf}
 use Rattle.live_segment.specs.Steps.{Pass}
 use Rattle.live_segment.specs.Telling.{KnowsAlone}

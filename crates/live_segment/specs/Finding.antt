@@ -12,7 +12,7 @@ use Rattle.segment_machine.specs.Calls.{MayTurn}
 use Rattle.segment_machine.specs.Made.{SawName, SawOtherName, SawSpec, SawOtherSpec}
 use Rattle.segment_calls.specs.declared.asked.Asked.{Asked}
 use Rattle.segment_calls.specs.Asked.{IsAskedFor}
-use Rattle.live_segment.specs.Onward.{Grows}
+use Rattle.segment_promises.specs.Onward.{Grows}
 
 -- ---- what is asked for
 

@@ -6,7 +6,6 @@ pub mod Hist
 pub mod Holders
 pub mod Closing
 pub mod Allocation
-pub mod Onward
 pub mod Adding
 pub mod Batching
 pub mod Telling

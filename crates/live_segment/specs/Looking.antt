@@ -12,7 +12,7 @@ use Rattle.segment_machine.specs.Actor.{Buckets, SawCount, is_opener}
 use Rattle.segment_machine.specs.Calls.{IsUnits, LooksOff}
 use Rattle.live_segment.specs.declared.segment.Segment.{Segment}
 use Rattle.live_segment.specs.Holders.{table_of}
-use Rattle.live_segment.specs.Onward.{Grows}
+use Rattle.segment_promises.specs.Onward.{Grows}
 use Rattle.live_segment.specs.Steps.{Pass}
 
 -- it stands at the counts of a histogram that it knows, whose single word it found off: before them, or at one of them

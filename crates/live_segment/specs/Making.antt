@@ -12,7 +12,7 @@ use Rattle.segment_calls.specs.declared.refusal.Refusal.{Refusal}
 use Rattle.live_segment.specs.declared.rule.Announcement.{Announcement}
 use Rattle.live_segment.specs.Allocation.{Allocates}
 use Rattle.live_segment.specs.Listing.{asked_for}
-use Rattle.live_segment.specs.Onward.{Grows}
+use Rattle.segment_promises.specs.Onward.{Grows}
 use Rattle.live_segment.specs.Searching.{asked_at}
 
 -- ---- its payload

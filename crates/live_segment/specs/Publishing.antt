@@ -11,7 +11,7 @@ use Rattle.segment_machine.specs.Made.{IsPayload}
 use Rattle.segment_machine.specs.Publishing.{own_at, MayPublish}
 use Rattle.live_segment.specs.declared.rule.Announcement.{Announcement}
 use Rattle.live_segment.specs.Listing.{asked_for}
-use Rattle.live_segment.specs.Onward.{Grows}
+use Rattle.segment_promises.specs.Onward.{Grows}
 
 -- Its block at a word has all that it needs to be published as this: the words of its payload, and a lawful type and size. Its next is not
 -- stored yet, and nobody has said what it is to hold.

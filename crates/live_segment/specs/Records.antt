@@ -1,8 +1,7 @@
 -- What a walk along the list makes of a recorder: it has seen all of the list, and has its records in their order.
-use Rattle.std.specs.Prelude.{◌≡◌, ◌≢◌, false, ℕ, ◌+◌, ◌<◌, ◌≤◌, ℤ, List, ◌∷◌, ◌++◌, length, slice_index}
+use Rattle.std.specs.Prelude.{◌≡◌, false, ℕ, ◌+◌, ◌≤◌, ℤ, List, ◌∷◌, ◌++◌}
 use Rattle.std.specs.List.{All, Contains}
 use Rattle.segment_image.specs.declared.layout.TheConstants.{BLOCK_LEAST, HEADER_WORDS}
-use Rattle.list_core.specs.Chain.{stops}
 use Rattle.bucket_ranges.specs.declared.spec.Spec.{Spec}
 use Rattle.segment_machine.specs.declared.actor.Actor.{Actor}
 use Rattle.segment_machine.specs.declared.actor.Made.TheVariants.{Histogram, Sample}
@@ -10,12 +9,9 @@ use Rattle.segment_machine.specs.Made.{SawOther, SawOtherName}
 use Rattle.segment_machine.specs.Actor.{is_bound}
 use Rattle.segment_machine.specs.Event.{walking_event}
 use Rattle.segment_machine.specs.Walking.{load_next, records_met}
-use Rattle.live_segment.specs.Onward.{Grows, StaysApart}
+use Rattle.segment_promises.specs.Onward.{Grows, StaysApart}
+use Rattle.segment_promises.specs.Values.{StandOnce}
 use Rattle.live_segment.specs.Steps.{DoesAt, Sat}
-
--- along these nexts no block stands twice, and none is the queue block
-abbrev pub StandOnce : List ℕ → Type 0
-StandOnce chain = (i j : ℕ) → i < j → j ≤ length chain → slice_index (stops chain) i ≢ slice_index (stops chain) j
 
 -- no record that it published for a name did it see to have another one
 abbrev pub KnowsOwnNames : Actor → Type 0

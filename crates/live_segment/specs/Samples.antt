@@ -9,8 +9,8 @@ use Rattle.segment_machine.specs.Event.{taking_event}
 use Rattle.segment_machine.specs.Made.{SawSample, SawOther}
 use Rattle.segment_machine.specs.Actor.{SawCount, is_bound}
 use Rattle.segment_machine.specs.Taking.{IsLaterSample, is_looking, load_count, load_sum}
-use Rattle.live_segment.specs.Onward.{Grows}
-use Rattle.live_segment.specs.Records.{StandOnce}
+use Rattle.segment_promises.specs.Onward.{Grows}
+use Rattle.segment_promises.specs.Values.{StandOnce}
 use Rattle.live_segment.specs.Steps.{DoesAt, Sat}
 
 -- it saw that a record is a sample of this value of a histogram, and lies within the segment; or that it is a sample of no value of it

@@ -13,7 +13,7 @@ use Rattle.segment_machine.specs.Note.{MayNote, knows}
 use Rattle.segment_calls.specs.declared.asked.Asked.{Asked}
 use Rattle.live_segment.specs.declared.finding.Search.{Search}
 use Rattle.live_segment.specs.declared.finding.Search.TheVariants.{Met, OtherSpec, End}
-use Rattle.live_segment.specs.Onward.{Grows, StaysApart}
+use Rattle.segment_promises.specs.Onward.{Grows, StaysApart}
 
 -- ---- on the way
 

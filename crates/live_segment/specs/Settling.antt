@@ -14,7 +14,7 @@ use Rattle.live_segment.specs.declared.recorder.KnownHistogram.{KnownHistogram}
 use Rattle.live_segment.specs.Adding.{HasNoRoom}
 use Rattle.live_segment.specs.Answering.{HaveOneName}
 use Rattle.live_segment.specs.Known.{known_view}
-use Rattle.live_segment.specs.Onward.{DoesOn, SeesOn, StaysApart}
+use Rattle.segment_promises.specs.Onward.{DoesOn, SeesOn, StaysApart}
 use Rattle.live_segment.specs.Searching.{asked_at, SawOther}
 
 -- Of the segment it has seen more, and it may have claimed and published records and set the full flag. It has come to no single word, no count

@@ -1,26 +1,21 @@
 -- How a recorder goes along the samples of a sparse histogram, and which values it lists.
-use Rattle.std.specs.Prelude.{◌≡◌, ◌≢◌, ◌⊎◌, true, false, ℕ, ◌+◌, ◌-◌, ◌*◌, ◌/◌, ◌≤◌, ℤ, List, [], ◌∷◌, ◌++◌, length, map, sum_by, if◌then◌else◌, Option, Some, None, Vec, vec_capacity}
-use Rattle.std.specs.List.{All, AllByRecursion, Contains}
+use Rattle.std.specs.Prelude.{◌≡◌, ◌⊎◌, true, false, ℕ, ◌+◌, ◌-◌, ◌/◌, ◌≤◌, ℤ, List, [], length, map, Option, Vec, vec_capacity}
+use Rattle.std.specs.List.{AllByRecursion, Contains}
 use Rattle.std.specs.Global.{Global}
-use Rattle.std.specs.List.Sorted.{IsPermutation, IsStrictlySortedBy}
-use Rattle.std.specs.Ordering.{int_cmp, int_eq}
 use Rattle.segment_image.specs.declared.layout.TheConstants.{BLOCK_LEAST, HEADER_WORDS, QUEUE, SAMPLE_COUNT}
 use Rattle.bucket_ranges.specs.declared.spec.Spec.TheVariants.{Sparse}
-use Rattle.bucket_ranges.specs.Reading.{is_i32}
 use Rattle.bucket_ranges.specs.Spec.{buckets_of}
 use Rattle.segment_machine.specs.declared.actor.Actor.{Actor}
 use Rattle.segment_machine.specs.declared.actor.Known.{Known}
-use Rattle.segment_machine.specs.declared.seen.Seen.{Seen}
 use Rattle.segment_machine.specs.Actor.{SawCount, has_buckets, is_bound, is_opener}
-use Rattle.segment_machine.specs.Firsts.{ComesFirst}
-use Rattle.segment_machine.specs.Made.{SawOther, SawSample}
 use Rattle.segment_machine.specs.Note.{TookSample}
-use Rattle.segment_machine.specs.Taking.{IsLaterSample, is_looking}
+use Rattle.segment_machine.specs.Taking.{is_looking}
 use Rattle.live_segment.specs.declared.recorder.KnownHistogram.{KnownHistogram}
 use Rattle.live_segment.specs.declared.segment.Segment.{Segment}
 use Rattle.live_segment.specs.Deltas.{TakesOn, TakesValues}
 use Rattle.live_segment.specs.Holders.{table_of}
-use Rattle.live_segment.specs.Onward.{SeesOn}
+use Rattle.segment_promises.specs.Onward.{SeesOn}
+use Rattle.segment_promises.specs.Values.{ComesTo, Passes, ListsValues, ListsOf, listed_of}
 use Rattle.live_segment.specs.Rule.{IsOf}
 use Rattle.live_segment.specs.Snapshots.{blank_totals}
 use Rattle.live_segment.specs.Steps.{IsSame, Pass}
@@ -28,59 +23,11 @@ use Rattle.live_segment.specs.Telling.{KnowsAlone}
 
 -- ---- along the list
 
--- the first of these records, or the queue block where there is none
-abbrev pub first_of : List ℕ → ℕ
-first_of [] = QUEUE
-first_of (at ∷ rest) = at
-
--- Behind the record of a histogram it has passed these records, and comes to the next one that it saw there, or to the end of the list.
-pub record ComesTo (histogram : ℕ) (passed : List ℕ) (at : ℕ) (a : Actor) : Type 0 where
-  pub front : List ℕ
-  pub behind : List ℕ
-  pub chain : a.seen.chain ≡ front ++ histogram ∷ (passed ++ behind)
-  pub stands : at ≡ first_of behind
-  pub within : at ≢ QUEUE → at + BLOCK_LEAST ≤ a.segment.shape.size
-  pub few : BLOCK_LEAST * length a.seen.chain + HEADER_WORDS ≤ a.segment.shape.size
-
 -- so many keys are as many as a histogram may have: its buckets, or as many values as records fit in a segment
 abbrev pub HoldsKeys : Segment → Known → ℕ → Type 0
 HoldsKeys segment known many =
     (has_buckets known.spec ≡ true → buckets_of known.spec ≤ many)
     × (known.spec ≡ Sparse → (segment.setting.shape.size - HEADER_WORDS) / BLOCK_LEAST ≤ many)
-
--- ---- what it lists
-
--- it saw of a record that it is a sample of a value, and did this with it; or that it is a sample of none
-abbrev pub Passes : (ℤ → ℕ → Type 0) → Seen → ℕ → ℕ → Type 0
-Passes Does seen histogram at =
-    ((value : ℤ) × SawSample seen histogram value at × Does value at) ⊎ ((value : ℤ) → is_i32 value ≡ true → SawOther seen histogram value at)
-
--- no key stands twice
-abbrev pub KeysStandOnce : List (ℤ × ℕ) → Type 0
-KeysStandOnce counts = (key : ℤ) → sum_by (λ count. if int_eq count.0 key then 1 else 0) counts ≤ 1
-
--- Of each record that it passed it saw which sample it is, and did something with each sample. What it listed are values, each once, with units
--- that the first sample of the value has.
-pub record ListsValues (Does : ℤ → ℕ → Type 0) (Has : ℕ → ℕ → Type 0) (histogram : ℕ) (passed : List ℕ) (listed : List (ℤ × ℕ)) (seen : Seen) : Type 0 where
-  pub passes : AllByRecursion (Passes Does seen histogram) passed
-  pub firsts : All (λ count. (sample : ℕ) × ComesFirst (SawOther seen histogram count.0) (SawSample seen histogram count.0) passed sample × Has sample count.1) listed
-  pub once : KeysStandOnce listed
-  pub few : length listed ≤ length passed
-
--- these keys with units in ascending order
-pub record AreSorted (old new : List (ℤ × ℕ)) : Type 0 where
-  pub moved : IsPermutation old new
-  pub ascending : KeysStandOnce old → IsStrictlySortedBy int_cmp (map (λ count. count.0) new)
-
--- What it listed of a record that is a sample, which is not a later one of its value; or it listed nothing of it.
-abbrev pub ListsOf : (ℤ → ℕ → Type 0) → (ℕ → ℕ → Type 0) → ℕ → ℕ → Option (ℤ × ℕ) → Actor → Type 0
-ListsOf Does Has histogram at (Some count) a = SawSample a.seen histogram count.0 at × Does count.0 at × Has at count.1 × ¬ (IsLaterSample a at)
-ListsOf Does Has histogram at None a = Passes Does a.seen histogram at
-
--- a list of one, or of none
-abbrev pub listed_of : Option (ℤ × ℕ) → List (ℤ × ℕ)
-listed_of (Some count) = count ∷ []
-listed_of None = []
 
 -- ---- a delta
 

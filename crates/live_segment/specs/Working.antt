@@ -16,7 +16,7 @@ use Rattle.segment_machine.specs.Form.{is_off, IsPacking}
 use Rattle.segment_promises.specs.Follows.{noted_by}
 use Rattle.live_segment.specs.declared.counting.Packing.{Packing}
 use Rattle.live_segment.specs.declared.counting.Packing.TheVariants.{Packed, Off, Passed}
-use Rattle.live_segment.specs.Onward.{DoesOn, SeesOn}
+use Rattle.segment_promises.specs.Onward.{DoesOn, SeesOn}
 use Rattle.live_segment.specs.Telling.{KnowsAlone, bucket_entry, entry_notes}
 
 -- A call of a recorder goes on: what only an ended call changes is as it was, and it has seen and done no less.

@@ -10,7 +10,8 @@ ghost use Rattle.segment_machine.specs.Form.{is_off, SaysPacked};
 ghost use Rattle.segment_machine.specs.Note.{TookBucket};
 ghost use Rattle.live_segment.specs.Deltas.{AreUnits, HasTaken, HasTakenBuckets, HasTakenSample, HasTakenSum, MayTakeSample, MayTakeSum, TakesAt, TakesOn, TakesValues, TakesWord, units_of_key};
 ghost use Rattle.live_segment.specs.Known.{known_view, KnowsRight};
-ghost use Rattle.live_segment.specs.Values.{ComesTo, HasTakenValues, HoldsKeys, TakesAlong, TakesValue};
+ghost use Rattle.segment_promises.specs.Values.{ComesTo};
+ghost use Rattle.live_segment.specs.Values.{HasTakenValues, HoldsKeys, TakesAlong, TakesValue};
 ghost use Rattle.segment_image.specs.declared.layout.TheConstants.{QUEUE};
 
 use crate::recorder::KnownHistogram;

@@ -9,7 +9,7 @@ ghost use Rattle.live_segment.specs.Known.{known_view};
 ghost use Rattle.live_segment.specs.Rule.{IsOf};
 ghost use Rattle.live_segment.specs.Samples.{CountsSample, SamplesAreFew, SeesSample, ShowsSample};
 ghost use Rattle.live_segment.specs.Telling.{KnowsAlone};
-ghost use Rattle.live_segment.specs.Values.{AreSorted};
+ghost use Rattle.segment_promises.specs.Values.{AreSorted};
 
 use crate::recorder::KnownHistogram;
 use crate::rule::Pass;

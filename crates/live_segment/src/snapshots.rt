@@ -59,12 +59,12 @@ impl Segment {
     ghost use Rattle.std.specs.Prelude.{◌+◌, ◌-◌, ◌/◌, List, [], map, true, false, vec_capacity};
     ghost use Rattle.segment_image.specs.declared.layout.TheConstants.{QUEUE};
     ghost use Rattle.bucket_ranges.specs.declared.spec.Spec.TheVariants.{Sparse};
-    ghost use Rattle.live_segment.specs.Records.{StandOnce};
+    ghost use Rattle.segment_promises.specs.Values.{StandOnce, ComesTo};
     ghost use Rattle.live_segment.specs.Samples.{SamplesStandBehind};
     ghost use Rattle.segment_machine.specs.declared.actor.Actor.{Actor};
     ghost use Rattle.live_segment.specs.declared.rule.Setting.{Setting};
     ghost use Rattle.live_segment.specs.Deltas.{AreUnits};
-    ghost use Rattle.live_segment.specs.Values.{ComesTo, LooksAlong, LooksAtValues, OpensWith};
+    ghost use Rattle.live_segment.specs.Values.{LooksAlong, LooksAtValues, OpensWith};
     ghost use Rattle.bucket_ranges.specs.Spec.{buckets_of};
     ghost use Rattle.segment_machine.specs.Actor.{has_buckets, is_opener};
     ghost use Rattle.segment_machine.specs.Event.{taking_event};

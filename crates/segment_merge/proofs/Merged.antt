@@ -24,7 +24,7 @@ use Rattle.segment_calls.specs.declared.refusal.Refusal.TheVariants.{NoUnits}
 use Rattle.live_segment.specs.declared.recorder.Hist.{Hist}
 use Rattle.live_segment.specs.Batching.{IsBatched, IsCutShort}
 use Rattle.live_segment.specs.Hist.{IsAnsweredWith, IsRefusedWith}
-use Rattle.live_segment.specs.Onward.{DoesOn, GoesOn, SeesOn}
+use Rattle.segment_promises.specs.Onward.{DoesOn, GoesOn, SeesOn}
 use Rattle.live_segment.specs.Searching.{asked_at}
 use Rattle.live_segment.specs.Settling.{ComesToKnow, LooksAround}
 use Rattle.live_segment.proofs.Proceeding.{does_not, does_on, sees_not, sees_on}

@@ -16,7 +16,7 @@ use Rattle.segment_calls.specs.declared.refusal.Refusal.TheVariants.{NoUnits}
 use Rattle.live_segment.specs.declared.recorder.Hist.{Hist}
 use Rattle.live_segment.specs.Batching.{IsCutShort}
 use Rattle.live_segment.specs.Hist.{IsAnsweredWith, IsRefusedWith, KnowsNamed}
-use Rattle.live_segment.specs.Onward.{DoesOn, SeesOn}
+use Rattle.segment_promises.specs.Onward.{DoesOn, SeesOn}
 use Rattle.segment_merge.specs.declared.merging.MergeReport.{MergeReport}
 use Rattle.segment_merge.specs.declared.merging.MergeStop.{MergeStop}
 use Rattle.segment_merge.specs.Remainder.{items_of}

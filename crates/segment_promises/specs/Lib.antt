@@ -8,3 +8,5 @@ pub mod Adoption
 pub mod Follows
 pub mod Examples
 pub mod WorkedReadings
+pub mod Onward
+pub mod Values

@@ -27,7 +27,8 @@ impl Play<Announcement, Actor> for LoadPublished {
 
 impl Segment {
     ghost use Rattle.live_segment.specs.Holders.{MayStep};
-    ghost use Rattle.live_segment.specs.Records.{StandOnce, KnowsOwnNames, KnowsOwnSamples};
+    ghost use Rattle.segment_promises.specs.Values.{StandOnce};
+    ghost use Rattle.live_segment.specs.Records.{KnowsOwnNames, KnowsOwnSamples};
     ghost use Rattle.live_segment.specs.Steps.{Stepped};
 
     pub(crate) fn load_next(&self, seat: &mut Pass, at: u64) -> u64

@@ -3,7 +3,7 @@ use Rattle.std.proofs.lemmas.Int.{to_z-of_z}
 use Rattle.live_segment.specs.Deltas.{HasTaken}
 use Rattle.live_segment.specs.Known.{known_view}
 use Rattle.live_segment.proofs.ValuesDelta.{may_take, takes_values, comes, has_taken_values}
-use Rattle.live_segment.proofs.ValueWalks.{stands_there}
+use Rattle.segment_promises.proofs.ValueWalks.{stands_there}
 use Rattle.live_segment.proofs.segment.Segment.delta_of_values.Goals as goal
 
 pub take_next-first-requires-clause-may : goal.take_next-first-requires-clause-may

@@ -2,7 +2,7 @@ use Rattle.std.proofs.Common.{◌≡◌, ℕ, ◌-◌, ◌+◌, Option}
 use Rattle.bucket_ranges.specs.Spec.{buckets_of}
 use Rattle.live_segment.specs.Steps.{IsSame}
 use Rattle.live_segment.specs.Working.{LooksAt, LooksOn}
-use Rattle.live_segment.proofs.Ranks.{last_rank}
+use Rattle.segment_promises.proofs.Ranks.{last_rank}
 use Rattle.live_segment.proofs.segment.Segment.disable_single.Given as goal
 
 abbrev pub invariant-loop-counts : goal.invariant-loop-counts

@@ -1,7 +1,7 @@
 use Rattle.std.proofs.Common.{◌-◌}
 use Rattle.live_segment.specs.Searching.{HasSearched, WalksAt}
 use Rattle.live_segment.specs.Steps.{IsSame}
-use Rattle.live_segment.proofs.Searching.{last_of}
+use Rattle.segment_promises.proofs.Furthest.{last_of}
 use Rattle.live_segment.proofs.segment.Segment.find.Given as goal
 
 abbrev pub invariant-loop-from : goal.invariant-loop-from

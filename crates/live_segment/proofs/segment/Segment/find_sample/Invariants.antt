@@ -2,7 +2,7 @@ use Rattle.std.proofs.Common.{◌≡◌, ◌-◌, ℤ}
 use Rattle.live_segment.specs.Sampling.{WalksBehind}
 use Rattle.live_segment.specs.Searching.{HasSearched}
 use Rattle.live_segment.specs.Steps.{IsSame}
-use Rattle.live_segment.proofs.Searching.{last_of}
+use Rattle.segment_promises.proofs.Furthest.{last_of}
 use Rattle.live_segment.proofs.segment.Segment.find_sample.Given as goal
 
 abbrev pub invariant-loop-from : goal.invariant-loop-from

@@ -4,7 +4,7 @@ use Rattle.live_segment.specs.Known.{known_view}
 use Rattle.live_segment.specs.Telling.{bucket_entry}
 use Rattle.live_segment.specs.Steps.{IsSame}
 use Rattle.live_segment.specs.Working.{LooksFor}
-use Rattle.live_segment.proofs.Ranks.{last_rank}
+use Rattle.segment_promises.proofs.Ranks.{last_rank}
 use Rattle.live_segment.proofs.segment.Segment.pack_units.Given as goal
 
 abbrev pub invariant-loop-bucket : goal.invariant-loop-bucket

@@ -10,7 +10,7 @@ use Rattle.live_segment.specs.Taking.{answered_as}
 use Rattle.live_segment.proofs.Answering.{may_sum, may_answer, has_snapshot}
 use Rattle.live_segment.proofs.Sharing.{same_on}
 use Rattle.live_segment.proofs.ValuesSeen.{may_look, looks_first, comes, has_looked, saw_values, are_units}
-use Rattle.live_segment.proofs.ValueWalks.{stands_there}
+use Rattle.segment_promises.proofs.ValueWalks.{stands_there}
 use Rattle.live_segment.proofs.segment.Segment.snapshot_of_values.Goals as goal
 
 pub look_next-first-requires-clause-may : goal.look_next-first-requires-clause-may

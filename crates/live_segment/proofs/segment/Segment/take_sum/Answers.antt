@@ -9,7 +9,7 @@ use Rattle.segment_machine.specs.declared.actor.Known.{Known}
 use Rattle.live_segment.specs.declared.segment.Segment.{Segment}
 use Rattle.live_segment.specs.Deltas.{MayTakeSum}
 use Rattle.live_segment.specs.Known.{known_view}
-use Rattle.live_segment.specs.Records.{StandOnce}
+use Rattle.segment_promises.specs.Values.{StandOnce}
 use Rattle.live_segment.specs.Samples.{SamplesStandBehind}
 use Rattle.live_segment.specs.Steps.{Pass}
 use Rattle.live_segment.specs.Telling.{MayDo, Noted}

@@ -1,7 +1,7 @@
 use Rattle.std.proofs.Common.{◌-◌, ◌/◌, ◌≤◌, ℕ, List, vec_capacity}
 use Rattle.live_segment.specs.Known.{known_view}
 use Rattle.live_segment.specs.Values.{TakesAlong}
-use Rattle.live_segment.proofs.ValueWalks.{left_of}
+use Rattle.segment_promises.proofs.ValueWalks.{left_of}
 use Rattle.live_segment.proofs.segment.Segment.take_values.Given as goal
 
 -- it has taken of the samples among the records that it passed, and there is room for as many values as fit in a segment

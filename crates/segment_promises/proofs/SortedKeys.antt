@@ -13,7 +13,7 @@ use mathlib.Core.Option.{some, some-injective, some-ne-none}
 use lib.ListN.{get_elem?}
 use Rattle.segment_invariant.proofs.Lists.Elements.{below_length, sum_at_least}
 use Rattle.segment_invariant.proofs.Lists.Pairs.{element_at}
-use Rattle.live_segment.specs.Values.{KeysStandOnce}
+use Rattle.segment_promises.specs.Values.{KeysStandOnce}
 
 -- whether a count stands before another
 abbrev sooner : ℤ × ℕ → ℤ × ℕ → Bool

@@ -11,12 +11,10 @@ use Rattle.std.proofs.lemmas.List.Sums.{sum_by-append, sum_by_push}
 use Rattle.segment_machine.specs.declared.seen.Seen.{Seen}
 use Rattle.segment_machine.specs.Firsts.{ComesFirst}
 use Rattle.segment_machine.specs.Made.{SawOther, SawSample}
-use Rattle.live_segment.specs.Onward.{Grows}
-use Rattle.live_segment.specs.Values.{KeysStandOnce, ListsValues, Passes}
-use Rattle.live_segment.proofs.AllBuckets.{all_push}
-use Rattle.live_segment.proofs.FirstValues.{other_value}
-use Rattle.live_segment.proofs.SampleSearches.{other_still, others_still}
-use Rattle.live_segment.proofs.Showing.{still}
+use Rattle.segment_promises.specs.Onward.{Grows}
+use Rattle.segment_promises.specs.Values.{KeysStandOnce, ListsValues, Passes}
+use Rattle.segment_promises.proofs.Growing.{all_push, other_still, others_still, still}
+use Rattle.segment_promises.proofs.FirstValues.{other_value}
 
 -- ---- lists
 

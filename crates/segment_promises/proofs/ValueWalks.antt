@@ -11,10 +11,9 @@ use Rattle.list_core.specs.Walk.{stands_behind}
 use Rattle.list_core.proofs.Walks.{place_of}
 use Rattle.segment_machine.specs.declared.actor.Actor.{Actor}
 use Rattle.segment_machine.specs.Walking.{IsNextOf, extended}
-use Rattle.live_segment.specs.Records.{StandOnce}
-use Rattle.live_segment.specs.Values.{ComesTo, first_of}
-use Rattle.live_segment.proofs.Searching.{last_of, last_least, last_most, last_stands}
-use Rattle.live_segment.proofs.Sharing.{extended_end, extended_grows, reference_behind}
+use Rattle.segment_promises.specs.Values.{StandOnce, ComesTo, first_of}
+use Rattle.segment_promises.proofs.Furthest.{last_of, last_least, last_most, last_stands}
+use Rattle.segment_promises.proofs.Growing.{extended_end, extended_grows, reference_behind}
 
 behind_last : (before : List ℕ) (at : ℕ) → stands_behind (before ++ at ∷ []) ≡ at
 behind_last before at = let long = length_push before at in get_or_push (stops before) at 0 (length (before ++ at ∷ [])) (omega (arith, long))

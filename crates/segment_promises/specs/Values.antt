@@ -1,0 +1,67 @@
+-- The samples of a sparse histogram along the list, and which values a call lists of them.
+use Rattle.std.specs.Prelude.{◌≡◌, ◌≢◌, ◌⊎◌, true, ℕ, ◌+◌, ◌*◌, ◌<◌, ◌≤◌, ℤ, List, [], ◌∷◌, ◌++◌, length, map, slice_index, sum_by, if◌then◌else◌, Option, Some, None}
+use Rattle.std.specs.List.{All, AllByRecursion}
+use Rattle.std.specs.List.Sorted.{IsPermutation, IsStrictlySortedBy}
+use Rattle.std.specs.Ordering.{int_cmp, int_eq}
+use Rattle.segment_image.specs.declared.layout.TheConstants.{BLOCK_LEAST, HEADER_WORDS, QUEUE}
+use Rattle.bucket_ranges.specs.Reading.{is_i32}
+use Rattle.list_core.specs.Chain.{stops}
+use Rattle.segment_machine.specs.declared.actor.Actor.{Actor}
+use Rattle.segment_machine.specs.declared.seen.Seen.{Seen}
+use Rattle.segment_machine.specs.Firsts.{ComesFirst}
+use Rattle.segment_machine.specs.Made.{SawOther, SawSample}
+use Rattle.segment_machine.specs.Taking.{IsLaterSample}
+
+-- ---- along the list
+
+-- along these nexts no block stands twice, and none is the queue block
+abbrev pub StandOnce : List ℕ → Type 0
+StandOnce chain = (i j : ℕ) → i < j → j ≤ length chain → slice_index (stops chain) i ≢ slice_index (stops chain) j
+
+-- the first of these records, or the queue block where there is none
+abbrev pub first_of : List ℕ → ℕ
+first_of [] = QUEUE
+first_of (at ∷ rest) = at
+
+-- Behind the record of a histogram it has passed these records, and comes to the next one that it saw there, or to the end of the list.
+pub record ComesTo (histogram : ℕ) (passed : List ℕ) (at : ℕ) (a : Actor) : Type 0 where
+  pub front : List ℕ
+  pub behind : List ℕ
+  pub chain : a.seen.chain ≡ front ++ histogram ∷ (passed ++ behind)
+  pub stands : at ≡ first_of behind
+  pub within : at ≢ QUEUE → at + BLOCK_LEAST ≤ a.segment.shape.size
+  pub few : BLOCK_LEAST * length a.seen.chain + HEADER_WORDS ≤ a.segment.shape.size
+
+-- ---- what is listed
+
+-- it saw of a record that it is a sample of a value, and did this with it; or that it is a sample of none
+abbrev pub Passes : (ℤ → ℕ → Type 0) → Seen → ℕ → ℕ → Type 0
+Passes Does seen histogram at =
+    ((value : ℤ) × SawSample seen histogram value at × Does value at) ⊎ ((value : ℤ) → is_i32 value ≡ true → SawOther seen histogram value at)
+
+-- no key stands twice
+abbrev pub KeysStandOnce : List (ℤ × ℕ) → Type 0
+KeysStandOnce counts = (key : ℤ) → sum_by (λ count. if int_eq count.0 key then 1 else 0) counts ≤ 1
+
+-- Of each record that it passed it saw which sample it is, and did something with each sample. What it listed are values, each once, with units
+-- that the first sample of the value has.
+pub record ListsValues (Does : ℤ → ℕ → Type 0) (Has : ℕ → ℕ → Type 0) (histogram : ℕ) (passed : List ℕ) (listed : List (ℤ × ℕ)) (seen : Seen) : Type 0 where
+  pub passes : AllByRecursion (Passes Does seen histogram) passed
+  pub firsts : All (λ count. (sample : ℕ) × ComesFirst (SawOther seen histogram count.0) (SawSample seen histogram count.0) passed sample × Has sample count.1) listed
+  pub once : KeysStandOnce listed
+  pub few : length listed ≤ length passed
+
+-- these keys with units in ascending order
+pub record AreSorted (old new : List (ℤ × ℕ)) : Type 0 where
+  pub moved : IsPermutation old new
+  pub ascending : KeysStandOnce old → IsStrictlySortedBy int_cmp (map (λ count. count.0) new)
+
+-- What it listed of a record that is a sample, which is not a later one of its value; or it listed nothing of it.
+abbrev pub ListsOf : (ℤ → ℕ → Type 0) → (ℕ → ℕ → Type 0) → ℕ → ℕ → Option (ℤ × ℕ) → Actor → Type 0
+ListsOf Does Has histogram at (Some count) a = SawSample a.seen histogram count.0 at × Does count.0 at × Has at count.1 × ¬ (IsLaterSample a at)
+ListsOf Does Has histogram at None a = Passes Does a.seen histogram at
+
+-- a list of one, or of none
+abbrev pub listed_of : Option (ℤ × ℕ) → List (ℤ × ℕ)
+listed_of (Some count) = count ∷ []
+listed_of None = []

@@ -4,7 +4,7 @@ ghost use Rattle.std.specs.Prelude.{◌≡◌, length};
 
 use crate::add::{Add, AddStep};
 use crate::counting::fetch_add;
-use crate::refusal::BatchRefusal;
+use segment_calls::BatchRefusal;
 use segment_image::layout::HISTOGRAM_SUM;
 
 /// What a step of a `batch` says.

@@ -16,6 +16,7 @@ mod Opening
 mod Parts
 mod Quiet
 mod Runners
+mod Scheduling
 mod Snapshots
 mod Takes
 mod Tellings

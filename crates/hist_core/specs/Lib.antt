@@ -6,6 +6,7 @@ pub mod Batch
 pub mod Runner
 pub mod Board
 pub mod World
+pub mod Moves
 pub mod Mounted
 pub mod Taker
 pub mod Looker

@@ -25,4 +25,4 @@ pub use call::{Answer, Begun, Call, Move, Stepped};
 pub use entry::{Entry, Taken};
 pub use fault::WorldFault;
 pub use segment_calls::{BatchRefusal, Delta, Refusal, Snapshot};
-pub use world::{MAX_ACTORS, World};
+pub use world::{MAX_ACTORS, World, run_schedule};

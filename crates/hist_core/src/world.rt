@@ -1,7 +1,7 @@
 //! A segment and the actors that call on it, as plain data: one event a step.
 
 use crate::board::Board;
-use crate::call::{Begun, Call, Stepped};
+use crate::call::{Begun, Call, Move, Stepped};
 use crate::entry::{Entry, Taken};
 use crate::fault::WorldFault;
 use segment_image::Shape;
@@ -29,6 +29,7 @@ impl World {
     ghost use Rattle.alloc_core.specs.Layout.{IsShape};
     ghost use Rattle.segment_machine.specs.State.{State};
     ghost use Rattle.hist_core.specs.Board.{IsReachedAs, IsNewBoard, BeginsFrom, StepsTo, IsAsBefore, OthersStay, Says, IsConsistentAs, IsReadAs, AreKnownFirst};
+    ghost use Rattle.hist_core.specs.Moves.{CanMake, Makes, FaultsAt};
     ghost use Rattle.hist_core.specs.World.{world_checks, begin_checks, CanBegin, TakesMemory, BeginSays, step_checks, ended_of, begun_of, taken_of};
 
     /// A new segment of `size` words in pages of `page` words, of version 1 or 2, with so many actors that have done nothing.
@@ -205,6 +206,23 @@ impl World {
         Ok(board.step(actor))
     }
 
+    // Makes a move: an actor begins a call, or goes on with it by one event.
+    fn make(&mut self, step: &Move) -> Result<(), WorldFault>
+        requires { CanMake step.now self.old.board }
+        ensures makes { OnOk result (Makes step.now self.old.board self.new.board) }
+        ensures faults { IfErr result (FaultsAt step.now self.old.board) }
+    {
+        match step {
+            Move::Begin(actor, call) => {
+                self.begin(*actor, call)?;
+            }
+            Move::Step(actor) => {
+                self.step(*actor)?;
+            }
+        }
+        Ok(())
+    }
+
     /// What an actor's deltas took, in order. A running one stands last from its first event on, so far as it went. The keys of
     /// each ascend, at every moment. An actor that is not there took nothing.
     pub fn taken(&self, actor: usize) -> &[Taken]
@@ -216,4 +234,32 @@ impl World {
         }
         self.board.runners[actor].taken.as_slice()
     }
+}
+
+ghost use Rattle.std.specs.Prelude.{IfOk, IfErr};
+ghost use Rattle.hist_core.specs.declared.board.Board.{Board as WorldBoard};
+ghost use Rattle.hist_core.specs.Board.{IsNewBoard};
+ghost use Rattle.hist_core.specs.Moves.{CanMakeAll, LeadsTo, StopsWith};
+
+/// The world after these moves, one after the other. It stops at the first fault, that of `World::new` or of a move.
+///
+/// Each call has to be one that can begin so far, wherever the moves before it lead: `World::can_begin` tells.
+pub fn run_schedule(
+    alloc: Global,
+    size: u64,
+    page: u64,
+    id: u64,
+    actors: usize,
+    version: u64,
+    moves: &[Move],
+) -> Result<World, WorldFault>
+    requires { (first : WorldBoard) → IsNewBoard (record { size = size; page = page }) version id actors first → CanMakeAll moves.now first }
+    ensures world { IfOk result (λ world. LeadsTo size page id actors version moves.now world.board) }
+    ensures fault { IfErr result (StopsWith size page id actors version moves.now) }
+{
+    let mut world = World::new(alloc, size, page, id, actors, version)?;
+    for step in moves {
+        world.make(step)?;
+    }
+    Ok(world)
 }

@@ -1,0 +1,51 @@
+-- Moves one after the other.
+use Rattle.std.proofs.Common.{◌≡◌, ℕ, ◌+◌, ◌<◌, List, [], ◌∷◌, ◌++◌, take, drop, get_or, length, refl, sym, ap, subst, ◌∙◌}
+use Rattle.std.proofs.lemmas.List.{drop_more, take_more, take-append-drop}
+use Rattle.std.specs.Prelude.{Option, Some, None, Ok, Err, MatchOption}
+use Rattle.hist_core.specs.declared.board.Board.{Board}
+use Rattle.hist_core.specs.declared.call.Move.{Move}
+use Rattle.hist_core.specs.declared.fault.WorldFault.{WorldFault}
+use Rattle.hist_core.specs.Moves.{FaultsAt, Makes, MakesAll, StopsAt}
+
+-- one move more
+makes_more : (moves : List Move) (move : Move) (old mid new : Board) → MakesAll moves old mid → Makes move mid new → MakesAll (moves ++ move ∷ []) old new
+makes_more [] move old mid new all one = (new, subst (λ (b : Board). Makes move b new) all one, refl)
+makes_more (first ∷ moves) move old mid new all one = (all.0, all.1, makes_more moves move all.0 mid new all.2 one)
+
+-- the moves so far and the next one
+pub made_next : (moves : List Move) (i : ℕ) (move : Move) (old mid new : Board) → i < length moves → move ≡ get_or moves i move
+    → MakesAll (take i moves) old mid → Makes move mid new → MakesAll (take (i + 1) moves) old new
+made_next moves i move old mid new near is all one =
+    subst (λ (l : List Move). MakesAll l old new) (sym (take_more moves i move near ∙ ap (λ (m : Move). take i moves ++ m ∷ []) (sym is)))
+    (makes_more (take i moves) move old mid new all one)
+
+-- the moves that are left are the next one and the others
+pub left_is : (moves : List Move) (i : ℕ) (move : Move) → i < length moves → move ≡ get_or moves i move → drop i moves ≡ move ∷ drop (i + 1) moves
+left_is moves i move near is = drop_more moves i move near ∙ ap (λ (m : Move). m ∷ drop (i + 1) moves) (sym is)
+
+-- the next one has a fault
+pub stops_next : (moves : List Move) (i : ℕ) (move : Move) (old mid : Board) (fault : WorldFault) → i < length moves → move ≡ get_or moves i move
+    → MakesAll (take i moves) old mid → FaultsAt move mid fault → StopsAt moves old fault
+stops_next moves i move old mid fault near is all faults = record {
+  before = take i moves;
+  move = move;
+  rest = drop (i + 1) moves;
+  are = sym (take-append-drop i moves) ∙ ap (λ (l : List Move). take i moves ++ l) (left_is moves i move near is);
+  board = mid;
+  leads = all;
+  faults = faults;
+}
+
+-- what is Ok has no fault
+pub no_fault : {A : Type 0} (first : Option WorldFault) (a : A) (fine : Type 0) → MatchOption first fine (λ fault. Ok a ≡ Err fault) → first ≡ None
+no_fault None a fine is = refl
+no_fault (Some fault) a fine is = absurd (cc is)
+
+-- and is fine
+pub is_fine : {A : Type 0} (first : Option WorldFault) (a : A) (fine : Type 0) → MatchOption first fine (λ fault. Ok a ≡ Err fault) → fine
+is_fine None a fine is = is
+is_fine (Some fault) a fine is = absurd (cc is)
+
+-- what stops behind a beginning without fault
+pub stops_behind : (first : Option WorldFault) (fault : WorldFault) (Stops : Type 0) → first ≡ None → Stops → MatchOption first Stops (λ why. fault ≡ why)
+stops_behind first fault Stops none stops = subst (λ (f : Option WorldFault). MatchOption f Stops (λ why. fault ≡ why)) (sym none) stops

@@ -1,0 +1,66 @@
+-- The moves of a schedule, one after the other.
+use Rattle.std.specs.Prelude.{◌≡◌, ◌⊎◌, ℕ, List, [], ◌∷◌, ◌++◌, Some, None, MatchOption, ⊤}
+use Rattle.segment_image.specs.Checks.{first_fault}
+use Rattle.segment_machine.specs.State.{State}
+use Rattle.hist_core.specs.declared.board.Board.{Board}
+use Rattle.hist_core.specs.declared.call.Begun.{Begun}
+use Rattle.hist_core.specs.declared.call.Move.{Move}
+use Rattle.hist_core.specs.declared.call.Move.TheVariants.{Begin, Step}
+use Rattle.hist_core.specs.declared.call.Stepped.{Stepped}
+use Rattle.hist_core.specs.declared.fault.WorldFault.{WorldFault}
+use Rattle.hist_core.specs.declared.fault.WorldFault.TheVariants.{NoMemory}
+use Rattle.hist_core.specs.Board.{BeginsFrom, IsNewBoard, IsReachedAs, OthersStay, Says, StepsTo}
+use Rattle.hist_core.specs.World.{world_checks, begin_checks, step_checks, BeginSays, CanBegin, TakesMemory}
+
+-- A move leads from a world to another: an actor begins a call, or goes on by one event. Nothing is wrong with it, and all other actors
+-- stay.
+abbrev pub Makes : Move → Board → Board → Type 0
+Makes (Begin actor call) old new =
+    (first_fault (begin_checks old actor call) ≡ None) × OthersStay actor old new × ((said : Begun) × BeginSays actor call old new said)
+    × ((state : State) → IsReachedAs old state → BeginsFrom state actor new)
+Makes (Step actor) old new =
+    (first_fault (step_checks old actor) ≡ None) × OthersStay actor old new
+    × ((said : Stepped) × Says actor old new said × ((state : State) → IsReachedAs old state → StepsTo old actor state new said))
+
+-- moves lead from a world to another, in order
+abbrev pub MakesAll : List Move → Board → Board → Type 0
+MakesAll [] old new = new ≡ old
+MakesAll (move ∷ rest) old new = (mid : Board) × Makes move old mid × MakesAll rest mid new
+
+-- a world has this fault at a move: the first that holds; or there was no memory for a call
+abbrev pub FaultsAt : Move → Board → WorldFault → Type 0
+FaultsAt (Begin actor call) board fault =
+    MatchOption (first_fault (begin_checks board actor call)) ((fault ≡ NoMemory) × TakesMemory call) (λ first. fault ≡ first)
+FaultsAt (Step actor) board fault = first_fault (step_checks board actor) ≡ Some fault
+
+-- the moves before one lead to a world that has this fault at it
+pub record StopsAt (moves : List Move) (old : Board) (fault : WorldFault) : Type 0 where
+  pub before : List Move
+  pub move : Move
+  pub rest : List Move
+  pub are : moves ≡ before ++ move ∷ rest
+  pub board : Board
+  pub leads : MakesAll before old board
+  pub faults : FaultsAt move board fault
+
+-- the moves lead from a new world to a last one
+abbrev pub LeadsTo : (size page id actors version : ℕ) → List Move → Board → Type 0
+LeadsTo size page id actors version moves last =
+    (first_fault (world_checks size page actors version) ≡ None)
+    × ((first : Board) × IsNewBoard (record { size = size; page = page }) version id actors first × MakesAll moves first last)
+
+-- The first fault: that of the new world, or that there was no memory for it; or that of a move, where the moves before it have none.
+abbrev pub StopsWith : (size page id actors version : ℕ) → List Move → WorldFault → Type 0
+StopsWith size page id actors version moves fault = MatchOption (first_fault (world_checks size page actors version))
+    ((fault ≡ NoMemory) ⊎ ((first : Board) × IsNewBoard (record { size = size; page = page }) version id actors first × StopsAt moves first fault))
+    (λ why. fault ≡ why)
+
+-- the call of a move can begin so far
+abbrev pub CanMake : Move → Board → Type 0
+CanMake (Begin actor call) board = CanBegin actor board call
+CanMake (Step actor) board = ⊤
+
+-- so it can wherever the moves before it lead
+abbrev pub CanMakeAll : List Move → Board → Type 0
+CanMakeAll [] board = ⊤
+CanMakeAll (move ∷ rest) board = CanMake move board × ((mid : Board) → Makes move board mid → CanMakeAll rest mid)

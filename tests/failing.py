@@ -77,14 +77,19 @@ def untouched(wanted, came, written):
     return difference(wanted, came) or (None if written in (b"", STOOD) else f"{len(written)} bytes stand in OUT")
 
 
-def wrong_reads(command):
+def wrong_where(command, wanted, what, **fault):
+    """What is wrong where each such call fails in turn, and a fault is wanted and no output; or None."""
     tried = 0
-    for place, came, written in command.each(numbers=(tracer.READ,), files=command.inputs):
+    for place, came, written in command.each(**fault):
         tried += 1
-        wrong = untouched(READ_FAULT, came, written)
+        wrong = untouched(wanted, came, written)
         if wrong is not None:
-            return f"read {place}: {wrong}"
-    return None if tried else "no read was met"
+            return f"{what} {place}: {wrong}"
+    return None if tried else f"no {what} was met"
+
+
+def wrong_reads(command):
+    return wrong_where(command, READ_FAULT, "read", numbers=(tracer.READ,), files=command.inputs)
 
 
 def wrong_image_writes(command):
@@ -130,13 +135,7 @@ def wrong_growths(command):
 
 
 def wrong_threads(command):
-    tried = 0
-    for place, came, written in command.each(numbers=(tracer.CLONE, tracer.CLONE_3), error=errno.EAGAIN):
-        tried += 1
-        wrong = untouched(NO_THREAD, came, written)
-        if wrong is not None:
-            return f"thread {place}: {wrong}"
-    return None if tried else "no thread was started"
+    return wrong_where(command, NO_THREAD, "thread", numbers=(tracer.CLONE, tracer.CLONE_3), error=errno.EAGAIN)
 
 
 def wrong_pieces(command):

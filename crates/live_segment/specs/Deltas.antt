@@ -5,7 +5,7 @@ use Rattle.std.specs.List.Sorted.{IsStrictlySortedBy}
 use Rattle.std.specs.Ordering.{int_cmp}
 use Rattle.segment_image.specs.declared.layout.TheConstants.{HISTOGRAM_COUNTS, HISTOGRAM_SINGLE, SAMPLE_COUNT}
 use Rattle.bucket_ranges.specs.declared.spec.Spec.TheVariants as spec
-use Rattle.bucket_ranges.specs.Single.{single_of}
+use Rattle.bucket_ranges.specs.Single.{packed_bucket, single_of}
 use Rattle.bucket_ranges.specs.Spec.{buckets_of}
 use Rattle.segment_machine.specs.declared.actor.Actor.{Actor}
 use Rattle.segment_machine.specs.declared.actor.Known.{Known}
@@ -13,7 +13,7 @@ use Rattle.segment_machine.specs.declared.actor.Taken.{Taken}
 use Rattle.segment_machine.specs.declared.place.Place.TheVariants.{Idle, SampleLoaded}
 use Rattle.segment_machine.specs.Actor.{SawCount, SawSingle, has_buckets, is_bound, is_opener, looking, units_listed, word_seen}
 use Rattle.segment_machine.specs.Calls.{change_last}
-use Rattle.segment_machine.specs.Form.{is_off}
+use Rattle.segment_machine.specs.Form.{is_off, units_in}
 use Rattle.segment_machine.specs.Made.{SawSample}
 use Rattle.segment_machine.specs.Note.{TookAll, TookBucket, TookSample, moment_of}
 use Rattle.segment_machine.specs.Taking.{Takes, is_looking}

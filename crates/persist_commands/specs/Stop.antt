@@ -1,0 +1,27 @@
+-- Why a run stops, and which of several stops is told.
+use Rattle.std.specs.Prelude.{◌≡◌, ◌+◌, ◌≤◌, ℕ, List, Result, Ok, Err, ⊤}
+use Rattle.std.specs.List.{All, Contains}
+use Rattle.persist_report_core.specs.declared.fault.CliFault.{CliFault}
+use Rattle.persist_report_core.specs.declared.fault.CliFault.TheVariants as cli
+use Rattle.persist_commands.specs.declared.stop.Stop.{Stop}
+use Rattle.persist_commands.specs.declared.stop.Stop.TheVariants.{NoThread, NoMemory, Gate, Refused}
+
+-- the fault of a run that has stopped
+abbrev pub fault_of_stop : Stop → CliFault
+fault_of_stop NoThread = cli.NoThread
+fault_of_stop NoMemory = cli.NoMemory
+fault_of_stop Gate = cli.Gate
+fault_of_stop (Refused number why) = cli.Refused number why
+
+-- where a stop stands in the order in which stops are told: want of a thread, want of memory, the gate, and refusals in the order of their records
+abbrev pub rank_of : Stop → ℕ
+rank_of NoThread = 0
+rank_of NoMemory = 1
+rank_of Gate = 2
+rank_of (Refused number why) = 3 + number
+
+-- How workers that ended so have ended together: well where all have; else with a stop that one of them met, and none met one that is told
+-- before it.
+abbrev pub EndTogether : List (Result ⊤ Stop) → Result ⊤ Stop → Type 0
+EndTogether outcomes (Ok done) = All (λ outcome. outcome ≡ Ok tt) outcomes
+EndTogether outcomes (Err stop) = Contains outcomes (Err stop) × ((other : Stop) → Contains outcomes (Err other) → rank_of stop ≤ rank_of other)

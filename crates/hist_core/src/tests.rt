@@ -1,4 +1,14 @@
-use crate::{Answer, Begun, Call, Refusal, Stepped, World, WorldFault};
+//! Tests of what no clause says: that calls succeed, each word of a run that is known from the format, and how many events a call has.
+
+mod adds;
+mod batches;
+mod deltas;
+mod events;
+mod hists;
+mod memory;
+mod schedules;
+
+use crate::{Answer, Begun, Call, Stepped, World, WorldFault};
 use bucket_ranges::Spec;
 use std::alloc::Global;
 use std::test::Fail;
@@ -99,139 +109,6 @@ fn at_once(begun: &Begun) -> Result<u64, u32> {
 // The cookie of a claimed block.
 const CLAIMED: u64 = 0xC879_9269;
 
-#[test]
-fn fresh_boolean(rt: HostRuntime) -> Result<(), Fail> {
-    let alloc = rt.alloc();
-    for version in [1, 2] {
-        let mut world = World::new(alloc, 128, 64, 7, 1, version)?;
-        let begun = ask(&mut world, alloc, 0, b"A", Spec::Boolean)?;
-        assert!(rt; matches!(begun, Begun::Going));
-        assert!(rt; finish(&mut world, 0)? == Ok(16));
-        assert!(rt; holds(&world, 7, &[32, 16]) && holds(&world, 15, &[16]));
-        assert!(rt;
-            holds(
-                &world,
-                16,
-                &[16, CLAIMED, 1, 12, 2, 1, 2, 3, 0, 0, 0, 0, 0, 0, 1, 65, 0]
-            )
-        );
-    }
-    Ok(())
-}
-
-#[test]
-fn race_for_a_name(rt: HostRuntime) -> Result<(), Fail> {
-    let alloc = rt.alloc();
-    let mut world = World::new(alloc, 128, 64, 7, 2, 1)?;
-    for actor in [0, 1] {
-        ask(&mut world, alloc, actor, b"A", Spec::Boolean)?;
-        go(&mut world, actor, 1)?;
-    }
-    for actor in [0, 1] {
-        go(&mut world, actor, 3)?;
-    }
-    assert!(rt; holds(&world, 7, &[48, 12]));
-    assert!(rt; finish(&mut world, 1)? == Ok(32));
-    assert!(rt; finish(&mut world, 0)? == Ok(32));
-    assert!(rt; holds(&world, 15, &[32]) && holds(&world, 35, &[16]) && holds(&world, 19, &[12]));
-    assert!(rt; holds(&world, 7, &[48, 16]));
-    for actor in [0, 1] {
-        let begun = ask(&mut world, alloc, actor, b"A", Spec::Boolean)?;
-        assert!(rt; at_once(&begun) == Ok(32));
-    }
-    Ok(())
-}
-
-#[test]
-fn stopped_after_the_link(rt: HostRuntime) -> Result<(), Fail> {
-    let alloc = rt.alloc();
-    let mut world = World::new(alloc, 128, 64, 7, 2, 1)?;
-    ask(&mut world, alloc, 0, b"A", Spec::Boolean)?;
-    go(&mut world, 0, 15)?;
-    assert!(rt; holds(&world, 8, &[12]) && holds(&world, 15, &[12]));
-    go(&mut world, 0, 1)?;
-    assert!(rt; holds(&world, 8, &[12]) && holds(&world, 15, &[16]));
-    ask(&mut world, alloc, 1, b"B", Spec::Boolean)?;
-    go(&mut world, 1, 20)?;
-    assert!(rt; holds(&world, 8, &[12]) && holds(&world, 19, &[12]));
-    go(&mut world, 1, 1)?;
-    assert!(rt; holds(&world, 8, &[16]) && holds(&world, 19, &[12]));
-    go(&mut world, 1, 2)?;
-    assert!(rt; holds(&world, 8, &[16]) && holds(&world, 19, &[32]));
-    go(&mut world, 1, 1)?;
-    assert!(rt; holds(&world, 8, &[32]));
-    assert!(rt; finish(&mut world, 1)? == Ok(32));
-    assert!(rt; finish(&mut world, 0)? == Ok(16));
-    Ok(())
-}
-
-// Whether a `hist` of actor 0 is refused for its name.
-fn is_bad_name(world: &mut World, alloc: Global, name: &[u8]) -> Result<bool, WorldFault> {
-    let begun = ask(world, alloc, 0, name, Spec::Boolean)?;
-    Ok(at_once(&begun) == Err(1))
-}
-
-#[test]
-fn refusals_of_hist(rt: HostRuntime) -> Result<(), Fail> {
-    let alloc = rt.alloc();
-    let mut world = World::new(alloc, 128, 64, 7, 2, 1)?;
-    let long = [b'a'; 129];
-    assert!(rt; is_bad_name(&mut world, alloc, b"")?);
-    assert!(rt; is_bad_name(&mut world, alloc, b"a,b")?);
-    assert!(rt; is_bad_name(&mut world, alloc, b"!x")?);
-    assert!(rt; is_bad_name(&mut world, alloc, &long)?);
-    for (min, max, n, number) in [(1, 10, 2, 2), (1, 100, 31, 7)] {
-        let begun = ask(&mut world, alloc, 0, b"B", Spec::Linear { min, max, n })?;
-        assert!(rt; at_once(&begun) == Err(number));
-    }
-    ask(&mut world, alloc, 0, &long[..128], Spec::Boolean)?;
-    assert!(rt; finish(&mut world, 0)? == Ok(16));
-    for actor in [0, 1] {
-        let linear = Spec::Linear {
-            min: 1,
-            max: 2,
-            n: 3,
-        };
-        let begun = ask(&mut world, alloc, actor, &long[..128], linear)?;
-        if actor == 0 {
-            assert!(rt; at_once(&begun) == Err(10));
-        } else {
-            assert!(rt; finish(&mut world, actor)? == Err(10));
-        }
-    }
-    let linear = Spec::Linear {
-        min: 1,
-        max: 100,
-        n: 30,
-    };
-    ask(&mut world, alloc, 1, b"B", linear)?;
-    assert!(rt; finish(&mut world, 1)? == Ok(47));
-    Ok(())
-}
-
-#[test]
-fn refused_allocations(rt: HostRuntime) -> Result<(), Fail> {
-    let alloc = rt.alloc();
-    let mut world = World::new(alloc, 64, 64, 7, 1, 1)?;
-    for (letter, reference) in [(b'A', 16), (b'B', 32), (b'C', 48)] {
-        ask(&mut world, alloc, 0, &[letter], Spec::Boolean)?;
-        assert!(rt; finish(&mut world, 0)? == Ok(reference));
-    }
-    ask(&mut world, alloc, 0, b"D", Spec::Boolean)?;
-    assert!(rt; finish(&mut world, 0)? == Err(9));
-    assert!(rt; holds(&world, 6, &[2]));
-    let mut world = World::new(alloc, 128, 64, 7, 2, 2)?;
-    ask(&mut world, alloc, 0, b"A", Spec::Boolean)?;
-    assert!(rt; finish(&mut world, 0)? == Ok(16));
-    world.begin(0, &Call::SetCorrupt)?;
-    go(&mut world, 0, 1)?;
-    ask(&mut world, alloc, 1, b"A", Spec::Boolean)?;
-    assert!(rt; finish(&mut world, 1)? == Ok(16));
-    ask(&mut world, alloc, 1, b"B", Spec::Boolean)?;
-    assert!(rt; finish(&mut world, 1)? == Err(8));
-    Ok(())
-}
-
 // An actor begins to count a value. `Idle` where that is no call that can begin so far.
 fn count(
     world: &mut World,
@@ -254,14 +131,6 @@ fn add_answer(answer: &Answer) -> u32 {
         Answer::Added => 0,
         Answer::Refused(why) => why.number(),
         _ => 100,
-    }
-}
-
-// What the begin of an `add` says: the number of its answer, or 200 where it goes on.
-fn add_begun(begun: &Begun) -> u32 {
-    match begun {
-        Begun::Ended(answer) => add_answer(answer),
-        Begun::Going => 200,
     }
 }
 
@@ -292,96 +161,6 @@ fn with_boolean(alloc: Global, version: u64) -> Result<World, WorldFault> {
     Ok(world)
 }
 
-#[test]
-fn packed_then_mounted(rt: HostRuntime) -> Result<(), Fail> {
-    let alloc = rt.alloc();
-    let mut world = with_boolean(alloc, 1)?;
-    for _ in 0..2 {
-        assert!(rt; add(&mut world, alloc, 0, 1, 1)? == 0);
-    }
-    assert!(rt; holds(&world, 25, &[4294967298]));
-    assert!(rt; add(&mut world, alloc, 0, 0, 1)? == 0);
-    assert!(rt; holds(&world, 7, &[42]));
-    assert!(rt; holds(&world, 24, &[32, 9223372036854775809, 0, 2, 0, 3]));
-    assert!(rt; holds(&world, 36, &[1, 2, 0]));
-    let mut world = with_boolean(alloc, 2)?;
-    for value in [1, 1, 0] {
-        assert!(rt; add(&mut world, alloc, 0, value, 1)? == 0);
-    }
-    assert!(rt; holds(&world, 24, &[32, 9223372041149743106, 0, 2, 0, 3]));
-    assert!(rt; holds(&world, 36, &[1, 0, 0]));
-    Ok(())
-}
-
-#[test]
-fn stopped_in_transit(rt: HostRuntime) -> Result<(), Fail> {
-    let alloc = rt.alloc();
-    let mut world = with_boolean(alloc, 1)?;
-    for _ in 0..2 {
-        assert!(rt; add(&mut world, alloc, 0, 1, 1)? == 0);
-    }
-    let begun = count(&mut world, alloc, 0, b"A", 0, 1)?;
-    assert!(rt; matches!(begun, Begun::Going));
-    go(&mut world, 0, 11)?;
-    assert!(rt; holds(&world, 24, &[32, 9223372036854775809, 0, 2, 0, 2]));
-    assert!(rt; holds(&world, 36, &[0, 0, 0]));
-    go(&mut world, 0, 1)?;
-    assert!(rt; holds(&world, 36, &[0, 2, 0]));
-    go(&mut world, 0, 1)?;
-    assert!(rt; holds(&world, 36, &[1, 2, 0]));
-    Ok(())
-}
-
-#[test]
-fn packing_limit(rt: HostRuntime) -> Result<(), Fail> {
-    let alloc = rt.alloc();
-    let mut world = with_boolean(alloc, 1)?;
-    assert!(rt; add(&mut world, alloc, 0, 1, 70000)? == 0);
-    assert!(rt; holds(&world, 25, &[9223372036854841343]) && holds(&world, 37, &[70000]));
-    let mut world = with_boolean(alloc, 1)?;
-    assert!(rt; add(&mut world, alloc, 0, 1, 65535)? == 0);
-    assert!(rt; holds(&world, 25, &[4295032831]));
-    assert!(rt; add(&mut world, alloc, 0, 1, 1)? == 0);
-    assert!(rt; holds(&world, 25, &[9223372036854775809]) && holds(&world, 37, &[65536]));
-    Ok(())
-}
-
-#[test]
-fn full_segment(rt: HostRuntime) -> Result<(), Fail> {
-    let alloc = rt.alloc();
-    let mut world = World::new(alloc, 64, 64, 7, 1, 1)?;
-    for (letter, reference) in [(b'A', 16), (b'B', 32), (b'C', 48)] {
-        ask(&mut world, alloc, 0, &[letter], Spec::Boolean)?;
-        assert!(rt; finish(&mut world, 0)? == Ok(reference));
-    }
-    assert!(rt; add(&mut world, alloc, 0, 1, 1)? == 0);
-    assert!(rt; add(&mut world, alloc, 0, 0, 1)? == 9);
-    assert!(rt; holds(&world, 6, &[2]) && holds(&world, 25, &[4294967297]));
-    // The units of the refused one are there again: all that one ended call did not spend.
-    assert!(rt; add(&mut world, alloc, 0, 1, 4294967295)? == 4);
-    assert!(rt; add(&mut world, alloc, 0, 1, 4294967294)? == 9);
-    assert!(rt; add(&mut world, alloc, 0, 1, 1)? == 0);
-    assert!(rt; holds(&world, 25, &[4294967298]));
-    Ok(())
-}
-
-#[test]
-fn refusals_of_add(rt: HostRuntime) -> Result<(), Fail> {
-    let alloc = rt.alloc();
-    let mut world = with_boolean(alloc, 1)?;
-    assert!(rt; fault_of(count(&mut world, alloc, 0, b"B", 1, 0)) == 5);
-    assert!(rt; fault_of(count(&mut world, alloc, 1, b"A", 1, 1)) == 5);
-    assert!(rt; add(&mut world, alloc, 0, 1, 0)? == 3);
-    let begun = count(&mut world, alloc, 0, b"A", 1, 5)?;
-    assert!(rt; add_begun(&begun) == 200);
-    assert!(rt; fault_of(count(&mut world, alloc, 0, b"B", 1, 0)) == 3);
-    // Those units are taken with the begin, and so another actor has fewer.
-    ask(&mut world, alloc, 1, b"A", Spec::Boolean)?;
-    assert!(rt; finish(&mut world, 1)? == Ok(16));
-    assert!(rt; add(&mut world, alloc, 1, 1, 4294967291)? == 4);
-    Ok(())
-}
-
 // An actor begins to take of `A`. `Idle` where that is no call that can begin so far.
 fn take(world: &mut World, alloc: Global, actor: usize) -> Result<Begun, WorldFault> {
     let call = Call::Delta(Vec::from_slice(alloc, b"A")?);
@@ -391,93 +170,20 @@ fn take(world: &mut World, alloc: Global, actor: usize) -> Result<Begun, WorldFa
     world.begin(actor, &call)
 }
 
-// Whether a delta took these units and this of the sum.
-fn is_delta(answer: &Answer, counts: &[(i32, u64)], sum: i64) -> bool {
-    match answer {
-        Answer::Delta(delta) => delta.counts.as_slice() == counts && delta.sum == sum,
-        _ => false,
-    }
-}
-
-// Goes on with an actor's delta for 200 events at most, and says whether it takes these units and this of the sum.
-fn takes(
+// An actor begins a batch in `A`.
+fn batch(
     world: &mut World,
-    actor: usize,
-    counts: &[(i32, u64)],
+    alloc: Global,
+    items: &[(i32, u32)],
     sum: i64,
-) -> Result<bool, WorldFault> {
-    for _ in 0..200 {
-        if let Stepped::Done(answer) = world.step(actor)? {
-            return Ok(is_delta(&answer, counts, sum));
-        }
+) -> Result<Begun, WorldFault> {
+    let call = Call::Batch(
+        Vec::from_slice(alloc, b"A")?,
+        Vec::from_slice(alloc, items)?,
+        sum,
+    );
+    if !world.can_begin(0, &call) {
+        return Err(WorldFault::Idle);
     }
-    Ok(false)
-}
-
-#[test]
-fn deltas_and_marks(rt: HostRuntime) -> Result<(), Fail> {
-    let alloc = rt.alloc();
-    for (version, moved) in [(1, 2), (2, 0)] {
-        let mut world = with_boolean(alloc, version)?;
-        for _ in 0..2 {
-            assert!(rt; add(&mut world, alloc, 0, 1, 1)? == 0);
-        }
-        take(&mut world, alloc, 0)?;
-        assert!(rt; takes(&mut world, 0, &[(1, 2)], 2)?);
-        assert!(rt; holds(&world, 26, &[2, 2, 2]));
-        assert!(rt; add(&mut world, alloc, 0, 0, 1)? == 0);
-        assert!(rt; holds(&world, 36, &[1, moved]));
-        take(&mut world, alloc, 0)?;
-        assert!(rt; takes(&mut world, 0, &[(0, 1)], 0)?);
-        assert!(rt; holds(&world, 39, &[1]) && holds(&world, 26, &[2]));
-        take(&mut world, alloc, 0)?;
-        assert!(rt; takes(&mut world, 0, &[], 0)?);
-    }
-    Ok(())
-}
-
-#[test]
-fn two_takers_of_a_packed_word(rt: HostRuntime) -> Result<(), Fail> {
-    let alloc = rt.alloc();
-    for (version, counted) in [(1, 3), (2, 1)] {
-        let mut world = with_boolean(alloc, version)?;
-        ask(&mut world, alloc, 1, b"A", Spec::Boolean)?;
-        let _ = finish(&mut world, 1)?;
-        for _ in 0..2 {
-            assert!(rt; add(&mut world, alloc, 0, 1, 1)? == 0);
-        }
-        take(&mut world, alloc, 1)?;
-        go(&mut world, 1, 1)?;
-        for value in [0, 1] {
-            assert!(rt; add(&mut world, alloc, 0, value, 1)? == 0);
-        }
-        assert!(rt; holds(&world, 36, &[1, counted]));
-        take(&mut world, alloc, 0)?;
-        assert!(rt; takes(&mut world, 0, &[(0, 1), (1, 3)], 3)?);
-        assert!(rt; holds(&world, 26, &[3]));
-        assert!(rt; takes(&mut world, 1, &[], 0)?);
-        assert!(rt; holds(&world, 26, &[3]));
-    }
-    Ok(())
-}
-
-#[test]
-fn two_takers_of_one_count(rt: HostRuntime) -> Result<(), Fail> {
-    let alloc = rt.alloc();
-    for version in [1, 2] {
-        let mut world = with_boolean(alloc, version)?;
-        ask(&mut world, alloc, 1, b"A", Spec::Boolean)?;
-        let _ = finish(&mut world, 1)?;
-        for _ in 0..2 {
-            assert!(rt; add(&mut world, alloc, 0, 1, 1)? == 0);
-        }
-        for actor in [0, 1] {
-            take(&mut world, alloc, actor)?;
-            go(&mut world, actor, 1)?;
-        }
-        assert!(rt; takes(&mut world, 1, &[(1, 2)], 2)?);
-        assert!(rt; takes(&mut world, 0, &[], 0)?);
-        assert!(rt; holds(&world, 26, &[2, 2, 2]));
-    }
-    Ok(())
+    world.begin(0, &call)
 }

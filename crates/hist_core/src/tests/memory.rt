@@ -1,0 +1,114 @@
+//! Calls whose memory is refused once. Each test passes too where any one allocation fails: the refused call has changed nothing, and
+//! the next is answered as if it had not been.
+
+use super::holds;
+use super::schedules::run;
+use crate::{Answer, Begun, Call, Move, Stepped, World, WorldFault};
+use bucket_ranges::Spec;
+use std::alloc::{AllocError, Global};
+use std::test::Fail;
+
+// The same again where memory was refused at the first time.
+fn world_again(alloc: Global) -> Result<World, WorldFault> {
+    match World::new(alloc, 128, 64, 7, 1, 1) {
+        Err(WorldFault::NoMemory) => World::new(alloc, 128, 64, 7, 1, 1),
+        made => made,
+    }
+}
+
+fn name_again(alloc: Global) -> Result<Vec<u8>, AllocError> {
+    match Vec::from_slice(alloc, b"A") {
+        Err(AllocError) => Vec::from_slice(alloc, b"A"),
+        made => made,
+    }
+}
+
+fn items_again(alloc: Global) -> Result<Vec<(i32, u32)>, AllocError> {
+    match Vec::from_slice(alloc, &[(0, 2), (1, 3)]) {
+        Err(AllocError) => Vec::from_slice(alloc, &[(0, 2), (1, 3)]),
+        made => made,
+    }
+}
+
+// `Idle` where a call is none that can begin so far.
+fn begin(world: &mut World, call: &Call) -> Result<Begun, WorldFault> {
+    if !world.can_begin(0, call) {
+        return Err(WorldFault::Idle);
+    }
+    world.begin(0, call)
+}
+
+// The actor begins a call, again where memory was refused, and goes on with it for 50 events at most.
+fn call_again(world: &mut World, call: &Call) -> Result<Answer, WorldFault> {
+    let begun = match begin(world, call) {
+        Err(WorldFault::NoMemory) => begin(world, call)?,
+        begun => begun?,
+    };
+    if let Begun::Ended(answer) = begun {
+        return Ok(answer);
+    }
+    for _ in 0..50 {
+        if let Stepped::Done(answer) = world.step(0)? {
+            return Ok(answer);
+        }
+    }
+    Err(WorldFault::Busy)
+}
+
+// Whether what is answered is a snapshot with these units, this sum and this redundant count.
+fn is_snapshot(answer: &Answer, counts: &[(i32, u64)], sum: i64, redundant: u64) -> bool {
+    match answer {
+        Answer::Snapshot(seen) => {
+            seen.counts.as_slice() == counts && seen.sum == sum && seen.redundant == redundant
+        }
+        _ => false,
+    }
+}
+
+#[test]
+fn refused_memory_once(rt: HostRuntime) -> Result<(), Fail> {
+    let alloc = rt.alloc();
+    let mut world = world_again(alloc)?;
+    let asked = call_again(&mut world, &Call::Hist(name_again(alloc)?, Spec::Boolean))?;
+    assert!(rt; matches!(asked, Answer::Hist(16)));
+    for value in [1, 1, 0] {
+        let added = call_again(&mut world, &Call::Add(name_again(alloc)?, value, 1))?;
+        assert!(rt; matches!(added, Answer::Added));
+    }
+    assert!(rt; holds(&world, 24, &[32, 9223372036854775809, 0, 2, 0, 3]));
+    let seen = call_again(&mut world, &Call::Snapshot(name_again(alloc)?))?;
+    assert!(rt; is_snapshot(&seen, &[(0, 1), (1, 2), (2, 0)], 2, 3));
+    let taken = call_again(&mut world, &Call::Delta(name_again(alloc)?))?;
+    assert!(rt; matches!(taken, Answer::Delta(_)) && holds(&world, 26, &[2, 2, 2]));
+    assert!(rt; holds(&world, 36, &[1, 2, 0, 1, 0, 0]) && world.taken(0).len() == 1);
+    Ok(())
+}
+
+#[test]
+fn refused_memory_of_batches(rt: HostRuntime) -> Result<(), Fail> {
+    let alloc = rt.alloc();
+    let mut world = world_again(alloc)?;
+    call_again(&mut world, &Call::Hist(name_again(alloc)?, Spec::Boolean))?;
+    let call = Call::Batch(name_again(alloc)?, items_again(alloc)?, 3);
+    let added = call_again(&mut world, &call)?;
+    assert!(rt; matches!(added, Answer::Added) && world.ended(0).len() == 3);
+    assert!(rt; holds(&world, 24, &[32, 9223372036854775808, 0, 3, 0, 5]));
+    assert!(rt; holds(&world, 36, &[2, 3, 0]));
+    Ok(())
+}
+
+#[test]
+fn refused_memory_of_a_schedule(rt: HostRuntime) -> Result<(), Fail> {
+    let alloc = rt.alloc();
+    let asks = Move::Begin(0, Call::Hist(name_again(alloc)?, Spec::Boolean));
+    let moves = [
+        asks,
+        Move::Step(0),
+        Move::Step(0),
+        Move::Step(0),
+        Move::Step(0),
+    ];
+    let world = run(alloc, 1, &moves)?;
+    assert!(rt; holds(&world, 7, &[32, 12]));
+    Ok(())
+}

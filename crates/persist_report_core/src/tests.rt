@@ -119,8 +119,8 @@ fn failing_writes(rt: HostRuntime) -> Result<(), Fail> {
         (4, None, 4, 44),
     ] {
         let (came, made, text) = write_to(rt.alloc(), failing)?;
-        assert_eq!(rt; (came, made), (fault, calls));
-        assert_eq!(rt; text.as_slice(), &REPORT[..len]);
+        assert_eq!(rt; (came, made, text.len()), (fault, calls, len));
+        assert!(rt; REPORT.starts_with(text.as_slice()));
     }
     Ok(())
 }

@@ -1,5 +1,5 @@
 -- How workers ended together, and which of several stops is told.
-use Rattle.std.proofs.Common.{◌≡◌, ◌⊎◌, ⊎_elim, ℕ, zero, suc, ◌<◌, ◌≤◌, List, [], ◌∷◌, map, All, Contains, inl, inr, Ok, Err, Result, refl, sym, ap, subst, arith}
+use Rattle.std.proofs.Common.{◌≡◌, ◌⊎◌, ⊎_elim, ℕ, zero, suc, ◌≤◌, List, [], ◌∷◌, map, All, Contains, inl, inr, Ok, Err, Result, refl, ap, subst, arith}
 use Rattle.std.specs.Prelude.{⊤, OnOk}
 use Rattle.std.proofs.lemmas.List.Elements.{All-cons, All-tail}
 use Rattle.persist_commands.specs.declared.stop.Stop.{Stop}
@@ -43,12 +43,7 @@ told_on one other both rest (Err stop) pair (met, first) =
     let most = first told (subst (Contains (both ∷ rest)) is (here both rest)) in
     omega (arith, most, least) in (
       ⊎_elim
-          (λ is.
-          let (some, least) = subst (EndTogether (one ∷ other ∷ [])) is pair in
-          ⊎_elim (λ e. subst (Contains (one ∷ other ∷ rest)) e (here one (other ∷ rest)))
-          (λ tail. ⊎_elim (λ e. there one (Err stop) (other ∷ rest) (subst (Contains (other ∷ rest)) e (here other rest))) (λ none. absurd (none_there none))
-          (head_or_tail other (Err stop) [] tail))
-          (head_or_tail one (Err stop) (other ∷ []) some))
+          (λ is. among_pair (subst (EndTogether (one ∷ other ∷ [])) is pair))
           (λ behind. there one (Err stop) (other ∷ rest) (there other (Err stop) rest behind))
           (head_or_tail both (Err stop) rest met),
       λ s some.
@@ -59,8 +54,12 @@ told_on one other both rest (Err stop) pair (met, first) =
           (head_or_tail one (Err s) (other ∷ rest) some),
     )
   where
-    none_there : {X : Type 0} {x : X} → Contains [] x → ⊥
-    none_there (k, below, is) = omega (arith, below)
+    among_pair : EndTogether (one ∷ other ∷ []) (Err stop) → Contains (one ∷ other ∷ rest) (Err stop)
+    among_pair (some, least) =
+        ⊎_elim (λ e. subst (Contains (one ∷ other ∷ rest)) e (here one (other ∷ rest)))
+        (λ tail. ⊎_elim (λ e. there one (Err stop) (other ∷ rest) (subst (Contains (other ∷ rest)) e (here other rest))) (λ none. absurd (omega (arith, none.1)))
+        (head_or_tail other (Err stop) [] tail))
+        (head_or_tail one (Err stop) (other ∷ []) some)
 
 -- one that ended well changes nothing
 pub told_behind : (rest : List Outcome) (together : Outcome) → EndTogether (Ok tt ∷ rest) together → EndTogether rest together

@@ -16,8 +16,6 @@ use Rattle.persist_report_core.specs.declared.script.fault.ScriptFault.{ScriptFa
 use Rattle.persist_report_core.specs.declared.script.fault.ScriptFault.TheVariants as told
 use Rattle.persist_report_core.specs.Script.{HistRecord, Script, script_of}
 use Rattle.persist_report_core.specs.Text.{IsTextOf}
-use Rattle.persist_commands.specs.declared.stop.Stop.{Stop}
-use Rattle.persist_commands.specs.declared.stop.Stop.TheVariants as stop
 use Rattle.persist_commands.specs.Entries.{entries_of}
 
 -- a histogram that is read has what entries add up to: the units of each key, the sum, and all units as its redundant count
@@ -67,13 +65,6 @@ fault_of_script told.NoMemory = cli.NoMemory
 fault_of_script (told.BadLine number) = cli.BadLine number
 fault_of_script (told.ZeroCount number) = cli.Refused number refusal.ZeroCount
 fault_of_script (told.NoUnits number) = cli.Refused number refusal.NoUnits
-
--- the fault of a run that has stopped
-abbrev pub fault_of_stop : Stop → CliFault
-fault_of_stop stop.NoThread = cli.NoThread
-fault_of_stop stop.NoMemory = cli.NoMemory
-fault_of_stop stop.Gate = cli.Gate
-fault_of_stop (stop.Refused number why) = cli.Refused number why
 
 -- a fault that the run of a lawful script may end with: its cause is not in the script's bytes alone
 abbrev pub MayEndRun : CliFault → Type 0

@@ -6,8 +6,9 @@ ghost use Rattle.segment_image.specs.Words.{bytes_of_words};
 ghost use Rattle.segment_image.specs.Watched.{has_failed, is_flushed, watched_inner};
 ghost use Rattle.live_segment.specs.Holders.{IsMadeWith, IsSameOpener, table_of, view_of_opener};
 ghost use Rattle.persist_report_core.specs.Script.{script_of, script_view};
-ghost use Rattle.persist_commands.specs.Recording.{EndedAt, EndedWell, HandsOut, HasRun, IsReady, all_joined, view_of_ended};
+ghost use Rattle.persist_commands.specs.Recording.{EndedAt, HandsOut, HasRun, IsReady, all_joined, view_of_ended};
 ghost use Rattle.persist_commands.specs.Run.{IsFaultOfRun, IsImageOfRun, IsRunOf};
+ghost use Rattle.persist_commands.specs.Stop.{EndTogether};
 
 use crate::beside::{NotRun, run_beside};
 use crate::gate::Gate;
@@ -65,12 +66,12 @@ fn make_workers<'w, G: Gate>(
     Ok(all)
 }
 
-// Joins the recorders of workers that have ended; well, where all have ended well.
+// Joins the recorders of workers that have ended, and tells how they ended together.
 fn join_all(opener: &mut Opener, all: Vec<Ended>) -> Result<(), Stop>
     requires at { All (EndedAt opener.old.seat.table_id) all.items }
     ensures same { IsSameOpener opener.old opener.new }
     ensures joined { view_of_opener opener.new ≡ all_joined (view_of_opener opener.old) (map view_of_ended all.entry.items) }
-    ensures well { OnOk result (All EndedWell all.entry.items) }
+    ensures told { EndTogether (map (λ ended. ended.outcome) all.entry.items) result }
 {
     let mut outcome = Ok(());
     for ended in all {

@@ -1,6 +1,7 @@
 //! Why a run stops.
 
-ghost use Rattle.std.specs.Prelude.{◌≡◌, ◌↔◌, ◌⊎◌, Ok};
+ghost use Rattle.std.specs.Prelude.{◌∷◌, []};
+ghost use Rattle.persist_commands.specs.Stop.{EndTogether};
 
 use persist_report_core::CliFault;
 use segment_calls::Refusal;
@@ -27,7 +28,7 @@ impl From<AllocError> for Stop {
 
 impl From<Stop> for CliFault {
     ghost use Rattle.std.specs.Prelude.{◌≡◌};
-    ghost use Rattle.persist_commands.specs.Run.{fault_of_stop};
+    ghost use Rattle.persist_commands.specs.Stop.{fault_of_stop};
 
     ghost from_gives = { λ stop result. result ≡ fault_of_stop stop };
 
@@ -42,6 +43,9 @@ impl From<Stop> for CliFault {
 }
 
 impl Stop {
+    ghost use Rattle.std.specs.Prelude.{◌≡◌};
+    ghost use Rattle.persist_commands.specs.Stop.{rank_of};
+
     /// The refusal of what a record asks for.
     pub(crate) fn refused(number: u32, why: Refusal) -> Stop {
         match why {
@@ -51,7 +55,9 @@ impl Stop {
     }
 
     // Those that are told first are least.
-    fn rank(&self) -> u64 {
+    fn rank(&self) -> u64
+        ensures { result ≡ rank_of self.now }
+    {
         match self {
             Stop::NoThread => 0,
             Stop::NoMemory => 1,
@@ -61,10 +67,9 @@ impl Stop {
     }
 }
 
-/// How two workers ended together: well where both did.
+/// How two workers ended together: well where both did, else with the stop that is told first.
 pub(crate) fn both(one: Result<(), Stop>, other: Result<(), Stop>) -> Result<(), Stop>
-    ensures well { (result ≡ Ok tt) ↔ ((one ≡ Ok tt) × (other ≡ Ok tt)) }
-    ensures either { (result ≡ one) ⊎ (result ≡ other) }
+    ensures { EndTogether (one ∷ other ∷ []) result }
 {
     match (one, other) {
         (Ok(()), other) => other,

@@ -1,13 +1,20 @@
 use crate::{Gate, OpenGate, run_script};
 use persist_report_core::CliFault;
+use segment_calls::Refusal;
 use segment_image::Watched;
+use std::alloc::Global;
+use std::sync::Wait;
 use std::sync::atomic::{AtomicU64, Ordering};
 use std::test::Fail;
 use std::thread;
+use std::thread::Threads;
 
 const SCRIPT: &[u8] = b"segment,128,64,7\nhist,A,boolean\nadd,A,1,1\nadd,A,1,1\nadd,A,0,1\n";
 
 const REPORT: &[u8] = b"A,boolean,0,1,1\nA,boolean,1,2,2\nA,total,3,2\n";
+
+const FULL: &[u8] =
+    b"segment,64,64,7\nhist,A,boolean\nhist,B,boolean\nhist,S,sparse\nadd,A,1,1\nadd,S,1,1\nadd,S,2,1\n";
 
 // How often a worker looks for the other.
 const LOOKS: u32 = 1_000_000;
@@ -104,24 +111,39 @@ fn gate_meets_two_workers(rt: HostRuntime) -> Result<(), Fail> {
     Ok(())
 }
 
-#[test]
-fn shut_gate(rt: HostRuntime) -> Result<(), Fail> {
-    let mut image = Watched::new(Vec::new(rt.alloc()));
-    let mut report = Watched::new(Vec::new(rt.alloc()));
-    let mut script = Watched::new(SCRIPT);
-    let found = run_script(
-        &rt,
-        rt.alloc(),
-        &mut script,
-        &mut image,
-        &mut report,
-        2,
-        &Shut,
-    )
-    .err();
-    assert_eq!(rt; found, Some(CliFault::Gate));
+// Why a script is not run by two workers, and how many bytes are written.
+fn stop_of<R: Threads + Wait, G: Gate + Sync>(
+    rt: &R,
+    alloc: Global,
+    script: &[u8],
+    gate: &G,
+) -> (Option<CliFault>, usize) {
+    let mut image = Watched::new(Vec::new(alloc));
+    let mut report = Watched::new(Vec::new(alloc));
+    let mut script = Watched::new(script);
+    let ran = run_script(rt, alloc, &mut script, &mut image, &mut report, 2, gate);
     let text: Vec<u8> = report.into_inner();
     let bytes: Vec<u8> = image.into_inner();
-    assert!(rt; text.is_empty() && bytes.is_empty());
+    (ran.err(), text.len() + bytes.len())
+}
+
+#[test]
+fn shut_gate(rt: HostRuntime) -> Result<(), Fail> {
+    let found = stop_of(&rt, rt.alloc(), SCRIPT, &Shut);
+    assert!(rt; found == (Some(CliFault::Gate), 0));
+    Ok(())
+}
+
+// The records of three histograms fill the segment, so both workers are refused: the second at record 6, and the first at record 7.
+#[test]
+fn stops_in_order(rt: HostRuntime) -> Result<(), Fail> {
+    let refused = CliFault::Refused {
+        number: 6,
+        why: Refusal::Full,
+    };
+    let found = stop_of(&rt, rt.alloc(), FULL, &OpenGate);
+    assert!(rt; found == (Some(refused), 0));
+    let found = stop_of(&rt, rt.alloc(), FULL, &Shut);
+    assert!(rt; found == (Some(CliFault::Gate), 0));
     Ok(())
 }

@@ -1,7 +1,10 @@
-use Rattle.std.proofs.Common.{◌≡◌, All, Ok, map}
+use Rattle.std.proofs.Common.{◌≡◌, ◌∷◌, All, Result, map}
+use Rattle.std.specs.Prelude.{⊤}
 use Rattle.std.specs.Vec.Iter.{into_iter_items}
 use Rattle.live_segment.specs.Holders.{view_of_opener}
-use Rattle.persist_commands.specs.Recording.{EndedAt, EndedWell, all_joined, view_of_ended}
+use Rattle.persist_commands.specs.declared.stop.Stop.{Stop}
+use Rattle.persist_commands.specs.Recording.{EndedAt, all_joined, view_of_ended}
+use Rattle.persist_commands.specs.Stop.{EndTogether}
 use Rattle.persist_commands.proofs.run.join_all.Given as goal
 
 abbrev pub invariant-loop-ended : goal.invariant-loop-ended
@@ -10,4 +13,5 @@ invariant-loop-ended l =
     × (l.opener.seat.table_id ≡ l.fn.opener.seat.table_id)
     × All (EndedAt l.fn.opener.seat.table_id) (into_iter_items l.ended-iterator)
     × (all_joined (view_of_opener l.opener) (map view_of_ended (into_iter_items l.ended-iterator)) ≡ all_joined (view_of_opener l.fn.opener) (map view_of_ended l.fn.all.items))
-    × (l.outcome ≡ Ok tt → All EndedWell (into_iter_items l.ended-iterator) → All EndedWell l.fn.all.items)
+    × ((together : Result ⊤ Stop) → EndTogether (l.outcome ∷ map (λ ended. ended.outcome) (into_iter_items l.ended-iterator)) together
+    → EndTogether (map (λ ended. ended.outcome) l.fn.all.items) together)

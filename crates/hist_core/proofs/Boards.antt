@@ -48,13 +48,14 @@ use Rattle.segment_calls.specs.declared.answer.Snapshot.{Snapshot}
 use Rattle.hist_core.specs.declared.call.Stepped.{Stepped}
 use Rattle.hist_core.specs.declared.call.Stepped.TheVariants.{More, Done}
 use Rattle.hist_core.specs.declared.call.Answer.TheVariants as answer
-use Rattle.hist_core.specs.Goes.{Goes}
+use Rattle.hist_core.specs.Goes.{Goes, WalksInOrder}
 use Rattle.hist_core.specs.Runner.{IsAnswer, IsTook, IsKnown, IsRun, IsSomeRun, Lands, Advances, held_by, looked_by, returned_by, StandsIn, known_of, pending_by}
 use Rattle.hist_core.specs.Board.{AreRun, IsReachedAs, IsReached, IsConsistentAs, IsReadAs, AreKnownFirst, HasSeen, HasTaken, IsPromised, StepsTo, BeginsFrom}
 use Rattle.bucket_ranges.specs.Ranges.{boundaries_of}
 use Rattle.bucket_ranges.specs.Spec.{spec_fault}
 use Rattle.std.specs.Prelude.{None}
 use Rattle.hist_core.specs.World.{of_actor}
+use Rattle.hist_core.proofs.Orders.{walks_in_order}
 use Rattle.hist_core.proofs.Quiet.{not_spent, counts_none, some_quiet}
 
 -- ---- actors and those that they stand for
@@ -303,9 +304,12 @@ module _ (old : Board) (state : State) (reach : IsReachedAs old state) (size : l
         lands_back event b (held_by r.running) step pooled living run.records fits run (Done (answer.Refused why)) (λ last there. tt)
 
     -- an actor that goes on by an event leads to the next state
-    pub steps : (said : Stepped) → ((a : Actor) → IsRun old.shape old.version r a → Advances old.shape old.version r words r' new.words.items said a)
+    pub steps : (said : Stepped) → ((a : Actor) → WalksInOrder a → IsRun old.shape old.version r a → Advances old.shape old.version r words r' new.words.items said a)
         → new.units ≡ old.units + returned_by said (held_by r.running) → StepsTo old actor state new said
-    steps said advances pooled = let did = does_step (advances its.0 its.2) in lands_so did.0 did.1 did.2 said pooled did.3
+    steps said advances pooled =
+        let kept = states_are_kept old.shape old.version reach.id 0 state reach.reached in
+        let order = walks_in_order old.shape (blank old.version reach.id old.shape.size) state kept (actor + 1) its.0 there in
+        let did = does_step (advances its.0 order its.2) in lands_so did.0 did.1 did.2 said pooled did.3
 
     -- its actor is lent units, and may begin a call with them
     pub lends : (units : ℕ) → new.words.items ≡ old.words.items → new.units + units ≡ old.units

@@ -13,13 +13,17 @@ mod Deltas
 mod Looks
 mod NewBoards
 mod Opening
+mod Orders
 mod Parts
+mod Passing
 mod Quiet
 mod Runners
+mod SampleLists
 mod Scheduling
 mod Snapshots
 mod Takes
 mod Tellings
+mod ValuesSeen
 mod Viewing
 mod Worlds
 mod Zips

@@ -1,6 +1,6 @@
 -- A snapshot, event by event.
-use Rattle.std.proofs.Common.{◌≡◌, ℕ, zero, suc, ◌+◌, ◌*◌, ◌<◌, ◌≤◌, ℤ, Bool, true, false, true≢false, if◌then◌else◌, nat_lt, List, [], ◌∷◌, ◌++◌, drop, length, map, slice_index, Option, Some, inl, ⊎_elim, refl, sym, ap, subst, ◌∙◌, arith}
-use Rattle.std.specs.List.{All, Contains}
+use Rattle.std.proofs.Common.{◌≡◌, ◌⊎◌, ℕ, zero, suc, ◌+◌, ◌*◌, ◌<◌, ◌≤◌, ℤ, Bool, true, false, true≢false, if◌then◌else◌, nat_lt, List, [], ◌∷◌, ◌++◌, drop, length, map, slice_index, Option, Some, inl, inr, ⊎_elim, refl, sym, ap, subst, ◌∙◌, arith}
+use Rattle.std.specs.List.{All, Contains, range_with_len}
 use Rattle.std.specs.Int.{cast_signed, w64}
 use Rattle.std.proofs.Props.{props}
 use Rattle.std.proofs.Math.Logic.{∥∥₁_elim}
@@ -20,7 +20,11 @@ use Rattle.segment_machine.specs.declared.actor.Actor.{Actor}
 use Rattle.segment_machine.specs.declared.actor.Answered.{Answered}
 use Rattle.segment_machine.specs.declared.actor.Known.{Known}
 use Rattle.segment_machine.specs.declared.place.Place.TheVariants.{Looking, SumLoaded}
-use Rattle.segment_machine.specs.Actor.{Buckets, has_buckets, is_bound, is_opener, known_at}
+use Rattle.segment_machine.specs.Made.{IsFirstSample, SawSample}
+use Rattle.bucket_ranges.specs.declared.spec.Spec.TheVariants.{Sparse}
+use mathlib.Core.Option.{some}
+use lib.ListN.{get_elem?}
+use Rattle.segment_machine.specs.Actor.{Buckets, SawCount, bucket_key, has_buckets, is_bound, is_opener, known_at}
 use Rattle.segment_machine.specs.Calls.{MayTurn, look_of, sight, sight_counts}
 use Rattle.segment_machine.specs.Counting.{load_counts}
 use Rattle.segment_machine.specs.Event.{Event, next, counting_event, packing_event, taking_event}
@@ -30,16 +34,18 @@ use Rattle.segment_machine.specs.Taking.{load_count, load_redundant, load_sum}
 use Rattle.hist_core.specs.declared.looker.Looker.{Looker}
 use Rattle.hist_core.specs.declared.looker.LookerStep.TheVariants.{More, Done}
 use Rattle.hist_core.specs.declared.looker.Stage.{Stage}
-use Rattle.hist_core.specs.declared.looker.Stage.TheVariants.{LoadingSingle, LoadingCounts, LoadingCount, LoadingSum, LoadingRedundant}
+use Rattle.hist_core.specs.declared.looker.Stage.TheVariants.{LoadingSingle, LoadingCounts, LoadingCount, LoadingFirst, LoadingType, LoadingHistogram, LoadingValue, LoadingSample, LoadingNext, LoadingSum, LoadingRedundant}
 use Rattle.hist_core.specs.declared.mounted.Mounted.{Mounted}
-use Rattle.hist_core.specs.Goes.{Beside, Goes}
-use Rattle.hist_core.specs.Looker.{IsBehindSingle, IsLooker, IsPut, IsSomeLooker, LookerGives, SawBefore, StandsAtStage, behind_bucket}
+use Rattle.hist_core.specs.Goes.{Beside, Goes, IsInOrder, WalksInOrder}
+use Rattle.hist_core.specs.Looker.{HasKeys, IsBehindSingle, IsLooker, IsPut, IsSomeLooker, LookerGives, SawBefore, SawTotalsOf, StandsAtStage, behind_bucket}
 use Rattle.hist_core.specs.Mounted.{AreMounted, HasWord, total_at}
 use Rattle.segment_machine.specs.Form.{SaysPacked}
 use Rattle.hist_core.proofs.Looks.{looks_there}
+use Rattle.hist_core.proofs.Quiet.{not_spent}
 use Rattle.hist_core.proofs.Takes.Counts.{are_mounted, count_placed, may_load, saw_total, still_mounted, total_is}
 use Rattle.hist_core.proofs.Takes.Going.{taking_sees}
-use Rattle.hist_core.proofs.Takes.Sights.{began_still, saw_bucket, seen_here}
+use Rattle.hist_core.proofs.Passing.{all_still, are_all, are_first, are_once}
+use Rattle.hist_core.proofs.Takes.Sights.{SeesMore, began_still, saw_bucket, saw_count, seen_here}
 use Rattle.hist_core.proofs.Takes.Singles.{none_packed}
 
 -- it looks at the same histogram, with a total beside each key
@@ -49,45 +55,62 @@ record IsSame (old new : Looker) : Type 0 where
   pub keys : map (λ total. total.0) new.totals.items ≡ map (λ total. total.0) old.totals.items
   pub long : length new.totals.items ≡ length old.totals.items
 
+-- what a snapshot saw of the counts of a histogram
+record SawTotalsIn (a : Actor) (known : Known) (answered : Answered) : Type 0 where
+  pub buckets : has_buckets known.spec ≡ true
+      → (map (λ count. count.0) answered.counts ≡ map (bucket_key (Some known)) (range_with_len 0 (buckets_of known.spec)))
+      × ((bucket : ℕ) (count : ℤ × ℕ) → get_elem? answered.counts bucket ≡ some count → SawBucket a known bucket count.1)
+  pub samples : known.spec ≡ Sparse
+      → All (λ count. (sample : ℕ) × IsFirstSample a.seen known.reference count.0 sample × SawCount a (sample + 6) count.1) answered.counts
+  pub once : known.spec ≡ Sparse → (i j : ℕ) (x y : ℤ × ℕ) → get_elem? answered.counts i ≡ some x → get_elem? answered.counts j ≡ some y
+      → x.0 ≡ y.0 → i ≡ j
+  pub values : known.spec ≡ Sparse → (value : ℤ) (sample : ℕ) → Contains a.seen.chain sample → SawSample a.seen known.reference value sample
+      → (count : ℕ) × SawCount a (sample + 6) count × ((count ≡ 0) ⊎ Contains (map (λ count. count.0) answered.counts) value)
+
+-- so it has its keys still
+keys_still : (known : Known) (old new : Looker) → IsSame old new → HasKeys known old → HasKeys known new
+keys_still known old new same has = record { bucketed = has.bucketed; keys = same.keys ∙ has.keys; buckets = same.long ∙ has.buckets }
+
 module _ (shape : Dimensions) (known : Known) (looker : Looker) (a : Actor) (words : List ℕ) (is : IsLooker shape known looker a) where
-  is_inside : (n : ℕ) → n ≡ shape.size → (looker.histogram + 15 ≤ n) × (n ≤ 1048576)
+  pub is_inside : (n : ℕ) → n ≡ shape.size → (looker.histogram + 15 ≤ n) × (n ≤ 1048576)
   is_inside n long =
       let within = is.within in let many = is.lawful_shape.many in (omega (arith, long, within), omega (arith, long, many))
 
-  knows_it : Buckets a known.reference known
-  knows_it = (is.knows, refl, is.bucketed)
+  knows_it : HasKeys known looker → Buckets a known.reference known
+  knows_it has = (is.knows, refl, has.bucketed)
 
-  few : buckets_of known.spec ≤ 1000
-  few = few_buckets known.spec is.lawful
+  few : HasKeys known looker → buckets_of known.spec ≤ 1000
+  few has = few_buckets known.spec is.lawful
 
-  split : IsSplit (buckets_of known.spec) (boundaries_of known.spec)
-  split = boundaries_of-split known.spec is.lawful (λ sparse. true≢false (sym is.bucketed ∙ ap has_buckets sparse))
+  split : HasKeys known looker → IsSplit (buckets_of known.spec) (boundaries_of known.spec)
+  split has = boundaries_of-split known.spec is.lawful (λ sparse. true≢false (sym has.bucketed ∙ ap has_buckets sparse))
 
   -- it goes on from another stage, and may have seen more
-  goes_still : (new : Looker) (b : Actor) → IsSame looker new → Beside a b → MayTurn b → StandsAtStage known new b new.stage → IsLooker shape known new b
-  goes_still new b same beside turns stands = record {
+  pub goes_still : (new : Looker) (b : Actor) → new.version ≡ looker.version → new.histogram ≡ looker.histogram → Beside a b → MayTurn b
+      → StandsAtStage shape known new b new.stage → IsLooker shape known new b
+  goes_still new b versioned of beside turns stands = record {
     segment = ap (λ s. s.shape) beside.segment ∙ is.segment;
-    version = ap (λ s. s.version) beside.segment ∙ (is.version ∙ sym same.version);
+    version = ap (λ s. s.version) beside.segment ∙ (is.version ∙ sym versioned);
     lawful_shape = is.lawful_shape;
     recorder = ap is_opener beside.role ∙ is.recorder;
     counts_nothing = ap (λ e. e.running) beside.entries ∙ is.counts_nothing;
     takes_nothing = ap (λ d. d.taking) beside.deltas ∙ is.takes_nothing;
     turns = turns;
-    reference = is.reference ∙ sym same.histogram;
-    within = subst (λ (h : ℕ). h + 15 ≤ shape.size) (sym same.histogram) is.within;
+    reference = is.reference ∙ sym of;
+    within = subst (λ (h : ℕ). h + 15 ≤ shape.size) (sym of) is.within;
     lawful = is.lawful;
-    bucketed = is.bucketed;
     knows = subst (λ (l : List Known). Contains l known) (sym beside.names) is.knows;
     alone = ap (λ (l : List Known). known_at l known.reference) beside.names ∙ is.alone;
-    keys = same.keys ∙ is.keys;
-    buckets = same.long ∙ is.buckets;
     stands = stands;
   }
 
   -- ---- the single word is loaded
   module _ (loads : looker.stage ≡ LoadingSingle) where
-    blank : All (λ total. total.1 ≡ 0) looker.totals.items
-    blank = subst (StandsAtStage known looker a) loads is.stands
+    before_single : StandsAtStage shape known looker a LoadingSingle
+    before_single = subst (StandsAtStage shape known looker a) loads is.stands
+
+    abbrev has_single : HasKeys known looker
+    has_single = before_single.0
 
     abbrev found : ℕ
     found = word_at words (known.reference + 9)
@@ -118,41 +141,10 @@ module _ (shape : Dimensions) (known : Known) (looker : Looker) (a : Actor) (wor
           counts = omega arith;
         };
         saw = seen_here (length a.seen.singles) a.seen.singles (known.reference + 9) found (omega arith);
-        formed = (learned known knows_it).0;
+        formed = (learned known (knows_it has_single)).0;
         counts = (look_of a.hand.place known.reference).counts;
         stands = ap (λ (n : ℕ). Looking (record { histogram = n; single = Some found; counts = (look_of a.hand.place known.reference).counts })) (looks_there a.hand.place known.reference);
       }
-
-      stands_behind : (stage : Stage) → IsBehindSingle looker found new stage → StandsAtStage known new acted stage
-      stands_behind (LoadingCounts packed kept) (off, says, small, same) = (
-        small,
-        (
-          found,
-          has_word,
-          off,
-          subst (λ (p : ℕ × ℕ). SaysPacked p.0 p.1 found packed kept) (λ i. (sym (ap (λ (l : Looker). l.version) same) i, is.buckets i)) says,
-        ),
-      )
-      stands_behind LoadingSum (on, packed, same) = (
-        λ i total there. (
-          found,
-          has_word.saw,
-          inl (
-            on,
-            ⊎_elim
-                (λ is_units. is_units ∙ ap (λ (p : ℕ × ℕ). units_packed (single_of p.0 p.1 found) i) (λ j. (sym is.version j, is.buckets j)))
-                (λ (apart, was).
-                All-contains (λ (t : ℤ × ℕ). t.1 ≡ 0) looker.totals.items total blank (contains_at looker.totals.items i total was)
-                ∙ (sym (none_packed (single_of looker.version (length looker.totals.items) found) i apart)
-                ∙ ap (λ (p : ℕ × ℕ). units_packed (single_of p.0 p.1 found) i) (λ j. (sym is.version j, is.buckets j))))
-                (packed.units i total there),
-          ),
-        ),
-        has_word.began,
-      )
-      stands_behind LoadingSingle none = absurd none
-      stands_behind (LoadingCount mounted bucket) none = absurd none
-      stands_behind (LoadingRedundant sum) none = absurd none
 
       same_behind : (stage : Stage) → IsBehindSingle looker found new stage → IsSame looker new
       same_behind (LoadingCounts packed kept) (off, says, small, same) = record {
@@ -170,6 +162,53 @@ module _ (shape : Dimensions) (known : Known) (looker : Looker) (a : Actor) (wor
       same_behind LoadingSingle none = absurd none
       same_behind (LoadingCount mounted bucket) none = absurd none
       same_behind (LoadingRedundant sum) none = absurd none
+      same_behind LoadingFirst none = absurd none
+      same_behind (LoadingType at) none = absurd none
+      same_behind (LoadingHistogram at) none = absurd none
+      same_behind (LoadingValue at of) none = absurd none
+      same_behind (LoadingSample at value) none = absurd none
+      same_behind (LoadingNext at) none = absurd none
+
+      stands_behind : (stage : Stage) → IsBehindSingle looker found new stage → StandsAtStage shape known new acted stage
+      stands_behind (LoadingCounts packed kept) (off, says, small, same) = (
+        keys_still known looker new (same_behind (LoadingCounts packed kept) (off, says, small, same)) has_single,
+        small,
+        (
+          found,
+          has_word,
+          off,
+          subst (λ (p : ℕ × ℕ). SaysPacked p.0 p.1 found packed kept) (λ i. (sym (ap (λ (l : Looker). l.version) same) i, has_single.buckets i)) says,
+        ),
+      )
+      stands_behind LoadingSum (on, packed, same) = (
+        inl (
+          keys_still known looker new (same_behind LoadingSum (on, packed, same)) has_single,
+          λ i total there. (
+            found,
+            has_word.saw,
+            inl (
+              on,
+              ⊎_elim
+                  (λ is_units. is_units ∙ ap (λ (p : ℕ × ℕ). units_packed (single_of p.0 p.1 found) i) (λ j. (sym is.version j, has_single.buckets j)))
+                  (λ (apart, was).
+                  All-contains (λ (t : ℤ × ℕ). t.1 ≡ 0) looker.totals.items total before_single.1 (contains_at looker.totals.items i total was)
+                  ∙ (sym (none_packed (single_of looker.version (length looker.totals.items) found) i apart)
+                  ∙ ap (λ (p : ℕ × ℕ). units_packed (single_of p.0 p.1 found) i) (λ j. (sym is.version j, has_single.buckets j))))
+                  (packed.units i total there),
+            ),
+          ),
+        ),
+        has_word.began,
+      )
+      stands_behind LoadingSingle none = absurd none
+      stands_behind (LoadingCount mounted bucket) none = absurd none
+      stands_behind (LoadingRedundant sum) none = absurd none
+      stands_behind LoadingFirst none = absurd none
+      stands_behind (LoadingType at) none = absurd none
+      stands_behind (LoadingHistogram at) none = absurd none
+      stands_behind (LoadingValue at of) none = absurd none
+      stands_behind (LoadingSample at value) none = absurd none
+      stands_behind (LoadingNext at) none = absurd none
 
     pub loads_single : (new : Looker) → IsBehindSingle looker (word_at words (looker.histogram + 9)) new new.stage
         → Goes shape.size looker.version a words words (LookerGives shape known new More a)
@@ -178,20 +217,24 @@ module _ (shape : Dimensions) (known : Known) (looker : Looker) (a : Actor) (wor
       at = noted a looks;
       told = ((λ e. true≢false (sym (ap is_bound e) ∙ is.turns), is.recorder, is.counts_nothing, is.takes_nothing), refl);
       event = event;
-      ready = (is.turns, (known, knows_it));
+      ready = (is.turns, (known, knows_it has_single));
       words_are = sym (set-get_or words (known.reference + 9) 0);
       goes = λ learned apart.
           let there : IsBehindSingle looker found new new.stage = subst (λ (h : ℕ). IsBehindSingle looker (word_at words (h + 9)) new new.stage) (sym is.reference) behind in
-          ([], acted, refl, (beside, goes_still new acted (same_behind learned new new.stage there) beside refl (stands_behind learned new new.stage there)));
+          let same = same_behind learned new new.stage there in
+          ([], acted, refl, (beside, goes_still new acted same.version same.histogram beside refl (stands_behind learned new new.stage there)));
     }
 
   -- ---- the counts reference is loaded
   module _ (packed : Option ℕ) (kept : ℕ) (loads : looker.stage ≡ LoadingCounts packed kept) where
-    before_counts : StandsAtStage known looker a (LoadingCounts packed kept)
-    before_counts = subst (StandsAtStage known looker a) loads is.stands
+    before_counts : StandsAtStage shape known looker a (LoadingCounts packed kept)
+    before_counts = subst (StandsAtStage shape known looker a) loads is.stands
+
+    abbrev has_counts : HasKeys known looker
+    has_counts = before_counts.0
 
     some_buckets : 0 < buckets_of known.spec
-    some_buckets = by (buckets_of known.spec) refl split.first split.last
+    some_buckets = by (buckets_of known.spec) refl (split has_counts).first (split has_counts).last
       where
         by : (n : ℕ) → buckets_of known.spec ≡ n → slice_index (boundaries_of known.spec) 0 ≡ 0
             → slice_index (boundaries_of known.spec) (buckets_of known.spec) ≡ 2147483647 → 0 < n
@@ -221,7 +264,7 @@ module _ (shape : Dimensions) (known : Known) (looker : Looker) (a : Actor) (wor
           at = a;
           told = refl;
           event = event;
-          ready = (is.turns, (known, knows_it));
+          ready = (is.turns, (known, knows_it has_counts));
           words_are = sym (set-get_or words (known.reference + 8) 0);
           goes = λ learned apart. (
             [],
@@ -229,14 +272,15 @@ module _ (shape : Dimensions) (known : Known) (looker : Looker) (a : Actor) (wor
             refl,
             (
               beside,
-              goes_still new acted (record { version = refl; histogram = refl; keys = refl; long = refl }) beside refl (
+              goes_still new acted refl refl beside refl (
+                keys_still known looker new (record { version = refl; histogram = refl; keys = refl; long = refl }) has_counts,
                 (λ i total lt there. absurd (omega (arith, lt))),
                 some_buckets,
                 (
-                  before_counts.1.0,
-                  subst (λ (n : ℕ). AreMounted known (record { counts = n; packed = packed; kept = kept }) before_counts.1.0 acted) same
-                      (are_mounted known before_counts.1.0 a before_counts.1.1 before_counts.1.2 knows_it found packed kept
-                      (subst (λ (v : ℕ). SaysPacked v (buckets_of known.spec) before_counts.1.0 packed kept) (sym is.version) before_counts.1.3) before_counts.0 learned),
+                  before_counts.2.0,
+                  subst (λ (n : ℕ). AreMounted known (record { counts = n; packed = packed; kept = kept }) before_counts.2.0 acted) same
+                      (are_mounted known before_counts.2.0 a before_counts.2.1 before_counts.2.2 (knows_it has_counts) found packed kept
+                      (subst (λ (v : ℕ). SaysPacked v (buckets_of known.spec) before_counts.2.0 packed kept) (sym is.version) before_counts.2.3) before_counts.1 learned),
                 ),
               ),
             ),
@@ -245,14 +289,17 @@ module _ (shape : Dimensions) (known : Known) (looker : Looker) (a : Actor) (wor
 
   -- ---- the count of a bucket is loaded
   module _ (mounted : Mounted) (bucket : ℕ) (loads : looker.stage ≡ LoadingCount mounted bucket) where
-    stands : StandsAtStage known looker a (LoadingCount mounted bucket)
-    stands = subst (StandsAtStage known looker a) loads is.stands
+    stands : StandsAtStage shape known looker a (LoadingCount mounted bucket)
+    stands = subst (StandsAtStage shape known looker a) loads is.stands
+
+    abbrev has_count : HasKeys known looker
+    has_count = stands.0
 
     abbrev word : ℕ
-    word = stands.2.0
+    word = stands.3.0
 
     abbrev are : AreMounted known mounted word a
-    are = stands.2.1
+    are = stands.3.1
 
     abbrev at : ℕ
     at = mounted.counts + 4 + bucket
@@ -265,36 +312,48 @@ module _ (shape : Dimensions) (known : Known) (looker : Looker) (a : Actor) (wor
 
     count_inside : (n : ℕ) → n ≡ shape.size → (mounted.counts + (4 + bucket) < n) × (bucket < length looker.totals.items)
     count_inside n long =
-        let inside = stands.1 in
+        let inside = stands.2 in
         let within = subst (λ s. mounted.counts + (4 + 2 * buckets_of known.spec) ≤ s.size) is.segment are.within in
-        let buckets = is.buckets in (omega (arith, inside, within, long), omega (arith, inside, buckets))
+        let buckets = has_count.buckets in (omega (arith, inside, within, long), omega (arith, inside, buckets))
 
     module _ (total : ℕ) (is_total : total ≡ total_at mounted bucket count) (new : Looker)
         (put : IsPut bucket total (record looker { stage = behind_bucket (length looker.totals.items) mounted bucket }) new) where
+      same : IsSame looker new
+      same = record {
+        version = ap (λ (l : Looker). l.version) put.same;
+        histogram = ap (λ (l : Looker). l.histogram) put.same;
+        keys = put.keys;
+        long = put.long;
+      }
+
       saw_these : count ≤ 4294967295 → SawBefore known new.totals.items (bucket + 1) counted
       saw_these small i x lt there =
           ⊎_elim
           (λ (here, same).
-          subst (λ (p : ℕ × ℕ). SawBucket counted known p.0 p.1) (λ j. (sym here j, sym (same ∙ (is_total ∙ total_is known mounted word a are bucket stands.1 count small)) j))
-          (saw_total known mounted word a are bucket stands.1 count))
-          (λ (apart, was). saw_bucket a counted (taking_sees a (load_count at) count) are.began known i x.1 (stands.0 i x (omega (arith, lt, apart)) was))
+          subst (λ (p : ℕ × ℕ). SawBucket counted known p.0 p.1) (λ j. (sym here j, sym (same ∙ (is_total ∙ total_is known mounted word a are bucket stands.2 count small)) j))
+          (saw_total known mounted word a are bucket stands.2 count))
+          (λ (apart, was). saw_bucket a counted (taking_sees a (load_count at) count) are.began known i x.1 (stands.1 i x (omega (arith, lt, apart)) was))
           (put.units i x there)
 
-      stands_then : count ≤ 4294967295 → StandsAtStage known new counted (behind_bucket (length looker.totals.items) mounted bucket)
+      stands_then : count ≤ 4294967295 → StandsAtStage shape known new counted (behind_bucket (length looker.totals.items) mounted bucket)
       stands_then small = by (nat_lt (bucket + 1) (length looker.totals.items)) refl
         where
           by : (test : Bool) → nat_lt (bucket + 1) (length looker.totals.items) ≡ test
-              → StandsAtStage known new counted (if test then LoadingCount mounted (bucket + 1) else LoadingSum)
+              → StandsAtStage shape known new counted (if test then LoadingCount mounted (bucket + 1) else LoadingSum)
           by true lt = (
+            keys_still known looker new same has_count,
             saw_these small,
-            (let under = ltb-true (bucket + 1) (length looker.totals.items) lt in let buckets = is.buckets in omega (arith, under, buckets)),
-            (word, still_mounted known mounted word a are bucket stands.1 count),
+            (let under = ltb-true (bucket + 1) (length looker.totals.items) lt in let buckets = has_count.buckets in omega (arith, under, buckets)),
+            (word, still_mounted known mounted word a are bucket stands.2 count),
           )
           by false ge = (
-            (λ i x there.
-                saw_these small i x
-                (let over = ltb-false (bucket + 1) (length looker.totals.items) ge in let long = put.long in let below = below_length new.totals.items i x there in
-                omega (arith, over, long, below)) there),
+            inl (
+              keys_still known looker new same has_count,
+              (λ i x there.
+                  saw_these small i x
+                  (let over = ltb-false (bucket + 1) (length looker.totals.items) ge in let long = put.long in let below = below_length new.totals.items i x there in
+                  omega (arith, over, long, below)) there),
+            ),
             began_still a counted (taking_sees a (load_count at) count) are.began,
           )
 
@@ -309,18 +368,12 @@ module _ (shape : Dimensions) (known : Known) (looker : Looker) (a : Actor) (wor
             names = refl;
             chain = ([], sym (append-nil a.seen.chain));
             words = ([], sym (append-nil a.seen.words));
-          } in
-          let same : IsSame looker new = record {
-            version = ap (λ (l : Looker). l.version) put.same;
-            histogram = ap (λ (l : Looker). l.histogram) put.same;
-            keys = put.keys;
-            long = put.long;
           } in record {
             before = [];
             at = a;
             told = refl;
             event = taking_event (load_count at);
-            ready = may_load known mounted word a are bucket stands.1 count;
+            ready = may_load known mounted word a are bucket stands.2 count;
             words_are = sym (set-get_or words at 0);
             goes = λ learned apart. (
               [],
@@ -328,16 +381,16 @@ module _ (shape : Dimensions) (known : Known) (looker : Looker) (a : Actor) (wor
               refl,
               (
                 beside,
-                goes_still new counted same beside (ap is_bound (count_placed known mounted word a are bucket stands.1 count))
-                    (subst (StandsAtStage known new counted) (sym (ap (λ (l : Looker). l.stage) put.same)) (stands_then learned.0)),
+                goes_still new counted same.version same.histogram beside (ap is_bound (count_placed known mounted word a are bucket stands.2 count))
+                    (subst (StandsAtStage shape known new counted) (sym (ap (λ (l : Looker). l.stage) put.same)) (stands_then learned.0)),
               ),
             );
           }
 
   -- ---- the sum is loaded
   module _ (loads : looker.stage ≡ LoadingSum) where
-    before_sum : StandsAtStage known looker a LoadingSum
-    before_sum = subst (StandsAtStage known looker a) loads is.stands
+    before_sum : StandsAtStage shape known looker a LoadingSum
+    before_sum = subst (StandsAtStage shape known looker a) loads is.stands
 
     pub loads_sum : (sum : ℤ) → sum ≡ cast_signed w64 (word_at words (looker.histogram + 11))
         → Goes shape.size looker.version a words words (LookerGives shape known (record looker { stage = LoadingRedundant sum }) More a)
@@ -367,8 +420,9 @@ module _ (shape : Dimensions) (known : Known) (looker : Looker) (a : Actor) (wor
             refl,
             (
               beside,
-              goes_still (record looker { stage = LoadingRedundant sum }) acted (record { version = refl; histogram = refl; keys = refl; long = refl }) beside refl (
-                before_sum.0,
+              goes_still (record looker { stage = LoadingRedundant sum }) acted refl refl beside refl (
+                ⊎_elim (λ (has, totals). inl (keys_still known looker (record looker { stage = LoadingRedundant sum }) (record { version = refl; histogram = refl; keys = refl; long = refl }) has, totals))
+                    (λ all. inr (all_still known a acted (taking_sees a (load_sum known.reference) found) looker.totals.items refl refl all)) before_sum.0,
                 record { singles = before_sum.1.singles; counts = before_sum.1.counts },
                 ap (λ (h : ℕ). SumLoaded known.reference (cast_signed w64 (word_at words (h + 11)))) is.reference ∙ ap (SumLoaded known.reference) (sym is_sum),
               ),
@@ -378,8 +432,8 @@ module _ (shape : Dimensions) (known : Known) (looker : Looker) (a : Actor) (wor
 
   -- ---- the redundant count is loaded, and the snapshot is answered
   module _ (sum : ℤ) (loads : looker.stage ≡ LoadingRedundant sum) (redundant : ℕ) (is_redundant : redundant ≡ word_at words (looker.histogram + 13)) where
-    before_last : StandsAtStage known looker a (LoadingRedundant sum)
-    before_last = subst (StandsAtStage known looker a) loads is.stands
+    before_last : StandsAtStage shape known looker a (LoadingRedundant sum)
+    before_last = subst (StandsAtStage shape known looker a) loads is.stands
 
     abbrev last : ℕ
     last = word_at words (known.reference + 13)
@@ -396,13 +450,33 @@ module _ (shape : Dimensions) (known : Known) (looker : Looker) (a : Actor) (wor
     abbrev answered : Answered
     answered = record { name = known.name; counts = looker.totals.items; sum = sum; redundant = redundant; moment = moment_of a }
 
-    saw_all : SawAll loaded known answered
-    saw_all = record {
-      buckets = λ bucketed.
-          (is.keys, λ bucket count there. saw_bucket a loaded (taking_sees a (load_redundant known.reference) last) before_last.1 known bucket count.1 (before_last.0 bucket count there));
-      samples = λ sparse. absurd (true≢false (sym is.bucketed ∙ ap has_buckets sparse));
-      once = λ sparse. absurd (true≢false (sym is.bucketed ∙ ap has_buckets sparse));
-      values = λ sparse. absurd (true≢false (sym is.bucketed ∙ ap has_buckets sparse));
+    sees : SeesMore a loaded
+    sees = taking_sees a (load_redundant known.reference) last
+
+    -- of buckets, or of samples
+    saw_totals : SawTotalsOf known looker a → IsInOrder a → SawTotalsIn loaded known answered
+    saw_totals (inl (has, saw)) order = record {
+      buckets = λ bucketed. (has.keys, λ bucket count there. saw_bucket a loaded sees before_last.1 known bucket count.1 (saw bucket count there));
+      samples = λ sparse. absurd (true≢false (sym has.bucketed ∙ ap has_buckets sparse));
+      once = λ sparse. absurd (true≢false (sym has.bucketed ∙ ap has_buckets sparse));
+      values = λ sparse. absurd (true≢false (sym has.bucketed ∙ ap has_buckets sparse));
+    }
+    saw_totals (inr all) order = record {
+      buckets = λ bucketed. absurd (true≢false (sym bucketed ∙ ap has_buckets all.way.sparse));
+      samples = λ sparse k d low.
+          let (sample, first, saw) = are_first known looker.totals.items a order all k d low in (sample, first, saw_count a loaded sees before_last.1 (sample + 6) _ saw);
+      once = λ sparse. are_once known looker.totals.items a order all;
+      values = λ sparse value sample met saw.
+          let (count, counted, either) = are_all known looker.totals.items a order all value sample met saw in
+          (count, saw_count a loaded sees before_last.1 (sample + 6) count counted, either);
+    }
+
+    saw_all : IsInOrder a → SawAll loaded known answered
+    saw_all order = let saw = saw_totals before_last.0 order in record {
+      buckets = saw.buckets;
+      samples = saw.samples;
+      once = saw.once;
+      values = saw.values;
       sum = before_last.2;
       redundant = (
         drop a.since.counts a.seen.counts,
@@ -411,8 +485,8 @@ module _ (shape : Dimensions) (known : Known) (looker : Looker) (a : Actor) (wor
       );
     }
 
-    pub answers_so : Goes shape.size looker.version a words words (LookerGives shape known looker (Done sum redundant) a)
-    answers_so = record {
+    pub answers_so : WalksInOrder a → Goes shape.size looker.version a words words (LookerGives shape known looker (Done sum redundant) a)
+    answers_so order = let saw = saw_all (order (not_spent a.hand.place is.turns)) in record {
       before = [];
       at = a;
       told = refl;
@@ -422,7 +496,7 @@ module _ (shape : Dimensions) (known : Known) (looker : Looker) (a : Actor) (wor
       goes = λ learned apart. (
         answers answered ∷ [],
         noted loaded (answers answered),
-        ((known, is.knows, refl, saw_all, refl), refl),
+        ((known, is.knows, refl, saw, refl), refl),
         (
           is.turns,
           record {
@@ -443,29 +517,34 @@ module _ (shape : Dimensions) (known : Known) (looker : Looker) (a : Actor) (wor
             sum_is = refl;
             redundant_is = refl;
             saw = record {
-              buckets = saw_all.buckets;
-              samples = saw_all.samples;
-              once = saw_all.once;
-              values = saw_all.values;
-              sum = saw_all.sum;
-              redundant = saw_all.redundant;
+              buckets = saw.buckets;
+              samples = saw.samples;
+              once = saw.once;
+              values = saw.values;
+              sum = saw.sum;
+              redundant = saw.redundant;
             };
           },
         ),
       );
     }
 
--- the record of a snapshot that stands somewhere lies in so many words, which are few, and so are its buckets
+-- the record of a snapshot that stands somewhere lies in so many words, which are few
 pub some_inside : (looker : Looker) (words : List ℕ) → ∥ IsSomeLooker (length words) looker ∥₁
-    → (looker.histogram + 15 ≤ length words) × (length words ≤ 1048576) × (length looker.totals.items ≤ 1000)
+    → (looker.histogram + 15 ≤ length words) × (length words ≤ 1048576)
 some_inside looker words stands = ∥∥₁_elim stands (hlevel props) (λ (shape, known, a, long, is).
-    let inside = is_inside shape known looker a words is (length words) long in
-    let buckets = is.buckets in
-    let few = few shape known looker a words is in
-    (inside.0, inside.1, omega (arith, buckets, few)))
+    is_inside shape known looker a words is (length words) long)
+
+-- and of a histogram with buckets there are few
+pub some_few : (looker : Looker) (words : List ℕ) → looker.stage ≡ LoadingSingle → ∥ IsSomeLooker (length words) looker ∥₁ → length looker.totals.items ≤ 1000
+some_few looker words loads stands = ∥∥₁_elim stands (hlevel props) (λ (shape, known, a, long, is).
+    let has = (subst (StandsAtStage shape known looker a) loads is.stands).0 in
+    let buckets = has.buckets in let few = few shape known looker a words is has in omega (arith, buckets, few))
 
 -- the count of a bucket lies within the words
 pub some_count : (looker : Looker) (words : List ℕ) (mounted : Mounted) (bucket : ℕ) → looker.stage ≡ LoadingCount mounted bucket → ∥ IsSomeLooker (length words) looker ∥₁
-    → (mounted.counts + (4 + bucket) < length words) × (bucket < length looker.totals.items)
+    → (mounted.counts + (4 + bucket) < length words) × (bucket < length looker.totals.items) × (length looker.totals.items ≤ 1000)
 some_count looker words mounted bucket loads stands = ∥∥₁_elim stands (hlevel props) (λ (shape, known, a, long, is).
-    count_inside shape known looker a words is mounted bucket loads (length words) long)
+    let inside = count_inside shape known looker a words is mounted bucket loads (length words) long in
+    let has = (subst (StandsAtStage shape known looker a) loads is.stands).0 in
+    let buckets = has.buckets in let few = few shape known looker a words is has in (inside.0, inside.1, omega (arith, buckets, few)))

@@ -15,7 +15,7 @@ use Rattle.hist_core.specs.declared.looker.LookerStep.TheVariants.{More, Done}
 use Rattle.hist_core.specs.declared.runner.Running.{Running}
 use Rattle.hist_core.specs.declared.runner.Running.TheVariants.{Snapshot}
 use Rattle.hist_core.specs.declared.runner.Runner.{Runner}
-use Rattle.hist_core.specs.Goes.{Goes}
+use Rattle.hist_core.specs.Goes.{Goes, WalksInOrder}
 use Rattle.hist_core.specs.Looker.{HasLooked, IsLooker, IsSomeLooker, LookerGives, LookerSteps}
 use Rattle.hist_core.specs.Runner.{Advances, Answers, AreShown, BeginsSnapshot, IsKnown, known_of, IsAnswer, IsQuiet, IsRun, IsSnapshotSaid, IsSomeRun, StandsIn, begun_by, ended_by, looked_by, pending_by}
 use Rattle.std.specs.List.{range_with_len}
@@ -37,7 +37,9 @@ use Rattle.segment_machine.specs.Actor.{bucket_key, has_buckets, is_bound, known
 use Rattle.hist_core.specs.declared.board.Board.{Board}
 use Rattle.hist_core.specs.declared.hist.Known.{Known}
 use Rattle.hist_core.specs.Board.{IsReachedAs, LooksAt}
-use Rattle.hist_core.specs.Looker.{IsStarted, StandsAtStage, blank_totals}
+use Rattle.hist_core.specs.Looker.{IsStarted, OpensWith, StandsAtStage, blank_totals}
+use Rattle.hist_core.specs.declared.looker.Stage.{Stage}
+use Rattle.hist_core.specs.declared.looker.Stage.TheVariants.{LoadingSingle, LoadingCounts, LoadingCount, LoadingFirst, LoadingType, LoadingHistogram, LoadingValue, LoadingSample, LoadingNext, LoadingSum, LoadingRedundant}
 use Rattle.hist_core.proofs.Asking.{place_below, runs_on}
 use Rattle.hist_core.proofs.Boards.{same_there}
 use Rattle.hist_core.proofs.Opening.{alone_there}
@@ -55,7 +57,8 @@ some_looker n runner looker is (shape, version, a, long, wide, run) =
     (shape, stands.1.0, a, long, stands.1.1)
 
 module _ (shape : Dimensions) (version : ℕ) (old : Runner) (a : Actor) (run : IsRun shape version old a) (looker now : Looker)
-    (is : old.running ≡ Some (Snapshot looker)) (same : now.histogram ≡ looker.histogram) (words new_words : List ℕ) (long : length words ≡ shape.size) where
+    (is : old.running ≡ Some (Snapshot looker)) (same : now.histogram ≡ looker.histogram) (words new_words : List ℕ) (long : length words ≡ shape.size)
+    (order : WalksInOrder a) where
   stands : StandsIn shape old.known.items (pending_by old) (Some (Snapshot looker)) a
   stands = subst (λ running. StandsIn shape old.known.items (pending_by old) running a) is run.stands
 
@@ -110,7 +113,7 @@ module _ (shape : Dimensions) (version : ℕ) (old : Runner) (a : Actor) (run : 
   }
 
   its_steps : (said : LookerStep) → LookerSteps looker words now new_words said → Goes shape.size version a words new_words (LookerGives shape known now said a)
-  its_steps said steps = subst (λ (v : ℕ). Goes shape.size v a words new_words (LookerGives shape known now said a)) one_version (steps shape known a long looks)
+  its_steps said steps = subst (λ (v : ℕ). Goes shape.size v a words new_words (LookerGives shape known now said a)) one_version (steps shape known a long order looks)
 
   -- what the machine's actor does, and what becomes of that at run time
   pub snapshot_goes : (said : LookerStep) (new : Runner) (result : Stepped) → LookerSteps looker words now new_words said
@@ -177,7 +180,7 @@ no_units boundaries k d below =
     ap (λ (total : ℤ × ℕ). total.1) (get_or-map-range_with_len blank_one 0 (length boundaries - 1) k k d (omega (arith, below, long)) (omega arith))
 
 -- who rests begins it, which is no event
-module _ (shape : Dimensions) (version : ℕ) (known : Known) (old new : Runner) (starts : BeginsSnapshot version known old new) (i : ℕ)
+module _ (shape : Dimensions) (version : ℕ) (known : Known) (old new : Runner) (starts : BeginsSnapshot shape version known old new) (i : ℕ)
     (at : get_elem? old.known.items i ≡ some known) (bucketed : has_buckets known.spec ≡ true) (rests : old.running ≡ None) where
   module _ (a : Actor) (run : IsRun shape version old a) (lawful : IsShape shape) (alone : known_at a.answers.names known.reference ≡ Some (known_of known)) where
     stood : (is_bound a.hand.place ≡ false) × IsQuiet (pending_by old) a
@@ -189,13 +192,30 @@ module _ (shape : Dimensions) (version : ℕ) (known : Known) (old new : Runner)
     abbrev looker : Looker
     looker = starts.0
 
-    started : IsStarted version (known_of known) looker
+    abbrev HasBlanks : List (ℤ × ℕ) → Type 0
+    HasBlanks totals = (map (λ (total : ℤ × ℕ). total.0) totals ≡ map (bucket_key (Some (known_of known))) (range_with_len 0 (buckets_of known.spec)))
+        × (length totals ≡ buckets_of known.spec)
+
+    started : IsStarted shape version (known_of known) looker
     started = starts.1
 
-    keys : (map (λ (total : ℤ × ℕ). total.0) looker.totals.items ≡ map (bucket_key (Some (known_of known))) (range_with_len 0 (buckets_of known.spec)))
-        × (length looker.totals.items ≡ buckets_of known.spec)
-    keys = subst (λ (l : List (ℤ × ℕ)). (map (λ (total : ℤ × ℕ). total.0) l ≡ map (bucket_key (Some (known_of known))) (range_with_len 0 (buckets_of known.spec)))
-        × (length l ≡ buckets_of known.spec)) (sym started.totals) (keys_of_buckets (known_of known) its_known.lawful bucketed)
+    -- of a histogram with buckets it stands before the single word
+    stands_first : (stage : Stage) → OpensWith shape (known_of known) looker stage → StandsAtStage shape (known_of known) looker a stage
+    stands_first LoadingSingle (has, blank) =
+        let keys : HasBlanks looker.totals.items = subst HasBlanks (sym blank) (keys_of_buckets (known_of known) its_known.lawful has) in (
+          record { bucketed = has; keys = keys.0; buckets = keys.1 },
+          subst (All (λ total. total.1 ≡ 0)) (sym blank) (no_units (boundaries_of known.spec)),
+        )
+    stands_first LoadingFirst (sparse, none, room) = absurd (true≢false (sym bucketed ∙ ap has_buckets sparse))
+    stands_first (LoadingCounts packed kept) none = absurd none
+    stands_first (LoadingCount mounted bucket) none = absurd none
+    stands_first (LoadingType at) none = absurd none
+    stands_first (LoadingHistogram at) none = absurd none
+    stands_first (LoadingValue at of) none = absurd none
+    stands_first (LoadingSample at value) none = absurd none
+    stands_first (LoadingNext at) none = absurd none
+    stands_first LoadingSum none = absurd none
+    stands_first (LoadingRedundant sum) none = absurd none
 
     begins_looking : IsLooker shape (known_of known) looker a
     begins_looking = record {
@@ -209,13 +229,9 @@ module _ (shape : Dimensions) (version : ℕ) (known : Known) (old new : Runner)
       reference = sym started.reference;
       within = subst (λ n. n + 15 ≤ shape.size) (sym started.reference) its_known.within;
       lawful = its_known.lawful;
-      bucketed = bucketed;
       knows = subst (λ (l : List MachineKnown). Contains l (known_of known)) run.names (contains_map known_of old.known.items known (contains_at old.known.items i known at));
       alone = alone;
-      keys = keys.0;
-      buckets = keys.1;
-      stands = subst (StandsAtStage (known_of known) looker a) (sym started.stage)
-          (subst (All (λ total. total.1 ≡ 0)) (sym started.totals) (no_units (boundaries_of known.spec)));
+      stands = stands_first looker.stage started.opens;
     }
 
     pub begins_with : IsRun shape version new a
@@ -250,7 +266,7 @@ module _ (old new : Board) (actor : ℕ) (r now : Runner) (here : get_elem? old.
       (alone_there old.shape (blank old.version reach.id old.shape.size) state kept (actor + 1) a there (not_spent a.hand.place free) r.known.items run.once run.names place known at))
       shaped versioned pooled (ap (λ w. w.items) worded) runners
 
-  pub snapshot_begins : BeginsSnapshot old.version known r now → has_buckets known.spec ≡ true → (state : State) → IsReachedAs old state → IsReachedAs new state
+  pub snapshot_begins : BeginsSnapshot old.shape old.version known r now → has_buckets known.spec ≡ true → (state : State) → IsReachedAs old state → IsReachedAs new state
   snapshot_begins starts bucketed = call_begins (begins_with old.shape old.version known r now starts place at bucketed rests)
 
 -- so it is among the actors
@@ -269,8 +285,8 @@ call_begun IsOf runners actor r now here place known at same taken is name named
   (known, subst (λ (l : List Known). Contains l known) (sym same) (contains_at r.known.items place known at), named, is),
 )
 
-pub snapshot_begun : {version : ℕ} (runners : List Runner) (actor : ℕ) (r now : Runner) → get_elem? runners actor ≡ some r → (place : ℕ) (known : Known)
-    → get_elem? r.known.items place ≡ some known → BeginsSnapshot version known r now → (name : List ℕ) → known.name.items ≡ name
+pub snapshot_begun : {shape : Dimensions} {version : ℕ} (runners : List Runner) (actor : ℕ) (r now : Runner) → get_elem? runners actor ≡ some r → (place : ℕ) (known : Known)
+    → get_elem? r.known.items place ≡ some known → BeginsSnapshot shape version known r now → (name : List ℕ) → known.name.items ≡ name
     → (before behind : Runner) × (get_elem? runners actor ≡ some before) × (get_elem? (set runners actor now) actor ≡ some behind)
     × (behind.taken.items ≡ before.taken.items)
     × ((k : Known) × Contains behind.known.items k × (k.name.items ≡ name) × LooksAt k.reference behind.running)

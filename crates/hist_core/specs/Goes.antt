@@ -1,12 +1,16 @@
 -- How an actor goes on by one event.
-use Rattle.std.specs.Prelude.{◌≡◌, ℕ, List, ◌++◌}
+use Rattle.std.specs.Prelude.{◌≡◌, ◌≢◌, ℕ, ℤ, List, ◌∷◌, ◌++◌}
+use Rattle.std.specs.List.{Contains}
 use Rattle.segment_image.specs.Words.{word_at}
 use Rattle.list_core.specs.Walk.{IsPrefix}
 use Rattle.segment_machine.specs.declared.actor.Actor.{Actor}
+use Rattle.segment_machine.specs.declared.place.Place.TheVariants.{Spent}
 use Rattle.segment_machine.specs.Actor.{AreApart}
 use Rattle.segment_machine.specs.declared.seen.Sighting.{Sighting}
 use Rattle.segment_machine.specs.Event.{Event, spot, after, next, Ready, Learned}
+use Rattle.segment_machine.specs.Made.{SawSample}
 use Rattle.segment_machine.specs.Note.{Note, Notes}
+use Rattle.segment_promises.specs.Values.{StandOnce}
 
 -- What an event leaves as it was: its role, its segment, its units and entries, its deltas, and the names that it was answered with.
 -- Of the chain and of the words of records it has seen no less.
@@ -31,3 +35,17 @@ pub record Goes (size version : ℕ) (a : Actor) (words new_words : List ℕ) (h
   pub words_are : new_words ≡ after size version event words
   pub goes : Learned at event (word_at words (spot size event)) → AreApart (next at event (word_at words (spot size event)))
       → (behind : List Note) × (then_is : Actor) × Notes (next at event (word_at words (spot size event))) behind then_is × holds then_is
+
+-- each sample that it met stands behind the record of its histogram
+abbrev pub SamplesStandBehind : Actor → Type 0
+SamplesStandBehind a = (histogram sample : ℕ) (value : ℤ) (front behind : List ℕ) → Contains a.seen.chain sample → SawSample a.seen histogram value sample
+    → a.seen.chain ≡ front ++ histogram ∷ behind → Contains behind sample
+
+-- On the list as far as it walked no block stands twice, and each sample stands behind the record of its histogram.
+pub record IsInOrder (a : Actor) : Type 0 where
+  pub once : StandOnce a.seen.chain
+  pub behind : SamplesStandBehind a
+
+-- so it is for who has not been joined
+abbrev pub WalksInOrder : Actor → Type 0
+WalksInOrder a = a.hand.place ≢ Spent → IsInOrder a

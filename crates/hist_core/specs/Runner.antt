@@ -523,9 +523,9 @@ IsSnapshotSaid old (look.Done sum redundant) new result =
     × (result ≡ Done (answer.Snapshot (record { counts = looker.totals; sum = sum; redundant = redundant })))
 
 -- it begins a `snapshot` of a known histogram
-abbrev pub BeginsSnapshot : ℕ → Known → Runner → Runner → Type 0
-BeginsSnapshot version known old new =
-    (looker : Looker) × IsLookerStarted version (known_of known) looker × (new ≡ record old { running = Some (Snapshot looker) })
+abbrev pub BeginsSnapshot : Dimensions → ℕ → Known → Runner → Runner → Type 0
+BeginsSnapshot shape version known old new =
+    (looker : Looker) × IsLookerStarted shape version (known_of known) looker × (new ≡ record old { running = Some (Snapshot looker) })
 
 -- ---- how it begins a `hist`
 

@@ -287,7 +287,7 @@ impl Board {
         ensures says { IfOk result (λ said. (name : List ℕ) → IsPlaceOf self.old actor name place → SnapshotBegins actor name self.old self.new said) }
     {
         let runner = &mut self.runners[actor];
-        runner.begin_snapshot(self.alloc, self.version, place)?;
+        runner.begin_snapshot(self.alloc, self.shape, self.version, place)?;
         Ok(Begun::Going)
     }
 

@@ -64,6 +64,7 @@ impl Runner {
     ghost use Rattle.segment_machine.specs.declared.actor.Actor.{Actor};
     ghost use Rattle.hist_core.specs.declared.hist.HistStep.TheVariants.{Done};
     ghost use Rattle.hist_core.specs.Batch.{added_of};
+    ghost use Rattle.hist_core.specs.Goes.{WalksInOrder};
     ghost use Rattle.hist_core.specs.Runner.{IsFresh, IsRun, IsSomeRun, NoneHasName, IsKnownAt, IsKnownAnswer, BeginsHist, HasRoom, AsksForOne, IsHistSaid, IsAddSaid, Adds, BeginsAdd, IsBatchSaid, BeginsBatch, BeginsSnapshot, BeginsDelta, IsNowShown, TakesOfOne, HasEndedDelta, HasPlace, IsDeltaSaid, LooksAtOne, IsSnapshotSaid, IsAsItWas, held_by, Advances, Answers};
 
     // An actor that has done nothing.
@@ -360,6 +361,7 @@ impl Runner {
     pub(crate) fn begin_snapshot(
         &mut self,
         alloc: Global,
+        shape: Shape,
         version: u64,
         i: usize,
     ) -> Result<(), AllocError>
@@ -367,10 +369,10 @@ impl Runner {
         requires lawful { (known : Known) → get_elem? self.old.known.items i ≡ some known → spec_fault known.spec ≡ None }
         requires ranges { (known : Known) → get_elem? self.old.known.items i ≡ some known → known.ranges ≡ boundaries_of known.spec }
         requires bucketed { (known : Known) → get_elem? self.old.known.items i ≡ some known → has_buckets known.spec ≡ true }
-        ensures begins { IfOk result (λ _. (known : Known) → get_elem? self.old.known.items i ≡ some known → BeginsSnapshot version known self.old self.new) }
+        ensures begins { IfOk result (λ _. (known : Known) → get_elem? self.old.known.items i ≡ some known → BeginsSnapshot shape version known self.old self.new) }
         ensures fails { OnErr result (self.new ≡ self.old) }
     {
-        let looker = Looker::start(alloc, version, &self.known[i])?;
+        let looker = Looker::start(alloc, shape, version, &self.known[i])?;
         self.running = Some(Running::Snapshot(looker));
         Ok(())
     }
@@ -398,7 +400,7 @@ impl Runner {
     pub(crate) fn advance(&mut self, words: &mut [u64]) -> Stepped
         requires runs { IsSome self.old.running }
         requires stands { ∥ IsSomeRun (length words.old) self.old ∥₁ }
-        ensures advances { (shape : Dimensions) (version : ℕ) (a : Actor) → shape.size ≡ length words.old → IsRun shape version self.old a → Advances shape version self.old words.old self.new words.new result a }
+        ensures advances { (shape : Dimensions) (version : ℕ) (a : Actor) → shape.size ≡ length words.old → WalksInOrder a → IsRun shape version self.old a → Advances shape version self.old words.old self.new words.new result a }
         ensures answers { Answers self.old words.old self.new words.new result }
     {
         match &mut self.running {

@@ -5,6 +5,7 @@ ghost use Rattle.std.specs.Int.RustNames.{unsigned_abs};
 ghost use Rattle.bucket_ranges.specs.Tally.{amount_of as amount_of_sample, counted_value as counted_value_of};
 ghost use Rattle.bucket_ranges.specs.Ranges.{AreBoundaries};
 ghost use Rattle.segment_machine.specs.Entry.{key_of as key_of_value};
+ghost use Rattle.segment_promises.specs.Values.{AreSorted};
 
 use bucket_ranges::Ranges;
 use bucket_ranges::limits::MAX_VALUE;
@@ -18,6 +19,13 @@ fn counted_value(ranges: &Ranges, value: i32) -> i32
     } else {
         value
     }
+}
+
+// Sorts keys with units by their keys.
+pub(crate) fn sort_by_key(counts: &mut Vec<(i32, u64)>)
+    ensures { AreSorted counts.old.items counts.new.items }
+{
+    counts.sort_unstable_by_key(|count| count.0);
 }
 
 // What a sample adds to the sum: its value as often as it has units.

@@ -27,8 +27,8 @@ returns-clause-steps c = λ state reach.
     let pool : old.units + c.returned.result ≡ old.units + returned_by c.advance-said.result (held_by r.running) =
     ap (λ n. old.units + n) (c.returned.ensures.units ∙ ap (returned_by c.advance-said.result) c.held-held.ensures.units) in
     steps old state reach size c.args.actor r c.advance-said.new.self _ at refl refl refl c.advance-said.result
-    (λ a run. subst (λ (w : List ℕ × List ℕ). Advances old.shape old.version r w.0 c.advance-said.new.self w.1 c.advance-said.result a) (λ i. (c.deref_mut.ensures.value i, sym stored i))
-    (c.advance-said.ensures.advances old.shape old.version a (sym (ap length c.deref_mut.ensures.value ∙ size)) run))
+    (λ a order run. subst (λ (w : List ℕ × List ℕ). Advances old.shape old.version r w.0 c.advance-said.new.self w.1 c.advance-said.result a) (λ i. (c.deref_mut.ensures.value i, sym stored i))
+    (c.advance-said.ensures.advances old.shape old.version a (sym (ap length c.deref_mut.ensures.value ∙ size)) order run))
     pool
 
 pub returns-clause-others : goal.returns-clause-others

@@ -27,13 +27,13 @@ bounds-words-mounted c = (some_count c.args.self.now c.args.words.now c.args.mou
 pub behind_bucket-self-requires : goal.behind_bucket-self-requires
 behind_bucket-self-requires c =
     let there = some_count c.args.self.now c.args.words.now c.args.mounted c.args.bucket c.requires.loads c.requires.stands in
-    let inside = some_inside c.args.self.now c.args.words.now c.requires.stands in omega (arith, there.1, inside.2)
+    omega (arith, there.1, there.2)
 
 pub put-requires : goal.put-requires
 put-requires c = (some_count c.args.self.now c.args.words.now c.args.mounted c.args.bucket c.requires.loads c.requires.stands).1
 
 pub returns-clause-steps : goal.returns-clause-steps
-returns-clause-steps c = λ shape known a long is.
+returns-clause-steps c = λ shape known a long order is.
     puts_count shape known c.args.self.now a c.args.words.now is c.args.mounted c.args.bucket c.requires.loads c.total.result
     (c.total.ensures ∙ ap (total_at c.args.mounted c.args.bucket) (where_count c.args.words.now c.args.mounted.counts c.args.bucket)) _
     (subst (λ (stage : Stage). IsPut c.args.bucket c.total.result (record c.args.self.now { stage = stage }) c.put.new.self) c.behind_bucket-self.ensures c.put.ensures)

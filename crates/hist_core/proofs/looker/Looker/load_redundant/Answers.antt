@@ -17,9 +17,9 @@ pub bounds-words-self : goal.bounds-words-self
 bounds-words-self c = let inside = some_inside c.args.self.now c.args.words.now c.requires.stands in omega (arith, inside.0)
 
 pub returns-clause-steps : goal.returns-clause-steps
-returns-clause-steps c = λ shape known a long is.
+returns-clause-steps c = λ shape known a long order is.
     let looker = c.args.self.now in
     let words = c.args.words.now in
     let whole : cast_signed w64 (cast_unsigned w64 c.args.sum) ≡ c.args.sum = search rules in
     subst (λ (sum : ℤ). Goes shape.size looker.version a words words (LookerGives shape known looker (Done sum (word_at words (looker.histogram + 13))) a)) (sym whole)
-    (answers_so shape known looker a words is c.args.sum c.requires.loads _ refl)
+    (answers_so shape known looker a words is c.args.sum c.requires.loads _ refl order)

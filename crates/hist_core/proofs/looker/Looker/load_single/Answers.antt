@@ -1,5 +1,5 @@
 use Rattle.std.proofs.Common.{arith}
-use Rattle.hist_core.proofs.Snapshots.{loads_single, some_inside}
+use Rattle.hist_core.proofs.Snapshots.{loads_single, some_few, some_inside}
 use Rattle.hist_core.proofs.looker.Looker.load_single.Goals as goal
 
 pub overflow_add-word : goal.overflow_add-word
@@ -12,8 +12,8 @@ pub bounds-words-self : goal.bounds-words-self
 bounds-words-self c = let inside = some_inside c.args.self.now c.args.words.now c.requires.stands in omega (arith, inside.0)
 
 pub behind_single-requires : goal.behind_single-requires
-behind_single-requires c = let inside = some_inside c.args.self.now c.args.words.now c.requires.stands in omega (arith, inside.2)
+behind_single-requires c = let few = some_few c.args.self.now c.args.words.now c.requires.loads c.requires.stands in omega (arith, few)
 
 pub returns-clause-steps : goal.returns-clause-steps
-returns-clause-steps c = λ shape known a long is.
+returns-clause-steps c = λ shape known a long order is.
     loads_single shape known c.args.self.now a c.args.words.now is c.requires.loads _ c.behind_single.ensures

@@ -17,7 +17,7 @@ set_bits-requires c =
     let wide : 16 ≤ length c.args.words.now = ∥∥₁_elim c.requires.stands (hlevel props) (λ some. some_words (length c.args.words.now) c.args.self.now some) in omega (arith, wide)
 
 pub returns-in-Some-SetCorrupt-clause-advances : goal.returns-in-Some-SetCorrupt-clause-advances
-returns-in-Some-SetCorrupt-clause-advances c = λ shape version a size run.
+returns-in-Some-SetCorrupt-clause-advances c = λ shape version a size order run.
     sets_corrupt shape version a c.args.self.now c.args.words.now c.set_bits.new.words
     (subst (λ n. 16 ≤ n) (sym size) (∥∥₁_elim c.requires.stands (hlevel props) (λ some. some_words (length c.args.words.now) c.args.self.now some)))
     run (c.in-Some-SetCorrupt.is ∙ ap Some c.in-Some-SetCorrupt.field-0-is) c.set_bits.ensures.words
@@ -49,7 +49,7 @@ hist_said-requires c = record {
 }
 
 pub returns-in-Some-Hist-clause-advances : goal.returns-in-Some-Hist-clause-advances
-returns-in-Some-Hist-clause-advances c = λ shape version a size run.
+returns-in-Some-Hist-clause-advances c = λ shape version a size order run.
     hist_goes shape version c.args.self.now a run c.in-Some-Hist.hist c.step-said.new.self (c.in-Some-Hist.is ∙ ap Some c.in-Some-Hist.field-0-is) c.step-said.ensures.asks
     c.args.words.now c.step-said.new.words (sym size) c.step-said.result c.hist_said.new.self c.hist_said.result c.step-said.ensures.steps c.hist_said.ensures
 
@@ -70,7 +70,7 @@ pub add_said-requires : goal.add_said-requires
 add_said-requires c = record { within = ∥∥₁_elim c.requires.stands (hlevel props) (λ some. (let within = some_within (length c.args.words.now) c.args.self.now some in omega (arith, within))) }
 
 pub returns-in-Some-Add-clause-advances : goal.returns-in-Some-Add-clause-advances
-returns-in-Some-Add-clause-advances c = λ shape version a size run.
+returns-in-Some-Add-clause-advances c = λ shape version a size order run.
     add_goes shape version c.args.self.now c.in-Some-Add.add (c.in-Some-Add.is ∙ ap Some c.in-Some-Add.field-0-is) a run c.step-said-in-Some-Add.new.self c.step-said-in-Some-Add.ensures.same
     c.args.words.now c.step-said-in-Some-Add.new.words (sym size) c.step-said-in-Some-Add.result c.add_said.new.self c.add_said.result c.step-said-in-Some-Add.ensures.steps c.add_said.ensures
 
@@ -86,9 +86,9 @@ step-said-requires-in-Some-Snapshot c = record {
 }
 
 pub returns-in-Some-Snapshot-clause-advances : goal.returns-in-Some-Snapshot-clause-advances
-returns-in-Some-Snapshot-clause-advances c = λ shape version a size run.
+returns-in-Some-Snapshot-clause-advances c = λ shape version a size order run.
     snapshot_goes shape version c.args.self.now a run c.in-Some-Snapshot.looker c.step-said-in-Some-Snapshot.new.self (c.in-Some-Snapshot.is ∙ ap Some c.in-Some-Snapshot.field-0-is)
-    c.step-said-in-Some-Snapshot.ensures.of c.args.words.now c.args.words.now (sym size) c.step-said-in-Some-Snapshot.result c.snapshot_said.new.self c.snapshot_said.result
+    c.step-said-in-Some-Snapshot.ensures.of c.args.words.now c.args.words.now (sym size) order c.step-said-in-Some-Snapshot.result c.snapshot_said.new.self c.snapshot_said.result
     c.step-said-in-Some-Snapshot.ensures.steps c.snapshot_said.ensures
 
 pub returns-in-Some-Snapshot-clause-answers : goal.returns-in-Some-Snapshot-clause-answers
@@ -111,7 +111,7 @@ delta_said-requires c = record {
 }
 
 pub returns-in-Some-Delta-clause-advances : goal.returns-in-Some-Delta-clause-advances
-returns-in-Some-Delta-clause-advances c = λ shape version a size run.
+returns-in-Some-Delta-clause-advances c = λ shape version a size order run.
     delta_goes shape version c.args.self.now a run c.in-Some-Delta.taker c.step-said-in-Some-Delta.new.self c.in-Some-Delta.field-0-1 (c.in-Some-Delta.is ∙ ap Some c.in-Some-Delta.field-0-is)
     c.args.words.now c.step-said-in-Some-Delta.new.words (sym size) c.step-said-in-Some-Delta.ensures.begun c.step-said-in-Some-Delta.ensures.room
     c.step-said-in-Some-Delta.result c.delta_said.new.self c.delta_said.result c.step-said-in-Some-Delta.ensures.steps c.step-said-in-Some-Delta.ensures.lists
@@ -143,7 +143,7 @@ batch_said-requires c = record {
 }
 
 pub returns-in-Some-Batch-clause-advances : goal.returns-in-Some-Batch-clause-advances
-returns-in-Some-Batch-clause-advances c = λ shape version a size run.
+returns-in-Some-Batch-clause-advances c = λ shape version a size order run.
     batch_goes shape version c.args.self.now c.in-Some-Batch.batch (c.in-Some-Batch.is ∙ ap Some c.in-Some-Batch.field-0-is) a run c.step-said-in-Some-Batch.new.self
     c.step-said-in-Some-Batch.ensures.same c.args.words.now c.step-said-in-Some-Batch.new.words (sym size) c.batch_said.new.self c.step-said-in-Some-Batch.result c.batch_said.result
     c.step-said-in-Some-Batch.ensures.steps c.step-said-in-Some-Batch.ensures.refused c.batch_said.ensures

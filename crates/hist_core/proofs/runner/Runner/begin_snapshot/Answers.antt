@@ -11,11 +11,6 @@ start-requires-clause-lawful c =
     let list = c.args.self.now.known in let known = c.index.result.now in
     c.requires.lawful known (is_there list.items (vec_len list) c.args.i known list.ok.0 c.requires.near c.index.ensures)
 
-pub start-requires-clause-bucketed : goal.start-requires-clause-bucketed
-start-requires-clause-bucketed c =
-    let list = c.args.self.now.known in let known = c.index.result.now in
-    c.requires.bucketed known (is_there list.items (vec_len list) c.args.i known list.ok.0 c.requires.near c.index.ensures)
-
 pub start-requires-clause-ranges : goal.start-requires-clause-ranges
 start-requires-clause-ranges c =
     let list = c.args.self.now.known in let known = c.index.result.now in
@@ -25,4 +20,4 @@ pub returns-clause-begins : goal.returns-clause-begins
 returns-clause-begins c = λ known at.
     let list = c.args.self.now.known in let here = c.index.result.now in
     let same : here ≡ known = some-injective here known (sym (is_there list.items (vec_len list) c.args.i here list.ok.0 c.requires.near c.index.ensures) ∙ at) in
-    (c.in_ok-looker.looker, subst (λ (k : Known). IsStarted c.args.version (known_of k) c.in_ok-looker.looker) same c.in_ok-looker.ensures, refl)
+    (c.in_ok-looker.looker, subst (λ (k : Known). IsStarted c.args.shape c.args.version (known_of k) c.in_ok-looker.looker) same c.in_ok-looker.ensures, refl)

@@ -465,8 +465,7 @@ module _ (shape : Dimensions) (known : Known) (looker : Looker) (a : Actor) (wor
       lists_then false e =
           let some : count ≢ 0 = λ none. true≢false (sym (eq-eqb count 0 none) ∙ e) in
           lists_one (HasListed (longer (Some (value, count))) counted) (HasTotal counted) known.reference counted.seen its_passed looker.totals.items
-          (lists_before (Some (value, count))) at value count met_count.2
-          (
+          (lists_before (Some (value, count))) at value count met_count.2 (
             count,
             saw_it,
             inr (subst (λ (l : List ℤ). Contains l value) (sym (map-append (λ (c : ℤ × ℕ). c.0) looker.totals.items ((value, count) ∷ [])))

@@ -1,5 +1,5 @@
 -- The word of flags: to set a flag leaves the other and all other bits, and each word is one of them.
-use Rattle.std.proofs.Common.{◌≡◌, ℕ, zero, suc, ◌+◌, ◌*◌, ◌/◌, ◌%◌, ◌<◌, ◌==◌, Bool, true, false, sym, refl, ap, ◌∙◌, arith}
+use Rattle.std.proofs.Common.{◌≡◌, ℕ, zero, suc, ◌+◌, ◌*◌, ◌/◌, ◌%◌, ◌<◌, ◌==◌, Bool, true, false, not, sym, refl, ap, ◌∙◌, arith}
 use Rattle.std.specs.Prelude.{bit_and, bit_or, ◌↔◌, if◌then◌else◌}
 use Rattle.std.specs.Int.Bits.{or_add_and, or_shifted_r, and_shifted}
 use Rattle.std.proofs.lemmas.Nat.{and_or_apart}
@@ -47,6 +47,19 @@ full_bit false false others = (λ e. absurd (omega (arith, e, low_bits others 0 
 full_bit true false others = (λ e. absurd (omega (arith, e, low_bits others 1 2 (omega arith) (omega arith))), λ e. cc e)
 full_bit false true others = (λ e. refl, λ e. low_bits others 2 2 (omega arith) (omega arith))
 full_bit true true others = (λ e. refl, λ e. low_bits others 3 2 (omega arith) (omega arith))
+
+-- each of the two, as it is read
+pub corrupt_read : (corrupt full : Bool) (others : ℕ) → not (bit_and (flags_of corrupt full others) 1 == 0) ≡ corrupt
+corrupt_read false false others = ap (λ (n : ℕ). not (n == 0)) (low_bits others 0 1 (omega arith) (omega arith))
+corrupt_read true false others = ap (λ (n : ℕ). not (n == 0)) (low_bits others 1 1 (omega arith) (omega arith))
+corrupt_read false true others = ap (λ (n : ℕ). not (n == 0)) (low_bits others 2 1 (omega arith) (omega arith))
+corrupt_read true true others = ap (λ (n : ℕ). not (n == 0)) (low_bits others 3 1 (omega arith) (omega arith))
+
+pub full_read : (corrupt full : Bool) (others : ℕ) → not (bit_and (flags_of corrupt full others) 2 == 0) ≡ full
+full_read false false others = ap (λ (n : ℕ). not (n == 0)) (low_bits others 0 2 (omega arith) (omega arith))
+full_read true false others = ap (λ (n : ℕ). not (n == 0)) (low_bits others 1 2 (omega arith) (omega arith))
+full_read false true others = ap (λ (n : ℕ). not (n == 0)) (low_bits others 2 2 (omega arith) (omega arith))
+full_read true true others = ap (λ (n : ℕ). not (n == 0)) (low_bits others 3 2 (omega arith) (omega arith))
 
 -- a bit, by what it is worth
 worth : (bit weight : ℕ) → bit < 2 → (if bit == 1 then weight else 0) ≡ bit * weight

@@ -277,6 +277,8 @@ pub record FlagsAreSet (opened words : List ℕ) (actors : List Actor) : Type 0 
       ↔ ((bit_and (word_at opened FLAGS_WORD) FLAG_CORRUPT ≡ FLAG_CORRUPT) ⊎ Contains (map (λ a. a.done.spoiled) actors) true)
   pub full : (bit_and (word_at words FLAGS_WORD) FLAG_FULL ≡ FLAG_FULL)
       ↔ ((bit_and (word_at opened FLAGS_WORD) FLAG_FULL ≡ FLAG_FULL) ⊎ Contains (map (λ a. a.done.filled) actors) true)
+  -- the corrupt flag is set where an actor has seen it
+  pub noticed : Each actors (λ a. a.seen.corrupt ≡ true → bit_and (word_at words FLAGS_WORD) FLAG_CORRUPT ≡ FLAG_CORRUPT)
   pub others : word_at words FLAGS_WORD / 4 ≡ word_at opened FLAGS_WORD / 4
 
 -- ---- 8: units are kept

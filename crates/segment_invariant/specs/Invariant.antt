@@ -486,6 +486,10 @@ pub record CursorsAreKept (chain cursors : List ℕ) (actors : List Actor) : Typ
 abbrev pub IsSetBy : Bool → Bool → List Bool → Type 0
 IsSetBy now opened set = now ≡ (opened || fold ◌||◌ false set)
 
+-- a flag is set where an actor has seen it
+abbrev pub IsSetWhereSeen : Bool → List Bool → Type 0
+IsSetWhereSeen now seen = fold ◌||◌ false seen ≡ true → now ≡ true
+
 -- a claimed block says its size, which is five words at least; it is its claimer's own, or nobody's any more
 abbrev pub ClaimedRight : Piece → Type 0
 ClaimedRight piece = is_claimed piece.body ≡ true
@@ -517,6 +521,7 @@ pub record Invariant (shape : Dimensions) (opened : Anatomy) (state : State) : T
   pub pool : sum_by units_of state.actors ≡ 4294967295
   pub corrupt : IsSetBy anatomy.corrupt opened.corrupt (map (λ a. a.done.spoiled) state.actors)
   pub full : IsSetBy anatomy.full opened.full (map (λ a. a.done.filled) state.actors)
+  pub noticed : IsSetWhereSeen anatomy.corrupt (map (λ a. a.seen.corrupt) state.actors)
   pub roles : RolesAreKept state.actors
   pub first_noted : (name : List ℕ) → cost_of roles.opener.entries.first_noted name ≡ all_held (noted_held name) opened.pieces
   pub answered : AreAnswered anatomy.records state.actors

@@ -73,7 +73,10 @@ after_free true a old new found = record a { hand = record a.hand { place = Rais
 after_free false a old new found = record a { hand = record a.hand { place = Idle }; seen = record a.seen { free = found } }
 
 abbrev pub next : Actor → AllocatingEvent → ℕ → Actor
-next a load_flags found = record a { hand = record a.hand { place = if bit_and found FLAG_CORRUPT == 0 then FlagsLoaded else Idle } }
+next a load_flags found = record a {
+  hand = record a.hand { place = if bit_and found FLAG_CORRUPT == 0 then FlagsLoaded else Idle };
+  seen = record a.seen { corrupt = if bit_and found FLAG_CORRUPT == 0 then a.seen.corrupt else true };
+}
 next a load_free found = record a { hand = record a.hand { place = FreeLoaded found }; seen = record a.seen { free = found } }
 next a (exchange_free old new) found = after_free (found == old) a old new found
 next a (store_size at size) found = record a { hand = record a.hand { place = Sized at size } }

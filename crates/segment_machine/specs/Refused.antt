@@ -1,5 +1,5 @@
 -- Runs that would break what holds, each refused: what an actor may not do.
-use Rattle.std.specs.Prelude.{◌≡◌, ◌≢◌, true, ℕ, ℤ, pos, negsuc, List, [], ◌∷◌, map, Some}
+use Rattle.std.specs.Prelude.{◌≡◌, ◌≢◌, true, false, ℕ, ℤ, pos, negsuc, List, [], ◌∷◌, map, Some}
 use Rattle.bucket_ranges.specs.declared.spec.Spec.TheVariants as spec
 use Rattle.segment_machine.specs.declared.actor.Actor.{Actor}
 use Rattle.segment_machine.specs.declared.actor.Made.TheVariants as made
@@ -9,7 +9,8 @@ use Rattle.segment_machine.specs.declared.actor.Answered.{Answered}
 use Rattle.alloc_core.specs.Event as atomic
 use Rattle.segment_machine.specs.Operation as does
 use Rattle.segment_machine.specs.Entry.{fresh, tally_noted}
-use Rattle.segment_machine.specs.Event.{Event, packing_event, taking_event, counting_event, cursor_event, Ready, next}
+use Rattle.segment_machine.specs.Event.{Event, allocating_event, packing_event, taking_event, counting_event, cursor_event, Ready, next}
+use Rattle.segment_machine.specs.Allocating.{load_flags}
 use Rattle.segment_machine.specs.Packing.{load_single, pack, disable, add_moved}
 use Rattle.segment_machine.specs.Note.{MayNote, noted, goes_on, looks, takes, answers, ends, refused}
 use Rattle.segment_machine.specs.Taking.{TakingEvent, operation, load_sum, load_redundant, swap_sum_mark, load_count, raise_mark, raise_single_mark}
@@ -105,6 +106,14 @@ abbrev pub TailsStay : Type 0
 TailsStay =
     ((joined (opener_of shape 1 1) (record recorder { seen = record recorder.seen { tails = 40 ∷ [] } })).seen.tails ≡ 40 ∷ [])
     × ((newcomer (maker [])).seen.tails ≡ 16 ∷ [])
+
+-- flags with the corrupt one are seen, whatever else they have; a join keeps that the recorder saw it, and a newcomer has it of its opener
+abbrev pub CorruptStays : Type 0
+CorruptStays =
+    let saw = next recorder (allocating_event load_flags) 3 in
+    (saw.seen.corrupt ≡ true) × ((next recorder (allocating_event load_flags) 2).seen.corrupt ≡ false)
+    × ((next saw (allocating_event load_flags) 0).seen.corrupt ≡ true)
+    × ((joined (opener_of shape 1 1) saw).seen.corrupt ≡ true) × ((newcomer saw).seen.corrupt ≡ true)
 
 -- the first entries of an opener were accepted, and stand in no redundant count that is kept
 abbrev pub FirstEntriesApart : Type 0

@@ -14,7 +14,7 @@ use Rattle.segment_machine.specs.declared.actor.Role.TheVariants.{Opener, Record
 
 -- nothing that was seen
 abbrev pub nothing_seen : Seen
-nothing_seen = record { free = 0; chain = []; tails = []; singles = []; counts = []; words = []; cursors = [] }
+nothing_seen = record { free = 0; corrupt = false; chain = []; tails = []; singles = []; counts = []; words = []; cursors = [] }
 
 -- an actor that has done nothing, and has seen this free pointer
 abbrev pub idle : Dimensions → ℕ → ℕ → ℕ → ℕ → Actor
@@ -109,6 +109,7 @@ longer a b = if nat_lt (length a) (length b) then b else a
 abbrev pub both_seen : Seen → Seen → Seen
 both_seen a b = record {
   free = max a.free b.free;
+  corrupt = a.corrupt || b.corrupt;
   chain = longer a.chain b.chain;
   tails = a.tails ++ b.tails;
   singles = a.singles ++ b.singles;

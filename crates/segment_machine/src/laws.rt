@@ -9,7 +9,7 @@ ghost use Rattle.segment_machine.specs.Lives.{RecorderIsJoined};
 ghost use Rattle.segment_machine.specs.Worked.{WorkedRun, FrozenRun};
 ghost use Rattle.segment_machine.specs.Looks.{SnapshotRun, CursorRun};
 ghost use Rattle.segment_machine.specs.Races.{StoppedRun, StalledRun, LostRun, RaceRun};
-ghost use Rattle.segment_machine.specs.Refused.{ValuesApart, MovesFirst, CursorsThere, SamplesMet, WordsSince, SwapsAdd, RecordsAlone, EntriesEndFirst, OffersStay, DebtsStay, TailsStay, FirstEntriesApart, WordsOffFirst, UnitsRemembered, SumsStay, FirstSamplesCount, CountsBound, SingleMarksApart, MarksRise, HonestAnswers};
+ghost use Rattle.segment_machine.specs.Refused.{ValuesApart, MovesFirst, CursorsThere, SamplesMet, WordsSince, SwapsAdd, RecordsAlone, EntriesEndFirst, OffersStay, DebtsStay, TailsStay, CorruptStays, FirstEntriesApart, WordsOffFirst, UnitsRemembered, SumsStay, FirstSamplesCount, CountsBound, SingleMarksApart, MarksRise, HonestAnswers};
 
 /// A step changes one word and one actor at most.
 pub fn steps_change_one()
@@ -126,6 +126,11 @@ pub fn debts_stay()
 /// A join keeps the tails that were seen.
 pub fn tails_stay()
     ensures { TailsStay }
+{}
+
+/// Whoever has loaded flags with the corrupt one has seen it for good; a join keeps that, and a newcomer has it of its opener.
+pub fn corrupt_stays()
+    ensures { CorruptStays }
 {}
 
 /// First entries were accepted, and stand in no redundant count that is kept.

@@ -12,6 +12,8 @@ pub struct Sighting {
 pub struct Seen {
     /// The free pointer that it saw last.
     pub free: u64,
+    /// Whether it has seen the corrupt flag, which is never taken back.
+    pub corrupt: bool,
     /// The chain, so far as it has walked along it.
     pub chain: LinkedList<u64>,
     /// The tails that it saw.

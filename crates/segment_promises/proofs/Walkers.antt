@@ -66,6 +66,7 @@ module _ (shape : Dimensions) (opened : Anatomy) (state : State) (kept : Invaria
     units = sum_same units_of state.actors 0 opener walker kept.roles.stands refl;
     spoiled = ap (fold ◌||◌ false) (column (λ (a : Actor). a.done.spoiled) state.actors 0 opener walker kept.roles.stands refl);
     filled = ap (fold ◌||◌ false) (column (λ (a : Actor). a.done.filled) state.actors 0 opener walker kept.roles.stands refl);
+    noticed = ap (fold ◌||◌ false) (column (λ (a : Actor). a.seen.corrupt) state.actors 0 opener walker kept.roles.stands refl);
   }
 
   -- it stands first, and the others stand where they stood

@@ -16,6 +16,7 @@ StaysApart old new = is_looking old.hand.place ≡ false → is_looking new.hand
 -- what an actor had seen it has still seen, and it may have seen more
 pub record SeesOn (old new : Seen) : Type 0 where
   pub free : old.free ≤ new.free
+  pub corrupt : old.corrupt ≡ true → new.corrupt ≡ true
   pub chain : Grows old.chain new.chain
   pub tails : Grows old.tails new.tails
   pub singles : Grows old.singles new.singles

@@ -20,7 +20,7 @@ use Rattle.segment_machine.specs.Reached.{IsJoined}
 use Rattle.segment_invariant.specs.Body.{Listed, Anatomy}
 use Rattle.segment_invariant.specs.Ledger.{key_of_bucket, noted_held, all_held, all_moving}
 use Rattle.segment_invariant.specs.Seen.{IsFirst}
-use Rattle.segment_invariant.specs.Invariant.{Invariant, IsSetBy}
+use Rattle.segment_invariant.specs.Invariant.{Invariant, IsSetBy, IsSetWhereSeen}
 
 -- ---- what is read of a histogram
 
@@ -69,11 +69,13 @@ pub record ReadsAmounts (opened : Anatomy) (state : State) (h : Histogram) : Typ
   pub marks : (key : ℤ) → mark_read h key ≡ taken_units (all_taken state.actors) h.name key
   pub sum_mark : h.sum_mark ≡ taken_sum (all_taken state.actors) h.name
 
--- the id is the opening's, and each flag is read where it was set at the opening or an actor has set it
+-- the id is the opening's, and each flag is read where it was set at the opening or an actor has set it; so the corrupt one is where an
+-- actor has seen it
 pub record ReadsHead (opened : Anatomy) (state : State) (reading : Reading) : Type 0 where
   pub id : reading.id ≡ opened.id
   pub corrupt : IsSetBy reading.corrupt opened.corrupt (map (λ a. a.done.spoiled) state.actors)
   pub full : IsSetBy reading.full opened.full (map (λ a. a.done.filled) state.actors)
+  pub noticed : IsSetWhereSeen reading.corrupt (map (λ a. a.seen.corrupt) state.actors)
 
 -- Stopped after any step, the words read back as exactly the histograms that were published, each once, every bucket holding no unit
 -- that was not begun and all ended ones but those in transit.

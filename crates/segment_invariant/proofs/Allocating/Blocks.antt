@@ -1,5 +1,5 @@
 -- A state is kept where an actor that allocates changes nothing, stores into a block in its making, takes words for one, or sets a flag.
-use Rattle.std.proofs.Common.{◌≡◌, ℕ, ◌+◌, ◌-◌, ◌≤◌, Bool, false, true≢false, List, [], ◌∷◌, ◌++◌, map, set, All, inl, inr, refl, sym, ap, ◌∙◌, subst, append_assoc, arith}
+use Rattle.std.proofs.Common.{◌≡◌, ℕ, ◌+◌, ◌-◌, ◌≤◌, Bool, false, true≢false, List, [], ◌∷◌, ◌++◌, map, set, All, inl, inr, refl, sym, ap, ◌∙◌, subst, append_assoc, arith, true}
 use Rattle.std.specs.Prelude.{IsPermutation, fold, ◌||◌}
 use Rattle.std.specs.List.{flat_map}
 use Rattle.std.proofs.lemmas.List.Elements.{All-weaker}
@@ -106,6 +106,7 @@ module _ (shape : Dimensions) (opened : Anatomy) (state : State) (kept : Invaria
         free = λ seen behind. behind;
         corrupt = corrupt_kept d refl;
         full = full_kept d refl;
+        flagged = λ set. set;
         stands = stands;
         seen = behind;
         own = fits.own;
@@ -140,6 +141,7 @@ module _ (shape : Dimensions) (opened : Anatomy) (state : State) (kept : Invaria
           free = free_stays;
           corrupt = corrupt_kept d spoiled;
           full = full_kept d filled;
+          flagged = λ set. set;
           stands = stands;
           seen = subst (λ n. Behind n (free_of after)) (sym seen) (free_stays a.seen.free fits.sees.free);
           own = own;
@@ -198,6 +200,7 @@ module _ (shape : Dimensions) (opened : Anatomy) (state : State) (kept : Invaria
         free = λ seen behind. subst (Behind seen) (sym ends) (behind_on seen (free_of anatomy) new five behind);
         corrupt = corrupt_kept d refl;
         full = full_kept d refl;
+        flagged = λ set. set;
         stands = stands;
         seen = inl (sym ends);
         own = All-weaker (HoldsOwn shape anatomy.pieces id) (HoldsOwn shape (Taken new).pieces id)
@@ -218,9 +221,10 @@ module _ (shape : Dimensions) (opened : Anatomy) (state : State) (kept : Invaria
       → IsShown shape (set state.words 6 v) (layout_of (record anatomy { corrupt = corrupt; full = full }))
       → IsSetBy corrupt opened.corrupt (map (λ a. a.done.spoiled) (set state.actors id (record a { hand = record a.hand { place = place }; done = record a.done { spoiled = spoiled; filled = filled } })))
       → IsSetBy full opened.full (map (λ a. a.done.filled) (set state.actors id (record a { hand = record a.hand { place = place }; done = record a.done { spoiled = spoiled; filled = filled } })))
+      → (anatomy.corrupt ≡ true → corrupt ≡ true)
       → StandsRight shape (record anatomy { corrupt = corrupt; full = full }) id (record a { hand = record a.hand { place = place }; done = record a.done { spoiled = spoiled; filled = filled } }) place
       → GoesTo (set state.words 6 v) (record (doing_of a) { place = place; spoiled = spoiled; filled = filled })
-  flags_set corrupt full v place spoiled filled turns up shown is_corrupt is_full stands =
+  flags_set corrupt full v place spoiled filled turns up shown is_corrupt is_full flagged stands =
       let d : Doing = record (doing_of a) { place = place; spoiled = spoiled; filled = filled } in
       let fits = kept.each id a mine turns.lived in
       acts_on shape opened state kept id a mine records d turns up anatomy.pieces anatomy.spare corrupt full (set state.words 6 v)
@@ -235,6 +239,7 @@ module _ (shape : Dimensions) (opened : Anatomy) (state : State) (kept : Invaria
         free = λ seen behind. behind;
         corrupt = is_corrupt;
         full = is_full;
+        flagged = flagged;
         stands = stands;
         seen = fits.sees.free;
         own = fits.own;

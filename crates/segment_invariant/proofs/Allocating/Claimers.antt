@@ -1,5 +1,5 @@
 -- A state is kept where one actor goes on that allocates: it sees nothing but the free pointer, and publishes nothing.
-use Rattle.std.proofs.Common.{◌≡◌, ◌≢◌, ℕ, pos, Bool, List, [], ◌∷◌, ◌++◌, map, set, All, inl, inr, refl, sym, ap, ◌∙◌, subst, false}
+use Rattle.std.proofs.Common.{◌≡◌, ◌≢◌, ℕ, pos, Bool, List, [], ◌∷◌, ◌++◌, map, set, All, inl, inr, refl, sym, ap, ◌∙◌, subst, false, true}
 use Rattle.std.specs.Prelude.{IsPermutation, ⊤}
 use Rattle.std.specs.List.{flat_map}
 use mathlib.Core.Logic.{dite}
@@ -126,6 +126,7 @@ pub record Acts (shape : Dimensions) (opened : Anatomy) (state : State) (old new
   pub free : (seen : ℕ) → Behind seen (free_of old) → Behind seen (free_of new)
   pub corrupt : IsSetBy new.corrupt opened.corrupt (map (λ a. a.done.spoiled) (set state.actors id (doing a d)))
   pub full : IsSetBy new.full opened.full (map (λ a. a.done.filled) (set state.actors id (doing a d)))
+  pub flagged : old.corrupt ≡ true → new.corrupt ≡ true
   pub stands : StandsRight shape new id (doing a d) d.place
   pub seen : Behind d.seen_free (free_of new)
   pub own : All (HoldsOwn shape new.pieces id) d.own
@@ -163,6 +164,7 @@ module _ (shape : Dimensions) (opened : Anatomy) (state : State) (kept : Invaria
           tail_later = λ seen no_later. no_later;
           corrupt = acts.corrupt;
           full = acts.full;
+          flagged = acts.flagged;
           stands = acts.stands;
           sees = sees_doing new a (unlisted a d) state.cursors acts.seen
               (sees_along before pieces spare corrupt full before.tail acts.stays state.cursors a.seen (acts.free a.seen.free fits.sees.free)

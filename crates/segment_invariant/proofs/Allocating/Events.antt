@@ -1,7 +1,7 @@
 -- Each event that allocates a block or sets a flag keeps what holds, and its actor learns of the free pointer.
 use Rattle.std.proofs.Common.{◌≡◌, ◌≢◌, ℕ, ◌-◌, ◌==◌, Bool, true, false, List, map, length, set, inl, inr, refl, sym, ap, ◌∙◌, subst, eq-eqb, ne_eqb, le-leb, arith}
 use Rattle.std.proofs.Math.Bool.{or-true}
-use Rattle.std.specs.Prelude.{bit_and, bit_or, nat_le, ◌&&◌, ◌||◌, fold, if◌then◌else◌}
+use Rattle.std.specs.Prelude.{bit_and, bit_or, not, nat_le, ◌&&◌, ◌||◌, fold, if◌then◌else◌}
 use Rattle.std.proofs.lemmas.Bool.{and_from}
 use mathlib.Core.Logic.{dite}
 use mathlib.Core.Option.{some}
@@ -17,14 +17,17 @@ use Rattle.alloc_core.specs.Planned.{room_at, is_pointer}
 use Rattle.alloc_core.proofs.Layouts.{free_word, shown_corrupt, shown_full, length_shown, flags_word}
 use Rattle.alloc_core.proofs.Owners.{set_at}
 use Rattle.segment_machine.specs.declared.actor.Actor.{Actor}
+use Rattle.segment_machine.specs.declared.seen.Seen.{Seen}
 use Rattle.segment_machine.specs.declared.place.Place.TheVariants.{Spent, Idle, FlagsLoaded, FreeLoaded, Raised}
 use Rattle.segment_machine.specs.Actor.{is_bound, is_opener}
 use Rattle.segment_machine.specs.State.{State}
 use Rattle.segment_machine.specs.Event.{Event, allocating_event, spot, Ready, Learned}
 use Rattle.segment_machine.specs.Allocating.{load_flags, load_free, exchange_free, set_flag, after_free}
-use Rattle.alloc_core.proofs.Flags.{corrupt_bit}
-use Rattle.segment_invariant.proofs.Frames.Ahead.{unbound_unbeaten}
-use Rattle.segment_invariant.specs.Body.{Anatomy, layout_of, free_of}
+use Rattle.alloc_core.proofs.Flags.{corrupt_bit, corrupt_read}
+use Rattle.segment_invariant.proofs.Frames.Ahead.{ahead_at, unbound_unbeaten}
+use Rattle.segment_invariant.proofs.Frames.Anew.{looks_anew_at}
+use Rattle.segment_invariant.proofs.Frames.SeesMore.{later_itself, near_on, given_on, calls_more, sees_more}
+use Rattle.segment_invariant.specs.Body.{Anatomy, layout_of, order_of, free_of}
 use Rattle.segment_invariant.specs.Invariant.{StandsRight, IsSetBy, Invariant, is_beaten}
 use Rattle.segment_invariant.proofs.Lists.Elements.{any_there, column}
 use Rattle.segment_invariant.proofs.Blocks.Pieces.{raw_piece, stands_last, free_least, free_within}
@@ -66,15 +69,38 @@ module _ (shape : Dimensions) (opened : Anatomy) (state : State) (kept : Invaria
       subst (λ (words : List ℕ). Invariant shape opened (record { words = words; cursors = state.cursors; actors = set state.actors id b }))
       (sym (ap (set state.words at) same ∙ set-get_or state.words at 0))
 
-  -- the flags are loaded
-  flags_at : (clear : Bool) → is_bound a.hand.place ≡ false
-      → Invariant shape opened (record { words = state.words; cursors = state.cursors; actors = set state.actors id (record a { hand = record a.hand { place = if clear then FlagsLoaded else Idle } }) })
-  flags_at true turn =
+  -- flags with the corrupt one are those of a segment where it is set
+  found_corrupt : (bit_and (word_at state.words 6) 1 == 0) ≡ false → anatomy.corrupt ≡ true
+  found_corrupt clear =
+      sym (corrupt_read anatomy.corrupt anatomy.full anatomy.other_flags)
+      ∙ (ap (λ (n : ℕ). not (bit_and n 1 == 0)) (sym (flags_word shape state.words (layout_of anatomy) kept.shown)) ∙ ap not clear)
+
+  -- the flags are loaded, and the corrupt one is seen where it is set
+  flags_at : (clear : Bool) → (clear ≡ false → anatomy.corrupt ≡ true) → is_bound a.hand.place ≡ false
+      → Invariant shape opened (record {
+        words = state.words;
+        cursors = state.cursors;
+        actors = set state.actors id (record a {
+          hand = record a.hand { place = if clear then FlagsLoaded else Idle };
+          seen = record a.seen { corrupt = if clear then a.seen.corrupt else true };
+        });
+      })
+  flags_at true found turn =
       let turns = turns_unbound a FlagsLoaded turn refl in
       waits shape opened state kept id a mine records FlagsLoaded a.seen.free turns (λ no. unbound_unbeaten a.hand.place turn) (kept.each id a mine turns.lived).sees.free tt
-  flags_at false turn =
+  flags_at false found turn =
       let turns = turns_unbound a Idle turn refl in
-      waits shape opened state kept id a mine records Idle a.seen.free turns (λ no. unbound_unbeaten a.hand.place turn) (kept.each id a mine turns.lived).sees.free tt
+      let fits = kept.each id a mine turns.lived in
+      let seen : Seen = record a.seen { corrupt = true } in
+      sees_more shape opened state kept id a mine records Idle seen a.done.given a.done.lost turns.lived turns.lives turns.moves state.cursors
+      (later_itself (order_of anatomy) state.cursors)
+      (near_on shape opened state kept id a mine records Idle seen a.done.given a.done.lost turns.lived turns.lives turns.moves turns.sums)
+      (given_on shape opened state kept id a mine records Idle seen a.done.given a.done.lost turns.lived turns.lives turns.moves refl)
+      fits.sees
+      (ahead_at (order_of anatomy) anatomy.tail state.cursors a.hand.place a.done.beaten a.done.lost fits.ahead Idle (λ no. unbound_unbeaten a.hand.place turn))
+      tt (λ is. found refl)
+      (calls_more anatomy a Idle seen a.done.given a.done.lost (λ at has. has) (λ at word has. has) fits.calls)
+      (looks_anew_at anatomy state.actors kept.roles.opener a Idle (fits.looks records) (λ reference sum r loaded. cc loaded))
 
   -- an actor that has set the corrupt flag finds it
   corrupt_learned : a.done.spoiled ≡ true → bit_and (word_at state.words 6) 1 ≡ 1
@@ -83,7 +109,7 @@ module _ (shape : Dimensions) (opened : Anatomy) (state : State) (kept : Invaria
       (kept.corrupt ∙ sym (set_there opened.corrupt state.actors id a (λ (x : Actor). x.done.spoiled) mine is)))
 
   pub flags_loaded : Ready a (allocating_event load_flags) → Keeps (allocating_event load_flags)
-  flags_loaded ready = (leaves 6 (word_at state.words 6) _ refl (flags_at (bit_and (word_at state.words 6) 1 == 0) ready), corrupt_learned)
+  flags_loaded ready = (leaves 6 (word_at state.words 6) _ refl (flags_at (bit_and (word_at state.words 6) 1 == 0) found_corrupt ready), corrupt_learned)
 
   -- the free pointer
   free_is : word_at state.words 7 ≡ free_of anatomy
@@ -162,7 +188,8 @@ module _ (shape : Dimensions) (opened : Anatomy) (state : State) (kept : Invaria
         flags_set shape opened state kept id a mine records true anatomy.full (bit_or (word_at state.words 6) 1) Idle true a.done.filled
             (turns_unbound a Idle turn refl) (λ no. unbound_unbeaten a.hand.place turn) (shown_corrupt shape state.words (layout_of anatomy) kept.shown)
             (set_now opened.corrupt state.actors id a b (λ (x : Actor). x.done.spoiled) mine refl)
-            (kept.full ∙ ap (λ set. opened.full || fold ◌||◌ false set) (sym (column (λ (x : Actor). x.done.filled) state.actors id a b mine refl))) tt,
+            (kept.full ∙ ap (λ set. opened.full || fold ◌||◌ false set) (sym (column (λ (x : Actor). x.done.filled) state.actors id a b mine refl)))
+            (λ set. refl) tt,
         tt,
       )
 
@@ -172,7 +199,7 @@ module _ (shape : Dimensions) (opened : Anatomy) (state : State) (kept : Invaria
         flags_set shape opened state kept id a mine records anatomy.corrupt true (bit_or (word_at state.words 6) 2) Idle a.done.spoiled true
             (turns_unbound a Idle turn refl) (λ no. unbound_unbeaten a.hand.place turn) (shown_full shape state.words (layout_of anatomy) kept.shown)
             (kept.corrupt ∙ ap (λ set. opened.corrupt || fold ◌||◌ false set) (sym (column (λ (x : Actor). x.done.spoiled) state.actors id a b mine refl)))
-            (set_now opened.full state.actors id a b (λ (x : Actor). x.done.filled) mine refl) tt,
+            (set_now opened.full state.actors id a b (λ (x : Actor). x.done.filled) mine refl) (λ set. set) tt,
         tt,
       )
 

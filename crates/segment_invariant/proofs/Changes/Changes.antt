@@ -28,7 +28,7 @@ use Rattle.segment_invariant.proofs.Lists.Elements.{rows, column, row_from, sum_
 use Rattle.segment_invariant.proofs.Lists.Countings.{units_total}
 use Rattle.segment_invariant.proofs.Frames.Answers.{answered_set}
 use Rattle.segment_invariant.proofs.Frames.Anatomies.{calls_same}
-use Rattle.segment_invariant.proofs.Frames.Books.{cursors_set, listed_set}
+use Rattle.segment_invariant.proofs.Frames.Books.{cursors_set, listed_set, noticed_there, noticed_set}
 use Rattle.segment_invariant.proofs.Frames.GoesOn.{not_opener}
 use Rattle.segment_invariant.proofs.Frames.OneActor.{lives_on}
 use Rattle.segment_invariant.proofs.Frames.Onward.{Onward, record_on, stands_as_on, listed_on, sees_on, off_stays}
@@ -63,6 +63,7 @@ pub record Changes (shape : Dimensions) (opened : Anatomy) (state : State) (old 
   pub lives : d.place ≢ Spent
   pub stands : StandsRight shape new id (changed a d) d.place
   pub sees : Sees new state.cursors d.seen
+  pub noticed : d.seen.corrupt ≡ true → a.seen.corrupt ≡ true
   pub up : KeepsUp a.hand.place d.place
   pub own : All (HoldsOwn shape new.pieces id) d.own
   pub apart : (i j : ℕ) (x y : Own) → get_elem? d.own i ≡ some x → get_elem? d.own j ≡ some y → x.at ≡ y.at → i ≡ j
@@ -215,6 +216,7 @@ module _ (shape : Dimensions) (opened : Anatomy) (state : State) (kept : Invaria
     pool = sum_same units_of state.actors id a b mine refl ∙ kept.pool;
     corrupt = subst (IsSetBy old.corrupt opened.corrupt) (sym (column (λ (c : Actor). c.done.spoiled) state.actors id a b mine refl)) kept.corrupt;
     full = subst (IsSetBy old.full opened.full) (sym (column (λ (c : Actor). c.done.filled) state.actors id a b mine refl)) kept.full;
+    noticed = noticed_set old.corrupt state.actors id b (λ saw. noticed_there old.corrupt state.actors id a mine kept.noticed (changes.noticed saw)) kept.noticed;
     roles = roles_set state.actors id a b mine role not_first kept.roles;
     first_noted = kept.first_noted;
     answered = answered_set old.records state.actors id a b mine refl refl kept.answered;

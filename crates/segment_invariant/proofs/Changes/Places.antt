@@ -123,6 +123,7 @@ module _ (shape : Dimensions) (opened : Anatomy) (state : State) (kept : Invaria
           lives = shows.lives;
           stood = shows.stood;
           sees = sees_turned shape opened state kept at body then_is j v stands turns a.seen fits.sees;
+          noticed = λ saw. saw;
           up = shows.up;
           own = refl;
           calls = calls_same kept.anatomy new b refl (calls_more kept.anatomy a place a.seen a.done.given a.done.lost (λ place has. has) (λ place word saw. saw) fits.calls);

@@ -163,6 +163,7 @@ module _ (shape : Dimensions) (opened : Anatomy) (state : State) (kept : Invaria
     pub lives : d.place ≢ Spent
     pub stood : StandsRight shape behind id (changed a d) d.place
     pub sees : Sees behind state.cursors d.seen
+    pub noticed : d.seen.corrupt ≡ true → a.seen.corrupt ≡ true
     pub up : KeepsUp a.hand.place d.place
     pub own : d.own ≡ a.hand.own
     pub calls : CallsRight behind (changed a d)
@@ -195,6 +196,7 @@ module _ (shape : Dimensions) (opened : Anatomy) (state : State) (kept : Invaria
         lives = shows.lives;
         stands = shows.stood;
         sees = shows.sees;
+        noticed = shows.noticed;
         up = shows.up;
         own = subst (All (HoldsOwn shape turned id)) (sym shows.own)
             (own_stays shape kept.anatomy behind id (λ own. stands_owned id own.at (held own)) a.hand.own fits.own);

@@ -10,6 +10,7 @@ use Rattle.segment_invariant.specs.Body.{layout_of}
 use Rattle.segment_invariant.specs.Invariant.{IsSetBy}
 use Rattle.segment_invariant.specs.Keeps.{KeptFlagsAreSet}
 use Rattle.segment_invariant.proofs.Lists.Elements.{at_from, any_there}
+use Rattle.segment_invariant.proofs.Frames.Books.{noticed_there}
 
 -- one of a list of truth values is true where all of them together are
 one_of : (list : List Bool) → fold ◌||◌ false list ≡ true → Contains list true
@@ -41,5 +42,7 @@ flags_are_set shape version id state lawful kept =
           (subst (λ (n : ℕ). (bit_and n 1 ≡ 1) ↔ (anatomy.corrupt ≡ true)) word (corrupt_bit anatomy.corrupt anatomy.full anatomy.other_flags)) kept.corrupt;
       full = bit_is 2 (word_at state.words 6) anatomy.full _ (λ e. omega (arith, e))
           (subst (λ (n : ℕ). (bit_and n 2 ≡ 2) ↔ (anatomy.full ≡ true)) word (full_bit anatomy.corrupt anatomy.full anatomy.other_flags)) kept.full;
+      noticed = λ id a mine lives is. subst (λ (n : ℕ). bit_and n 1 ≡ 1) word
+          ((corrupt_bit anatomy.corrupt anatomy.full anatomy.other_flags).1 (noticed_there anatomy.corrupt state.actors id a mine kept.noticed is));
       others = sym (ap (λ (n : ℕ). n / 4) word) ∙ (other_bits anatomy.corrupt anatomy.full anatomy.other_flags ∙ kept.same.2);
     }

@@ -160,6 +160,7 @@ module _ (shape : Dimensions) (opened : Anatomy) (state : State) (kept : Invaria
             sums = near;
             lives = λ e. cc e;
             stood = tt;
+            noticed = λ saw. saw;
             up = λ free. unbound_unbeaten a.hand.place unbound;
             sees = sees (sees_turned shape opened state kept known.reference (histogram r) (histogram (with_amount r sum noted)) j v stands turns a.seen fits.sees);
             own = refl;

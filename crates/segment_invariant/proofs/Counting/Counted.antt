@@ -201,6 +201,7 @@ module _ (shape : Dimensions) (opened : Anatomy) (state : State) (kept : Invaria
           lives = λ e. cc e;
           stood = tt;
           sees = sees_turned shape opened state kept at body then_is j v stands turns a.seen fits.sees;
+          noticed = λ saw. saw;
           up = λ free. unbound_unbeaten a.hand.place unbound;
           own = refl;
           calls = calls_next a c d next refl kept.anatomy new (record (deed_of a) { place = Idle }) (λ summed. refl)

@@ -21,6 +21,7 @@ use Rattle.segment_invariant.specs.Ledger.{moving_at}
 use Rattle.segment_invariant.specs.Seen.{WasFixed, WasMet}
 use Rattle.segment_invariant.specs.Invariant.{StandsRight, LooksBack, Invariant}
 use Rattle.segment_invariant.proofs.Frames.Ahead.{ahead_at, unbound_unbeaten}
+use Rattle.segment_invariant.proofs.Frames.Books.{noticed_there}
 use Rattle.segment_invariant.proofs.Frames.SeesMore.{seer, near_on, given_on, later_itself, calls_more, sees_more}
 use Rattle.segment_invariant.proofs.Frames.Standing.{met_more}
 use Rattle.segment_invariant.proofs.Walking.Words.{word_contains, word_still}
@@ -91,5 +92,6 @@ module _ (shape : Dimensions) (opened : Anatomy) (state : State) (kept : Invaria
       })
       (ahead_at (order_of kept.anatomy) kept.anatomy.tail state.cursors a.hand.place a.done.beaten a.done.lost fits.ahead place (λ no. unbound_unbeaten a.hand.place unbound))
       stands
+      (noticed_there kept.anatomy.corrupt state.actors id a mine kept.noticed)
       (calls_more kept.anatomy a place with_words a.done.given a.done.lost (λ at has. has) (λ at word. word_still a.seen.words at word more) fits.calls)
       looks_words

@@ -18,6 +18,7 @@ use Rattle.segment_invariant.specs.Seen.{Stands, IsCounterIn, WasCounter, WasInU
 use Rattle.segment_invariant.specs.Invariant.{SumsAreNear, StandsRight, LooksBack, Invariant}
 use Rattle.segment_invariant.proofs.Blocks.Places.{counter_within}
 use Rattle.segment_invariant.proofs.Frames.Ahead.{ahead_at, unbound_unbeaten}
+use Rattle.segment_invariant.proofs.Frames.Books.{noticed_there}
 use Rattle.segment_invariant.proofs.Frames.SeesMore.{seer, calls_more, later_itself, given_on, sees_more}
 use Rattle.segment_invariant.proofs.Walking.Walks.{block_within}
 use Rattle.segment_invariant.proofs.Counting.Looks.{same_block, body_word}
@@ -82,4 +83,4 @@ module _ (shape : Dimensions) (opened : Anatomy) (state : State) (kept : Invaria
           shared = fits.sees.shared;
         })
         (ahead_at (order_of kept.anatomy) kept.anatomy.tail state.cursors a.hand.place a.done.beaten a.done.lost fits.ahead place (λ no. unbound_unbeaten a.hand.place unbound))
-        stands (calls_more kept.anatomy a place saw a.done.given a.done.lost (λ at has. has) (λ at word has. has) fits.calls) looks
+        stands (noticed_there kept.anatomy.corrupt state.actors id a mine kept.noticed) (calls_more kept.anatomy a place saw a.done.given a.done.lost (λ at has. has) (λ at word has. has) fits.calls) looks

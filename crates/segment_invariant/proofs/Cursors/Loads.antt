@@ -22,6 +22,7 @@ use Rattle.segment_invariant.specs.Body.{Anatomy, order_of}
 use Rattle.segment_invariant.specs.Seen.{IsNoLater, Sees}
 use Rattle.segment_invariant.specs.Invariant.{LooksBack, Invariant}
 use Rattle.segment_invariant.proofs.Frames.OneActor.{turns_unbound}
+use Rattle.segment_invariant.proofs.Frames.Books.{noticed_there}
 use Rattle.segment_invariant.proofs.Frames.SeesMore.{seer, calls_more, later_itself, near_on, given_on, sees_more, happens_there}
 use Rattle.segment_invariant.proofs.Frames.Shown.{Goes}
 use Rattle.segment_invariant.proofs.Walking.Walks.{reference_is}
@@ -81,6 +82,7 @@ module _ (shape : Dimensions) (opened : Anatomy) (state : State) (kept : Invaria
             (sees_cursor kept.anatomy state.cursors a.seen s fits.sees (within, no_later_itself (order_of kept.anatomy) found stop))
             (ahead_at (order_of kept.anatomy) kept.anatomy.tail state.cursors a.hand.place a.done.beaten a.done.lost fits.ahead place (λ no. unbound_unbeaten a.hand.place unbound))
             (fits.ahead.exchanges cursor within, Contains-push a.seen.cursors s)
+            (noticed_there kept.anatomy.corrupt state.actors id a mine kept.noticed)
             (calls_more kept.anatomy a place seen a.done.given a.done.lost (λ at has. has) (λ at word has. has) fits.calls)
             (looks_past kept.anatomy state.actors kept.roles.opener a place (a.seen.cursors ++ sight cursor found) a.done.given a.done.lost
             (λ reference sum loaded. cc loaded) (fits.looks records))),

@@ -39,7 +39,7 @@ use Rattle.segment_invariant.proofs.Walking.Walks.{reference_is}
 use Rattle.segment_invariant.proofs.Walking.Nexts.{no_later_itself}
 use Rattle.segment_invariant.proofs.Cursors.Loads.{looks_past, sees_cursor, cursor_stop}
 use Rattle.segment_invariant.proofs.Lists.Maps.{contains_map}
-use Rattle.segment_invariant.proofs.Frames.Books.{GivenInOrder}
+use Rattle.segment_invariant.proofs.Frames.Books.{GivenInOrder, noticed_there}
 
 -- what a cursor gave, with one more behind
 given_push : (k : ℕ) (list : List Given) (g : Given) → given_by k (list ++ g ∷ []) ≡ given_by k list ++ given_by k (g ∷ [])
@@ -139,6 +139,7 @@ module _ (shape : Dimensions) (opened : Anatomy) (state : State) (kept : Invaria
               (sees_cursor kept.anatomy state.cursors a.seen s fits.sees (within, no_later_itself order found stop))
               (lost_more miss)
               tt
+              (noticed_there kept.anatomy.corrupt state.actors id a mine kept.noticed)
               (calls_more kept.anatomy a Idle seen a.done.given lost (λ at has. has) (λ at word has. has) fits.calls)
               (looks_past kept.anatomy state.actors kept.roles.opener a Idle (a.seen.cursors ++ sight cursor found) a.done.given lost
               (λ reference sum loaded. cc loaded) (fits.looks records))),
@@ -304,6 +305,7 @@ module _ (shape : Dimensions) (opened : Anatomy) (state : State) (kept : Invaria
                 (ahead_behind state.words order kept.anatomy.tail state.cursors cursors Idle a.done.beaten a.done.lost kept.list.linked later
                 (ahead_at order kept.anatomy.tail state.cursors a.hand.place a.done.beaten a.done.lost fits.ahead Idle (λ no. ap is_beaten placed)))
                 tt
+                (noticed_there kept.anatomy.corrupt state.actors id a mine kept.noticed)
                 (calls_more kept.anatomy a Idle then_seen (a.done.given ++ gift ∷ []) a.done.lost (λ at has. has) (λ at word has. has) fits.calls)
                 (looks_past kept.anatomy state.actors kept.roles.opener a Idle (a.seen.cursors ++ sight cursor new) (a.done.given ++ gift ∷ []) a.done.lost
                 (λ reference sum loaded. cc loaded) (fits.looks records))),

@@ -1,6 +1,6 @@
 -- The segment that was packed and then mounted is consistent.
 use Rattle.std.proofs.Common.{◌≡◌, ◌⊎◌, Bool, true, false, ℕ, zero, suc, ◌+◌, ◌-◌, ◌*◌, ◌%◌, ◌<◌, ◌≤◌, ℤ, pos, List, [], ◌∷◌, take, replicate, Option, inl, inr, ⊎_elim, refl, sym, ap, subst, ◌∙◌, true≢false, arith}
-use Rattle.std.specs.Prelude.{slice_index, slice_index_or, unwrap_or, unsigned_abs, ◌-ℤ◌, max}
+use Rattle.std.specs.Prelude.{slice_index, slice_index_or, unwrap_or, unsigned_abs, ◌-ℤ◌, max, bit_and}
 use mathlib.Core.Option.{some, some-injective}
 use lib.ListN.{get_elem?}
 use Rattle.std.specs.List.{Contains, All}
@@ -275,6 +275,7 @@ flags : FlagsAreSet opening.words mounted all
 flags = record {
   corrupt = (λ e. absurd (omega (arith, e)), λ set. ⊎_elim (λ e. absurd (omega (arith, e))) (λ there. absurd (nobody_set there)) set);
   full = (λ e. absurd (omega (arith, e)), λ set. ⊎_elim (λ e. absurd (omega (arith, e))) (λ there. absurd (nobody_set there)) set);
+  noticed = each_one who (λ (a : Actor). a.seen.corrupt ≡ true → bit_and (word_at mounted 6) 1 ≡ 1) (λ e. absurd (true≢false (sym e)));
   others = refl;
 }
 

@@ -1,11 +1,11 @@
 -- What an invariant says of all actors together, and of the blocks: the books of a segment.
-use Rattle.std.proofs.Common.{◌≡◌, ◌≢◌, ◌⊎◌, ℕ, ◌<◌, ◌≤◌, Bool, ◌||◌, ℤ, List, ◌++◌, map, take, length, set, inl, inr, sym, ap, ◌∙◌, subst, false}
+use Rattle.std.proofs.Common.{◌≡◌, ◌≢◌, ◌⊎◌, ℕ, ◌<◌, ◌≤◌, Bool, true, ◌||◌, ⊎_elim, refl, ℤ, List, ◌++◌, map, take, length, set, inl, inr, sym, ap, ◌∙◌, subst, false}
 use Rattle.std.specs.Prelude.{sum_by, slice_index, IsPermutation}
 use mathlib.Core.Option.{some}
 use lib.ListN.{get_elem?}
 use Rattle.std.specs.List.{flat_map, Contains, All}
 use Rattle.std.proofs.lemmas.List.Sorted.{IsPermutation-refl, IsPermutation-trans, IsPermutation-sym, IsPermutation-append_right, IsPermutation-map, Contains-permutation}
-use Rattle.atomic_table.proofs.Lists.{at_set}
+use Rattle.atomic_table.proofs.Lists.{at_set, at_map}
 use Rattle.segment_image.specs.Shape.{Dimensions}
 use Rattle.alloc_core.specs.Layout.{IsShown}
 use Rattle.list_core.specs.Chain.{stops}
@@ -19,8 +19,8 @@ use Rattle.segment_machine.specs.Actor.{cost_of, given_by, all_counted, all_take
 use Rattle.segment_machine.specs.State.{State}
 use Rattle.segment_invariant.specs.Body.{Piece, Anatomy, layout_of, order_of, claims_of, listed}
 use Rattle.segment_invariant.specs.Ledger.{noted_held, all_held, IsBalanced}
-use Rattle.segment_invariant.specs.Invariant.{ClaimedRight, HasKey, ListIsKept, RecordsAreKept, ArePassedOver, SumsAreNear, IsSetBy, StandStill, RolesAreKept, CursorsAreKept, StandsRight, Fits, Invariant, AreAnswered}
-use Rattle.segment_invariant.proofs.Lists.Elements.{rows}
+use Rattle.segment_invariant.specs.Invariant.{ClaimedRight, HasKey, ListIsKept, RecordsAreKept, ArePassedOver, SumsAreNear, IsSetBy, IsSetWhereSeen, StandStill, RolesAreKept, CursorsAreKept, StandsRight, Fits, Invariant, AreAnswered}
+use Rattle.segment_invariant.proofs.Lists.Elements.{rows, any_there, any_from}
 use Rattle.segment_invariant.proofs.Frames.Deeds.{Deeds, sums_of}
 use Rattle.segment_invariant.proofs.Frames.Together.{LoadedBefore, balanced, sums_near, taken_keys}
 
@@ -54,6 +54,7 @@ pub record Books (shape : Dimensions) (opened anatomy : Anatomy) (words cursors 
   pub pool : sum_by units_of actors ≡ 4294967295
   pub corrupt : IsSetBy anatomy.corrupt opened.corrupt (map (λ a. a.done.spoiled) actors)
   pub full : IsSetBy anatomy.full opened.full (map (λ a. a.done.filled) actors)
+  pub noticed : IsSetWhereSeen anatomy.corrupt (map (λ a. a.seen.corrupt) actors)
   pub answered : AreAnswered anatomy.records actors
   pub stand : CursorsStand (order_of anatomy) cursors actors
 
@@ -76,6 +77,7 @@ books_of shape opened state kept = record {
   pool = kept.pool;
   corrupt = kept.corrupt;
   full = kept.full;
+  noticed = kept.noticed;
   answered = kept.answered;
   stand = kept.cursors.stand;
 }
@@ -107,6 +109,7 @@ kept_by shape opened anatomy words cursors actors books roles first_noted ordere
   pool = books.pool;
   corrupt = books.corrupt;
   full = books.full;
+  noticed = books.noticed;
   roles = roles;
   first_noted = first_noted;
   answered = books.answered;
@@ -153,6 +156,17 @@ cursors_set chain cursors actors id a b mine records same kept = record {
   ];
 }
 
+-- a flag is set where one actor has seen it
+pub noticed_there : (now : Bool) (actors : List Actor) (id : ℕ) (a : Actor) → get_elem? actors id ≡ some a
+    → IsSetWhereSeen now (map (λ a. a.seen.corrupt) actors) → a.seen.corrupt ≡ true → now ≡ true
+noticed_there now actors id a mine noticed is =
+    noticed (any_there (map (λ (a : Actor). a.seen.corrupt) actors) id false (at_map (λ (a : Actor). a.seen.corrupt) actors id a mine ∙ ap some is))
+
+-- and it is so on where the actor has seen it rightly
+pub noticed_set : (now : Bool) (actors : List Actor) (id : ℕ) (b : Actor) → (b.seen.corrupt ≡ true → now ≡ true)
+    → IsSetWhereSeen now (map (λ a. a.seen.corrupt) actors) → IsSetWhereSeen now (map (λ a. a.seen.corrupt) (set actors id b))
+noticed_set now actors id b rightly noticed seen = ⊎_elim noticed rightly (any_from (λ (a : Actor). a.seen.corrupt) actors id b false seen)
+
 -- the list is kept where it published the same
 pub listed_set : (words : List ℕ) (opened anatomy : Anatomy) (actors : List Actor) (id : ℕ) (a b : Actor) → get_elem? actors id ≡ some a
     → b.done.published ≡ a.done.published → ListIsKept words opened anatomy actors → ListIsKept words opened anatomy (set actors id b)
@@ -182,6 +196,7 @@ books_by shape opened anatomy words cursors old new same loaded books = record {
   pool = same.units ∙ books.pool;
   corrupt = books.corrupt ∙ ap (λ (b : Bool). opened.corrupt || b) (sym same.spoiled);
   full = books.full ∙ ap (λ (b : Bool). opened.full || b) (sym same.filled);
+  noticed = λ seen. books.noticed (sym same.noticed ∙ seen);
   answered = answered_by anatomy.records old new
       (λ known has. Contains-permutation (all_names old) (all_names new) known (IsPermutation-sym _ _ same.names) has)
       (λ mine has. Contains-permutation (all_owed old) (all_owed new) mine (IsPermutation-sym _ _ same.owed) has) books.answered;

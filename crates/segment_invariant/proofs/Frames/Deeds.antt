@@ -35,6 +35,7 @@ pub record Deeds (old new : List Actor) : Type 0 where
   pub units : sum_by units_of new ≡ sum_by units_of old
   pub spoiled : fold ◌||◌ false (map (λ a. a.done.spoiled) new) ≡ fold ◌||◌ false (map (λ a. a.done.spoiled) old)
   pub filled : fold ◌||◌ false (map (λ a. a.done.filled) new) ≡ fold ◌||◌ false (map (λ a. a.done.filled) old)
+  pub noticed : fold ◌||◌ false (map (λ a. a.seen.corrupt) new) ≡ fold ◌||◌ false (map (λ a. a.seen.corrupt) old)
 
 -- ---- the sums of amounts are sums over actors
 
@@ -58,6 +59,9 @@ is_spoiled actors = fold ◌||◌ false (map (λ a. a.done.spoiled) actors)
 abbrev is_filled : List Actor → Bool
 is_filled actors = fold ◌||◌ false (map (λ a. a.done.filled) actors)
 
+abbrev is_noticed : List Actor → Bool
+is_noticed actors = fold ◌||◌ false (map (λ a. a.seen.corrupt) actors)
+
 -- ---- two in the place of two others, and one more
 
 pub deeds_exchanged : (a b a' b' : Actor) (mid behind : List Actor) → Deeds (a ∷ b ∷ []) (a' ∷ b' ∷ [])
@@ -78,6 +82,7 @@ deeds_exchanged a b a' b' mid behind same = record {
   units = exchanged _ _ (sum_by units_of) numbers (sum_by-append units_of) a b a' b' mid behind same.units;
   spoiled = exchanged _ _ is_spoiled flags (flags_total (λ (a : Actor). a.done.spoiled)) a b a' b' mid behind same.spoiled;
   filled = exchanged _ _ is_filled flags (flags_total (λ (a : Actor). a.done.filled)) a b a' b' mid behind same.filled;
+  noticed = exchanged _ _ is_noticed flags (flags_total (λ (a : Actor). a.seen.corrupt)) a b a' b' mid behind same.noticed;
 }
 
 pub deeds_added : (a a' n : Actor) (rest : List Actor) → Deeds (a ∷ []) (a' ∷ n ∷ []) → Deeds (a ∷ rest) (a' ∷ (rest ++ n ∷ []))
@@ -97,6 +102,7 @@ deeds_added a a' n rest same = record {
   units = added _ _ (sum_by units_of) numbers (sum_by-append units_of) a a' n rest same.units;
   spoiled = added _ _ is_spoiled flags (flags_total (λ (a : Actor). a.done.spoiled)) a a' n rest same.spoiled;
   filled = added _ _ is_filled flags (flags_total (λ (a : Actor). a.done.filled)) a a' n rest same.filled;
+  noticed = added _ _ is_noticed flags (flags_total (λ (a : Actor). a.seen.corrupt)) a a' n rest same.noticed;
 }
 
 -- the first of some actors and another became others

@@ -1,5 +1,5 @@
 -- A state is kept where one actor goes on, and at most one of the blocks in the making changes.
-use Rattle.std.proofs.Common.{true≢false, ◌≡◌, ◌≢◌, ℕ, ◌<◌, Bool, List, ◌++◌, map, length, set, take, drop, All, Contains, inl, inr, refl, sym, ap, ◌∙◌, subst, subst₂, length-set, false}
+use Rattle.std.proofs.Common.{true≢false, ◌≡◌, ◌≢◌, ℕ, ◌<◌, Bool, List, ◌++◌, map, length, set, take, drop, All, Contains, inl, inr, refl, sym, ap, ◌∙◌, subst, subst₂, length-set, false, true}
 use Rattle.std.proofs.Math.Seq.{take-append_seam, drop-append_seam}
 use Rattle.std.proofs.lemmas.List.{set-append_left, get_or_append_left}
 use Rattle.std.specs.Prelude.{IsPermutation}
@@ -27,7 +27,7 @@ use Rattle.segment_invariant.specs.Seen.{Stands, IsNoLater, Sees}
 use Rattle.segment_invariant.specs.Invariant.{StandsRight, HoldsOwn, CallsRight, LooksBack, OwesPublished, Fits, IsSetBy, ClaimedRight, StandStill, Invariant, IsAhead}
 use Rattle.segment_invariant.proofs.Frames.Standing.{follows_itself, stands_on}
 use Rattle.segment_invariant.proofs.Frames.Together.{balanced, sums_near}
-use Rattle.segment_invariant.proofs.Frames.Books.{cursors_set, listed_set}
+use Rattle.segment_invariant.proofs.Frames.Books.{cursors_set, listed_set, noticed_there, noticed_set}
 use Rattle.segment_invariant.proofs.Frames.Roles.{roles_set}
 use Rattle.segment_invariant.proofs.Frames.OneActor.{Doing, doing, TurnsTo, SameDeeds, same_role, same_deeds, same_sums, fits_same}
 use Rattle.segment_invariant.proofs.Frames.Anatomies.{balanced_along, list_along, records_along, sums_along, names_along, fits_along, grounds_along}
@@ -51,6 +51,7 @@ pub record Goes (shape : Dimensions) (opened : Anatomy) (state : State) (old new
   pub tail_later : (seen : ℕ) → IsNoLater (order_of old) seen old.tail → IsNoLater (order_of old) seen new.tail
   pub corrupt : IsSetBy new.corrupt opened.corrupt (map (λ a. a.done.spoiled) (set state.actors id (doing a d)))
   pub full : IsSetBy new.full opened.full (map (λ a. a.done.filled) (set state.actors id (doing a d)))
+  pub flagged : old.corrupt ≡ true → new.corrupt ≡ true
   pub stands : StandsRight shape new id (doing a d) d.place
   pub sees : Sees new state.cursors (doing a d).seen
   pub ahead : IsAhead (order_of new) new.tail state.cursors d.place d.beaten a.done.lost
@@ -155,6 +156,8 @@ module _ (shape : Dimensions) (opened : Anatomy) (state : State) (kept : Invaria
       pool = same.units ∙ kept.pool;
       corrupt = goes.corrupt;
       full = goes.full;
+      noticed = λ seen. goes.flagged
+          (noticed_set before.corrupt state.actors id (doing a d) (noticed_there before.corrupt state.actors id a mine kept.noticed) kept.noticed seen);
       roles = roles_set state.actors id a (doing a d) mine (same_role a d turns) not_opener kept.roles;
       first_noted = kept.first_noted;
       answered = answered_set before.records state.actors id a (doing a d) mine refl goes.owed kept.answered;

@@ -1,5 +1,5 @@
 -- A state is kept where one actor goes on to a place, sees more, and no word of the segment changes.
-use Rattle.std.proofs.Common.{◌≡◌, ◌≢◌, ℕ, ◌+◌, ◌-◌, ◌<◌, ◌≤◌, ℤ, List, ◌++◌, length, set, take, drop, Contains, inl, inr, refl, sym, ap, ◌∙◌, subst, arith, false}
+use Rattle.std.proofs.Common.{◌≡◌, ◌≢◌, ℕ, ◌+◌, ◌-◌, ◌<◌, ◌≤◌, ℤ, List, ◌++◌, length, set, take, drop, Contains, inl, inr, refl, sym, ap, ◌∙◌, subst, arith, false, true}
 use Rattle.std.proofs.Math.Seq.{take-append_seam, drop-append_seam}
 use Rattle.std.specs.Prelude.{slice_index, IsPermutation, Some}
 use Rattle.std.proofs.lemmas.List.{set-append_right, get_or-append_right}
@@ -29,7 +29,7 @@ use Rattle.segment_invariant.specs.Invariant.{CursorsAreKept, SumsAreNear, Calls
 use Rattle.segment_invariant.proofs.Lists.Elements.{rows, column, sum_same}
 use Rattle.segment_invariant.proofs.Frames.Ahead.{reached_later}
 use Rattle.segment_invariant.proofs.Frames.Answers.{answered_set}
-use Rattle.segment_invariant.proofs.Frames.Books.{cursors_set, listed_set}
+use Rattle.segment_invariant.proofs.Frames.Books.{cursors_set, listed_set, noticed_set}
 use Rattle.segment_invariant.proofs.Frames.Deeds.{SameSums}
 use Rattle.segment_invariant.proofs.Frames.GoesOn.{not_opener}
 use Rattle.segment_invariant.proofs.Frames.OneActor.{living_at}
@@ -165,7 +165,7 @@ module _ (shape : Dimensions) (opened : Anatomy) (state : State) (kept : Invaria
   module _ (cursors : List ℕ) (are : AreLater (order_of kept.anatomy) state.cursors cursors) (near : SumsAreNear kept.anatomy.pieces actors)
       (gave : CursorsAreKept (order_of kept.anatomy) cursors actors) (sees : Sees kept.anatomy cursors seen)
       (ahead : IsAhead (order_of kept.anatomy) kept.anatomy.tail cursors place a.done.beaten lost) (stands : StandsRight shape kept.anatomy id b place)
-      (calls : CallsRight kept.anatomy b) (looks : LooksBack kept.anatomy state.actors kept.roles.opener b) where
+      (notices : seen.corrupt ≡ true → kept.anatomy.corrupt ≡ true) (calls : CallsRight kept.anatomy b) (looks : LooksBack kept.anatomy state.actors kept.roles.opener b) where
     fits_mine : Fits shape kept.anatomy cursors state.actors kept.roles.opener id b
     fits_mine =
         let fits = kept.each id a mine lived in record {
@@ -220,6 +220,7 @@ module _ (shape : Dimensions) (opened : Anatomy) (state : State) (kept : Invaria
       pool = sum_same units_of state.actors id a b mine refl ∙ kept.pool;
       corrupt = subst (IsSetBy kept.anatomy.corrupt opened.corrupt) (sym (column (λ (a : Actor). a.done.spoiled) state.actors id a b mine refl)) kept.corrupt;
       full = subst (IsSetBy kept.anatomy.full opened.full) (sym (column (λ (a : Actor). a.done.filled) state.actors id a b mine refl)) kept.full;
+      noticed = noticed_set kept.anatomy.corrupt state.actors id b notices kept.noticed;
       roles = roles_set state.actors id a b mine role not_first kept.roles;
       first_noted = kept.first_noted;
       answered = answered_set kept.anatomy.records state.actors id a b mine refl refl kept.answered;

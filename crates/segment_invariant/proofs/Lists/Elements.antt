@@ -205,3 +205,16 @@ any_there (x ∷ xs) zero b e = ap (λ c. fold ◌||◌ (b || c) xs) (some-injec
     or_true true xs = any_true xs
     or_true false xs = any_true xs
 any_there (x ∷ xs) (suc i) b e = any_there xs i (b || x) e
+
+-- where one of all is true once one of them has changed, one of all was, or the changed one is
+pub any_from : {A : Type 0} (f : A → Bool) (l : List A) (i : ℕ) (y : A) (b : Bool) → fold ◌||◌ b (map f (set l i y)) ≡ true
+    → (fold ◌||◌ b (map f l) ≡ true) ⊎ (f y ≡ true)
+any_from f [] i y b e = inl e
+any_from f (z ∷ zs) zero y b e = by b (f z) (f y) (map f zs) e
+  where
+    by : (b old new : Bool) (rest : List Bool) → fold ◌||◌ (b || new) rest ≡ true → (fold ◌||◌ (b || old) rest ≡ true) ⊎ (new ≡ true)
+    by b old true rest e = inr refl
+    by true old false rest e = inl (any_true rest)
+    by false true false rest e = inl (any_true rest)
+    by false false false rest e = inl e
+any_from f (z ∷ zs) (suc i) y b e = any_from f zs i y (b || f z) e

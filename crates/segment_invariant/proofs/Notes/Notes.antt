@@ -26,7 +26,7 @@ use Rattle.segment_invariant.proofs.Lists.Elements.{none_in, rows_total, rows, r
 use Rattle.segment_invariant.proofs.Lists.Countings.{units_total, sum_total, noted_total}
 use Rattle.segment_invariant.proofs.Lists.Tallies.{HasUnits, tally_from, tally_at}
 use Rattle.segment_invariant.proofs.Frames.GoesOn.{not_opener}
-use Rattle.segment_invariant.proofs.Frames.Books.{cursors_set, listed_set}
+use Rattle.segment_invariant.proofs.Frames.Books.{cursors_set, listed_set, noticed_there, noticed_set}
 use Rattle.segment_invariant.proofs.Frames.Deeds.{SameSums}
 use Rattle.segment_invariant.proofs.Frames.Standing.{grounds_itself, stands_on}
 use Rattle.segment_invariant.proofs.Frames.Together.{loaded_set, balanced, sums_near}
@@ -209,6 +209,7 @@ module _ (shape : Dimensions) (opened : Anatomy) (state : State) (kept : Invaria
           pool = sum_same units_of state.actors id a later mine counts.units ∙ kept.pool;
           corrupt = kept.corrupt ∙ ap (λ set. opened.corrupt || fold ◌||◌ false set) (sym (column (λ (a : Actor). a.done.spoiled) state.actors id a later mine refl));
           full = kept.full ∙ ap (λ set. opened.full || fold ◌||◌ false set) (sym (column (λ (a : Actor). a.done.filled) state.actors id a later mine refl));
+          noticed = noticed_set kept.anatomy.corrupt state.actors id later (noticed_there kept.anatomy.corrupt state.actors id a mine kept.noticed) kept.noticed;
           roles = roles_set state.actors id a later mine role not_first kept.roles;
           first_noted = kept.first_noted;
           answered = answers kept.answered;

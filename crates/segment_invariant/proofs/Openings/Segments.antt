@@ -128,6 +128,7 @@ module _ (shape : Dimensions) (version id cursors : ℕ) (lawful : IsShape shape
     pool = refl;
     corrupt = refl;
     full = refl;
+    noticed = λ seen. seen;
     roles = first_roles shape version cursors 4294967295 [] [] [] [] [] opener.seen;
     first_noted = λ name. refl;
     answered = λ name kind at first. absurd (not_empty first.0 first.1 _ (sym first.2));

@@ -25,6 +25,7 @@ use Rattle.segment_invariant.specs.Invariant.{StandsRight, Invariant}
 use Rattle.segment_invariant.proofs.Frames.GoesOn.{happens}
 use Rattle.segment_invariant.proofs.Frames.OneActor.{rests_at}
 use Rattle.segment_invariant.proofs.Frames.Ahead.{KeepsUp, ahead_at, unbound_unbeaten}
+use Rattle.segment_invariant.proofs.Frames.Books.{noticed_there}
 use Rattle.segment_invariant.proofs.Frames.SeesMore.{seer, calls_more, later_itself, near_on, given_on, sees_more}
 use Rattle.segment_invariant.proofs.Frames.Shown.{Goes, loaded}
 use Rattle.segment_invariant.proofs.Counting.Looks.{knows_of, body_word, looks_single}
@@ -74,6 +75,7 @@ module _ (shape : Dimensions) (opened : Anatomy) (state : State) (kept : Invaria
       })
       (ahead_at (order_of kept.anatomy) kept.anatomy.tail state.cursors a.hand.place a.done.beaten a.done.lost fits.ahead place up)
       (subst (λ (n : ℕ). StandsRight shape kept.anatomy id (with_sight place n) place) (sym word) stood)
+      (noticed_there kept.anatomy.corrupt state.actors id a mine kept.noticed)
       (calls_more kept.anatomy a place (sight_more r.single) a.done.given a.done.lost (λ at has. has) (λ at word has. has) fits.calls)
       (looks_single shape opened state kept id a mine recorder lived h r stands place a.done.given no_sum))
 

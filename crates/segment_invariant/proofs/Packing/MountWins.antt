@@ -152,6 +152,7 @@ module _ (shape : Dimensions) (opened : Anatomy) (state : State) (kept : Invaria
         stands = tt;
         sees = sees_on kept.anatomy new (Only own.at (counts c)) onward state.cursors a.seen (subst (Behind a.seen.free) (sym free) fits.sees.free)
             fits.sees.walked fits.sees.tails fits.sees.shared fits.sees;
+        noticed = λ saw. saw;
         up = λ no. unbound_unbeaten a.hand.place unbound;
         own = own_now;
         apart = distinct_filter _ a.hand.own fits.apart;

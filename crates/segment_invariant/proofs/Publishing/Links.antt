@@ -45,7 +45,7 @@ use Rattle.segment_invariant.proofs.Blocks.Stops.{stop_open}
 use Rattle.segment_invariant.proofs.Frames.OneActor.{Doing, doing, doing_of, TurnsTo, turns_plain, is_plain, SameDeeds, same_deeds, same_role, same_sums, fits_same}
 use Rattle.segment_invariant.proofs.Frames.Anatomies.{balanced_same}
 use Rattle.segment_invariant.proofs.Frames.Together.{balanced, sums_near}
-use Rattle.segment_invariant.proofs.Frames.Books.{cursors_set}
+use Rattle.segment_invariant.proofs.Frames.Books.{cursors_set, noticed_there, noticed_set}
 use Rattle.segment_invariant.proofs.Frames.Roles.{roles_set}
 use Rattle.segment_invariant.proofs.Frames.GoesOn.{not_opener}
 use Rattle.segment_invariant.proofs.Allocating.Claimers.{still_put, right_put}
@@ -489,6 +489,7 @@ module _ (shape : Dimensions) (opened : Anatomy) (state : State) (kept : Invaria
       pool = same.units ∙ kept.pool;
       corrupt = subst (IsSetBy anatomy.corrupt opened.corrupt) (sym (column (λ (b : Actor). b.done.spoiled) state.actors id a (doing a d) mine refl)) kept.corrupt;
       full = subst (IsSetBy anatomy.full opened.full) (sym (column (λ (b : Actor). b.done.filled) state.actors id a (doing a d) mine refl)) kept.full;
+      noticed = noticed_set anatomy.corrupt state.actors id (doing a d) (noticed_there anatomy.corrupt state.actors id a mine kept.noticed) kept.noticed;
       roles = roles_set state.actors id a (doing a d) mine (same_role a d turns) (not_opener shape opened state kept id a mine records) kept.roles;
       cursors = subst (λ (chain : List ℕ). CursorsAreKept chain state.cursors actors') (sym order_is)
           (cursors_set (order_of anatomy ++ own.at ∷ []) state.cursors state.actors id a (doing a d) mine records refl

@@ -143,6 +143,7 @@ module _ (a b : Actor) (may : Joins a b) where
         omega (arith, all, nothing));
     spoiled = or-false (a.done.spoiled || b.done.spoiled);
     filled = or-false (a.done.filled || b.done.filled);
+    noticed = or-false (a.seen.corrupt || b.seen.corrupt);
   }
 
 -- ---- what both have seen

@@ -103,6 +103,7 @@ module _ (old new : List Actor) (anew : ShareAnew old new) where
     units = units;
     spoiled = ap (fold ◌||◌ false) (shared_column (λ (a : Actor). a.done.spoiled) (λ a s o. refl));
     filled = ap (fold ◌||◌ false) (shared_column (λ (a : Actor). a.done.filled) (λ a s o. refl));
+    noticed = ap (fold ◌||◌ false) (shared_column (λ (a : Actor). a.seen.corrupt) (λ a s o. refl));
   }
 
 -- ---- the state with them

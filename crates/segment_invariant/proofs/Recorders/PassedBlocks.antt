@@ -177,6 +177,7 @@ module _ (from to : ℕ) (anatomy : Anatomy) where
     pool = books.pool;
     corrupt = books.corrupt;
     full = books.full;
+    noticed = books.noticed;
     answered = books.answered;
     stand = books.stand;
   }

@@ -4,7 +4,7 @@ use Rattle.std.specs.Prelude.{if◌then◌else◌, slice_index}
 use mathlib.Core.Option.{some}
 use lib.ListN.{get_elem?}
 use Rattle.std.specs.List.{flat_map, Contains, All}
-use Rattle.std.proofs.Math.Bool.{or-false}
+use Rattle.std.proofs.Math.Bool.{or-false, or_self}
 use Rattle.std.proofs.lemmas.Bool.{and_parts}
 use Rattle.std.proofs.lemmas.List.{drop_all}
 use Rattle.std.proofs.lemmas.List.Elements.{All-nil, All-contains, Contains-append_left, Contains-append_right, Contains-append_cases}
@@ -57,6 +57,7 @@ split_deeds a enough = record {
   units = omega (arith, enough);
   spoiled = or-false a.done.spoiled;
   filled = or-false a.done.filled;
+  noticed = or_self a.seen.corrupt;
 }
 
 -- ---- the newcomer

@@ -403,6 +403,7 @@ module _ (shape : Dimensions) (opened : Anatomy) (state : State) (kept : Invaria
         lives = λ e. cc e;
         stood = tt;
         sees = sees_turned shape opened state kept known.reference (histogram r) (histogram (with_mark r v)) 12 v stands turns a.seen fits.sees;
+        noticed = λ saw. saw;
         up = λ free. ap is_beaten placed;
         own = refl;
         calls = record {

@@ -246,6 +246,7 @@ module _ (shape : Dimensions) (opened : Anatomy) (state : State) (kept : Invaria
           lives = shows.lives;
           stood = shows.stood;
           sees = sees_turned shape opened state kept at body then_is j v stands turns a.seen fits.sees;
+          noticed = λ saw. saw;
           up = shows.up;
           own = refl;
           calls = calls_taken a front last taken_is f refl refl taking place a.seen.counts kept.anatomy new refl fits.calls;

@@ -177,6 +177,7 @@ module _ (shape : Dimensions) (opened : Anatomy) (state : State) (kept : Invaria
           tail_later = later;
           corrupt = subst (IsSetBy anatomy.corrupt opened.corrupt) (sym (column (λ (b : Actor). b.done.spoiled) state.actors id a (doing a d) mine refl)) kept.corrupt;
           full = subst (IsSetBy anatomy.full opened.full) (sym (column (λ (b : Actor). b.done.filled) state.actors id a (doing a d) mine refl)) kept.full;
+          flagged = λ set. set;
           stands = stands;
           sees = sees;
           ahead = ahead;

@@ -1,12 +1,11 @@
 -- What is read of the header of a kept state's words: the version, the id and the flags.
 use Rattle.std.proofs.Common.{◌≡◌, Bool, true, false, ℕ, ◌+◌, ◌*◌, ◌<◌, List, refl, sym, ap, ◌∙◌, arith}
 use Rattle.std.specs.Prelude.{not, ◌==◌, if◌then◌else◌, bit_and}
-use Rattle.std.specs.Int.Bits.{or_shifted_r, and_shifted}
-use Rattle.std.proofs.lemmas.Nat.{and_or_apart}
 use Rattle.segment_image.specs.Shape.{Dimensions}
 use Rattle.segment_image.specs.Words.{word_at}
 use Rattle.segment_image.specs.Head.{head_of}
 use Rattle.alloc_core.specs.Layout.{flags_of}
+use Rattle.alloc_core.proofs.Flags.{corrupt_read, full_read}
 use Rattle.alloc_core.proofs.Layouts.{flags_word}
 use Rattle.bucket_ranges.specs.Reading.{Reading, IsReading}
 use Rattle.segment_machine.specs.State.{State}
@@ -14,40 +13,6 @@ use Rattle.segment_invariant.specs.Body.{Anatomy, layout_of}
 use Rattle.segment_invariant.specs.Invariant.{Invariant}
 use Rattle.segment_promises.specs.Reads.{ReadsHead}
 use Rattle.segment_promises.proofs.Readings.Lists.{read_along}
-
--- the two flags, as the lowest bits of their word
-abbrev low_of : Bool → Bool → ℕ
-low_of corrupt full = (if full then 2 else 0) + (if corrupt then 1 else 0)
-
--- they are apart from the other bits
-low_flags : (corrupt full : Bool) (others bits : ℕ) → bits < 4 → bit_and (flags_of corrupt full others) bits ≡ bit_and (low_of corrupt full) bits
-low_flags corrupt full others bits few =
-    ap (λ (n : ℕ). bit_and n bits) (sym (or_shifted_r others 2 (low_of corrupt full) (small corrupt full)))
-    ∙ and_or_apart bits (low_of corrupt full) (others * 4) (and_shifted others 2 bits few)
-  where
-    small : (corrupt full : Bool) → low_of corrupt full < 4
-    small true true = omega arith
-    small true false = omega arith
-    small false true = omega arith
-    small false false = omega arith
-
-corrupt_read : (corrupt full : Bool) (others : ℕ) → not (bit_and (flags_of corrupt full others) 1 == 0) ≡ corrupt
-corrupt_read corrupt full others = ap (λ (n : ℕ). not (n == 0)) (low_flags corrupt full others 1 (omega arith)) ∙ alone corrupt full
-  where
-    alone : (corrupt full : Bool) → not (bit_and (low_of corrupt full) 1 == 0) ≡ corrupt
-    alone true true = refl
-    alone true false = refl
-    alone false true = refl
-    alone false false = refl
-
-full_read : (corrupt full : Bool) (others : ℕ) → not (bit_and (flags_of corrupt full others) 2 == 0) ≡ full
-full_read corrupt full others = ap (λ (n : ℕ). not (n == 0)) (low_flags corrupt full others 2 (omega arith)) ∙ alone corrupt full
-  where
-    alone : (corrupt full : Bool) → not (bit_and (low_of corrupt full) 2 == 0) ≡ full
-    alone true true = refl
-    alone true false = refl
-    alone false true = refl
-    alone false false = refl
 
 module _ (shape : Dimensions) (opened : Anatomy) (state : State) (kept : Invariant shape opened state) where
   pub shape_is : (head_of state.words).shape ≡ shape
@@ -78,4 +43,5 @@ module _ (shape : Dimensions) (opened : Anatomy) (state : State) (kept : Invaria
         id = ap (λ (r : Reading). r.id) along ∙ (id_is ∙ kept.same.1);
         corrupt = ap (λ (r : Reading). r.corrupt) along ∙ (corrupt_is ∙ kept.corrupt);
         full = ap (λ (r : Reading). r.full) along ∙ (full_is ∙ kept.full);
+        noticed = λ seen. ap (λ (r : Reading). r.corrupt) along ∙ (corrupt_is ∙ kept.noticed seen);
       }

@@ -1,5 +1,5 @@
 -- An image that may be adopted opens a kept segment.
-use Rattle.std.proofs.Common.{◌≡◌, ◌≢◌, inr, ℕ, ◌^◌, ◌<◌, List, All, replicate, refl, sym, subst}
+use Rattle.std.proofs.Common.{◌≡◌, ◌≢◌, inr, ℕ, ◌^◌, ◌<◌, List, All, replicate, refl, sym, subst, true≢false}
 use Rattle.std.specs.Prelude.{IsPermutation}
 use Rattle.std.proofs.lemmas.List.{append-nil}
 use Rattle.std.proofs.lemmas.List.Sorted.{IsPermutation-refl}
@@ -44,6 +44,7 @@ module _ (words references : List ℕ) (reading : Reading) (narrow : All (λ wor
     pool = all_units words references reading cursors adoptable.units;
     corrupt = (flags_stand words references reading cursors its.corrupt its.full).0;
     full = (flags_stand words references reading cursors its.corrupt its.full).1;
+    noticed = λ seen. absurd (true≢false (sym seen));
     roles = opener_roles words references reading cursors;
     first_noted = first_noted words references reading narrow listed reads adoptable cursors;
     answered = answered words references reading narrow listed reads adoptable cursors;

@@ -155,6 +155,7 @@ module _ (known : Known) (value : ℤ) (units : ℕ) (old mid : Actor) (rest : I
           done = subst (DoesOn old.done) (sym done) has.proceeds.done;
           seen = subst (SeesOn old.seen) (sym seen) (record {
             free = was.free;
+            corrupt = was.corrupt;
             chain = was.chain;
             tails = was.tails;
             singles = was.singles;

@@ -108,6 +108,7 @@ module _ (known : Known) (a b : Actor) (looked : HasLooked a b) (snapshot : Snap
   sees : SeesOn b.seen summed.seen
   sees = record {
     free = omega arith;
+    corrupt = λ saw. saw;
     chain = grows_not b.seen.chain;
     tails = grows_not b.seen.tails;
     singles = grows_not b.seen.singles;

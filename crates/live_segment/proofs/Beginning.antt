@@ -50,6 +50,7 @@ known_there (x ∷ rest) reference known is = by_test (x.reference == reference)
 pub sees_single : (a : Seen) (more : List Sighting) → SeesOn a (record a { singles = a.singles ++ more })
 sees_single a more = record {
   free = omega arith;
+  corrupt = λ saw. saw;
   chain = grows_not a.chain;
   tails = grows_not a.tails;
   singles = grows_by a.singles more;

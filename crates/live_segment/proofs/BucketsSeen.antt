@@ -37,7 +37,7 @@ use Rattle.live_segment.proofs.Proceeding.{looks_again, looks_there}
 use Rattle.live_segment.proofs.Sightings.{seen_now}
 
 -- a place at the counts of a histogram is free
-free_at : (a : Actor) (look : Look) (known : Known) → StandsAt a look known → is_bound a.hand.place ≡ false
+pub free_at : (a : Actor) (look : Look) (known : Known) → StandsAt a look known → is_bound a.hand.place ≡ false
 free_at a look known stands =
     ⊎_elim
     (λ (place, used, off, knows). ap is_bound place)
@@ -178,6 +178,7 @@ module _ (segment : Segment) (known : Known) (first : Pass) (table : first.table
         sees : SeesOn a.seen seen
         sees = record {
           free = omega arith;
+          corrupt = λ saw. saw;
           chain = grows_not a.seen.chain;
           tails = grows_not a.seen.tails;
           singles = grows_by a.seen.singles (sight (known.reference + 9) word);

@@ -9,10 +9,11 @@ use Rattle.segment_promises.specs.Onward.{SeesOn}
 use Rattle.live_segment.specs.Working.{LooksOn}
 use Rattle.segment_promises.proofs.Growing.{grows_by, grows_not}
 
--- it has seen a free pointer that is no earlier
-sees_free : (a : Seen) (free : ℕ) → a.free ≤ free → SeesOn a (record a { free = free })
-sees_free a free later = record {
+-- it has seen a free pointer that is no earlier, and flags
+pub sees_header : (a : Seen) (free : ℕ) (corrupt : Bool) → a.free ≤ free → (a.corrupt ≡ true → corrupt ≡ true) → SeesOn a (record a { free = free; corrupt = corrupt })
+sees_header a free corrupt later saw = record {
   free = later;
+  corrupt = saw;
   chain = grows_not a.chain;
   tails = grows_not a.tails;
   singles = grows_not a.singles;
@@ -35,17 +36,17 @@ looks_claimed size tag at old new unspoiled (behind, view, later, enough, few, p
           filled = λ e. e;
           spoiled = λ e. absurd (true≢false (sym e ∙ unspoiled));
         };
-        seen = sees_free old.seen behind (omega (arith, later, enough));
+        seen = sees_header old.seen behind old.seen.corrupt (omega (arith, later, enough)) (λ saw. saw);
       };
       units = refl;
       entries = refl;
     })
 
--- none is; the full flag may be set
-pub looks_refused : (old last : Actor) (free : ℕ) (filled : Bool)
-    → last ≡ record old { hand = record old.hand { place = Idle }; done = record old.done { filled = filled }; seen = record old.seen { free = free } }
-    → old.seen.free ≤ free → (old.done.filled ≡ true → filled ≡ true) → LooksOn old last
-looks_refused old last free filled is later still =
+-- none is; the corrupt flag may have been seen, or the full flag set
+pub looks_refused : (old last : Actor) (free : ℕ) (filled corrupt : Bool)
+    → last ≡ record old { hand = record old.hand { place = Idle }; done = record old.done { filled = filled }; seen = record old.seen { free = free; corrupt = corrupt } }
+    → old.seen.free ≤ free → (old.done.filled ≡ true → filled ≡ true) → (old.seen.corrupt ≡ true → corrupt ≡ true) → LooksOn old last
+looks_refused old last free filled corrupt is later still saw =
     subst (LooksOn old) (sym is) (record {
       proceeds = record {
         same = refl;
@@ -57,7 +58,7 @@ looks_refused old last free filled is later still =
           filled = still;
           spoiled = λ e. refl;
         };
-        seen = sees_free old.seen free later;
+        seen = sees_header old.seen free corrupt later saw;
       };
       units = refl;
       entries = refl;

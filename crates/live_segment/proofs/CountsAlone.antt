@@ -30,6 +30,7 @@ use Rattle.live_segment.proofs.Refusing.{may_at_rest}
 pub sees_count : (a : Seen) (more : List Sighting) → SeesOn a (record a { counts = a.counts ++ more })
 sees_count a more = record {
   free = omega arith;
+  corrupt = λ saw. saw;
   chain = grows_not a.chain;
   tails = grows_not a.tails;
   singles = grows_not a.singles;

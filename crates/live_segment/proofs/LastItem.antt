@@ -118,6 +118,7 @@ module _ (known : Known) (front : List (ℤ × ℕ)) (item : ℤ × ℕ) (old a 
           done = subst (DoesOn old.done) (sym done) on.done;
           seen = subst (SeesOn old.seen) (sym seen) (record {
             free = on.seen.free;
+            corrupt = on.seen.corrupt;
             chain = on.seen.chain;
             tails = on.seen.tails;
             singles = on.seen.singles;

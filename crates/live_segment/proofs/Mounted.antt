@@ -33,7 +33,7 @@ use Rattle.segment_invariant.proofs.Counting.Looks.{knows_of, counts_seen}
 use Rattle.live_segment.specs.declared.rule.Setting.{Setting}
 use Rattle.live_segment.specs.declared.segment.Segment.{Segment}
 use Rattle.live_segment.specs.Adding.{HasNoRoom, block_words}
-use Rattle.live_segment.specs.Allocation.{Allocates, filled, saw_free}
+use Rattle.live_segment.specs.Allocation.{Allocates, filled, noticed, saw_free}
 use Rattle.live_segment.specs.Refusing.{given_up}
 use Rattle.live_segment.specs.Holders.{table_of, MayStep}
 use Rattle.live_segment.specs.Mounting.{SawNoNone, LoadsCounts, MayMount, HasBlank, HasMounted, HasNotMounted}
@@ -89,6 +89,7 @@ mounts_on a b known may looks =
 sees_words : (a : Seen) (more : List Sighting) → SeesOn a (record a { words = a.words ++ more })
 sees_words a more = record {
   free = omega arith;
+  corrupt = λ saw. saw;
   chain = grows_not a.chain;
   tails = grows_not a.tails;
   singles = grows_not a.singles;
@@ -264,11 +265,15 @@ module _ (segment : Segment) (known : Known) (old : Pass) (table : old.table_id 
           by (Some counts) is = absurd (saw counts is (sym (step.learned.1.0 counts is) ∙ none))
 
       -- what was refused there
-      module _ (last : Actor) (free : ℕ) (filled : Bool)
-          (is : last ≡ record seat.me.0 { hand = record seat.me.0.hand { place = Idle }; done = record seat.me.0.done { filled = filled }; seen = record seat.me.0.seen { free = free } })
-          (later : seat.me.0.seen.free ≤ free) (still : seat.me.0.done.filled ≡ true → filled ≡ true) where
+      module _ (last : Actor) (free : ℕ) (filled corrupt : Bool)
+          (is : last ≡ record seat.me.0 {
+            hand = record seat.me.0.hand { place = Idle };
+            done = record seat.me.0.done { filled = filled };
+            seen = record seat.me.0.seen { free = free; corrupt = corrupt };
+          })
+          (later : seat.me.0.seen.free ≤ free) (still : seat.me.0.done.filled ≡ true → filled ≡ true) (noticing : seat.me.0.seen.corrupt ≡ true → corrupt ≡ true) where
         looks_last : LooksOn first last
-        looks_last = looks_on first seat.me.0 last looks_loaded (looks_refused seat.me.0 last free filled is later still)
+        looks_last = looks_on first seat.me.0 last looks_loaded (looks_refused seat.me.0 last free filled corrupt is later still noticing)
 
         turned : (why : Refusal) (new : Actor) → new ≡ given_up last → HasNoRoom why (block_words known) new → HasNotMounted why known first new
         turned why new ends room =
@@ -288,10 +293,12 @@ module _ (segment : Segment) (known : Known) (old : Pass) (table : old.table_id 
       refused_block Full size new words (free, view, later, passes) =
           let last = filled (saw_free seat.me.0 Idle free) in
           let only = view ∙ only_given_up last in
-          turned last free true refl later (λ e. refl) Full new.me.0 view (
+          turned last free true seat.me.0.seen.corrupt refl later (λ e. refl) (λ e. e) Full new.me.0 view (
             ap (λ (b : Actor). b.done.filled) only,
             subst (λ (b : Actor). b.segment.shape.size < b.seen.free + block_words known) (sym only) (subst (λ (n : ℕ). seat.me.0.segment.shape.size < free + n) words passes),
           )
       refused_block Corrupt size new words (free, view, later) =
-          turned (saw_free seat.me.0 Idle free) free seat.me.0.done.filled refl later (λ e. e) Corrupt new.me.0 view tt
+          let last = noticed (saw_free seat.me.0 Idle free) in
+          turned last free seat.me.0.done.filled true refl later (λ e. e) (λ e. refl) Corrupt new.me.0 view
+          (ap (λ (b : Actor). b.seen.corrupt) (view ∙ only_given_up last))
       refused_block _ size new words none_there = absurd none_there

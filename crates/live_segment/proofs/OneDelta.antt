@@ -162,6 +162,7 @@ module _ (segment : Segment) (known : Known) (word : ℕ) (old : Pass) (takes : 
     sees : SeesOn old.me.0.seen seen
     sees = record {
       free = omega arith;
+      corrupt = λ saw. saw;
       chain = grows_not old.me.0.seen.chain;
       tails = grows_not old.me.0.seen.tails;
       singles = grows_not old.me.0.seen.singles;

@@ -24,6 +24,7 @@ module _ (segment : Segment) (known : Known) (at : ℕ) (old mid : Pass) (takes 
   sees_on_sample : SeesOn old.me.0.seen (record old.me.0.seen { words = mid.me.0.seen.words; counts = mid.me.0.seen.counts })
   sees_on_sample = record {
     free = omega arith;
+    corrupt = λ saw. saw;
     chain = grows_not old.me.0.seen.chain;
     tails = grows_not old.me.0.seen.tails;
     singles = grows_not old.me.0.seen.singles;

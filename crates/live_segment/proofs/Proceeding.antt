@@ -20,6 +20,7 @@ does_not a = record { same = refl; claimed = grows_not a.claimed; published = gr
 pub sees_not : (a : Seen) → SeesOn a a
 sees_not a = record {
   free = omega arith;
+  corrupt = λ saw. saw;
   chain = grows_not a.chain;
   tails = grows_not a.tails;
   singles = grows_not a.singles;
@@ -40,6 +41,7 @@ does_on a b c first second = record {
 pub sees_on : (a b c : Seen) → SeesOn a b → SeesOn b c → SeesOn a c
 sees_on a b c first second = record {
   free = let x = first.free in let y = second.free in omega (arith, x, y);
+  corrupt = λ saw. second.corrupt (first.corrupt saw);
   chain = grows_on a.chain b.chain c.chain first.chain second.chain;
   tails = grows_on a.tails b.tails c.tails first.tails second.tails;
   singles = grows_on a.singles b.singles c.singles first.singles second.singles;

@@ -72,6 +72,13 @@ clear old new found noted none = record {
   learned = noted.learned;
 }
 
+-- it has loaded flags without the corrupt one, or with it
+abbrev pub flags_seen : Actor → Bool → Actor
+flags_seen a clear = record a {
+  hand = record a.hand { place = if clear then FlagsLoaded else Idle };
+  seen = record a.seen { corrupt = if clear then a.seen.corrupt else true };
+}
+
 module _ (setting : Setting) (slots id : ℕ) (me : Sat) (word : ℕ) (records : is_opener me.0.role ≡ false) (may : MayGiveUp me.0) where
   pub loads_flags : word ≡ spot setting.shape.size (allocating_event load_flags) + 1 → Ready me.0 (allocating_event load_flags)
       → Allows (Runs setting) slots id me word (change setting.version (allocating_event load_flags)) (LoadsFlags me)
@@ -82,12 +89,12 @@ module _ (setting : Setting) (slots id : ℕ) (me : Sat) (word : ℕ) (records :
       by_test : (found : ℕ) (b : Bool) → (bit_and found 1 == 0) ≡ b
           → MayTell (next me.0 (allocating_event load_flags) found) (flags_notes me.0.entries.running found)
       by_test found b is =
-          subst (λ (x : Bool). MayTell (record me.0 { hand = record me.0.hand { place = if x then FlagsLoaded else Idle } }) (if x then [] else refusing_notes me.0.entries.running))
+          subst (λ (x : Bool). MayTell (flags_seen me.0 x) (if x then [] else refusing_notes me.0.entries.running))
           (sym is) (by b)
         where
-          by : (b : Bool) → MayTell (record me.0 { hand = record me.0.hand { place = if b then FlagsLoaded else Idle } }) (if b then [] else refusing_notes me.0.entries.running)
+          by : (b : Bool) → MayTell (flags_seen me.0 b) (if b then [] else refusing_notes me.0.entries.running)
           by true = refl
-          by false = may_end (record me.0 { hand = record me.0.hand { place = Idle } }) me.0.entries.running may refl refl
+          by false = may_end (flags_seen me.0 false) me.0.entries.running may refl refl
 
   pub sets_full : word ≡ spot setting.shape.size (allocating_event (set_flag 2)) + 1 → Ready me.0 (allocating_event (set_flag 2))
       → Allows (Runs setting) slots id me word (change setting.version (allocating_event (set_flag 2))) (SetsFull me)

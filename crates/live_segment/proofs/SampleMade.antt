@@ -22,7 +22,7 @@ use Rattle.segment_machine.specs.Made.{IsPayload}
 use Rattle.segment_machine.specs.Publishing.{own_at}
 use Rattle.live_segment.specs.declared.segment.Segment.{Segment}
 use Rattle.live_segment.specs.Adding.{HasNoRoom}
-use Rattle.live_segment.specs.Allocation.{Allocates, claimed, filled, saw_free}
+use Rattle.live_segment.specs.Allocation.{Allocates, claimed, filled, noticed, saw_free}
 use Rattle.live_segment.specs.Holders.{table_of, MayStep}
 use Rattle.segment_promises.specs.Onward.{DoesOn, SeesOn}
 use Rattle.live_segment.specs.Publishing.{HasPublished, IsFilledAs}
@@ -190,6 +190,7 @@ looks_published at histogram value a b has = record {
     };
     seen = record {
       free = let e = ap (λ (x : Actor). x.seen.free) has.view in omega (arith, e);
+      corrupt = λ saw. ap (λ (x : Actor). x.seen.corrupt) has.view ∙ saw;
       chain = grows_same a.seen.chain b.seen.chain (ap (λ (x : Actor). x.seen.chain) has.view);
       tails = has.tails;
       singles = grows_same a.seen.singles b.seen.singles (ap (λ (x : Actor). x.seen.singles) has.view);
@@ -222,13 +223,13 @@ module _ (at histogram : ℕ) (value : ℤ) (old mid now new : Actor) (unspoiled
 
 -- ---- refused
 
-not_made : (why : Refusal) (old last new : Actor) (free : ℕ) (full : Bool)
-    → last ≡ record old { hand = record old.hand { place = Idle }; done = record old.done { filled = full }; seen = record old.seen { free = free } }
-    → old.seen.free ≤ free → (old.done.filled ≡ true → full ≡ true) → new ≡ given_up last → HasNoRoom why 8 new → HasNotMadeSample why old new
-not_made why old last new free full is later still ends room = record {
+not_made : (why : Refusal) (old last new : Actor) (free : ℕ) (full corrupt : Bool)
+    → last ≡ record old { hand = record old.hand { place = Idle }; done = record old.done { filled = full }; seen = record old.seen { free = free; corrupt = corrupt } }
+    → old.seen.free ≤ free → (old.done.filled ≡ true → full ≡ true) → (old.seen.corrupt ≡ true → corrupt ≡ true) → new ≡ given_up last → HasNoRoom why 8 new → HasNotMadeSample why old new
+not_made why old last new free full corrupt is later still saw ends room = record {
   last = last;
-  looks = looks_refused old last free full is later still;
-  seen = ap (λ (x : Actor). x.seen) is ∙ (λ i. record old.seen { free = sym (ap (λ (x : Actor). x.seen.free) is) i });
+  looks = looks_refused old last free full corrupt is later still saw;
+  seen = ap (λ (x : Actor). x.seen) is ∙ (λ i. record old.seen { free = sym (ap (λ (x : Actor). x.seen.free) is) i; corrupt = sym (ap (λ (x : Actor). x.seen.corrupt) is) i });
   ends = ends;
   idle = ap (λ (x : Actor). x.hand.place) (ends ∙ only_given_up last) ∙ ap (λ (x : Actor). x.hand.place) is;
   room = room;
@@ -238,7 +239,9 @@ pub refused_sample : (why : Refusal) (old new : Actor) → Allocates 8 3 old (Er
 refused_sample Full old new (free, view, later, passes) =
     let last = filled (saw_free old Idle free) in
     let only = view ∙ only_given_up last in
-    not_made Full old last new free true refl later (λ e. refl) view
+    not_made Full old last new free true old.seen.corrupt refl later (λ e. refl) (λ e. e) view
     (ap (λ (x : Actor). x.done.filled) only, subst (λ (x : Actor). x.segment.shape.size < x.seen.free + 8) (sym only) passes)
-refused_sample Corrupt old new (free, view, later) = not_made Corrupt old (saw_free old Idle free) new free old.done.filled refl later (λ e. e) view tt
+refused_sample Corrupt old new (free, view, later) =
+    let last = noticed (saw_free old Idle free) in
+    not_made Corrupt old last new free old.done.filled true refl later (λ e. e) (λ e. refl) view (ap (λ (x : Actor). x.seen.corrupt) (view ∙ only_given_up last))
 refused_sample _ old new none = absurd none

@@ -82,6 +82,7 @@ looks_searched a b free searched = record {
     done = subst (DoesOn a.done) (sym (ap (λ (x : Actor). x.done) searched.view)) (does_not a.done);
     seen = record {
       free = let e = ap (λ (x : Actor). x.seen.free) searched.view in omega (arith, e);
+      corrupt = λ saw. ap (λ (x : Actor). x.seen.corrupt) searched.view ∙ saw;
       chain = searched.chain;
       tails = grows_same a.seen.tails b.seen.tails (ap (λ (x : Actor). x.seen.tails) searched.view);
       singles = grows_same a.seen.singles b.seen.singles (ap (λ (x : Actor). x.seen.singles) searched.view);
@@ -166,7 +167,7 @@ module _ (known : Known) (value : ℤ) (a b : Actor) (searched : HasSearched a b
     ends = refused.ends;
     idle = refused.idle;
     none =
-        let seen : c.seen ≡ record b.seen { free = refused.last.seen.free } = ap (λ (x : Actor). x.seen) (refused.ends ∙ only_given_up refused.last) ∙ refused.seen in
+        let seen : c.seen ≡ record b.seen { free = refused.last.seen.free; corrupt = refused.last.seen.corrupt } = ap (λ (x : Actor). x.seen) (refused.ends ∙ only_given_up refused.last) ∙ refused.seen in
         let (front, behind, parts, others) = none in (
           front,
           behind,

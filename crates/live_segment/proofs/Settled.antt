@@ -1,5 +1,5 @@
 -- A `hist` looks for the first record of its name, makes one where there is none, and looks on: what becomes of its recorder.
-use Rattle.std.proofs.Common.{◌≡◌, ◌≢◌, ℕ, ◌+◌, ◌<◌, ◌≤◌, Bool, false, List, [], ◌∷◌, ◌++◌, length, map, not, ◌&&◌, ◌==◌, if◌then◌else◌, eq-eqb, All, inl, inr, refl, sym, ap, subst, ◌∙◌, arith}
+use Rattle.std.proofs.Common.{◌≡◌, ◌≢◌, ℕ, ◌+◌, ◌<◌, ◌≤◌, Bool, false, List, [], ◌∷◌, ◌++◌, length, map, not, ◌&&◌, ◌==◌, if◌then◌else◌, eq-eqb, All, inl, inr, refl, sym, ap, subst, ◌∙◌, arith, true}
 use Rattle.std.specs.Prelude.{Ok, Err}
 use Rattle.std.specs.List.{Contains, filter}
 use Rattle.std.specs.Str.{bytes_eq}
@@ -23,12 +23,13 @@ use Rattle.segment_calls.specs.declared.refusal.Refusal.{Refusal}
 use Rattle.segment_calls.specs.declared.refusal.Refusal.TheVariants as why
 use Rattle.live_segment.specs.declared.finding.Search.TheVariants as search
 use Rattle.live_segment.specs.Adding.{HasNoRoom}
-use Rattle.live_segment.specs.Allocation.{Allocates, filled, saw_free}
+use Rattle.live_segment.specs.Allocation.{Allocates, filled, noticed, saw_free}
 use Rattle.live_segment.specs.Answering.{HaveOneName}
 use Rattle.live_segment.specs.Making.{HasMade, Makes}
 use Rattle.live_segment.specs.Settling.{IsRefusedBy, LooksAround, LooksUp, Owes, OwesAs, Settles}
 use Rattle.segment_promises.specs.Onward.{DoesOn}
 use Rattle.live_segment.specs.Searching.{HasMadeNone, HasSearched, Searches, WalksAt, asked_at}
+use Rattle.live_segment.proofs.Claimed.{sees_header}
 use Rattle.live_segment.proofs.Proceeding.{does_not, does_on, sees_on}
 use Rattle.segment_promises.proofs.Growing.{grows_not, grows_same}
 use Rattle.live_segment.proofs.Refusing.{at_rest}
@@ -63,6 +64,7 @@ searched_around a b free searched = record {
   done = does_same a.done b.done (ap (λ (x : Actor). x.done) searched.view);
   seen = record {
     free = let e = ap (λ (x : Actor). x.seen.free) searched.view in omega (arith, e);
+    corrupt = λ saw. ap (λ (x : Actor). x.seen.corrupt) searched.view ∙ saw;
     chain = searched.chain;
     tails = grows_same a.seen.tails b.seen.tails (ap (λ (x : Actor). x.seen.tails) searched.view);
     singles = grows_same a.seen.singles b.seen.singles (ap (λ (x : Actor). x.seen.singles) searched.view);
@@ -98,6 +100,7 @@ made_around asked a b made = record {
   };
   seen = record {
     free = made.later;
+    corrupt = λ saw. ap (λ (x : Actor). x.seen.corrupt) made.view ∙ saw;
     chain = grows_same a.seen.chain b.seen.chain (ap (λ (x : Actor). x.seen.chain) made.view);
     tails = made.tails;
     singles = grows_same a.seen.singles b.seen.singles (ap (λ (x : Actor). x.seen.singles) made.view);
@@ -109,21 +112,14 @@ made_around asked a b made = record {
 }
 
 -- an allocation that is refused, to a call that counts nothing
-saw_around : (a : Actor) (free : ℕ) → a.seen.free ≤ free → LooksAround a (saw_free a Idle free)
-saw_around a free later = record {
+saw_around : (a : Actor) (free : ℕ) (corrupt : Bool) → a.seen.free ≤ free → (a.seen.corrupt ≡ true → corrupt ≡ true)
+    → LooksAround a (record a { hand = record a.hand { place = Idle }; seen = record a.seen { free = free; corrupt = corrupt } })
+saw_around a free corrupt later saw = record {
   same = refl;
   free = refl;
   apart = λ was. refl;
   done = does_not a.done;
-  seen = record {
-    free = later;
-    chain = grows_not a.seen.chain;
-    tails = grows_not a.seen.tails;
-    singles = grows_not a.seen.singles;
-    counts = grows_not a.seen.counts;
-    words = grows_not a.seen.words;
-    cursors = grows_not a.seen.cursors;
-  };
+  seen = sees_header a.seen free corrupt later saw;
   untouched = (refl, refl);
 }
 
@@ -141,6 +137,7 @@ filled_around a free = record {
   };
   seen = record {
     free = omega arith;
+    corrupt = λ saw. saw;
     chain = grows_not a.seen.chain;
     tails = grows_not a.seen.tails;
     singles = grows_not a.seen.singles;
@@ -155,7 +152,7 @@ pub refused_around : (size : ℕ) (a b : Actor) (cause : Refusal) → a.entries.
     → LooksAround a b × HasNoRoom cause size b × (b.seen.chain ≡ a.seen.chain) × (b.seen.words ≡ a.seen.words) × (b.answers.owed ≡ a.answers.owed) × (cause ≢ why.OtherSpec)
 refused_around size a b why.Full none (free, view, later, beyond) =
     let is : b ≡ filled (saw_free a Idle free) = view ∙ at_rest (filled (saw_free a Idle free)) none in
-    let around = around_on a (saw_free a Idle free) (filled (saw_free a Idle free)) (saw_around a free later) (filled_around (saw_free a Idle free) refl) in (
+    let around = around_on a (saw_free a Idle free) (filled (saw_free a Idle free)) (saw_around a free a.seen.corrupt later (λ saw. saw)) (filled_around (saw_free a Idle free) refl) in (
       subst (LooksAround a) (sym is) around,
       (ap (λ (x : Actor). x.done.filled) is, subst (λ (x : Actor). x.segment.shape.size < x.seen.free + size) (sym is) beyond),
       ap (λ (x : Actor). x.seen.chain) is,
@@ -164,9 +161,9 @@ refused_around size a b why.Full none (free, view, later, beyond) =
       λ e. cc e,
     )
 refused_around size a b why.Corrupt none (free, view, later) =
-    let is : b ≡ saw_free a Idle free = view ∙ at_rest (saw_free a Idle free) none in (
-      subst (LooksAround a) (sym is) (saw_around a free later),
-      tt,
+    let is : b ≡ noticed (saw_free a Idle free) = view ∙ at_rest (noticed (saw_free a Idle free)) none in (
+      subst (LooksAround a) (sym is) (saw_around a free true later (λ saw. refl)),
+      ap (λ (x : Actor). x.seen.corrupt) is,
       ap (λ (x : Actor). x.seen.chain) is,
       ap (λ (x : Actor). x.seen.words) is,
       ap (λ (x : Actor). x.answers.owed) is,

@@ -1,5 +1,6 @@
 -- A try of an allocation: what a recorder knows once it has loaded a free pointer, and where the exchange of it may go.
-use Rattle.std.proofs.Common.{◌≡◌, ℕ, ◌+◌, ◌-◌, ◌<◌, ◌≤◌, Bool, true, false, if◌then◌else◌, sym, ap, subst, ◌∙◌, ⊎_elim, arith}
+use Rattle.std.proofs.Common.{◌≡◌, ℕ, ◌+◌, ◌-◌, ◌<◌, ◌≤◌, Bool, true, false, if◌then◌else◌, sym, ap, subst, ◌∙◌, ⊎_elim, eq-eqb, arith}
+use Rattle.std.specs.Prelude.{bit_and}
 use Rattle.segment_image.specs.Shape.{Dimensions}
 use Rattle.alloc_core.specs.declared.planned.Planned.{Planned}
 use Rattle.alloc_core.specs.declared.planned.Planned.TheVariants.{Claim, Waste}
@@ -10,7 +11,7 @@ use Rattle.alloc_core.specs.Planned.{planned, is_pointer}
 use Rattle.alloc_core.specs.Alloc.{IsAimed, IsRise, IsPlace, stage_of_plan}
 use Rattle.alloc_core.proofs.Lawful.{moved_lawful}
 use Rattle.segment_machine.specs.declared.actor.Actor.{Actor}
-use Rattle.segment_machine.specs.declared.place.Place.TheVariants.{FreeLoaded}
+use Rattle.segment_machine.specs.declared.place.Place.TheVariants.{FlagsLoaded, FreeLoaded}
 use Rattle.segment_machine.specs.Actor.{is_opener}
 use Rattle.segment_machine.specs.Event.{allocating_event, next}
 use Rattle.segment_machine.specs.Allocating.{load_flags, load_free, exchange_free}
@@ -19,6 +20,7 @@ use Rattle.live_segment.specs.Rule.{IsOf}
 use Rattle.live_segment.specs.Steps.{Pass, IsSame, Stepped}
 use Rattle.live_segment.specs.Holders.{table_of, MayStep}
 use Rattle.live_segment.specs.Allocation.{saw_free, claimed}
+use Rattle.live_segment.proofs.Refusing.{flags_seen}
 
 -- what a plan aims at from a lawful free pointer
 plan_aims : (shape : Dimensions) (size free : ℕ) (plan : Planned) → IsShape shape → 5 ≤ size → size ≤ shape.page → is_pointer shape free ≡ true
@@ -40,10 +42,13 @@ pub record HasLoaded (segment : Segment) (first seat : Pass) (free : ℕ) : Type
 
 pub loaded : (segment : Segment) (first old mid new : Pass) (found free : ℕ) → first.table_id ≡ table_of segment → IsOf segment.setting first.me.0
     → IsSame first old → old.me.0 ≡ saw_free first.me.0 old.me.0.hand.place old.me.0.seen.free → first.me.0.seen.free ≤ old.me.0.seen.free
-    → Stepped old (allocating_event load_flags) found mid → Stepped mid (allocating_event load_free) free new → HasLoaded segment first new free
-loaded segment first old mid new found free table of same view behind flags load =
-    let between : mid.me.0 ≡ next (saw_free first.me.0 old.me.0.hand.place old.me.0.seen.free) (allocating_event load_flags) found =
-    flags.view ∙ ap (λ (a : Actor). next a (allocating_event load_flags) found) view in
+    → bit_and found 1 ≡ 0 → Stepped old (allocating_event load_flags) found mid → Stepped mid (allocating_event load_free) free new → HasLoaded segment first new free
+loaded segment first old mid new found free table of same view behind clear flags load =
+    let before : Actor = saw_free first.me.0 old.me.0.hand.place old.me.0.seen.free in
+    let between : mid.me.0 ≡ record before { hand = record before.hand { place = FlagsLoaded } } =
+    flags.view
+    ∙ (ap (λ (a : Actor). next a (allocating_event load_flags) found) view
+    ∙ ap (flags_seen before) (eq-eqb (bit_and found 1) 0 clear)) in
     let shape : mid.me.0.segment.shape ≡ segment.setting.shape = ap (λ (a : Actor). a.segment.shape) between ∙ of.shape in
     let seen : mid.me.0.seen.free ≡ old.me.0.seen.free = ap (λ (a : Actor). a.seen.free) flags.view in
     let later : mid.me.0.seen.free ≤ free = ⊎_elim (λ e. omega (arith, e)) (λ e. omega (arith, e)) load.learned.0 in record {

@@ -135,6 +135,7 @@ module _ (segment : Segment) (known : Known) (first : Pass) (table : first.table
     sees : SeesOn first.me.0.seen at_first.seen
     sees = record {
       free = omega arith;
+      corrupt = λ saw. saw;
       chain = extended_grows first.me.0.seen.chain known.reference found;
       tails = grows_not first.me.0.seen.tails;
       singles = grows_not first.me.0.seen.singles;

@@ -95,6 +95,7 @@ module _ (segment : Segment) (known : Known) (passed : List ℕ) (at : ℕ) (tak
       sees : SeesOn mid.me.0.seen seen
       sees = record {
         free = omega arith;
+        corrupt = λ saw. saw;
         chain = extended_grows mid.me.0.seen.chain at found;
         tails = grows_not mid.me.0.seen.tails;
         singles = grows_not mid.me.0.seen.singles;

@@ -62,10 +62,10 @@ pub record NeedsBlock (known : Known) (value : ℤ) (count : ℕ) (old new : Act
       → (front behind : List ℕ) × (new.seen.chain ≡ front ++ known.reference ∷ behind) × All (SawOther new.seen known.reference value) behind
 
 -- Why a block could not be claimed: so many words pass the end of the segment from the free pointer that was loaded last, and the full
--- flag is set; or the corrupt flag was loaded.
+-- flag is set; or the recorder has loaded flags with the corrupt one.
 abbrev pub HasNoRoom : Refusal → ℕ → Actor → Type 0
 HasNoRoom Full words a = (a.done.filled ≡ true) × (a.segment.shape.size < a.seen.free + words)
-HasNoRoom Corrupt words a = Unit {0}
+HasNoRoom Corrupt words a = a.seen.corrupt ≡ true
 HasNoRoom _ words a = ⊥
 
 -- a block was needed, and could not be claimed

@@ -14,6 +14,10 @@ use Rattle.live_segment.specs.Refusing.{given_up}
 abbrev pub saw_free : Actor → Place → ℕ → Actor
 saw_free a place free = record a { hand = record a.hand { place = place }; seen = record a.seen { free = free } }
 
+-- it has seen the corrupt flag
+abbrev pub noticed : Actor → Actor
+noticed a = record a { seen = record a.seen { corrupt = true } }
+
 -- it has set the full flag
 abbrev pub filled : Actor → Actor
 filled a = record a { done = record a.done { filled = true } }
@@ -46,5 +50,5 @@ Allocates size tag a (Ok at) b =
     × IsPlace a.segment.shape at (next - at)
 Allocates size tag a (Err Full) b =
     (free : ℕ) × (b ≡ given_up (filled (saw_free a Idle free))) × (a.seen.free ≤ free) × (a.segment.shape.size < free + size)
-Allocates size tag a (Err Corrupt) b = (free : ℕ) × (b ≡ given_up (saw_free a Idle free)) × (a.seen.free ≤ free)
+Allocates size tag a (Err Corrupt) b = (free : ℕ) × (b ≡ given_up (noticed (saw_free a Idle free))) × (a.seen.free ≤ free)
 Allocates size tag a (Err _) b = ⊥

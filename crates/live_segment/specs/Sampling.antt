@@ -62,7 +62,7 @@ pub record HasMadeSample (histogram : ℕ) (value : ℤ) (old new : Actor) : Typ
 pub record HasNotMadeSample (why : Refusal) (old new : Actor) : Type 0 where
   pub last : Actor
   pub looks : LooksOn old last
-  pub seen : last.seen ≡ record old.seen { free = last.seen.free }
+  pub seen : last.seen ≡ record old.seen { free = last.seen.free; corrupt = last.seen.corrupt }
   pub ends : new ≡ given_up last
   pub idle : new.hand.place ≡ Idle
   pub room : HasNoRoom why SAMPLE_LEAST new

@@ -1,4 +1,4 @@
-use Rattle.std.proofs.Common.{ℕ, ℤ, List, Option, ◌^◌, sym, subst, arith}
+use Rattle.std.proofs.Common.{ℕ, ℤ, List, [], Option, Some, ◌^◌, sym, subst, arith}
 use Rattle.std.proofs.lemmas.Bool.{le-leb}
 use Rattle.bucket_ranges.specs.Spec.{buckets_of}
 use Rattle.segment_invariant.proofs.Packing.OffForms.{few_buckets}
@@ -7,7 +7,9 @@ use Rattle.segment_machine.specs.Form.{SaysPacked}
 use Rattle.live_segment.specs.Known.{known_view}
 use Rattle.live_segment.proofs.AllBuckets.{buckets_long}
 use Rattle.live_segment.proofs.Attempts.{is_on}
-use Rattle.live_segment.proofs.OneDelta.{takes_at, took_nothing}
+use Rattle.live_segment.proofs.BucketsSeen.{free_at}
+use Rattle.live_segment.proofs.OneBucket.{takes_then}
+use Rattle.live_segment.proofs.OneDelta.{loads_on, takes_at, took_nothing}
 use Rattle.live_segment.proofs.segment.Segment.take_units.Goals as goal
 
 pub packed_in-packed-requires : goal.packed_in-packed-requires
@@ -19,6 +21,19 @@ packed_in-packed-requires c =
 pub take_buckets-requires-clause-takes : goal.take_buckets-requires-clause-takes
 take_buckets-requires-clause-takes c =
     takes_at c.args.self.now (known_view c.args.histogram.now) c.args.word c.args.seat.now c.requires.takes (le-leb (2 ^ 63) c.args.word (let off = c.if-word-ge-DISABLED_BIT.true in omega (arith, off))) c.load_counts-counts.result c.load_counts-counts.new.seat c.load_counts-counts.ensures.step _ _ (subst (λ (n : ℕ). SaysPacked c.args.self.now.setting.version n c.args.word c.packed_in-packed.result.0 c.packed_in-packed.result.1) (buckets_long c.args.histogram.now c.args.self.now.setting c.args.seat.now.me.0 c.requires.right c.requires.takes.bucketed _ c.len.ensures) c.packed_in-packed.ensures.says)
+
+pub returns-then-word-ge-DISABLED_BIT-clause-taken : goal.returns-then-word-ge-DISABLED_BIT-clause-taken
+returns-then-word-ge-DISABLED_BIT-clause-taken c =
+    let known = known_view c.args.histogram.now in
+    let mid = c.load_counts-counts.new.seat.me.0 in
+    let new = c.take_buckets.new.seat.me.0 in
+    let stood = c.take_buckets.ensures.stands in
+    let loads = loads_on c.args.self.now known c.args.word c.args.seat.now c.requires.takes (le-leb (2 ^ 63) c.args.word (let off = c.if-word-ge-DISABLED_BIT.true in omega (arith, off))) c.load_counts-counts.result c.load_counts-counts.new.seat c.load_counts-counts.ensures.step in record {
+      on = takes_then c.args.seat.now.me.0 mid new [] c.take_buckets.new.taken.items loads c.take_buckets.ensures.on;
+      free = free_at new (record { histogram = known.reference; single = Some stood.word; counts = c.load_counts-counts.result }) known stood.stands;
+      took = c.take_buckets.ensures.took;
+      units = c.take_buckets.ensures.units;
+    }
 
 pub returns-in_default-clause-taken : goal.returns-in_default-clause-taken
 returns-in_default-clause-taken c =

@@ -11,6 +11,7 @@ mod Boards
 mod Buckets
 mod Deltas
 mod Looks
+mod Makes
 mod NewBoards
 mod Opening
 mod Orders

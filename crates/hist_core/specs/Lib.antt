@@ -1,5 +1,6 @@
 pub mod WorldFault
 pub mod Goes
+pub mod Making
 pub mod Hist
 pub mod Add
 pub mod Batch

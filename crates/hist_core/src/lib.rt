@@ -12,6 +12,7 @@ mod entry;
 mod fault;
 mod hist;
 mod looker;
+mod making;
 mod mounted;
 mod runner;
 mod samples;

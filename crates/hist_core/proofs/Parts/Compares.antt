@@ -30,7 +30,8 @@ use Rattle.hist_core.specs.Hist.{IsHist, StandsAtStage, HaveOtherNames, AreSame,
 use Rattle.segment_invariant.proofs.Walking.Words.{letters_long}
 use Rattle.hist_core.proofs.Parts.Comparisons.{Part, part_of, index_of_rest, then_length, letter_word, field_word, range_word, ranges_if_custom, payload_long, compared_all}
 use Rattle.hist_core.proofs.Parts.Differences.{saw_word, saw_spec, first_named, saw_other_name, saw_other_spec}
-use Rattle.hist_core.proofs.Parts.Walks.{still, others_still, asks_on, some_to_compare_is}
+use Rattle.hist_core.proofs.Parts.Walks.{still, others_still, asks_on}
+use Rattle.hist_core.proofs.Parts.Records.{some_to_compare_is}
 
 -- a word that is seen now is what was found, since it was so where it was seen before
 pub seen_now : (list : List Sighting) (at found : ℕ) → ((word : ℕ) → word_seen list at ≡ Some word → found ≡ word) → word_seen (list ++ sight at found) at ≡ Some found

@@ -21,6 +21,7 @@ mod Quiet
 mod Runners
 mod SampleLists
 mod Scheduling
+mod Searches
 mod Snapshots
 mod Takes
 mod Tellings

@@ -64,7 +64,7 @@ still_apart (place.CursorLoaded cursor from) at found was = by (at == from) (fou
     by false ends = refl
 still_apart p at found was = was
 
-walk_beside : (a : Actor) (e : WalkingEvent) (found : ℕ) → Beside a (next a (walking_event e) found)
+pub walk_beside : (a : Actor) (e : WalkingEvent) (found : ℕ) → Beside a (next a (walking_event e) found)
 walk_beside a (load_next at) found = record {
   role = refl;
   segment = refl;

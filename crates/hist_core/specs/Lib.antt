@@ -11,3 +11,4 @@ pub mod Moves
 pub mod Mounted
 pub mod Taker
 pub mod Looker
+pub mod Sampling

@@ -16,6 +16,7 @@ mod making;
 mod mounted;
 mod runner;
 mod samples;
+mod sampling;
 mod taker;
 mod telling;
 #[cfg(test)]

@@ -4,6 +4,8 @@ use Rattle.std.specs.Prelude.{not, ◌&&◌, if◌then◌else◌, slice_index}
 use Rattle.std.proofs.lemmas.List.{append-nil}
 use lib.Seq.{set-get_or}
 use Rattle.list_core.specs.Chain.{stops}
+use Rattle.list_core.specs.declared.walk.WalkStep.{WalkStep}
+use Rattle.segment_image.specs.Shape.{Dimensions}
 use Rattle.list_core.specs.Walk.{IsPrefix, said_of, given_after, stands_behind}
 use Rattle.segment_image.specs.Words.{word_at}
 use Rattle.alloc_core.specs.Alloc.{Allocation, IsLawful, IsAimed}
@@ -153,3 +155,14 @@ walks_on version a given words walks long =
         ),
       );
     }
+
+-- whatever a walk says that stands behind these records
+pub walks_saying : (shape : Dimensions) (version : ℕ) (a : Actor) (given words : List ℕ) (walk : ℕ) → a.segment.shape ≡ shape → length words ≡ shape.size
+    → walk ≡ stands_behind given → Walks a given → (said : WalkStep) → said ≡ said_of (length words) (word_at words (walk + 3))
+    → Goes shape.size version a words words (λ b. Beside a b × Walks b (given_after given said))
+walks_saying shape version a given words walk segment long stands walks said says =
+    let size = ap (λ (d : Dimensions). d.size) segment in
+    let same : said_of (length words) (word_at words (stands_behind given + 3)) ≡ said =
+    ap (λ (w : ℕ). said_of (length words) (word_at words (w + 3))) (sym stands) ∙ sym says in
+    subst (λ (p : ℕ × WalkStep). Goes p.0 version a words words (λ b. Beside a b × Walks b (given_after given p.1))) (λ i. (size i, same i))
+    (walks_on version a given words walks (long ∙ sym size))

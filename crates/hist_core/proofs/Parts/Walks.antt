@@ -25,7 +25,7 @@ use Rattle.hist_core.proofs.Makes.Drafts.{begins, is_wide}
 use Rattle.hist_core.proofs.Parts.Records.{may_make, some_to_compare_is}
 use Rattle.hist_core.specs.Goes.{Beside, Goes}
 use Rattle.hist_core.specs.Hist.{IsAsking, IsHist, HaveOtherNames, StandsAtStage, HistGives, comparisons, wanted_of}
-use Rattle.hist_core.proofs.Parts.Allocations.{walks_on}
+use Rattle.hist_core.proofs.Parts.Allocations.{walks_saying}
 
 -- ---- what is seen stays
 
@@ -97,12 +97,7 @@ module _ (shape : Dimensions) (version : ℕ) (h : Hist) (a : Actor) (words : Li
   Walked said b = Beside a b × Walks b (given_after is.given said)
 
   loads : (said : WalkStep) → said ≡ said_of (length words) (word_at words (h.walk + 3)) → Goes shape.size version a words words (Walked said)
-  loads said says =
-      let size = ap (λ (d : Dimensions). d.size) is.segment in
-      let same : said_of (length words) (word_at words (stands_behind is.given + 3)) ≡ said =
-      ap (λ (w : ℕ). said_of (length words) (word_at words (w + 3))) (sym is.walk) ∙ sym says in
-      subst (λ (p : ℕ × WalkStep). Goes p.0 version a words words (Walked p.1)) (λ i. (size i, same i))
-      (walks_on version a is.given words (stands.0, is.front) (long ∙ sym size))
+  loads = walks_saying shape version a is.given words h.walk is.segment long is.walk (stands.0, is.front)
 
   -- it met a record, which it compares next
   pub meets : (reference walk : ℕ) → Record reference ≡ said_of (length words) (word_at words (h.walk + 3))

@@ -25,7 +25,6 @@ use Rattle.segment_machine.specs.declared.actor.Made.TheVariants.{Histogram}
 use Rattle.segment_machine.specs.declared.actor.Own.{Own}
 use Rattle.segment_machine.specs.declared.seen.Seen.{Seen}
 use Rattle.segment_machine.specs.Actor.{word_seen}
-use Rattle.segment_machine.specs.Calls.{MayTurn}
 use Rattle.segment_machine.specs.Made.{AreNameWords, IsFirstNamed, SawOtherName, SawOtherSpec}
 use Rattle.segment_machine.specs.Note.{MayNote, knows}
 use Rattle.segment_machine.specs.Publishing.{own_at}
@@ -35,7 +34,7 @@ use Rattle.segment_calls.specs.declared.asked.Asked.{Asked}
 use Rattle.hist_core.specs.declared.hist.Hist.{Hist}
 use Rattle.hist_core.specs.declared.hist.HistStep.{HistStep}
 use Rattle.hist_core.specs.declared.hist.HistStep.TheVariants.{More, Done, Refused}
-use Rattle.hist_core.specs.Goes.{Beside, Goes}
+use Rattle.hist_core.specs.Goes.{Beside, Goes, IsFree}
 use Rattle.hist_core.specs.declared.hist.Stage.{Stage}
 use Rattle.hist_core.specs.declared.hist.Stage.TheVariants.{Walking, Comparing, Allocating, Filling, Publishing}
 
@@ -135,15 +134,15 @@ HaveOtherNames h a records = All (SawOtherName a.seen h.asked.name.items) record
 
 -- Where its actor stands, whose walk has given these records: none of them has the name, but for the last while it is compared.
 abbrev pub StandsAtStage : Dimensions → Hist → Actor → List ℕ → Stage → Type 0
-StandsAtStage shape h a given Walking = MayTurn a × HaveOtherNames h a given
+StandsAtStage shape h a given Walking = IsFree a × HaveOtherNames h a given
 StandsAtStage shape h a given (Comparing same) =
-    MayTurn a × ((front : List ℕ) × (given ≡ front ++ h.reference ∷ []) × HaveOtherNames h a front)
+    IsFree a × ((front : List ℕ) × (given ≡ front ++ h.reference ∷ []) × HaveOtherNames h a front)
     × Reaches shape.size h same × (same < comparisons h) × AreSame a.seen h same
 StandsAtStage shape h a given (Allocating allocation) =
     HaveOtherNames h a given × Allocates a allocation × (is_some (alloc.next_event allocation) ≡ true) × (allocation.tag ≡ TYPE_HISTOGRAM)
     × (BLOCK_HEADER + length h.payload.items ≤ allocation.size)
 StandsAtStage shape h a given (Filling at index) =
-    MayTurn a × HaveOtherNames h a given × (index < length h.payload.items) × (slice_index h.payload.items index ≢ 0)
+    IsFree a × HaveOtherNames h a given × (index < length h.payload.items) × (slice_index h.payload.items index ≢ 0)
     × ((HEADER_WORDS ≤ at) × (at + (BLOCK_HEADER + length h.payload.items) ≤ shape.size))
     × ((own : Own) × HasBlock h at a own × IsFilledTo h.payload.items index own.payload)
 StandsAtStage shape h a given (Publishing publishing) =
@@ -176,8 +175,8 @@ IsCause shape h cause b = ⊥
 abbrev pub HistGives : Dimensions → Hist → HistStep → Actor → Actor → Type 0
 HistGives shape new More a b = Beside a b × IsHist shape new b
 HistGives shape new Done a b =
-    Beside a b × MayTurn b × MayNote b (knows (asked_of new)) × IsAsking shape new × (new.reference + HISTOGRAM_NAME ≤ shape.size)
-HistGives shape new (Refused cause) a b = Beside a b × MayTurn b × IsCause shape new cause b
+    Beside a b × IsFree b × MayNote b (knows (asked_of new)) × IsAsking shape new × (new.reference + HISTOGRAM_NAME ≤ shape.size)
+HistGives shape new (Refused cause) a b = Beside a b × IsFree b × IsCause shape new cause b
 
 -- what a step makes of the words, and of whatever actor stands so
 abbrev pub HistSteps : Hist → List ℕ → Hist → List ℕ → HistStep → Type 0
@@ -227,4 +226,4 @@ IsFilled old at from new = (next : ℕ) × IsNextFilled old.payload.items from n
 pub record IsBegun (shape : Dimensions) (asked : Asked) (new : Hist) : Type 0 where
   pub named : new.asked.name ≡ asked.name
   pub specified : new.asked.spec ≡ asked.spec
-  pub stands : (name : List ℕ) (spec : Spec) (a : Actor) → IsAskedFor shape name spec asked → IsShape shape → a.segment.shape ≡ shape → MayTurn a → IsHist shape new a
+  pub stands : (name : List ℕ) (spec : Spec) (a : Actor) → IsAskedFor shape name spec asked → IsShape shape → a.segment.shape ≡ shape → IsFree a → IsHist shape new a

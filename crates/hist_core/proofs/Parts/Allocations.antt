@@ -23,7 +23,9 @@ use Rattle.segment_machine.proofs.Stages.Allocations.{allocations_agree}
 use Rattle.segment_machine.proofs.Stages.Publishes.{publishes_agree}
 use Rattle.segment_machine.proofs.Stages.Walks.{walks_agree}
 use Rattle.hist_core.proofs.Parts.Alone.{acts_there, makes_so, allocating_beside, publishing_beside}
+use Rattle.segment_promises.specs.Onward.{StaysApart}
 use Rattle.hist_core.specs.Goes.{Beside, Goes}
+use Rattle.hist_core.proofs.Free.{still_apart}
 use Rattle.segment_machine.specs.Actor.{AreApart}
 
 -- what was seen of the chain is the front of what is seen of it behind a next
@@ -121,7 +123,7 @@ publishes_on version a made old new words new_words said stands long step =
 -- the next of the record where a walk stands
 pub walks_on : (version : ℕ) (a : Actor) (given words : List ℕ) → Walks a given → length words ≡ a.segment.shape.size
     → Goes a.segment.shape.size version a words words
-    (λ b. Beside a b × Walks b (given_after given (said_of (length words) (word_at words (stands_behind given + 3)))))
+    (λ b. Beside a b × StaysApart a b × Walks b (given_after given (said_of (length words) (word_at words (stands_behind given + 3)))))
 walks_on version a given words walks long =
     let size : ℕ = a.segment.shape.size in
     let agrees = walks_agree size 1 a given walks in
@@ -149,6 +151,7 @@ walks_on version a given words walks long =
             chain = extended_behind a.seen.chain (stands_behind given) found;
             words = ([], sym (append-nil a.seen.words));
           },
+          still_apart a.hand.place (stands_behind given) found,
           subst (λ (n : ℕ). Walks (next a event found) (given_after given (said_of n found))) (sym long) (agrees.2 found learned),
         ),
       );

@@ -20,7 +20,7 @@ use Rattle.alloc_core.specs.Event as atomic
 use Rattle.segment_machine.specs.declared.actor.Actor.{Actor}
 use Rattle.segment_machine.specs.declared.actor.Own.{Own}
 use Rattle.segment_machine.specs.declared.place.Place.TheVariants.{Idle}
-use Rattle.segment_machine.specs.Actor.{is_bound, AreApart}
+use Rattle.segment_machine.specs.Actor.{AreApart}
 use Rattle.segment_machine.specs.Allocating.{new_own}
 use Rattle.segment_machine.specs.Calls.{change_own}
 use Rattle.segment_machine.specs.Note.{Note, Notes, noted, asks}
@@ -35,7 +35,7 @@ use Rattle.hist_core.specs.declared.hist.Hist.{Hist}
 use Rattle.hist_core.specs.declared.hist.HistStep.{HistStep}
 use Rattle.hist_core.specs.declared.hist.HistStep.TheVariants.{More, Refused}
 use Rattle.hist_core.specs.declared.hist.Stage.TheVariants.{Allocating, Filling}
-use Rattle.hist_core.specs.Goes.{Beside, Goes}
+use Rattle.hist_core.specs.Goes.{Beside, Goes, is_tied}
 use Rattle.hist_core.specs.Hist.{made_of, IsHist, StandsAtStage, HistGives, IsAllocated, IsCause}
 use Rattle.hist_core.proofs.Parts.Allocations.{allocates_on}
 use Rattle.hist_core.proofs.Parts.Walks.{others_still, goes_with, asks_on, some_to_compare_is}
@@ -184,7 +184,7 @@ module _ (shape : Dimensions) (version : ℕ) (h : Hist) (a : Actor) (words : Li
 
     -- it is refused
     pub is_refused : (why : Refusal) (new : Hist) → ((b : Actor) → Allocates b y → b.hand.place ≡ Idle) → ((b : Actor) → Allocates b y → IsCause shape new why b) → Goes shape.size version a words new_words (HistGives shape new (Refused why) a)
-    is_refused why new idle cause = goes_with claims (λ b (beside, apart, goes). (beside, ap is_bound (idle b goes), cause b goes))
+    is_refused why new idle cause = goes_with claims (λ b (beside, apart, goes). (beside, ap is_tied (idle b goes), cause b goes))
 
     -- it has a block, which is to hold its record: it stores the payload there
     pub has_claimed : (at : ℕ) → says ≡ said.Done at → Goes shape.size version a words new_words (HistGives shape (record h { stage = Filling at 0 }) More a)
@@ -227,7 +227,7 @@ module _ (shape : Dimensions) (version : ℕ) (h : Hist) (a : Actor) (words : Li
                   reach = is.reach;
                   front = prefix_of_prefix is.given a.seen.chain b.seen.chain is.front beside.chain;
                   stands = (
-                    ap is_bound has.0,
+                    ap is_tied has.0,
                     others_still a b beside h is.given stands.0,
                     omega (arith, some),
                     subst (λ (l : List ℕ). slice_index l 0 ≢ 0) (sym is.asking.payload) (kind_is h.asked.spec _),

@@ -21,6 +21,7 @@ use Rattle.hist_core.specs.declared.hist.HistStep.TheVariants.{More}
 use Rattle.hist_core.specs.declared.hist.Stage.{Stage}
 use Rattle.hist_core.specs.declared.hist.Stage.TheVariants.{Filling, Publishing}
 use Rattle.hist_core.specs.Goes.{Beside, Goes}
+use Rattle.hist_core.proofs.Free.{free_turns}
 use Rattle.hist_core.specs.Hist.{IsHist, IsFilledTo, IsNextFilled, IsFilled, StandsAtStage, HistGives}
 use Rattle.hist_core.proofs.Parts.Alone.{makes_so, allocating_beside}
 use Rattle.hist_core.proofs.Parts.Claims.{changed_at}
@@ -176,7 +177,7 @@ module _ (shape : Dimensions) (version : ℕ) (h : Hist) (a : Actor) (words : Li
           kept (Publishing (publish.started at)) (
             others_still a acted beside h is.given stands.1,
             (
-              stands.0,
+              free_turns a.hand.place stands.0,
               (
                 fuller,
                 fuller_is,

@@ -12,14 +12,12 @@ use Rattle.list_core.specs.Publish.{Publishing as PublishingOf, IsReach, IsWithi
 use Rattle.list_core.specs.Publish as publish
 use Rattle.segment_machine.specs.declared.actor.Actor.{Actor}
 use Rattle.segment_machine.specs.declared.actor.Made.{Made}
-use Rattle.segment_machine.specs.Actor.{is_bound}
-use Rattle.segment_machine.specs.Calls.{MayTurn}
 use Rattle.segment_machine.specs.Stages.{PublishesAt}
 use Rattle.hist_core.specs.declared.hist.Hist.{Hist}
 use Rattle.hist_core.specs.declared.hist.HistStep.{HistStep}
 use Rattle.hist_core.specs.declared.hist.HistStep.TheVariants.{More}
 use Rattle.hist_core.specs.declared.hist.Stage.TheVariants.{Publishing, Walking}
-use Rattle.hist_core.specs.Goes.{Beside, Goes}
+use Rattle.hist_core.specs.Goes.{Beside, Goes, IsFree, is_tied}
 use Rattle.hist_core.specs.Hist.{made_of, IsHist, StandsAtStage, HistGives, IsPublished}
 use Rattle.hist_core.proofs.Parts.Allocations.{publishes_on}
 use Rattle.hist_core.proofs.Parts.Walks.{others_still, goes_with, asks_on}
@@ -34,8 +32,8 @@ one_way n Published = hlevel props
 one_way n Strayed = hlevel props
 
 -- a publish that has ended has published, and it never strays
-rests_at : (b : Actor) (reference : ℕ) (made : Made) (stage : PublishStage) → answer stage ≡ put.Done → PublishesAt b reference made stage → MayTurn b
-rests_at b reference made Published ends stands = ap is_bound stands.0
+rests_at : (b : Actor) (reference : ℕ) (made : Made) (stage : PublishStage) → answer stage ≡ put.Done → PublishesAt b reference made stage → IsFree b
+rests_at b reference made Published ends stands = ap is_tied stands.0
 rests_at b reference made StoreOwnNext ends stands = cc ends
 rests_at b reference made LoadTail ends stands = cc ends
 rests_at b reference made (Link tail) ends stands = cc ends

@@ -14,7 +14,6 @@ use Rattle.segment_machine.specs.declared.actor.Actor.{Actor}
 use Rattle.segment_machine.specs.declared.seen.Sighting.{Sighting}
 use Rattle.segment_machine.specs.Actor.{word_seen}
 use Rattle.segment_machine.specs.Made.{SawOtherName}
-use Rattle.segment_machine.specs.Calls.{MayTurn}
 use Rattle.segment_machine.specs.Stages.{Walks}
 use Rattle.bucket_ranges.specs.Spec.{spec_fields}
 use Rattle.segment_invariant.proofs.Walking.Words.{word_still}
@@ -23,8 +22,10 @@ use Rattle.hist_core.specs.declared.hist.HistStep.{HistStep}
 use Rattle.hist_core.specs.declared.hist.HistStep.TheVariants.{More, Done, Refused}
 use Rattle.hist_core.specs.declared.hist.Stage.{Stage}
 use Rattle.hist_core.specs.declared.hist.Stage.TheVariants.{Walking, Comparing, Allocating}
-use Rattle.hist_core.specs.Goes.{Beside, Goes}
+use Rattle.hist_core.specs.Goes.{Beside, Goes, IsFree}
 use Rattle.hist_core.specs.Hist.{IsAsking, IsHist, HaveOtherNames, StandsAtStage, HistGives, BeginsToAllocate, comparisons}
+use Rattle.segment_promises.specs.Onward.{StaysApart}
+use Rattle.hist_core.proofs.Free.{free_apart, free_of_both, free_turns}
 use Rattle.hist_core.proofs.Parts.Allocations.{walks_on}
 
 -- ---- what is seen stays
@@ -98,7 +99,7 @@ module _ (shape : Dimensions) (h : Hist) (asking : IsAsking shape h) where
       let sizes = ap length asking.payload ∙ length-append (spec_fields h.asked.spec) _ in omega (arith, sizes)
 
 module _ (shape : Dimensions) (version : ℕ) (h : Hist) (a : Actor) (words : List ℕ) (long : length words ≡ shape.size) (is : IsHist shape h a) (walks : h.stage ≡ Walking) where
-  stands : MayTurn a × HaveOtherNames h a is.given
+  stands : IsFree a × HaveOtherNames h a is.given
   stands = subst (StandsAtStage shape h a is.given) walks is.stands
 
   some_to_compare : 0 < comparisons h
@@ -106,7 +107,7 @@ module _ (shape : Dimensions) (version : ℕ) (h : Hist) (a : Actor) (words : Li
 
   -- the event, and what it makes of the walk
   abbrev Walked : WalkStep → Actor → Type 0
-  Walked said b = Beside a b × Walks b (given_after is.given said)
+  Walked said b = Beside a b × StaysApart a b × Walks b (given_after is.given said)
 
   loads : (said : WalkStep) → said ≡ said_of (length words) (word_at words (h.walk + 3)) → Goes shape.size version a words words (Walked said)
   loads said says =
@@ -114,7 +115,7 @@ module _ (shape : Dimensions) (version : ℕ) (h : Hist) (a : Actor) (words : Li
       let same : said_of (length words) (word_at words (stands_behind is.given + 3)) ≡ said =
       ap (λ (w : ℕ). said_of (length words) (word_at words (w + 3))) (sym is.walk) ∙ sym says in
       subst (λ (p : ℕ × WalkStep). Goes p.0 version a words words (Walked p.1)) (λ i. (size i, same i))
-      (walks_on version a is.given words (stands.0, is.front) (long ∙ sym size))
+      (walks_on version a is.given words (free_turns a.hand.place stands.0, is.front) (long ∙ sym size))
 
   -- it met a record, which it compares next
   pub meets : (reference walk : ℕ) → Record reference ≡ said_of (length words) (word_at words (h.walk + 3))
@@ -122,7 +123,7 @@ module _ (shape : Dimensions) (version : ℕ) (h : Hist) (a : Actor) (words : Li
       → Goes shape.size version a words words (HistGives shape (record h { reference = reference; walk = walk; stage = Comparing 0 }) More a)
   meets reference walk says walked reach here =
       let within = reference_within shape.size reference (is_wide shape h a is) (subst (λ (p : ℕ × ℕ). is_reference p.0 p.1 ≡ true) (λ i. (long i, here i)) reach) in
-      goes_with (loads (Record reference) says) (λ b (beside, walk_on). (
+      goes_with (loads (Record reference) says) (λ b (beside, apart, walk_on). (
         beside,
         record {
           asking = asks_on shape h is.asking reference walk (Comparing 0);
@@ -133,7 +134,7 @@ module _ (shape : Dimensions) (version : ℕ) (h : Hist) (a : Actor) (words : Li
           reach = subst (λ (n : ℕ). is_reference n walk ≡ true) long reach;
           front = walk_on.1;
           stands = (
-            walk_on.0,
+            free_of_both b.hand.place walk_on.0 (apart (free_apart a.hand.place stands.0)),
             (is.given, refl, others_still a b beside h is.given stands.1),
             record {
               header = within;
@@ -151,7 +152,7 @@ module _ (shape : Dimensions) (version : ℕ) (h : Hist) (a : Actor) (words : Li
   pub strays : (walk : ℕ) → Stray ≡ said_of (length words) (word_at words (h.walk + 3)) → walk ≡ h.walk
       → Goes shape.size version a words words (HistGives shape (record h { walk = walk }) More a)
   strays walk says here =
-      goes_with (loads Stray says) (λ b (beside, walk_on). (
+      goes_with (loads Stray says) (λ b (beside, apart, walk_on). (
         beside,
         record {
           asking = asks_on shape h is.asking h.reference walk h.stage;
@@ -161,14 +162,14 @@ module _ (shape : Dimensions) (version : ℕ) (h : Hist) (a : Actor) (words : Li
           walk = here ∙ is.walk;
           reach = ap (is_reference shape.size) here ∙ is.reach;
           front = walk_on.1;
-          stands = subst (StandsAtStage shape (record h { walk = walk }) b is.given) (sym walks) (walk_on.0, others_still a b beside h is.given stands.1);
+          stands = subst (StandsAtStage shape (record h { walk = walk }) b is.given) (sym walks) (free_of_both b.hand.place walk_on.0 (apart (free_apart a.hand.place stands.0)), others_still a b beside h is.given stands.1);
         },
       ))
 
   -- at the end of the list it begins to allocate
   begun : (walk n : ℕ) (b : Actor) → n ≡ length h.payload.items → walk ≡ h.walk → Walked End b
       → IsHist shape (record h { walk = walk; stage = Allocating (alloc.first_of h.shape n 1) }) b
-  begun walk n b count here (beside, walk_on) =
+  begun walk n b count here (beside, apart, walk_on) =
       let some : 5 < length h.payload.items = some_to_compare_is shape h is.asking in
       let one_page = is.asking.one_page in
       let same : max n 1 ≡ n = max_one n (omega (arith, some, count)) in

@@ -10,6 +10,7 @@ mod Beginnings
 mod Boards
 mod Buckets
 mod Deltas
+mod Free
 mod Looks
 mod Makes
 mod NewBoards

@@ -35,14 +35,14 @@ use Rattle.hist_core.specs.declared.sampling.SamplingStep.{SamplingStep}
 use Rattle.hist_core.specs.declared.sampling.SamplingStep.TheVariants.{More, Found, Refused}
 use Rattle.hist_core.specs.declared.sampling.Stage.{Stage}
 use Rattle.hist_core.specs.declared.sampling.Stage.TheVariants.{Walking, LoadingType, LoadingHistogram, LoadingValue, Making}
-use Rattle.hist_core.specs.Goes.{Beside, Goes}
+use Rattle.hist_core.specs.Goes.{Beside, Goes, IsFree}
 use Rattle.hist_core.specs.Making.{MakingGives, MayMake}
 use Rattle.hist_core.specs.Making as making
 use Rattle.hist_core.specs.Sampling.{HaveOthers, IsIts, IsMade, IsSampling, IsSomeSampling, IsStarted, MetRecord, SamplingGives, StandsAtStage, behind_type, wanted_of}
+use Rattle.hist_core.proofs.Free.{free_turns}
 use Rattle.hist_core.proofs.Makes.Drafts.{begins}
-use Rattle.hist_core.proofs.Parts.Allocations.{walks_saying}
+use Rattle.hist_core.proofs.Parts.Allocations.{goes_with, walks_saying}
 use Rattle.hist_core.proofs.Parts.Compares.{seen_now}
-use Rattle.hist_core.proofs.Parts.Walks.{goes_with}
 use Rattle.hist_core.proofs.ValuesSeen.{walk_beside}
 
 -- ---- it begins
@@ -53,9 +53,9 @@ stands_last front at = let long = length_push front at in sym (get_or_push (stop
 
 -- an actor that may turn to it begins at the record of a sparse histogram that it knows and has met
 pub begins_at : (shape : Dimensions) (histogram : ℕ) (value : ℤ) (s : Sampling) (a : Actor) → IsStarted shape histogram value s → a.segment.shape ≡ shape
-    → IsShape shape → MayTurn a → (known : Known) × Sparse a histogram known → is_i32 value ≡ true → histogram ≢ 0 → is_reference shape.size histogram ≡ true
+    → IsShape shape → IsFree a → (known : Known) × Sparse a histogram known → is_i32 value ≡ true → histogram ≢ 0 → is_reference shape.size histogram ≡ true
     → (front behind : List ℕ) × (a.seen.chain ≡ front ++ histogram ∷ behind) → IsSampling shape s a
-begins_at shape histogram value s a starts segment lawful turns knows valued some reach (front, behind, chain) = record {
+begins_at shape histogram value s a starts segment lawful free knows valued some reach (front, behind, chain) = record {
   shaped = starts.shaped;
   segment = segment;
   lawful_shape = lawful;
@@ -67,7 +67,7 @@ begins_at shape histogram value s a starts segment lawful turns knows valued som
   walk = starts.walk ∙ (stands_last front histogram ∙ ap (λ (h : ℕ). stands_behind (front ++ h ∷ [])) (sym starts.of));
   reach = ap (is_reference shape.size) starts.walk ∙ reach;
   chain = subst (λ (h : ℕ). IsPrefix (front ++ h ∷ []) a.seen.chain) (sym starts.of) (behind, chain ∙ sym (append_assoc front (histogram ∷ []) behind));
-  stands = subst (StandsAtStage shape s a []) (sym starts.stage) (turns, All-nil _);
+  stands = subst (StandsAtStage shape s a []) (sym starts.stage) (free, All-nil _);
 }
 
 -- ---- a step
@@ -107,12 +107,12 @@ module _ (shape : Dimensions) (version : ℕ) (s : Sampling) (a : Actor) (words 
   -- ---- a next
 
   module _ (walks : s.stage ≡ Walking) where
-    stood : MayTurn a × HaveOthers s a is.behind
+    stood : IsFree a × HaveOthers s a is.behind
     stood = subst (StandsAtStage shape s a is.behind) walks is.stands
 
     loads : (said : WalkStep) → said ≡ said_of (length words) (word_at words (s.walk + 3))
-        → Goes shape.size version a words words (λ b. Beside a b × Walks b (given_after given said))
-    loads = walks_saying shape version a given words s.walk is.segment long is.walk (stood.0, is.chain)
+        → Goes shape.size version a words words (λ b. Beside a b × IsFree b × IsPrefix (given_after given said) b.seen.chain)
+    loads = walks_saying shape version a given words s.walk is.segment long is.walk stood.0 is.chain
 
     -- it met a record, whose type it loads next
     pub meets : (reference walk : ℕ) → Record reference ≡ said_of (length words) (word_at words (s.walk + 3))
@@ -121,20 +121,20 @@ module _ (shape : Dimensions) (version : ℕ) (s : Sampling) (a : Actor) (words 
     meets reference walk says walked reach here =
         let onward = append_assoc is.front (s.histogram ∷ is.behind) (reference ∷ []) in
         let within = reference_within shape reference is.lawful_shape (subst (λ (p : ℕ × ℕ). is_reference p.0 p.1 ≡ true) (λ i. (long i, here i)) reach) in
-        goes_with (loads (Record reference) says) (λ b (beside, walk_on). (
+        goes_with (loads (Record reference) says) (λ b (beside, free, front). (
           beside,
           goes_further walk (is.behind ++ reference ∷ []) (LoadingType reference) b beside (walked ∙ ap stands_behind onward)
-              (subst (λ (n : ℕ). is_reference n walk ≡ true) long reach) (subst (λ (l : List ℕ). IsPrefix l b.seen.chain) onward walk_on.1)
-              (record { turns = walk_on.0; passed = is.behind; are = refl; others = others_on b beside is.behind stood.1; within = within }),
+              (subst (λ (n : ℕ). is_reference n walk ≡ true) long reach) (subst (λ (l : List ℕ). IsPrefix l b.seen.chain) onward front)
+              (record { free = free; passed = is.behind; are = refl; others = others_on b beside is.behind stood.1; within = within }),
         ))
 
     -- a word that no list has: it stands where it stood
     pub strays : (walk : ℕ) → Stray ≡ said_of (length words) (word_at words (s.walk + 3)) → walk ≡ s.walk
         → Goes shape.size version a words words (SamplingGives shape (record s { walk = walk }) More a)
-    strays walk says here = goes_with (loads Stray says) (λ b (beside, walk_on). (
+    strays walk says here = goes_with (loads Stray says) (λ b (beside, free, front). (
       beside,
-      goes_further walk is.behind s.stage b beside (here ∙ is.walk) (ap (is_reference shape.size) here ∙ is.reach) walk_on.1
-          (subst (StandsAtStage shape (record s { walk = walk }) b is.behind) (sym walks) (walk_on.0, others_on b beside is.behind stood.1)),
+      goes_further walk is.behind s.stage b beside (here ∙ is.walk) (ap (is_reference shape.size) here ∙ is.reach) front
+          (subst (StandsAtStage shape (record s { walk = walk }) b is.behind) (sym walks) (free, others_on b beside is.behind stood.1)),
     ))
 
     -- its actor may make a sample
@@ -153,11 +153,11 @@ module _ (shape : Dimensions) (version : ℕ) (s : Sampling) (a : Actor) (words 
     -- at the end of the list it begins to make a sample
     pub ends : (walk : ℕ) (makes : MakingOf) → End ≡ said_of (length words) (word_at words (s.walk + 3)) → walk ≡ s.walk → making.IsStarted s.shape 4 3 makes
         → Goes shape.size version a words words (SamplingGives shape (record s { walk = walk; stage = Making makes }) More a)
-    ends walk makes says here starts = goes_with (loads End says) (λ b (beside, walk_on). (
+    ends walk makes says here starts = goes_with (loads End says) (λ b (beside, free, front). (
       beside,
-      goes_further walk is.behind (Making makes) b beside (here ∙ is.walk) (ap (is_reference shape.size) here ∙ is.reach) walk_on.1 (
+      goes_further walk is.behind (Making makes) b beside (here ∙ is.walk) (ap (is_reference shape.size) here ∙ is.reach) front (
         others_on b beside is.behind stood.1,
-        begins shape (wanted_of s) makes b (ap (λ x. x.shape) beside.segment ∙ is.segment) is.lawful_shape (may_make b beside) walk_on.0
+        begins shape (wanted_of s) makes b (ap (λ x. x.shape) beside.segment ∙ is.segment) is.lawful_shape (may_make b beside) (free_turns b.hand.place free)
             (subst (λ (d : Dimensions). making.IsStarted d 4 3 makes) is.shaped starts),
       ),
     ))
@@ -203,12 +203,12 @@ module _ (shape : Dimensions) (version : ℕ) (s : Sampling) (a : Actor) (words 
 
       -- it stands there still
       met_still : (stage : Stage) → MetRecord shape (record s { stage = stage }) at acted is.behind
-      met_still stage = record { turns = met.turns; passed = met.passed; are = met.are; others = others_on acted beside met.passed met.others; within = met.within }
+      met_still stage = record { free = met.free; passed = met.passed; are = met.are; others = others_on acted beside met.passed met.others; within = met.within }
 
       -- it is no sample of the value
       passes_it : SawOther acted.seen s.histogram s.value at → StandsAtStage shape (record s { stage = Walking }) acted is.behind Walking
       passes_it other = (
-        met.turns,
+        met.free,
         subst (All (SawOther acted.seen s.histogram s.value)) (sym met.are)
             (All-push (SawOther acted.seen s.histogram s.value) met.passed at (others_on acted beside met.passed met.others) other),
       )
@@ -220,7 +220,7 @@ module _ (shape : Dimensions) (version : ℕ) (s : Sampling) (a : Actor) (words 
         at = a;
         told = refl;
         event = walking_event event;
-        ready = (met.turns, there, fixed);
+        ready = (free_turns a.hand.place met.free, there, fixed);
         words_are = sym (set-get_or words (at + index) 0);
         goes = λ learned apart. ([], acted, refl, gives learned);
       }
@@ -301,7 +301,7 @@ module _ (shape : Dimensions) (version : ℕ) (s : Sampling) (a : Actor) (words 
         let its_beside = beside at met 5 fixed_value in
         does_load at met 5 fixed_value s (Found at) (λ learned. (
           its_beside,
-          met.turns,
+          met.free,
           (
             is.front,
             met.passed ++ at ∷ (chain_is at met).0,

@@ -18,7 +18,6 @@ use Rattle.segment_machine.specs.declared.actor.Made.{Made}
 use Rattle.segment_machine.specs.declared.actor.Made.TheVariants.{Histogram}
 use Rattle.segment_machine.specs.declared.seen.Seen.{Seen}
 use Rattle.segment_machine.specs.Actor.{word_seen}
-use Rattle.segment_machine.specs.Calls.{MayTurn}
 use Rattle.segment_machine.specs.Made.{AreNameWords, IsFirstNamed, SawOtherName, SawOtherSpec}
 use Rattle.segment_machine.specs.Note.{MayNote, knows}
 use Rattle.segment_calls.specs.Asked.{payload_words, IsAskedFor}
@@ -26,7 +25,7 @@ use Rattle.segment_calls.specs.declared.asked.Asked.{Asked}
 use Rattle.hist_core.specs.declared.hist.Hist.{Hist}
 use Rattle.hist_core.specs.declared.hist.HistStep.{HistStep}
 use Rattle.hist_core.specs.declared.hist.HistStep.TheVariants.{More, Done, Refused}
-use Rattle.hist_core.specs.Goes.{Beside, Goes}
+use Rattle.hist_core.specs.Goes.{Beside, Goes, IsFree}
 use Rattle.hist_core.specs.declared.hist.Stage.{Stage}
 use Rattle.hist_core.specs.declared.hist.Stage.TheVariants.{Walking, Comparing, Making}
 use Rattle.hist_core.specs.declared.making.MakingStep.{MakingStep}
@@ -113,9 +112,9 @@ HaveOtherNames h a records = All (SawOtherName a.seen h.asked.name.items) record
 
 -- Where its actor stands, whose walk has given these records: none of them has the name, but for the last while it is compared.
 abbrev pub StandsAtStage : Dimensions → Hist → Actor → List ℕ → Stage → Type 0
-StandsAtStage shape h a given Walking = MayTurn a × HaveOtherNames h a given
+StandsAtStage shape h a given Walking = IsFree a × HaveOtherNames h a given
 StandsAtStage shape h a given (Comparing same) =
-    MayTurn a × ((front : List ℕ) × (given ≡ front ++ h.reference ∷ []) × HaveOtherNames h a front)
+    IsFree a × ((front : List ℕ) × (given ≡ front ++ h.reference ∷ []) × HaveOtherNames h a front)
     × Reaches shape.size h same × (same < comparisons h) × AreSame a.seen h same
 StandsAtStage shape h a given (Making making) = HaveOtherNames h a given × IsMaking shape (wanted_of h) making a
 
@@ -145,8 +144,8 @@ IsCause shape h cause b = ⊥
 abbrev pub HistGives : Dimensions → Hist → HistStep → Actor → Actor → Type 0
 HistGives shape new More a b = Beside a b × IsHist shape new b
 HistGives shape new Done a b =
-    Beside a b × MayTurn b × MayNote b (knows (asked_of new)) × IsAsking shape new × (new.reference + HISTOGRAM_NAME ≤ shape.size)
-HistGives shape new (Refused cause) a b = Beside a b × MayTurn b × IsCause shape new cause b
+    Beside a b × IsFree b × MayNote b (knows (asked_of new)) × IsAsking shape new × (new.reference + HISTOGRAM_NAME ≤ shape.size)
+HistGives shape new (Refused cause) a b = Beside a b × IsFree b × IsCause shape new cause b
 
 -- what a step makes of the words, and of whatever actor stands so
 abbrev pub HistSteps : Hist → List ℕ → Hist → List ℕ → HistStep → Type 0
@@ -172,4 +171,4 @@ IsMade old (made.Refused cause) new result = (new ≡ old) × (result ≡ Refuse
 pub record IsBegun (shape : Dimensions) (asked : Asked) (new : Hist) : Type 0 where
   pub named : new.asked.name ≡ asked.name
   pub specified : new.asked.spec ≡ asked.spec
-  pub stands : (name : List ℕ) (spec : Spec) (a : Actor) → IsAskedFor shape name spec asked → IsShape shape → a.segment.shape ≡ shape → MayTurn a → IsHist shape new a
+  pub stands : (name : List ℕ) (spec : Spec) (a : Actor) → IsAskedFor shape name spec asked → IsShape shape → a.segment.shape ≡ shape → IsFree a → IsHist shape new a

@@ -15,7 +15,6 @@ use Rattle.segment_machine.specs.declared.actor.Actor.{Actor}
 use Rattle.segment_machine.specs.declared.actor.Made.{Made}
 use Rattle.segment_machine.specs.declared.actor.Made.TheVariants.{Histogram, Sample}
 use Rattle.segment_machine.specs.declared.actor.Own.{Own}
-use Rattle.segment_machine.specs.Calls.{MayTurn}
 use Rattle.segment_machine.specs.Made.{IsPayload}
 use Rattle.segment_machine.specs.Publishing.{own_at, MayPublish}
 use Rattle.segment_machine.specs.Stages.{Allocates, PublishesAt}
@@ -24,7 +23,7 @@ use Rattle.hist_core.specs.declared.making.MakingStep.{MakingStep}
 use Rattle.hist_core.specs.declared.making.MakingStep.TheVariants.{More, Done, Refused}
 use Rattle.hist_core.specs.declared.making.Stage.{Stage}
 use Rattle.hist_core.specs.declared.making.Stage.TheVariants.{Allocating, Filling, Publishing}
-use Rattle.hist_core.specs.Goes.{Beside, Goes}
+use Rattle.hist_core.specs.Goes.{Beside, Goes, IsFree}
 
 -- ---- what it makes
 
@@ -77,7 +76,7 @@ StandsAtStage shape wanted a (Allocating allocation) =
     Allocates a allocation × (is_some (alloc.next_event allocation) ≡ true) × (allocation.tag ≡ tag_of wanted.made)
     × (BLOCK_HEADER + wanted.room ≤ allocation.size)
 StandsAtStage shape wanted a (Filling at index) =
-    MayTurn a × (index < length wanted.payload) × (slice_index wanted.payload index ≢ 0)
+    IsFree a × (index < length wanted.payload) × (slice_index wanted.payload index ≢ 0)
     × ((HEADER_WORDS ≤ at) × (at + (BLOCK_HEADER + wanted.room) ≤ shape.size))
     × ((own : Own) × HasBlock wanted at a own × IsFilledTo wanted.payload index own.payload)
 StandsAtStage shape wanted a (Publishing publishing) =
@@ -100,8 +99,8 @@ IsCause cause b = ⊥
 -- what a step says: it goes on; the record is on the list; or it is refused. Its actor may turn to another call then
 abbrev pub MakingGives : Dimensions → Wanted → Making → MakingStep → Actor → Actor → Type 0
 MakingGives shape wanted new More a b = Beside a b × IsMaking shape wanted new b
-MakingGives shape wanted new Done a b = Beside a b × MayTurn b
-MakingGives shape wanted new (Refused cause) a b = Beside a b × MayTurn b × IsCause cause b
+MakingGives shape wanted new Done a b = Beside a b × IsFree b
+MakingGives shape wanted new (Refused cause) a b = Beside a b × IsFree b × IsCause cause b
 
 -- what a step makes of the words, and of whatever actor stands so
 abbrev pub MakingSteps : List ℕ → Making → List ℕ → Making → List ℕ → MakingStep → Type 0

@@ -13,7 +13,6 @@ use Rattle.segment_machine.specs.declared.actor.Actor.{Actor}
 use Rattle.segment_machine.specs.declared.actor.Known.{Known}
 use Rattle.segment_machine.specs.declared.actor.Made.TheVariants.{Sample}
 use Rattle.segment_machine.specs.Actor.{Sparse, word_seen}
-use Rattle.segment_machine.specs.Calls.{MayTurn}
 use Rattle.segment_machine.specs.Made.{IsFirstSample, SawOther}
 use Rattle.hist_core.specs.declared.making.MakingStep.{MakingStep}
 use Rattle.hist_core.specs.declared.making.MakingStep.TheVariants as made
@@ -22,7 +21,7 @@ use Rattle.hist_core.specs.declared.sampling.SamplingStep.{SamplingStep}
 use Rattle.hist_core.specs.declared.sampling.SamplingStep.TheVariants.{More, Found, Refused}
 use Rattle.hist_core.specs.declared.sampling.Stage.{Stage}
 use Rattle.hist_core.specs.declared.sampling.Stage.TheVariants.{Walking, LoadingType, LoadingHistogram, LoadingValue, Making}
-use Rattle.hist_core.specs.Goes.{Beside, Goes}
+use Rattle.hist_core.specs.Goes.{Beside, Goes, IsFree}
 use Rattle.hist_core.specs.Looker.{IsSample}
 use Rattle.hist_core.specs.Making.{IsCause, IsMaking, Wanted}
 
@@ -40,7 +39,7 @@ HaveOthers s a records = All (SawOther a.seen s.histogram s.value) records
 
 -- It stands at a record behind the histogram's, within the segment. None of those between is a sample of its value.
 pub record MetRecord (shape : Dimensions) (s : Sampling) (at : ℕ) (a : Actor) (behind : List ℕ) : Type 0 where
-  pub turns : MayTurn a
+  pub free : IsFree a
   pub passed : List ℕ
   pub are : behind ≡ passed ++ at ∷ []
   pub others : HaveOthers s a passed
@@ -48,7 +47,7 @@ pub record MetRecord (shape : Dimensions) (s : Sampling) (at : ℕ) (a : Actor) 
 
 -- Where its actor stands, whose walk has given these records behind the histogram's.
 abbrev pub StandsAtStage : Dimensions → Sampling → Actor → List ℕ → Stage → Type 0
-StandsAtStage shape s a behind Walking = MayTurn a × HaveOthers s a behind
+StandsAtStage shape s a behind Walking = IsFree a × HaveOthers s a behind
 StandsAtStage shape s a behind (LoadingType at) = MetRecord shape s at a behind
 StandsAtStage shape s a behind (LoadingHistogram at) = MetRecord shape s at a behind × IsSample shape at a
 StandsAtStage shape s a behind (LoadingValue at of) =
@@ -75,8 +74,8 @@ pub record IsSampling (shape : Dimensions) (s : Sampling) (a : Actor) : Type 0 w
 -- something else then.
 abbrev pub SamplingGives : Dimensions → Sampling → SamplingStep → Actor → Actor → Type 0
 SamplingGives shape new More a b = Beside a b × IsSampling shape new b
-SamplingGives shape new (Found at) a b = Beside a b × MayTurn b × IsFirstSample b.seen new.histogram new.value at × (at + SAMPLE_LEAST ≤ shape.size)
-SamplingGives shape new (Refused cause) a b = Beside a b × MayTurn b × IsCause cause b
+SamplingGives shape new (Found at) a b = Beside a b × IsFree b × IsFirstSample b.seen new.histogram new.value at × (at + SAMPLE_LEAST ≤ shape.size)
+SamplingGives shape new (Refused cause) a b = Beside a b × IsFree b × IsCause cause b
 
 -- what a step makes of the words, and of whatever actor stands so
 abbrev pub SamplingSteps : Sampling → List ℕ → Sampling → List ℕ → SamplingStep → Type 0

@@ -12,7 +12,7 @@ use Rattle.alloc_core.specs.Event as atomic
 use Rattle.segment_machine.specs.declared.actor.Actor.{Actor}
 use Rattle.segment_machine.specs.declared.actor.Own.{Own}
 use Rattle.segment_machine.specs.declared.place.Place.TheVariants.{Idle}
-use Rattle.segment_machine.specs.Actor.{is_bound, AreApart}
+use Rattle.segment_machine.specs.Actor.{AreApart}
 use Rattle.segment_machine.specs.Allocating.{new_own}
 use Rattle.segment_machine.specs.Note.{Note, Notes, noted, asks}
 use Rattle.segment_machine.specs.Stages.{Allocates, StandsAt}
@@ -24,12 +24,11 @@ use Rattle.hist_core.specs.declared.making.Making.{Making}
 use Rattle.hist_core.specs.declared.making.MakingStep.{MakingStep}
 use Rattle.hist_core.specs.declared.making.MakingStep.TheVariants.{More, Refused}
 use Rattle.hist_core.specs.declared.making.Stage.TheVariants.{Allocating, Filling}
-use Rattle.hist_core.specs.Goes.{Beside, Goes}
+use Rattle.hist_core.specs.Goes.{Beside, Goes, is_tied}
 use Rattle.hist_core.specs.Making.{Wanted, IsMaking, StandsAtStage, MakingGives, IsAllocated, IsCause}
 use Rattle.hist_core.proofs.Makes.Drafts.{may_still}
-use Rattle.hist_core.proofs.Parts.Allocations.{allocates_on}
+use Rattle.hist_core.proofs.Parts.Allocations.{allocates_on, goes_with}
 use Rattle.hist_core.proofs.Parts.Claims.{changed_at, claimed_of, claimed_suits, filled_at, goes_noting, rests_at}
-use Rattle.hist_core.proofs.Parts.Walks.{goes_with}
 
 module _ (shape : Dimensions) (version : ℕ) (wanted : Wanted) (m : Making) (a : Actor) (words : List ℕ) (long : length words ≡ shape.size)
     (is : IsMaking shape wanted m a) (x : Allocation) (allocates : m.stage ≡ Allocating x) where
@@ -63,7 +62,7 @@ module _ (shape : Dimensions) (version : ℕ) (wanted : Wanted) (m : Making) (a 
     -- it is refused
     is_refused : (why : Refusal) (new : Making) → ((b : Actor) → Allocates b y → b.hand.place ≡ Idle) → ((b : Actor) → Allocates b y → IsCause why b)
         → Goes shape.size version a words new_words (MakingGives shape wanted new (Refused why) a)
-    is_refused why new idle cause = goes_with claims (λ b (beside, apart, goes). (beside, ap is_bound (idle b goes), cause b goes))
+    is_refused why new idle cause = goes_with claims (λ b (beside, apart, goes). (beside, ap is_tied (idle b goes), cause b goes))
 
     -- it has a block, which is to be the record: it stores the payload there
     has_claimed : (at : ℕ) → says ≡ said.Done at → Goes shape.size version a words new_words (MakingGives shape wanted (record { stage = Filling at 0 }) More a)
@@ -102,7 +101,7 @@ module _ (shape : Dimensions) (version : ℕ) (wanted : Wanted) (m : Making) (a 
                   lawful_shape = is.lawful_shape;
                   draft = may_still shape wanted a c then_beside is.draft;
                   stands = (
-                    ap is_bound has.0,
+                    ap is_tied has.0,
                     is.draft.some,
                     is.draft.first,
                     (place.from, omega (arith, suits, enough, ends_within)),

@@ -21,6 +21,7 @@ use Rattle.hist_core.specs.declared.making.Stage.{Stage}
 use Rattle.hist_core.specs.declared.making.Stage.TheVariants.{Filling, Publishing}
 use Rattle.hist_core.specs.Goes.{Beside, Goes}
 use Rattle.hist_core.specs.Making.{Wanted, IsMaking, IsFilledTo, IsNextFilled, IsFilled, StandsAtStage, MakingGives}
+use Rattle.hist_core.proofs.Free.{free_turns}
 use Rattle.hist_core.proofs.Makes.Drafts.{is_wide, may_still}
 use Rattle.hist_core.proofs.Parts.Alone.{makes_so, allocating_beside}
 use Rattle.hist_core.proofs.Parts.Claims.{changed_at}
@@ -159,7 +160,7 @@ module _ (shape : Dimensions) (version : ℕ) (wanted : Wanted) (m : Making) (a 
           let some = stands.1 in
           let enough = is.draft.enough in (
             (
-              stands.0,
+              free_turns a.hand.place stands.0,
               (
                 fuller,
                 fuller_is,

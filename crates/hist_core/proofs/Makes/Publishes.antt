@@ -11,18 +11,15 @@ use Rattle.list_core.specs.Publish.{Publishing as PublishingOf, IsReach, IsWithi
 use Rattle.list_core.specs.Publish as publish
 use Rattle.segment_machine.specs.declared.actor.Actor.{Actor}
 use Rattle.segment_machine.specs.declared.actor.Made.{Made}
-use Rattle.segment_machine.specs.Actor.{is_bound}
-use Rattle.segment_machine.specs.Calls.{MayTurn}
 use Rattle.segment_machine.specs.Stages.{PublishesAt}
 use Rattle.hist_core.specs.declared.making.Making.{Making}
 use Rattle.hist_core.specs.declared.making.MakingStep.{MakingStep}
 use Rattle.hist_core.specs.declared.making.MakingStep.TheVariants.{More, Done}
 use Rattle.hist_core.specs.declared.making.Stage.TheVariants.{Publishing}
-use Rattle.hist_core.specs.Goes.{Beside, Goes}
+use Rattle.hist_core.specs.Goes.{Beside, Goes, IsFree, is_tied}
 use Rattle.hist_core.specs.Making.{Wanted, IsMaking, StandsAtStage, MakingGives, IsPublished}
 use Rattle.hist_core.proofs.Makes.Drafts.{may_still}
-use Rattle.hist_core.proofs.Parts.Allocations.{publishes_on}
-use Rattle.hist_core.proofs.Parts.Walks.{goes_with}
+use Rattle.hist_core.proofs.Parts.Allocations.{goes_with, publishes_on}
 
 -- what a publish stores into lies within the words in one way at most
 pub one_way : (n : ℕ) (stage : PublishStage) → IsProp (IsWithin n stage)
@@ -34,8 +31,8 @@ one_way n Published = hlevel props
 one_way n Strayed = hlevel props
 
 -- a publish that has ended has published, and it never strays
-rests_at : (b : Actor) (reference : ℕ) (made : Made) (stage : PublishStage) → answer stage ≡ put.Done → PublishesAt b reference made stage → MayTurn b
-rests_at b reference made Published ends stands = ap is_bound stands.0
+rests_at : (b : Actor) (reference : ℕ) (made : Made) (stage : PublishStage) → answer stage ≡ put.Done → PublishesAt b reference made stage → IsFree b
+rests_at b reference made Published ends stands = ap is_tied stands.0
 rests_at b reference made StoreOwnNext ends stands = cc ends
 rests_at b reference made LoadTail ends stands = cc ends
 rests_at b reference made (Link tail) ends stands = cc ends

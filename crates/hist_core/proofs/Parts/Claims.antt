@@ -17,7 +17,7 @@ use Rattle.alloc_core.specs.Event as atomic
 use Rattle.segment_machine.specs.declared.actor.Actor.{Actor}
 use Rattle.segment_machine.specs.declared.actor.Own.{Own}
 use Rattle.segment_machine.specs.declared.place.Place.TheVariants.{Idle}
-use Rattle.segment_machine.specs.Actor.{is_bound, AreApart}
+use Rattle.segment_machine.specs.Actor.{AreApart}
 use Rattle.segment_machine.specs.Allocating.{new_own}
 use Rattle.segment_machine.specs.Calls.{change_own}
 use Rattle.segment_machine.specs.Note.{Note, Notes, noted, asks}

@@ -18,7 +18,8 @@ use Rattle.hist_core.specs.Goes.{Beside, Goes}
 use Rattle.hist_core.specs.Hist.{wanted_of, IsHist, StandsAtStage, HistGives, IsMade, IsCause}
 use Rattle.hist_core.specs.Making.{MakingGives}
 use Rattle.hist_core.specs.Making as making
-use Rattle.hist_core.proofs.Parts.Walks.{others_still, goes_with, asks_on}
+use Rattle.hist_core.proofs.Parts.Allocations.{goes_with}
+use Rattle.hist_core.proofs.Parts.Walks.{others_still, asks_on}
 
 -- what refuses a record refuses the call
 cause_of : (shape : Dimensions) (h : Hist) (cause : Refusal) (b : Actor) → making.IsCause cause b → IsCause shape h cause b

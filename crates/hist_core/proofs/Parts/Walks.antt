@@ -12,7 +12,6 @@ use Rattle.segment_machine.specs.declared.actor.Actor.{Actor}
 use Rattle.segment_machine.specs.declared.seen.Sighting.{Sighting}
 use Rattle.segment_machine.specs.Actor.{word_seen}
 use Rattle.segment_machine.specs.Made.{SawOtherName}
-use Rattle.segment_machine.specs.Calls.{MayTurn}
 use Rattle.segment_machine.specs.Stages.{Walks}
 use Rattle.segment_invariant.proofs.Walking.Words.{word_still}
 use Rattle.hist_core.specs.declared.hist.Hist.{Hist}
@@ -23,23 +22,13 @@ use Rattle.hist_core.specs.declared.making.Making.{Making as MakingOf}
 use Rattle.hist_core.specs.Making.{IsStarted}
 use Rattle.hist_core.proofs.Makes.Drafts.{begins, is_wide}
 use Rattle.hist_core.proofs.Parts.Records.{may_make, some_to_compare_is}
-use Rattle.hist_core.specs.Goes.{Beside, Goes}
+use Rattle.hist_core.specs.Goes.{Beside, Goes, IsFree}
+use Rattle.hist_core.proofs.Free.{free_turns}
+use Rattle.list_core.specs.Walk.{IsPrefix}
 use Rattle.hist_core.specs.Hist.{IsAsking, IsHist, HaveOtherNames, StandsAtStage, HistGives, comparisons, wanted_of}
-use Rattle.hist_core.proofs.Parts.Allocations.{walks_saying}
+use Rattle.hist_core.proofs.Parts.Allocations.{goes_with, walks_saying}
 
 -- ---- what is seen stays
-
-pub goes_with : {size version : ℕ} {a : Actor} {words new_words : List ℕ} {holds then_holds : Actor → Type 0} → Goes size version a words new_words holds
-    → ((b : Actor) → holds b → then_holds b) → Goes size version a words new_words then_holds
-goes_with {then_holds = then_holds} go weaker = record {
-  before = go.before;
-  at = go.at;
-  told = go.told;
-  event = go.event;
-  ready = go.ready;
-  words_are = go.words_are;
-  goes = λ learned apart. let did = go.goes learned apart in (did.0, did.1, did.2, weaker did.1 did.3);
-}
 
 module _ (a b : Actor) (beside : Beside a b) where
   pub still : (at word : ℕ) → word_seen a.seen.words at ≡ Some word → word_seen b.seen.words at ≡ Some word
@@ -86,7 +75,7 @@ module _ (shape : Dimensions) (h : Hist) (asking : IsAsking shape h) where
   }
 
 module _ (shape : Dimensions) (version : ℕ) (h : Hist) (a : Actor) (words : List ℕ) (long : length words ≡ shape.size) (is : IsHist shape h a) (walks : h.stage ≡ Walking) where
-  stands : MayTurn a × HaveOtherNames h a is.given
+  stands : IsFree a × HaveOtherNames h a is.given
   stands = subst (StandsAtStage shape h a is.given) walks is.stands
 
   some_to_compare : 0 < comparisons h
@@ -94,10 +83,10 @@ module _ (shape : Dimensions) (version : ℕ) (h : Hist) (a : Actor) (words : Li
 
   -- the event, and what it makes of the walk
   abbrev Walked : WalkStep → Actor → Type 0
-  Walked said b = Beside a b × Walks b (given_after is.given said)
+  Walked said b = Beside a b × IsFree b × IsPrefix (given_after is.given said) b.seen.chain
 
   loads : (said : WalkStep) → said ≡ said_of (length words) (word_at words (h.walk + 3)) → Goes shape.size version a words words (Walked said)
-  loads = walks_saying shape version a is.given words h.walk is.segment long is.walk (stands.0, is.front)
+  loads = walks_saying shape version a is.given words h.walk is.segment long is.walk stands.0 is.front
 
   -- it met a record, which it compares next
   pub meets : (reference walk : ℕ) → Record reference ≡ said_of (length words) (word_at words (h.walk + 3))
@@ -105,7 +94,7 @@ module _ (shape : Dimensions) (version : ℕ) (h : Hist) (a : Actor) (words : Li
       → Goes shape.size version a words words (HistGives shape (record h { reference = reference; walk = walk; stage = Comparing 0 }) More a)
   meets reference walk says walked reach here =
       let within = reference_within shape.size reference (is_wide shape is.lawful_shape) (subst (λ (p : ℕ × ℕ). is_reference p.0 p.1 ≡ true) (λ i. (long i, here i)) reach) in
-      goes_with (loads (Record reference) says) (λ b (beside, walk_on). (
+      goes_with (loads (Record reference) says) (λ b (beside, free, front). (
         beside,
         record {
           asking = asks_on shape h is.asking reference walk (Comparing 0);
@@ -114,9 +103,9 @@ module _ (shape : Dimensions) (version : ℕ) (h : Hist) (a : Actor) (words : Li
           given = is.given ++ reference ∷ [];
           walk = walked;
           reach = subst (λ (n : ℕ). is_reference n walk ≡ true) long reach;
-          front = walk_on.1;
+          front = front;
           stands = (
-            walk_on.0,
+            free,
             (is.given, refl, others_still a b beside h is.given stands.1),
             record {
               header = within;
@@ -134,7 +123,7 @@ module _ (shape : Dimensions) (version : ℕ) (h : Hist) (a : Actor) (words : Li
   pub strays : (walk : ℕ) → Stray ≡ said_of (length words) (word_at words (h.walk + 3)) → walk ≡ h.walk
       → Goes shape.size version a words words (HistGives shape (record h { walk = walk }) More a)
   strays walk says here =
-      goes_with (loads Stray says) (λ b (beside, walk_on). (
+      goes_with (loads Stray says) (λ b (beside, free, front). (
         beside,
         record {
           asking = asks_on shape h is.asking h.reference walk h.stage;
@@ -143,8 +132,8 @@ module _ (shape : Dimensions) (version : ℕ) (h : Hist) (a : Actor) (words : Li
           given = is.given;
           walk = here ∙ is.walk;
           reach = ap (is_reference shape.size) here ∙ is.reach;
-          front = walk_on.1;
-          stands = subst (StandsAtStage shape (record h { walk = walk }) b is.given) (sym walks) (walk_on.0, others_still a b beside h is.given stands.1);
+          front = front;
+          stands = subst (StandsAtStage shape (record h { walk = walk }) b is.given) (sym walks) (free, others_still a b beside h is.given stands.1);
         },
       ))
 
@@ -152,7 +141,7 @@ module _ (shape : Dimensions) (version : ℕ) (h : Hist) (a : Actor) (words : Li
   pub ends : (walk : ℕ) (making : MakingOf) → End ≡ said_of (length words) (word_at words (h.walk + 3)) → walk ≡ h.walk
       → IsStarted h.shape (vec_len h.payload) 1 making
       → Goes shape.size version a words words (HistGives shape (record h { walk = walk; stage = Making making }) More a)
-  ends walk making says here starts = goes_with (loads End says) (λ b (beside, walk_on). (
+  ends walk making says here starts = goes_with (loads End says) (λ b (beside, free, front). (
     beside,
     record {
       asking = asks_on shape h is.asking h.reference walk (Making making);
@@ -161,11 +150,11 @@ module _ (shape : Dimensions) (version : ℕ) (h : Hist) (a : Actor) (words : Li
       given = is.given;
       walk = here ∙ is.walk;
       reach = ap (is_reference shape.size) here ∙ is.reach;
-      front = walk_on.1;
+      front = front;
       stands = (
         others_still a b beside h is.given stands.1,
         begins shape (wanted_of h) making b (ap (λ s. s.shape) beside.segment ∙ is.segment) is.lawful_shape
-            (may_make shape h is.asking b (ap (λ s. s.shape) beside.segment ∙ is.segment)) walk_on.0
+            (may_make shape h is.asking b (ap (λ s. s.shape) beside.segment ∙ is.segment)) (free_turns b.hand.place free)
             (subst (λ (p : Dimensions × ℕ). IsStarted p.0 p.1 1 making) (λ i. (is.asking.shaped i, h.payload.ok.0 i)) starts),
       );
     },

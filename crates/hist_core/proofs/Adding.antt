@@ -24,10 +24,10 @@ use Rattle.hist_core.specs.Add.{Amid, alone, counted_entry, ended_entry, HasEntr
 use Rattle.hist_core.specs.Batch.{Runs, HaveEnded, IsCutAt}
 use Rattle.hist_core.specs.Goes.{Goes}
 use Rattle.hist_core.specs.Runner.{ended_by, begun_by, pending_by, held_by, IsTelling, IsAdding, StandsIn, IsRun, IsAddSaid, LandsBack, Advances, Answers}
+use Rattle.hist_core.proofs.Parts.Allocations.{goes_with}
 use Rattle.hist_core.proofs.Adds.Entries.{ended_is_over}
 use Rattle.hist_core.proofs.Apart.{asks_not, looks_not, batches_not}
 use Rattle.hist_core.proofs.Parts.Claims.{goes_noting}
-use Rattle.hist_core.proofs.Parts.Walks.{goes_with}
 use Rattle.hist_core.proofs.Quiet.{takes_none, takes_not}
 use Rattle.hist_core.proofs.Tellings.{Counts, goes_from, counts_somewhere, still_counts, has_counted, is_cut}
 

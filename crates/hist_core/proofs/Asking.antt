@@ -1,5 +1,5 @@
 -- A `hist` of an actor goes on, and what its actor knows then.
-use Rattle.std.proofs.Common.{◌≡◌, ◌≢◌, ◌<◌, ◌+◌, ℕ, zero, suc, ◌≤◌, List, [], ◌∷◌, ◌++◌, length, map, take, drop, All, inl, inr, refl, sym, ap, subst, ◌∙◌, vec_len, arith}
+use Rattle.std.proofs.Common.{◌≡◌, ◌≢◌, ◌<◌, ◌+◌, ℕ, zero, suc, ◌≤◌, List, [], ◌∷◌, ◌++◌, length, map, take, drop, All, inl, inr, ⊎_elim, refl, sym, ap, subst, ◌∙◌, vec_len, arith}
 use Rattle.std.specs.Prelude.{Option, Some, None, Result, Ok, Err, vec_capacity}
 use Rattle.std.specs.declared.alloc.AllocError.{AllocError}
 use Rattle.bucket_ranges.specs.declared.spec.Spec.{Spec}
@@ -9,7 +9,8 @@ use Rattle.segment_calls.specs.declared.asked.Asked.{Asked}
 use Rattle.hist_core.specs.declared.call.Begun.{Begun}
 use Rattle.hist_core.specs.declared.call.Begun.TheVariants.{Going, Ended}
 use Rattle.std.proofs.lemmas.List.{map-append}
-use Rattle.std.proofs.lemmas.List.Elements.{All-push}
+use Rattle.std.specs.List.{Contains}
+use Rattle.std.proofs.lemmas.List.Elements.{All-push, Contains-append_cases, Contains-append_right}
 use mathlib.Core.Logic.{dite}
 use native.Mathlib.Decide.{ℕ_discrete}
 use mathlib.Core.Option.{some, some-injective, some-ne-none}
@@ -17,8 +18,8 @@ use lib.ListN.{get_elem?}
 use Rattle.atomic_table.proofs.Lists.{at_snoc}
 use Rattle.segment_image.specs.Shape.{Dimensions}
 use Rattle.segment_machine.specs.declared.actor.Actor.{Actor}
+use Rattle.segment_machine.specs.declared.actor.Known.{Known as MachineKnown}
 use Rattle.segment_machine.specs.Actor.{is_opener}
-use Rattle.segment_machine.specs.Calls.{MayTurn}
 use Rattle.segment_machine.specs.Note.{Note, Notes, MayNote, noted, knows}
 use Rattle.hist_core.specs.declared.call.Answer.TheVariants as answer
 use Rattle.hist_core.specs.declared.call.Stepped.{Stepped}
@@ -31,13 +32,14 @@ use Rattle.hist_core.specs.declared.hist.Known.{Known}
 use Rattle.hist_core.specs.declared.runner.Running.{Running}
 use Rattle.hist_core.specs.declared.runner.Running.TheVariants.{Hist}
 use Rattle.hist_core.specs.declared.entry.Entry.{Entry}
+use Rattle.hist_core.proofs.Parts.Allocations.{goes_with}
 use Rattle.hist_core.proofs.Apart.{adds_not, looks_not, batches_not}
-use Rattle.hist_core.proofs.Quiet.{quiet_on, gives_none, begun_there, takes_none, takes_not}
+use Rattle.hist_core.proofs.Free.{free_turns}
+use Rattle.hist_core.proofs.Quiet.{met_on, quiet_on, gives_none, begun_there, takes_none, takes_not}
 use Rattle.hist_core.specs.declared.runner.Runner.{Runner}
-use Rattle.hist_core.specs.Goes.{Beside, Goes}
+use Rattle.hist_core.specs.Goes.{Beside, Goes, IsFree}
 use Rattle.hist_core.specs.Hist.{IsSomeHist, HistSteps, asked_of}
 use Rattle.hist_core.specs.Runner.{known_of, AreShown, HasDraft, IsKnown, NoneHasName, HaveOwnNames, StandsIn, HasRoom, IsRun, IsSomeRun, IsHistSaid, BeginsHist, IsAsItWas, IsQuiet, Advances, Answers, held_by, entry_of, ended_by, begun_by, pending_by}
-use Rattle.hist_core.proofs.Parts.Walks.{goes_with}
 
 -- ---- a note more
 
@@ -71,6 +73,15 @@ own_more [] known own none = ((λ i x at. absurd (some-ne-none x (sym at))), tt)
 own_more (first ∷ rest) known own none =
     (none_more rest known first.name.items own.0 (λ same. none 0 first refl (sym same)), own_more rest known own.1 (λ i x at. none (suc i) x at))
 
+one_of : (x y : MachineKnown) → Contains (x ∷ []) y → x ≡ y
+one_of x y (zero, low, is) = is
+one_of x y (suc k, low, is) = absurd (omega (arith, low))
+
+-- who may note that it knows a histogram has met its record
+met_first : (b : Actor) (known : MachineKnown) → MayNote b (knows known) → Contains b.seen.chain known.reference
+met_first b known ((front, behind, is, others, saw), spelled) =
+    subst (λ (l : List ℕ). Contains l known.reference) (sym is) (Contains-append_right front (known.reference ∷ behind) known.reference (0, omega arith, refl))
+
 -- ---- an actor
 
 module _ (shape : Dimensions) (version : ℕ) (old : Runner) (a : Actor) (run : IsRun shape version old a) where
@@ -88,16 +99,17 @@ module _ (shape : Dimensions) (version : ℕ) (old : Runner) (a : Actor) (run : 
     names = run.names ∙ sym beside.names;
     lawful = run.lawful;
     once = run.once;
+    met = met_on a b beside.names beside.chain run.met;
     stands = stands;
     room = room;
     draft = draft;
   }
 
   -- it knows one histogram more
-  pub knows_more : (b : Actor) (new : Runner) (known : Known) → Beside a b → MayTurn b → IsQuiet (pending_by old) b
+  pub knows_more : (b : Actor) (new : Runner) (known : Known) → Beside a b → IsFree b → IsQuiet (pending_by old) b → Contains b.seen.chain known.reference
       → new ≡ record old { known = new.known; running = None } → new.known.items ≡ old.known.items ++ known ∷ [] → IsKnown shape known
       → NoneHasName old.known.items known.name.items → IsRun shape version new (noted b (knows (known_of known)))
-  knows_more b new known beside may quiet new_is items lawful none =
+  knows_more b new known beside may quiet met new_is items lawful none =
       subst (λ (r : Runner). IsRun shape version r (noted b (knows (known_of known)))) (sym new_is) (record {
         records = ap is_opener beside.role ∙ run.records;
         segment = beside.segment ∙ run.segment;
@@ -110,6 +122,9 @@ module _ (shape : Dimensions) (version : ℕ) (old : Runner) (a : Actor) (run : 
             ∙ (map-append known_of old.known.items (known ∷ []) ∙ ap (λ l. l ++ known_of known ∷ []) (run.names ∙ sym beside.names));
         lawful = subst (All (IsKnown shape)) (sym items) (All-push (IsKnown shape) old.known.items known run.lawful lawful);
         once = subst HaveOwnNames (sym items) (own_more old.known.items known run.once none);
+        met = λ k inside.
+            ⊎_elim (λ before. met_on a b beside.names beside.chain run.met k before) (λ last. subst (λ (m : MachineKnown). Contains b.seen.chain m.reference) (one_of (known_of known) k last) met)
+            (Contains-append_cases b.answers.names (known_of known ∷ []) k inside);
         stands = (may, quiet_on (pending_by old) b (noted b (knows (known_of known))) refl refl refl quiet);
         room = tt;
         draft = tt;
@@ -159,12 +174,12 @@ module _ (shape : Dimensions) (version : ℕ) (old : Runner) (a : Actor) (run : 
       subst (λ said. Advances shape version old words new new_words said a) (sym result_is) (goes_noting (steps shape version a long stands.0) (λ b (beside, may, may_note, asking, within). (
         knows (asked_of now),
         may_note,
-        knows_more shape version old a run b new (let k = now.asked in record k { reference = now.reference }) beside may (still_quiet b beside) new_is then_items
+        knows_more shape version old a run b new (let k = now.asked in record k { reference = now.reference }) beside may (still_quiet b beside) (met_first b (asked_of now) may_note) new_is then_items
             (record { name = asking.name; lawful = asking.lawful; ranges = asking.ranges; fits = asking.fits; within = within }) none,
       )))
   hist_goes (Refused why) new result steps (new_is, result_is) =
       subst (λ said. Advances shape version old words new new_words said a) (sym result_is) (goes_with (steps shape version a long stands.0) (λ b (beside, may, cause).
-      gives_none shape version new b (held_by old.running) (ap held_by is) may (subst (λ (r : Runner). IsRun shape version r b) (sym new_is)
+      gives_none shape version new b (held_by old.running) (ap held_by is) (free_turns b.hand.place may) (subst (λ (r : Runner). IsRun shape version r b) (sym new_is)
       (runs_on shape version old a run b None beside (may, still_quiet b beside) tt tt))))
 
 -- what is answered
@@ -238,6 +253,7 @@ as_it_stood shape version old new a rests (new_is, entries, items, taken) run =
       names = ap (map known_of) items ∙ run.names;
       lawful = subst (All (IsKnown shape)) (sym items) run.lawful;
       once = subst HaveOwnNames (sym items) run.once;
+      met = run.met;
       stands = subst (λ (p : List Known × List Entry). StandsIn shape p.0 (drop old.ended p.1) old.running a) (λ i. (sym items i, sym entries i)) run.stands;
       room = subst (λ running. HasRoom running (vec_len new.known) (vec_capacity new.known)) (sym rests) tt;
       draft = subst (λ running. HasDraft running new.taken) (sym rests) tt;
@@ -259,6 +275,7 @@ begins_hist shape version name spec asked old new (Ok Going) a asks lawful rests
       names = ap (map known_of) items ∙ run.names;
       lawful = subst (All (IsKnown shape)) (sym items) run.lawful;
       once = subst HaveOwnNames (sym items) run.once;
+      met = run.met;
       stands = (
         begun.stands name spec a asks lawful (ap (λ s. s.shape) run.segment) stands.0,
         stands.1,

@@ -19,10 +19,10 @@ use Rattle.segment_machine.specs.Entry.{tally_noted}
 use Rattle.hist_core.specs.Batch.{IsBatch, IsCutAt, HaveEnded, IsSomeBatch, IsSameBatch, IsRefusedAt, BatchSteps, BatchGives, added_of, counted_entries, sum_entries, units_among}
 use Rattle.hist_core.specs.Goes.{Goes}
 use Rattle.hist_core.specs.Runner.{ended_by, begun_by, pending_by, entry_of, held_by, IsTelling, IsBatching, StandsIn, IsRun, IsBatchSaid, LandsBack, Advances, Answers}
+use Rattle.hist_core.proofs.Parts.Allocations.{goes_with}
 use Rattle.hist_core.proofs.Apart.{asks_not, adds_not, looks_not}
 use Rattle.hist_core.proofs.Batching.{runs_so, first_units}
 use Rattle.hist_core.proofs.Parts.Claims.{goes_noting}
-use Rattle.hist_core.proofs.Parts.Walks.{goes_with}
 use Rattle.hist_core.proofs.Quiet.{takes_none, takes_not}
 use Rattle.hist_core.proofs.Tellings.{Counts, goes_from, counts_somewhere, still_counts, has_counted, is_cut}
 

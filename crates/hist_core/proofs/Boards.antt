@@ -56,6 +56,7 @@ use Rattle.bucket_ranges.specs.Spec.{spec_fault}
 use Rattle.std.specs.Prelude.{None}
 use Rattle.hist_core.specs.World.{of_actor}
 use Rattle.hist_core.proofs.Orders.{walks_in_order}
+use Rattle.hist_core.proofs.Free.{free_turns}
 use Rattle.hist_core.proofs.Quiet.{not_spent, counts_none, some_quiet}
 
 -- ---- actors and those that they stand for
@@ -446,7 +447,7 @@ are_known_first board reached chain is_chain i r known at rests inside = ∥∥�
     ap (λ actors. get_elem? actors (i + 1)) reach.shows.actors ∙ behind_first reach.shows.opener reach.shows.recorders i ∙ found.1 in
     let words = reach.shows.words in
     let knows : Contains a.answers.names (known_of known) = subst (λ (l : List MachineKnown). Contains l (known_of known)) run.names (contains_map known_of r.known.items known inside) in
-    let may = (subst (λ running. StandsIn board.shape r.known.items (pending_by r) running a) rests run.stands).0 in
+    let may = free_turns a.hand.place (subst (λ running. StandsIn board.shape r.known.items (pending_by r) running a) rests run.stands).0 in
     let first = names_are_first board.shape (blank board.version reach.id board.shape.size) state chain kept
     (subst (λ (l : List ℕ). IsChain l (head_of l) chain) (sym words) is_chain) (i + 1) a there (not_spent a.hand.place may) (known_of known) knows in
     ∣ subst (λ (l : List ℕ). IsHistogram l chain known.name.items known.reference × SameSpec (spec_of l known.reference) known.spec) words first ∣₁)

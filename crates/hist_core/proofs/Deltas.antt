@@ -1,5 +1,5 @@
 -- A `delta` of an actor goes on, what it is shown as, and what it is answered with.
-use Rattle.std.proofs.Common.{◌≡◌, ◌<◌, ◌≤◌, ◌+◌, ◌-◌, ℕ, zero, suc, ℤ, pos, true, false, arith, set, List, [], ◌∷◌, ◌++◌, length, map, take, refl, sym, ap, subst, ◌∙◌, vec_len}
+use Rattle.std.proofs.Common.{◌≡◌, ◌<◌, ◌≤◌, ◌+◌, ◌-◌, ℕ, zero, suc, ℤ, pos, true, arith, set, List, [], ◌∷◌, ◌++◌, length, map, take, refl, sym, ap, subst, ◌∙◌, vec_len}
 use Rattle.std.specs.Prelude.{Option, Some, None, option_to_list, slice_index_or, slice_set, vec_capacity}
 use Rattle.std.specs.declared.alloc.Global.{Global}
 use Rattle.std.specs.declared.vec.Vec.{Vec}
@@ -18,8 +18,7 @@ use Rattle.segment_invariant.proofs.Lists.Maps.{contains_map}
 use Rattle.segment_machine.specs.declared.actor.Actor.{Actor}
 use Rattle.segment_machine.specs.declared.actor.Known.{Known as MachineKnown}
 use Rattle.segment_machine.specs.declared.actor.Taken.{Taken as MachineTaken}
-use Rattle.segment_machine.specs.Actor.{has_buckets, is_bound, is_opener, known_at, units_listed}
-use Rattle.segment_machine.specs.Calls.{MayTurn}
+use Rattle.segment_machine.specs.Actor.{has_buckets, is_opener, known_at, units_listed}
 use Rattle.segment_machine.specs.State.{State}
 use Rattle.hist_core.specs.declared.board.Board.{Board}
 use Rattle.hist_core.specs.declared.call.Answer.TheVariants as answer
@@ -36,13 +35,14 @@ use Rattle.hist_core.specs.declared.taker.Taker.{Taker}
 use Rattle.hist_core.specs.declared.taker.TakerStep.{TakerStep}
 use Rattle.hist_core.specs.declared.taker.TakerStep.TheVariants.{More, Took, Done}
 use Rattle.hist_core.specs.Board.{IsReached, IsReachedAs, TakesOf}
-use Rattle.hist_core.specs.Goes.{Goes}
+use Rattle.hist_core.specs.Goes.{Goes, IsFree}
 use Rattle.hist_core.specs.Runner.{Advances, Answers, AreShown, BeginsDelta, Becomes, Fits, HasDraft, HasPlace, HasRoom, IsDeltaSaid, IsDraft, IsDrawing, IsKnown, IsLast, IsQuiet, IsRun, IsShown, IsSomeRun, IsTimely, IsTook, StandsIn, TakenGoes, apart_from_delta, begun_by, ended_by, ended_deltas, known_of, looked_by, pending_by}
 use Rattle.hist_core.specs.Taker.{AreUnits, HasBegun, HasEnded, IsSomeTaker, IsTaker, IsUnderWay, Lists, StandsAtStage, TakerGives, TakerSteps, TakesAside}
+use Rattle.hist_core.proofs.Parts.Allocations.{goes_with}
 use Rattle.hist_core.proofs.Apart.{asks_not, adds_not, looks_not, batches_not}
 use Rattle.hist_core.proofs.Boards.{each_runs, is_there}
-use Rattle.hist_core.proofs.Parts.Walks.{goes_with}
-use Rattle.hist_core.proofs.Quiet.{begun_there}
+use Rattle.hist_core.proofs.Free.{free_turns}
+use Rattle.hist_core.proofs.Quiet.{begun_there, met_on}
 use Rattle.hist_core.proofs.Viewing.{call_begins, call_begun}
 
 -- ---- lists of what deltas took
@@ -219,6 +219,7 @@ module _ (shape : Dimensions) (version : ℕ) (old : Runner) (a : Actor) (run : 
       names = run.names ∙ sym aside.names;
       lawful = run.lawful;
       once = run.once;
+      met = met_on a b aside.names aside.chain run.met;
       stands = stands_there;
       room = has_room (vec_len old.known) (vec_capacity old.known);
       draft = draft;
@@ -254,7 +255,7 @@ module _ (shape : Dimensions) (version : ℕ) (old : Runner) (a : Actor) (run : 
           (λ n m. tt)
 
       -- it has ended
-      ends : (sum : ℤ) → new ≡ record old { taken = new.taken; running = None } → MayTurn b → HasEnded known earlier now sum b → then_is.sum ≡ sum
+      ends : (sum : ℤ) → new ≡ record old { taken = new.taken; running = None } → IsFree b → HasEnded known earlier now sum b → then_is.sum ≡ sum
           → IsRun shape version new b
       ends sum new_is turns ended is_sum =
           let quiet = still_quiet in
@@ -426,7 +427,7 @@ no_units = record { ascending = no_keys; some = λ k d below. absurd (omega (ari
 module _ (shape : Dimensions) (version : ℕ) (known : Known) (old new : Runner) (starts : BeginsDelta version known old new) (i : ℕ)
     (at : get_elem? old.known.items i ≡ some known) (bucketed : has_buckets known.spec ≡ true) (rests : old.running ≡ None) where
   module _ (a : Actor) (run : IsRun shape version old a) (lawful : IsShape shape) (alone : known_at a.answers.names known.reference ≡ Some (known_of known)) where
-    stood : (is_bound a.hand.place ≡ false) × IsQuiet (pending_by old) a
+    stood : IsFree a × IsQuiet (pending_by old) a
     stood = subst (λ running. StandsIn shape old.known.items (pending_by old) running a) rests run.stands
 
     its_known : IsKnown shape known
@@ -442,7 +443,7 @@ module _ (shape : Dimensions) (version : ℕ) (known : Known) (old new : Runner)
       lawful_shape = lawful;
       recorder = run.records;
       counts_nothing = stood.1.runs;
-      turns = stood.0;
+      turns = free_turns a.hand.place stood.0;
       reference = sym starts.started.reference;
       within = subst (λ n. n + 15 ≤ shape.size) (sym starts.started.reference) its_known.within;
       lawful = its_known.lawful;
@@ -470,6 +471,7 @@ module _ (shape : Dimensions) (version : ℕ) (known : Known) (old new : Runner)
       names = run.names;
       lawful = run.lawful;
       once = run.once;
+      met = run.met;
       stands = (quiet, (known_of known, a.deltas.taken, begins_taking, (starts.started.stage, starts.named)));
       room = tt;
       draft = (starts.room, starts.draft);

@@ -10,7 +10,9 @@ mod Beginnings
 mod Boards
 mod Buckets
 mod Deltas
+mod Free
 mod Looks
+mod Makes
 mod NewBoards
 mod Opening
 mod Orders
@@ -20,6 +22,7 @@ mod Quiet
 mod Runners
 mod SampleLists
 mod Scheduling
+mod Searches
 mod Snapshots
 mod Takes
 mod Tellings

@@ -59,6 +59,7 @@ module _ (shape : Dimensions) (version id : ℕ) where
         names = ap (map known_of) fresh.known;
         lawful = subst (All (IsKnown shape)) (sym fresh.known) (λ k d inside. absurd (omega (arith, inside)));
         once = subst HaveOwnNames (sym fresh.known) tt;
+        met = λ known (k, low, is). absurd (omega (arith, low));
         stands = subst (λ running. StandsIn shape runner.known.items (pending_by runner) running (newcomer (opener n))) (sym fresh.rests) (
           refl,
           record { none = ap (drop runner.ended) fresh.entries ∙ drop-nil runner.ended; runs = refl; holds = refl; share = refl; takes = refl },

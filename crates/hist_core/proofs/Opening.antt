@@ -45,6 +45,7 @@ use Rattle.segment_promises.proofs.Reached.{states_are_kept}
 use Rattle.segment_invariant.specs.Body.{blank}
 use Rattle.hist_core.specs.Add.{alone, counted_entry, IsAdd, IsCounting, IsStarted, StandsAtStage}
 use Rattle.hist_core.specs.Runner.{entry_of, known_of, pending_by, IsKnown, NoneHasName, HaveOwnNames, IsKnownAt, IsQuiet, HasDraft, HasRoom, StandsIn, IsRun, IsTelling, BeginsToCount, BeginsAdd}
+use Rattle.hist_core.proofs.Free.{free_turns}
 use Rattle.hist_core.proofs.Quiet.{not_spent, all_ended}
 
 -- ---- what an actor knows
@@ -85,7 +86,7 @@ module _ (shape : Dimensions) (opened : Anatomy) (state : State) (kept : Invaria
 module _ (shape : Dimensions) (version : ℕ) (old new : Runner) (entries : List MachineEntry) (running : Running) (starts : BeginsToCount entries running old new)
     (rests : old.running ≡ None) (a : Actor) (run : IsRun shape version old a) where
   pub stands : (is_bound a.hand.place ≡ false) × IsQuiet (pending_by old) a
-  stands = subst (λ running. StandsIn shape old.known.items (pending_by old) running a) rests run.stands
+  stands = let stood = subst (λ running. StandsIn shape old.known.items (pending_by old) running a) rests run.stands in (free_turns a.hand.place stood.0, stood.1)
 
   none_left : length old.entries.items ≡ old.ended
   none_left = all_ended shape version old a run stands.1.none
@@ -128,6 +129,7 @@ module _ (shape : Dimensions) (version : ℕ) (old new : Runner) (entries : List
       names = run.names;
       lawful = run.lawful;
       once = run.once;
+      met = run.met;
       stands = subst (λ (l : List Entry). StandsIn shape old.known.items l (Some running) (getter a cost)) (sym pending_is) stood;
       room = room;
       draft = draft;
@@ -243,7 +245,7 @@ module _ (old new : Board) (actor : ℕ) (r now : Runner) (here : get_elem? old.
   count_begins reached room draft stood state reach =
       let kept = states_are_kept old.shape old.version reach.id 0 state reach.reached in
       lends old state reach (is_long old reached) actor r now new here shaped versioned runners cost (ap (λ w. w.items) worded) pooled (λ a there run.
-      let free = (subst (λ running. StandsIn old.shape r.known.items (pending_by r) running a) rests run.stands).0 in
+      let free = free_turns a.hand.place (subst (λ running. StandsIn old.shape r.known.items (pending_by r) running a) rests run.stands).0 in
       let lives = not_spent a.hand.place free in (
         lives,
         begins_with old.shape old.version r now entries running starts rests a run cost (stood a run reach.reached.0 reach.reached.1

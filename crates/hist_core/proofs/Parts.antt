@@ -5,7 +5,7 @@ pub mod Claims
 pub mod Compares
 pub mod Comparisons
 pub mod Differences
-pub mod Fills
-pub mod Publishes
+pub mod Makings
+pub mod Records
 pub mod Sames
 pub mod Walks

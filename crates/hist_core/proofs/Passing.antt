@@ -1,10 +1,9 @@
 -- What an actor saw of the samples that it passed behind the record of a sparse histogram it has still seen when it has seen more; and what it
 -- lists of all of them is what a snapshot is.
-use Rattle.std.proofs.Common.{◌≡◌, ◌⊎◌, ℕ, ◌+◌, ◌*◌, ◌≤◌, ℤ, false, map, List, [], ◌∷◌, ◌++◌, length, inl, inr, ⊎_elim, sym, ap, subst, ◌∙◌}
+use Rattle.std.proofs.Common.{◌≡◌, ◌⊎◌, ℕ, ◌+◌, ◌*◌, ◌≤◌, ℤ, false, map, List, ◌∷◌, ◌++◌, length, inl, inr, ⊎_elim, sym, ap, subst, ◌∙◌}
 use Rattle.std.specs.Prelude.{Some}
 use Rattle.std.specs.Int.{cast_signed, cast_unsigned, w64}
 use Rattle.std.specs.List.{All, Contains}
-use Rattle.std.proofs.Math.ListN.{get_or}
 use Rattle.std.proofs.lemmas.List.Elements.{Contains-append_left}
 use Rattle.std.proofs.lemmas.List.{map-append}
 use Rattle.std.proofs.lemmas.List.Sorted.{All-permutation, Contains-permutation, IsPermutation-map}
@@ -17,7 +16,7 @@ use Rattle.segment_machine.specs.Actor.{SawCount}
 use Rattle.segment_machine.specs.Made.{IsFirstSample, SawSample}
 use Rattle.segment_machine.specs.Taking.{is_looking}
 use Rattle.segment_machine.proofs.Values.{value_word}
-use Rattle.segment_promises.specs.Values.{ComesTo, ListsValues}
+use Rattle.segment_promises.specs.Values.{ComesTo}
 use Rattle.segment_promises.proofs.ListedValues.{lists_still}
 use Rattle.segment_promises.proofs.SortedKeys.{one_place, once_still}
 use Rattle.hist_core.specs.Goes.{IsInOrder}

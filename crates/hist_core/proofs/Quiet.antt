@@ -1,8 +1,12 @@
 -- Of a call that counts nothing: none of its actor's entries is pending, and what it leaves as it was.
 use Rattle.std.proofs.Common.{◌≡◌, ◌≢◌, ◌≤◌, ◌-◌, false, true≢false, ℕ, List, [], ◌++◌, length, take, sym, ap, subst, ◌∙◌, arith}
+use Rattle.std.specs.List.{Contains}
+use Rattle.std.proofs.lemmas.List.Elements.{Contains-append_left}
 use Rattle.std.proofs.lemmas.List.{length-map, length-drop, length-take-le, append-nil, drop_all}
 use Rattle.segment_image.specs.Shape.{Dimensions}
+use Rattle.list_core.specs.Walk.{IsPrefix}
 use Rattle.segment_machine.specs.declared.actor.Actor.{Actor}
+use Rattle.segment_machine.specs.declared.actor.Known.{Known as MachineKnown}
 use Rattle.segment_machine.specs.declared.place.Place.{Place}
 use Rattle.segment_machine.specs.declared.place.Place.TheVariants.{Spent}
 use Rattle.segment_machine.specs.Actor.{is_bound}
@@ -14,6 +18,7 @@ use Rattle.hist_core.specs.declared.hist.Known.{Known}
 use Rattle.hist_core.specs.declared.runner.Running.{Running}
 use Rattle.hist_core.specs.declared.runner.Running.TheVariants.{SetCorrupt, Hist, Add, Delta, Snapshot, Batch}
 use Rattle.hist_core.specs.declared.call.Stepped.{Stepped}
+use Rattle.hist_core.specs.Goes.{HasMet}
 use Rattle.hist_core.specs.Runner.{entry_of, ended_by, begun_by, pending_by, IsQuiet, StandsIn, IsRun, IsSomeRun, TakenGoes}
 
 -- it counts nothing still where units, entries and deltas are as before
@@ -25,6 +30,12 @@ quiet_on pending a b units entries deltas quiet = record {
   share = ap (λ u. u.share) units ∙ quiet.share;
   takes = ap (λ d. d.taking) deltas ∙ quiet.takes;
 }
+
+-- it has met the records of the histograms that it knows, where it knows no more and has seen no less of the chain
+pub met_on : (a b : Actor) → b.answers.names ≡ a.answers.names → IsPrefix a.seen.chain b.seen.chain → HasMet a → HasMet b
+met_on a b names (rest, grown) met known inside =
+    subst (λ (l : List ℕ). Contains l known.reference) (sym grown)
+    (Contains-append_left a.seen.chain rest known.reference (met known (subst (λ (l : List MachineKnown). Contains l known) names inside)))
 
 -- a place that is spent is bound
 pub not_spent : (place : Place) → is_bound place ≡ false → place ≢ Spent

@@ -13,6 +13,7 @@ use Rattle.hist_core.specs.declared.runner.Runner.{Runner}
 use Rattle.hist_core.specs.Runner.{IsRun, StandsIn, Advances, pending_by}
 use Rattle.hist_core.specs.declared.call.Answer.TheVariants.{Flagged}
 use Rattle.hist_core.specs.declared.call.Stepped.TheVariants.{Done}
+use Rattle.hist_core.proofs.Free.{free_turns}
 use Rattle.hist_core.proofs.Quiet.{quiet_on}
 
 -- the one event of `set_corrupt`
@@ -26,7 +27,7 @@ sets_corrupt shape version a old words new_words long run is stored =
       at = a;
       told = refl;
       event = allocating_event (set_flag 1);
-      ready = (stands.0, inl refl);
+      ready = (free_turns a.hand.place stands.0, inl refl);
       words_are = stored;
       goes = λ learned apart. (
         [],
@@ -43,6 +44,7 @@ sets_corrupt shape version a old words new_words long run is stored =
           names = run.names;
           lawful = run.lawful;
           once = run.once;
+          met = run.met;
           stands = (refl, quiet_on (pending_by old) a (next a (allocating_event (set_flag 1)) (word_at words 6)) refl refl refl stands.1);
           room = tt;
           draft = tt;
@@ -64,6 +66,7 @@ begins_set_corrupt shape version r a rests run = record {
   names = run.names;
   lawful = run.lawful;
   once = run.once;
+  met = run.met;
   room = tt;
   draft = tt;
   stands = subst (λ running. StandsIn shape r.known.items (pending_by r) running a) rests run.stands;

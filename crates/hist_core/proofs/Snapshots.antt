@@ -36,7 +36,7 @@ use Rattle.hist_core.specs.declared.looker.LookerStep.TheVariants.{More, Done}
 use Rattle.hist_core.specs.declared.looker.Stage.{Stage}
 use Rattle.hist_core.specs.declared.looker.Stage.TheVariants.{LoadingSingle, LoadingCounts, LoadingCount, LoadingFirst, LoadingType, LoadingHistogram, LoadingValue, LoadingSample, LoadingNext, LoadingSum, LoadingRedundant}
 use Rattle.hist_core.specs.declared.mounted.Mounted.{Mounted}
-use Rattle.hist_core.specs.Goes.{Beside, Goes, IsInOrder, WalksInOrder}
+use Rattle.hist_core.specs.Goes.{Beside, Goes, IsInOrder, WalksInOrder, is_tied}
 use Rattle.hist_core.specs.Looker.{HasKeys, IsBehindSingle, IsLooker, IsPut, IsSomeLooker, LookerGives, SawBefore, SawTotalsOf, StandsAtStage, behind_bucket}
 use Rattle.hist_core.specs.Mounted.{AreMounted, HasWord, total_at}
 use Rattle.segment_machine.specs.Form.{SaysPacked}
@@ -498,7 +498,7 @@ module _ (shape : Dimensions) (known : Known) (looker : Looker) (a : Actor) (wor
         noted loaded (answers answered),
         ((known, is.knows, refl, saw, refl), refl),
         (
-          is.turns,
+          ap is_tied before_last.2,
           record {
             beside = record {
               role = refl;

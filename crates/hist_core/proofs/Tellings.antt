@@ -11,7 +11,6 @@ use Rattle.segment_machine.specs.declared.actor.Units.{Units}
 use Rattle.segment_machine.specs.declared.entry.Counting.{Counting}
 use Rattle.segment_machine.specs.declared.entry.Entry.{Entry as MachineEntry}
 use Rattle.segment_machine.specs.Actor.{cost_total, is_opener}
-use Rattle.segment_machine.specs.Calls.{MayTurn}
 use Rattle.segment_machine.specs.Entry.{fresh, tally_noted}
 use Rattle.segment_machine.specs.Note.{Note, Notes, MayNote, noted, begins, ends, refused, spent_by}
 use Rattle.segment_machine.specs.Seats.{giver}
@@ -19,9 +18,10 @@ use Rattle.hist_core.specs.declared.runner.Running.{Running}
 use Rattle.hist_core.specs.declared.runner.Runner.{Runner}
 use Rattle.hist_core.specs.Add.{Aside, StaysOpen}
 use Rattle.hist_core.specs.Batch.{Runs, HaveEnded, IsCutAt}
-use Rattle.hist_core.specs.Goes.{Goes}
+use Rattle.hist_core.specs.Goes.{Goes, IsFree}
 use Rattle.hist_core.specs.Runner.{entry_of, ended_by, pending_by, AreShown, HasDraft, HasRoom, IsBefore, IsTelling, StandsIn, IsRun, LandsBack}
-use Rattle.hist_core.proofs.Quiet.{not_spent, started, logged}
+use Rattle.hist_core.proofs.Free.{free_turns}
+use Rattle.hist_core.proofs.Quiet.{met_on, not_spent, started, logged}
 
 -- an actor that notes something first goes on as it does then
 pub goes_after : {size version : ℕ} {a : Actor} {words new_words : List ℕ} {holds : Actor → Type 0} (note : Note) → MayNote a note
@@ -91,6 +91,7 @@ module _ (shape : Dimensions) (version : ℕ) (old : Runner) (name : List ℕ) (
         names = run.names;
         lawful = run.lawful;
         once = run.once;
+        met = run.met;
         stands = into (noted a (begins name cost entries)) (record { pending_are = telling.pending_are; stands = inr (none, before.stands) });
         room = run.room;
         draft = run.draft;
@@ -159,12 +160,13 @@ module _ (shape : Dimensions) (version : ℕ) (old : Runner) (name : List ℕ) (
         names = counts.run.names ∙ sym aside.names;
         lawful = counts.run.lawful;
         once = counts.run.once;
+        met = met_on a b aside.names aside.chain counts.run.met;
         stands = stands;
         room = room;
         draft = draft;
       }
 
-      module _ (turns : MayTurn b) (rests : a.deltas.taking ≡ false) where
+      module _ (turns : IsFree b) (rests : a.deltas.taking ≡ false) where
         -- its entries have ended
         pub has_counted : HaveEnded entries b
             → (notes : List Note) × (c : Actor) × Notes b notes c × IsRun shape version (record going { ended = length old.entries.items; running = None }) c
@@ -175,7 +177,7 @@ module _ (shape : Dimensions) (version : ℕ) (old : Runner) (name : List ℕ) (
             ∙ sym (map-append (λ (c : Counting). c.entry) b.entries.log b.entries.running))) in (
               ends ∷ [],
               noted b ends,
-              ((turns, over), refl),
+              ((free_turns b.hand.place turns, over), refl),
               record {
                 records = ap is_opener aside.role ∙ counts.run.records;
                 segment = aside.segment ∙ counts.run.segment;
@@ -187,6 +189,7 @@ module _ (shape : Dimensions) (version : ℕ) (old : Runner) (name : List ℕ) (
                 names = counts.run.names ∙ sym aside.names;
                 lawful = counts.run.lawful;
                 once = counts.run.once;
+                met = met_on a b aside.names aside.chain counts.run.met;
                 stands = (
                   turns,
                   record {
@@ -255,9 +258,9 @@ module _ (shape : Dimensions) (version : ℕ) (old : Runner) (name : List ℕ) (
           is_cut = (
             refused added ∷ [],
             c,
-            ((turns, cut.ended, cut.untouched, cut.unsummed), refl),
+            ((free_turns b.hand.place turns, cut.ended, cut.untouched, cut.unsummed), refl),
             (
-              not_spent b.hand.place turns,
+              not_spent b.hand.place (free_turns b.hand.place turns),
               (let share = share_is in omega (arith, share)),
               subst (λ (r : Runner). IsRun shape version r (giver c units)) (sym new_is) (record {
                 records = ap is_opener aside.role ∙ counts.run.records;
@@ -270,6 +273,7 @@ module _ (shape : Dimensions) (version : ℕ) (old : Runner) (name : List ℕ) (
                 names = counts.run.names ∙ sym aside.names;
                 lawful = counts.run.lawful;
                 once = counts.run.once;
+                met = met_on a b aside.names aside.chain counts.run.met;
                 stands = (
                   turns,
                   record {

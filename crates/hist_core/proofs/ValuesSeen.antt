@@ -1,14 +1,12 @@
 -- A snapshot of a sparse histogram, event by event.
-use Rattle.std.proofs.Common.{◌≡◌, ◌≢◌, ◌⊎◌, ℕ, suc, ◌+◌, ◌-◌, ◌*◌, ◌/◌, ◌<◌, ◌≤◌, ◌==◌, ℤ, Bool, true, false, true≢false, map, if◌then◌else◌, List, [], ◌∷◌, ◌++◌, length, inl, inr, ⊎_elim, refl, sym, ap, subst, ◌∙◌, arith, eqb-true, eq-eqb}
+use Rattle.std.proofs.Common.{◌≡◌, ◌≢◌, ◌⊎◌, ℕ, ◌+◌, ◌-◌, ◌*◌, ◌/◌, ◌<◌, ◌≤◌, ◌==◌, ℤ, Bool, true, false, true≢false, map, if◌then◌else◌, List, [], ◌∷◌, ◌++◌, length, inl, inr, ⊎_elim, refl, sym, ap, subst, ◌∙◌, arith, eqb-true, eq-eqb}
 use Rattle.std.specs.Prelude.{Option, Some, None, vec_capacity, vec_len}
-use Rattle.std.specs.Int.{cast_unsigned, w64}
 use Rattle.std.specs.List.{Contains}
 use Rattle.std.proofs.Props.{props}
 use Rattle.std.proofs.Math.Logic.{∥∥₁_elim}
 use Rattle.std.proofs.lemmas.List.{append-nil, map-append}
 use Rattle.std.proofs.lemmas.List.Elements.{Contains-append_right, Contains-push}
 use lib.Seq.{set-get_or}
-use Rattle.bucket_ranges.specs.declared.spec.Spec.TheVariants as spec
 use Rattle.bucket_ranges.specs.Reading.{is_i32}
 use Rattle.segment_image.specs.Shape.{Dimensions}
 use Rattle.segment_image.specs.Words.{word_at}
@@ -17,23 +15,23 @@ use Rattle.segment_machine.specs.declared.actor.Known.{Known}
 use Rattle.segment_machine.specs.declared.place.Place.{Place}
 use Rattle.segment_machine.specs.declared.place.Place.TheVariants as place
 use Rattle.segment_machine.specs.Actor.{SawCount, Sparse, is_bound, word_seen}
-use Rattle.segment_machine.specs.Calls.{MayTurn, sight}
+use Rattle.segment_machine.specs.Calls.{sight}
 use Rattle.segment_machine.specs.Event.{Event, Learned, next, taking_event, walking_event}
-use Rattle.segment_machine.specs.Made.{SawOther, SawSample}
+use Rattle.segment_machine.specs.Made.{SawOther}
 use Rattle.segment_machine.specs.Note.{looks, noted}
-use Rattle.segment_machine.specs.Taking.{IsLaterSample, at_count, is_looking, load_count}
-use Rattle.segment_machine.specs.Walking.{IsFixed, IsNextOf, WalkingEvent, behind, load_next, load_published}
+use Rattle.segment_machine.specs.Taking.{at_count, is_looking, load_count}
+use Rattle.segment_machine.specs.Walking.{IsFixed, WalkingEvent, load_next, load_published}
 use Rattle.segment_promises.specs.Values.{ListsValues, listed_of}
 use Rattle.segment_promises.proofs.Growing.{extended_grows, grows_not}
 use Rattle.segment_promises.proofs.ListedValues.{lists_nothing, lists_on, lists_one, lists_still}
-use Rattle.segment_promises.proofs.ValueWalks.{behind_it, comes_first, comes_on, met, passed_few, split_at_it, stands_there}
+use Rattle.segment_promises.proofs.ValueWalks.{behind_it, comes_first, comes_on, met, passed_few, split_at_it}
 use Rattle.hist_core.specs.declared.looker.Looker.{Looker}
 use Rattle.hist_core.specs.declared.looker.LookerStep.TheVariants.{More}
 use Rattle.hist_core.specs.declared.looker.Stage.{Stage}
 use Rattle.hist_core.specs.declared.looker.Stage.TheVariants.{LoadingSingle, LoadingCounts, LoadingCount, LoadingFirst, LoadingType, LoadingHistogram, LoadingValue, LoadingSample, LoadingNext, LoadingSum, LoadingRedundant}
 use Rattle.hist_core.specs.Goes.{Beside, Goes, IsInOrder, WalksInOrder}
 use Rattle.hist_core.specs.Looker.{HasListed, HasSeenValues, HasTotal, IsBehindNext, IsBehindValue, IsListed, IsLooker, IsOnWay, IsSomeLooker, LookerGives, MetRecord, PassedRecord, StandsAtStage, behind_type}
-use Rattle.hist_core.specs.Mounted.{BeganBefore}
+use Rattle.hist_core.proofs.Free.{still_apart, still_free}
 use Rattle.hist_core.proofs.Parts.Compares.{seen_now}
 use Rattle.hist_core.proofs.Quiet.{not_spent}
 use Rattle.hist_core.proofs.Passing.{listed_still, total_still, values_still, way_still}
@@ -43,28 +41,7 @@ use Rattle.hist_core.proofs.Takes.Sights.{SeesMore, began_still, saw_word, seen_
 
 -- ---- a walk
 
--- it is as free as before, and stands at no single word and no counts of a histogram still
-still_free : (p : Place) (at found : ℕ) → is_bound p ≡ false → is_bound (behind p at found) ≡ false
-still_free (place.CursorLoaded cursor from) at found was = by (at == from) (found == 12)
-  where
-    by : (here ends : Bool) → is_bound (if here then (if ends then place.Idle else place.BehindCursor cursor from found) else place.CursorLoaded cursor from) ≡ false
-    by true true = refl
-    by true false = refl
-    by false ends = refl
-still_free p at found was = was
-
-still_apart : (p : Place) (at found : ℕ) → is_looking p ≡ false → is_looking (behind p at found) ≡ false
-still_apart (place.Looking look) at found was = absurd (cc was)
-still_apart (place.CountLoaded look bucket count) at found was = absurd (cc was)
-still_apart (place.CursorLoaded cursor from) at found was = by (at == from) (found == 12)
-  where
-    by : (here ends : Bool) → is_looking (if here then (if ends then place.Idle else place.BehindCursor cursor from found) else place.CursorLoaded cursor from) ≡ false
-    by true true = refl
-    by true false = refl
-    by false ends = refl
-still_apart p at found was = was
-
-walk_beside : (a : Actor) (e : WalkingEvent) (found : ℕ) → Beside a (next a (walking_event e) found)
+pub walk_beside : (a : Actor) (e : WalkingEvent) (found : ℕ) → Beside a (next a (walking_event e) found)
 walk_beside a (load_next at) found = record {
   role = refl;
   segment = refl;

@@ -1,11 +1,10 @@
 -- A `snapshot` of an actor goes on, and what it is answered with.
-use Rattle.std.proofs.Common.{◌≡◌, ◌≤◌, ◌+◌, ◌-◌, ℕ, ℤ, pos, true, false, true≢false, arith, set, slice_index, List, length, map, take, All, refl, sym, ap, subst, ◌∙◌}
+use Rattle.std.proofs.Common.{◌≡◌, ◌≤◌, ◌+◌, ◌-◌, ℕ, ℤ, pos, true, true≢false, arith, set, slice_index, List, ◌∷◌, ◌++◌, length, map, take, All, refl, sym, ap, subst, ◌∙◌}
 use Rattle.std.specs.Prelude.{Option, Some, None}
 use Rattle.std.specs.List.{Contains}
 use Rattle.segment_image.specs.Shape.{Dimensions}
 use Rattle.segment_machine.specs.declared.actor.Actor.{Actor}
 use Rattle.segment_machine.specs.declared.actor.Known.{Known as MachineKnown}
-use Rattle.segment_machine.specs.Calls.{MayTurn}
 use Rattle.hist_core.specs.declared.call.Stepped.{Stepped}
 use Rattle.hist_core.specs.declared.call.Answer.TheVariants as answer
 use Rattle.hist_core.specs.declared.call.Stepped.TheVariants as stepped
@@ -15,7 +14,7 @@ use Rattle.hist_core.specs.declared.looker.LookerStep.TheVariants.{More, Done}
 use Rattle.hist_core.specs.declared.runner.Running.{Running}
 use Rattle.hist_core.specs.declared.runner.Running.TheVariants.{Snapshot}
 use Rattle.hist_core.specs.declared.runner.Runner.{Runner}
-use Rattle.hist_core.specs.Goes.{Goes, WalksInOrder}
+use Rattle.hist_core.specs.Goes.{Goes, IsFree, WalksInOrder}
 use Rattle.hist_core.specs.Looker.{HasLooked, IsLooker, IsSomeLooker, LookerGives, LookerSteps}
 use Rattle.hist_core.specs.Runner.{Advances, Answers, AreShown, BeginsSnapshot, IsKnown, known_of, IsAnswer, IsQuiet, IsRun, IsSnapshotSaid, IsSomeRun, StandsIn, begun_by, ended_by, looked_by, pending_by}
 use Rattle.std.specs.List.{range_with_len}
@@ -29,22 +28,23 @@ use Rattle.bucket_ranges.specs.Ranges.{boundaries_of}
 use Rattle.bucket_ranges.specs.Spec.{buckets_of, spec_fault}
 use Rattle.bucket_ranges.proofs.Ascent.{boundaries_of-split}
 use Rattle.segment_invariant.specs.Body.{blank}
-use Rattle.segment_invariant.proofs.Lists.Elements.{all_at, contains_at}
+use Rattle.segment_invariant.proofs.Lists.Elements.{all_at, at_from, contains_at, split_at}
 use Rattle.segment_invariant.proofs.Lists.Maps.{contains_map}
 use Rattle.segment_promises.proofs.Reached.{states_are_kept}
 use Rattle.segment_machine.specs.State.{State}
-use Rattle.segment_machine.specs.Actor.{bucket_key, has_buckets, is_bound, known_at}
+use Rattle.segment_machine.specs.Actor.{bucket_key, has_buckets, known_at}
 use Rattle.hist_core.specs.declared.board.Board.{Board}
 use Rattle.hist_core.specs.declared.hist.Known.{Known}
 use Rattle.hist_core.specs.Board.{IsReachedAs, LooksAt}
 use Rattle.hist_core.specs.Looker.{IsStarted, OpensWith, StandsAtStage, blank_totals}
 use Rattle.hist_core.specs.declared.looker.Stage.{Stage}
 use Rattle.hist_core.specs.declared.looker.Stage.TheVariants.{LoadingSingle, LoadingCounts, LoadingCount, LoadingFirst, LoadingType, LoadingHistogram, LoadingValue, LoadingSample, LoadingNext, LoadingSum, LoadingRedundant}
+use Rattle.hist_core.proofs.Parts.Allocations.{goes_with}
 use Rattle.hist_core.proofs.Asking.{place_below, runs_on}
 use Rattle.hist_core.proofs.Boards.{same_there}
 use Rattle.hist_core.proofs.Opening.{alone_there}
-use Rattle.hist_core.proofs.Parts.Walks.{goes_with}
 use Rattle.hist_core.proofs.Apart.{asks_not, adds_not, batches_not}
+use Rattle.hist_core.proofs.Free.{free_apart, free_turns}
 use Rattle.hist_core.proofs.Quiet.{begun_there, not_spent, quiet_on, takes_none, takes_not}
 
 abbrev looks_by : Looker → Option Running → Looker
@@ -72,7 +72,7 @@ module _ (shape : Dimensions) (version : ℕ) (old : Runner) (a : Actor) (run : 
   one_version = sym looks.version ∙ ap (λ s. s.version) run.segment
 
   -- it has ended: of what its actor has counted and knows nothing has changed
-  rests_then : (b : Actor) (sum : ℤ) (redundant : ℕ) → MayTurn b → HasLooked known now sum redundant a b → IsRun shape version (record old { running = None }) b
+  rests_then : (b : Actor) (sum : ℤ) (redundant : ℕ) → IsFree b → HasLooked known now sum redundant a b → IsRun shape version (record old { running = None }) b
   rests_then b sum redundant turns looked =
       let c : Actor = record b { deltas = a.deltas } in
       let quiet = quiet_on (pending_by old) a c looked.beside.units looked.beside.entries refl stands.0 in
@@ -88,6 +88,7 @@ module _ (shape : Dimensions) (version : ℕ) (old : Runner) (a : Actor) (run : 
         names = then_is.names;
         lawful = then_is.lawful;
         once = then_is.once;
+        met = then_is.met;
         stands = (
           turns,
           record { none = quiet.none; runs = quiet.runs; holds = quiet.holds; share = quiet.share; takes = ap (λ d. d.taking) deltas ∙ quiet.takes },
@@ -179,11 +180,16 @@ no_units boundaries k d below =
     let long = length-map-range_with_len blank_one 0 (length boundaries - 1) in
     ap (λ (total : ℤ × ℕ). total.1) (get_or-map-range_with_len blank_one 0 (length boundaries - 1) k k d (omega (arith, below, long)) (omega arith))
 
+-- a record that was met stands somewhere on the list
+pub met_split : (chain : List ℕ) (at : ℕ) → Contains chain at → (front behind : List ℕ) × (chain ≡ front ++ at ∷ behind)
+met_split chain at met =
+    let (i, there) = at_from chain at met in let (front, behind, is, others) = split_at chain i at there in (front, behind, is)
+
 -- who rests begins it, which is no event
 module _ (shape : Dimensions) (version : ℕ) (known : Known) (old new : Runner) (starts : BeginsSnapshot shape version known old new) (i : ℕ)
-    (at : get_elem? old.known.items i ≡ some known) (bucketed : has_buckets known.spec ≡ true) (rests : old.running ≡ None) where
+    (at : get_elem? old.known.items i ≡ some known) (rests : old.running ≡ None) where
   module _ (a : Actor) (run : IsRun shape version old a) (lawful : IsShape shape) (alone : known_at a.answers.names known.reference ≡ Some (known_of known)) where
-    stood : (is_bound a.hand.place ≡ false) × IsQuiet (pending_by old) a
+    stood : IsFree a × IsQuiet (pending_by old) a
     stood = subst (λ running. StandsIn shape old.known.items (pending_by old) running a) rests run.stands
 
     its_known : IsKnown shape known
@@ -199,14 +205,18 @@ module _ (shape : Dimensions) (version : ℕ) (known : Known) (old new : Runner)
     started : IsStarted shape version (known_of known) looker
     started = starts.1
 
-    -- of a histogram with buckets it stands before the single word
+    knows : Contains a.answers.names (known_of known)
+    knows = subst (λ (l : List MachineKnown). Contains l (known_of known)) run.names (contains_map known_of old.known.items known (contains_at old.known.items i known at))
+
+    -- of a histogram with buckets it stands before the single word, of a sparse one at the record
     stands_first : (stage : Stage) → OpensWith shape (known_of known) looker stage → StandsAtStage shape (known_of known) looker a stage
     stands_first LoadingSingle (has, blank) =
         let keys : HasBlanks looker.totals.items = subst HasBlanks (sym blank) (keys_of_buckets (known_of known) its_known.lawful has) in (
           record { bucketed = has; keys = keys.0; buckets = keys.1 },
           subst (All (λ total. total.1 ≡ 0)) (sym blank) (no_units (boundaries_of known.spec)),
         )
-    stands_first LoadingFirst (sparse, none, room) = absurd (true≢false (sym bucketed ∙ ap has_buckets sparse))
+    stands_first LoadingFirst (sparse, none, room) =
+        (sparse, none, room, free_apart a.hand.place stood.0, met_split a.seen.chain known.reference (run.met (known_of known) knows))
     stands_first (LoadingCounts packed kept) none = absurd none
     stands_first (LoadingCount mounted bucket) none = absurd none
     stands_first (LoadingType at) none = absurd none
@@ -225,11 +235,11 @@ module _ (shape : Dimensions) (version : ℕ) (known : Known) (old new : Runner)
       recorder = run.records;
       counts_nothing = stood.1.runs;
       takes_nothing = stood.1.takes;
-      turns = stood.0;
+      turns = free_turns a.hand.place stood.0;
       reference = sym started.reference;
       within = subst (λ n. n + 15 ≤ shape.size) (sym started.reference) its_known.within;
       lawful = its_known.lawful;
-      knows = subst (λ (l : List MachineKnown). Contains l (known_of known)) run.names (contains_map known_of old.known.items known (contains_at old.known.items i known at));
+      knows = knows;
       alone = alone;
       stands = stands_first looker.stage started.opens;
     }
@@ -246,6 +256,7 @@ module _ (shape : Dimensions) (version : ℕ) (known : Known) (old new : Runner)
       names = run.names;
       lawful = run.lawful;
       once = run.once;
+      met = run.met;
       stands = (stood.1, (known_of known, begins_looking));
       room = tt;
       draft = tt;
@@ -261,13 +272,13 @@ module _ (old new : Board) (actor : ℕ) (r now : Runner) (here : get_elem? old.
   call_begins begins state reach =
       let kept = states_are_kept old.shape old.version reach.id 0 state reach.reached in
       same_there old state reach actor r now new here (λ a there run.
-      let free = (subst (λ running. StandsIn old.shape r.known.items (pending_by r) running a) rests run.stands).0 in
+      let free = free_turns a.hand.place (subst (λ running. StandsIn old.shape r.known.items (pending_by r) running a) rests run.stands).0 in
       begins a run reach.reached.0
       (alone_there old.shape (blank old.version reach.id old.shape.size) state kept (actor + 1) a there (not_spent a.hand.place free) r.known.items run.once run.names place known at))
       shaped versioned pooled (ap (λ w. w.items) worded) runners
 
-  pub snapshot_begins : BeginsSnapshot old.shape old.version known r now → has_buckets known.spec ≡ true → (state : State) → IsReachedAs old state → IsReachedAs new state
-  snapshot_begins starts bucketed = call_begins (begins_with old.shape old.version known r now starts place at bucketed rests)
+  pub snapshot_begins : BeginsSnapshot old.shape old.version known r now → (state : State) → IsReachedAs old state → IsReachedAs new state
+  snapshot_begins starts = call_begins (begins_with old.shape old.version known r now starts place at rests)
 
 -- so it is among the actors
 pub call_begun : (IsOf : ℕ → Option Running → Type 0) (runners : List Runner) (actor : ℕ) (r now : Runner) → get_elem? runners actor ≡ some r → (place : ℕ) (known : Known)

@@ -34,7 +34,7 @@ use Rattle.hist_core.specs.declared.add.Stage.{Stage}
 use Rattle.hist_core.specs.declared.add.Stage.TheVariants.{LoadingSingle, Packing, LoadingCounts, SeekingCounts, Allocating, Mounting, Purging, LoadingAgain, Disabling, Moving, Counting, Summing, Noting}
 use Rattle.segment_calls.specs.declared.refusal.Refusal.{Refusal}
 use Rattle.segment_calls.specs.declared.refusal.Refusal.TheVariants as why
-use Rattle.hist_core.specs.Goes.{Goes}
+use Rattle.hist_core.specs.Goes.{Goes, IsFree}
 
 -- ---- what it counts
 
@@ -193,8 +193,8 @@ IsCause cause b = ⊥
 -- another call then.
 abbrev pub AddGives : Dimensions → Known → Amid → Add → AddStep → Actor → Actor → Type 0
 AddGives shape known amid new More a b = Aside a b × StaysOpen a b × IsAdd shape known amid new b
-AddGives shape known amid new Done a b = Aside a b × StaysOpen a b × MayTurn b × HasEnded known amid new b
-AddGives shape known amid new (Refused cause) a b = Aside a b × StaysOpen a b × MayTurn b × IsCause cause b × HasEntry known amid new b false false
+AddGives shape known amid new Done a b = Aside a b × StaysOpen a b × IsFree b × HasEnded known amid new b
+AddGives shape known amid new (Refused cause) a b = Aside a b × StaysOpen a b × IsFree b × IsCause cause b × HasEntry known amid new b false false
 
 -- what a step makes of the words, and of whatever actor stands so
 abbrev pub AddSteps : Add → List ℕ → Add → List ℕ → AddStep → Type 0

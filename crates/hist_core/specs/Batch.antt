@@ -20,7 +20,7 @@ use Rattle.hist_core.specs.declared.batch.Batch.{Batch}
 use Rattle.hist_core.specs.declared.batch.BatchStep.{BatchStep}
 use Rattle.hist_core.specs.declared.batch.BatchStep.TheVariants.{More, Done, Refused}
 use Rattle.hist_core.specs.Add.{Amid, IsAdd, IsCounting, IsCause, Aside, StaysOpen, counted_entry, ended_entry}
-use Rattle.hist_core.specs.Goes.{Goes}
+use Rattle.hist_core.specs.Goes.{Goes, IsFree}
 
 -- ---- what it counts
 
@@ -118,9 +118,9 @@ pub record IsCutAt (added : ℕ) (entries : List Entry) (a : Actor) : Type 0 whe
 -- What a step says: it goes on; all of it is counted; or its next item is refused. Its actor may turn to another call then.
 abbrev pub BatchGives : Dimensions → Known → Batch → BatchStep → Actor → Actor → Type 0
 BatchGives shape known new More a b = Aside a b × StaysOpen a b × IsBatch shape known new b
-BatchGives shape known new Done a b = Aside a b × StaysOpen a b × MayTurn b × HaveEnded (counted_entries known new) b
+BatchGives shape known new Done a b = Aside a b × StaysOpen a b × IsFree b × HaveEnded (counted_entries known new) b
 BatchGives shape known new (Refused refusal) a b =
-    Aside a b × StaysOpen a b × MayTurn b × IsCause refusal.why b × IsCutAt refusal.added (counted_entries known new) b
+    Aside a b × StaysOpen a b × IsFree b × IsCause refusal.why b × IsCutAt refusal.added (counted_entries known new) b
     × (refusal.added ≤ length new.items.items) × (new.left + units_among (take refusal.added new.items.items) ≡ new.cost)
 
 -- what a step makes of the words, and of whatever actor stands so

@@ -1,15 +1,18 @@
 -- How an actor goes on by one event.
-use Rattle.std.specs.Prelude.{◌≡◌, ◌≢◌, ℕ, ℤ, List, ◌∷◌, ◌++◌}
+use Rattle.std.specs.Prelude.{◌≡◌, ◌≢◌, Bool, false, ◌||◌, ℕ, ℤ, List, ◌∷◌, ◌++◌}
 use Rattle.std.specs.List.{Contains}
 use Rattle.segment_image.specs.Words.{word_at}
 use Rattle.list_core.specs.Walk.{IsPrefix}
 use Rattle.segment_machine.specs.declared.actor.Actor.{Actor}
+use Rattle.segment_machine.specs.declared.actor.Known.{Known}
+use Rattle.segment_machine.specs.declared.place.Place.{Place}
 use Rattle.segment_machine.specs.declared.place.Place.TheVariants.{Spent}
-use Rattle.segment_machine.specs.Actor.{AreApart}
+use Rattle.segment_machine.specs.Actor.{AreApart, is_bound}
 use Rattle.segment_machine.specs.declared.seen.Sighting.{Sighting}
 use Rattle.segment_machine.specs.Event.{Event, spot, after, next, Ready, Learned}
 use Rattle.segment_machine.specs.Made.{SawSample}
 use Rattle.segment_machine.specs.Note.{Note, Notes}
+use Rattle.segment_machine.specs.Taking.{is_looking}
 use Rattle.segment_promises.specs.Values.{StandOnce}
 
 -- What an event leaves as it was: its role, its segment, its units and entries, its deltas, and the names that it was answered with.
@@ -35,6 +38,18 @@ pub record Goes (size version : ℕ) (a : Actor) (words new_words : List ℕ) (h
   pub words_are : new_words ≡ after size version event words
   pub goes : Learned at event (word_at words (spot size event)) → AreApart (next at event (word_at words (spot size event)))
       → (behind : List Note) × (then_is : Actor) × Notes (next at event (word_at words (spot size event))) behind then_is × holds then_is
+
+-- in the midst of a part of a call, or at the single word or the counts of a histogram
+abbrev pub is_tied : Place → Bool
+is_tied place = is_bound place || is_looking place
+
+-- it may turn to any other call
+abbrev pub IsFree : Actor → Type 0
+IsFree a = is_tied a.hand.place ≡ false
+
+-- it has met the record of each histogram that it knows
+abbrev pub HasMet : Actor → Type 0
+HasMet a = (known : Known) → Contains a.answers.names known → Contains a.seen.chain known.reference
 
 -- each sample that it met stands behind the record of its histogram
 abbrev pub SamplesStandBehind : Actor → Type 0

@@ -8,36 +8,29 @@ use Rattle.bucket_ranges.specs.declared.spec.Spec.{Spec}
 use Rattle.segment_image.specs.declared.layout.TheConstants.{BLOCK_HEADER, BLOCK_LEAST, BLOCK_TYPE, HEADER_WORDS, HISTOGRAM_NAME, TYPE_HISTOGRAM}
 use Rattle.segment_image.specs.Shape.{Dimensions}
 use Rattle.alloc_core.specs.Layout.{IsShape}
-use Rattle.alloc_core.specs.Alloc as alloc
-use Rattle.alloc_core.specs.declared.alloc.AllocStep.{AllocStep}
-use Rattle.alloc_core.specs.declared.alloc.AllocStep.TheVariants as said
 use Rattle.segment_calls.specs.declared.refusal.Refusal.{Refusal}
 use Rattle.segment_calls.specs.declared.refusal.Refusal.TheVariants as why
-use Rattle.list_core.specs.declared.publish.PubStep.{PubStep}
-use Rattle.list_core.specs.declared.publish.PubStep.TheVariants as put
-use Rattle.list_core.specs.Publish as publish
 use Rattle.list_core.specs.Chain.{is_reference}
 use Rattle.list_core.specs.Walk.{IsPrefix, stands_behind}
 use Rattle.segment_machine.specs.declared.actor.Actor.{Actor}
 use Rattle.segment_machine.specs.declared.actor.Known.{Known as MachineKnown}
 use Rattle.segment_machine.specs.declared.actor.Made.{Made}
 use Rattle.segment_machine.specs.declared.actor.Made.TheVariants.{Histogram}
-use Rattle.segment_machine.specs.declared.actor.Own.{Own}
 use Rattle.segment_machine.specs.declared.seen.Seen.{Seen}
 use Rattle.segment_machine.specs.Actor.{word_seen}
-use Rattle.segment_machine.specs.Calls.{MayTurn}
 use Rattle.segment_machine.specs.Made.{AreNameWords, IsFirstNamed, SawOtherName, SawOtherSpec}
 use Rattle.segment_machine.specs.Note.{MayNote, knows}
-use Rattle.segment_machine.specs.Publishing.{own_at}
-use Rattle.segment_machine.specs.Stages.{Allocates, PublishesAt}
 use Rattle.segment_calls.specs.Asked.{payload_words, IsAskedFor}
 use Rattle.segment_calls.specs.declared.asked.Asked.{Asked}
 use Rattle.hist_core.specs.declared.hist.Hist.{Hist}
 use Rattle.hist_core.specs.declared.hist.HistStep.{HistStep}
 use Rattle.hist_core.specs.declared.hist.HistStep.TheVariants.{More, Done, Refused}
-use Rattle.hist_core.specs.Goes.{Beside, Goes}
+use Rattle.hist_core.specs.Goes.{Beside, Goes, IsFree}
 use Rattle.hist_core.specs.declared.hist.Stage.{Stage}
-use Rattle.hist_core.specs.declared.hist.Stage.TheVariants.{Walking, Comparing, Allocating, Filling, Publishing}
+use Rattle.hist_core.specs.declared.hist.Stage.TheVariants.{Walking, Comparing, Making}
+use Rattle.hist_core.specs.declared.making.MakingStep.{MakingStep}
+use Rattle.hist_core.specs.declared.making.MakingStep.TheVariants as made
+use Rattle.hist_core.specs.Making.{IsMaking, Wanted}
 
 -- ---- what it asks for
 
@@ -48,6 +41,10 @@ asked_of h = record { name = h.asked.name.items; spec = h.asked.spec; reference 
 -- what its record is to hold
 abbrev pub made_of : Hist → Made
 made_of h = Histogram h.asked.name.items h.asked.spec
+
+-- the record that it makes where there is none of the name
+abbrev pub wanted_of : Hist → Wanted
+wanted_of h = record { made = made_of h; room = length h.payload.items; payload = h.payload.items }
 
 -- Its name and its spec are lawful, its record and its counts fit in a page, and it has the ranges of its spec and the words of its
 -- payload, of which the last is not 0.
@@ -107,26 +104,6 @@ IsDifferent old k new More = (k < old.letters + 2) × (new ≡ record old { stag
 IsDifferent old k new Done = ⊥
 IsDifferent old k new (Refused cause) = (old.letters + 2 ≤ k) × (new ≡ old) × (cause ≡ why.OtherSpec)
 
--- ---- what it stores
-
--- the front of a payload, up to its last word that was stored, while the words before an index are stored: those that are 0 are not
-pub record IsFilledTo (payload : List ℕ) (index : ℕ) (front : List ℕ) : Type 0 where
-  pub short : length front ≤ index
-  pub words : front ++ replicate (index - length front) 0 ≡ take index payload
-
--- the next word to be stored, from an index on: the first that is not 0, or the end
-pub record IsNextFilled (payload : List ℕ) (from next : ℕ) : Type 0 where
-  pub behind : from ≤ next
-  pub before : next ≤ length payload
-  pub zeros : (i : ℕ) → from ≤ i → i < next → slice_index payload i ≡ 0
-  pub stored : next < length payload → slice_index payload next ≢ 0
-
--- its own block at a word, which is to hold its record
-abbrev pub HasBlock : Hist → ℕ → Actor → Own → Type 0
-HasBlock h at a own =
-    (own_at a.hand.own at ≡ Some own) × (own.next ≡ 0) × (own.made ≡ Some (made_of h)) × (own.tag ≡ TYPE_HISTOGRAM)
-    × (BLOCK_HEADER + length h.payload.items ≤ own.size)
-
 -- ---- where it stands
 
 -- none of these records has its name
@@ -135,20 +112,11 @@ HaveOtherNames h a records = All (SawOtherName a.seen h.asked.name.items) record
 
 -- Where its actor stands, whose walk has given these records: none of them has the name, but for the last while it is compared.
 abbrev pub StandsAtStage : Dimensions → Hist → Actor → List ℕ → Stage → Type 0
-StandsAtStage shape h a given Walking = MayTurn a × HaveOtherNames h a given
+StandsAtStage shape h a given Walking = IsFree a × HaveOtherNames h a given
 StandsAtStage shape h a given (Comparing same) =
-    MayTurn a × ((front : List ℕ) × (given ≡ front ++ h.reference ∷ []) × HaveOtherNames h a front)
+    IsFree a × ((front : List ℕ) × (given ≡ front ++ h.reference ∷ []) × HaveOtherNames h a front)
     × Reaches shape.size h same × (same < comparisons h) × AreSame a.seen h same
-StandsAtStage shape h a given (Allocating allocation) =
-    HaveOtherNames h a given × Allocates a allocation × (is_some (alloc.next_event allocation) ≡ true) × (allocation.tag ≡ TYPE_HISTOGRAM)
-    × (BLOCK_HEADER + length h.payload.items ≤ allocation.size)
-StandsAtStage shape h a given (Filling at index) =
-    MayTurn a × HaveOtherNames h a given × (index < length h.payload.items) × (slice_index h.payload.items index ≢ 0)
-    × ((HEADER_WORDS ≤ at) × (at + (BLOCK_HEADER + length h.payload.items) ≤ shape.size))
-    × ((own : Own) × HasBlock h at a own × IsFilledTo h.payload.items index own.payload)
-StandsAtStage shape h a given (Publishing publishing) =
-    HaveOtherNames h a given × PublishesAt a publishing.reference (made_of h) publishing.stage × (is_some (publish.next_event publishing) ≡ true)
-    × publish.IsReach shape.size publishing
+StandsAtStage shape h a given (Making making) = HaveOtherNames h a given × IsMaking shape (wanted_of h) making a
 
 -- Its walk has given the front of the chain that its actor has seen.
 pub record IsHist (shape : Dimensions) (h : Hist) (a : Actor) : Type 0 where
@@ -176,8 +144,8 @@ IsCause shape h cause b = ⊥
 abbrev pub HistGives : Dimensions → Hist → HistStep → Actor → Actor → Type 0
 HistGives shape new More a b = Beside a b × IsHist shape new b
 HistGives shape new Done a b =
-    Beside a b × MayTurn b × MayNote b (knows (asked_of new)) × IsAsking shape new × (new.reference + HISTOGRAM_NAME ≤ shape.size)
-HistGives shape new (Refused cause) a b = Beside a b × MayTurn b × IsCause shape new cause b
+    Beside a b × IsFree b × MayNote b (knows (asked_of new)) × IsAsking shape new × (new.reference + HISTOGRAM_NAME ≤ shape.size)
+HistGives shape new (Refused cause) a b = Beside a b × IsFree b × IsCause shape new cause b
 
 -- what a step makes of the words, and of whatever actor stands so
 abbrev pub HistSteps : Hist → List ℕ → Hist → List ℕ → HistStep → Type 0
@@ -188,43 +156,19 @@ HistSteps old words new new_words said = (shape : Dimensions) (version : ℕ) (a
 abbrev pub IsSomeHist : ℕ → Hist → Type 0
 IsSomeHist n h = (shape : Dimensions) × (a : Actor) × (n ≡ shape.size) × IsHist shape h a
 
--- it begins to allocate a block for its record, where that fits in a page
-abbrev pub BeginsToAllocate : Hist → Hist → HistStep → Type 0
-BeginsToAllocate old new More =
-    new ≡ record old { stage = Allocating (alloc.first_of old.shape (vec_len old.payload) TYPE_HISTOGRAM) }
-BeginsToAllocate old new Done = ⊥
-BeginsToAllocate old new (Refused cause) = ⊥
+-- it is making its record
+abbrev pub IsMakingRecord : Stage → Type 0
+IsMakingRecord (Making making) = ⊤
+IsMakingRecord _ = ⊥
 
--- it is allocating
-abbrev pub IsAllocating : Stage → Type 0
-IsAllocating (Allocating allocation) = ⊤
-IsAllocating _ = ⊥
-
--- what becomes of it by what a step of its allocation said: it goes on, or stores the payload in its block, or is refused
-abbrev pub IsAllocated : Hist → AllocStep → Hist → HistStep → Type 0
-IsAllocated old said.More new result = (new ≡ old) × (result ≡ More)
-IsAllocated old (said.Done at) new result = (new ≡ record old { stage = Filling at 0 }) × (result ≡ More)
-IsAllocated old said.Full new result = (new ≡ old) × (result ≡ Refused why.Full)
-IsAllocated old said.Corrupt new result = (new ≡ old) × (result ≡ Refused why.Corrupt)
-
--- it is publishing
-abbrev pub IsPublishing : Stage → Type 0
-IsPublishing (Publishing publishing) = ⊤
-IsPublishing _ = ⊥
-
--- what becomes of it by what a step of its publish said: it goes on, or the same walk does
-abbrev pub IsPublished : Hist → PubStep → Hist → HistStep → Type 0
-IsPublished old put.More new result = (new ≡ old) × (result ≡ More)
-IsPublished old put.Done new result = (new ≡ record old { stage = Walking }) × (result ≡ More)
-IsPublished old put.Stray new result = (new ≡ old) × (result ≡ More)
-
--- the words of the payload before an index are stored: it stores the next that is not 0, or publishes its record
-abbrev pub IsFilled : Hist → ℕ → ℕ → Hist → Type 0
-IsFilled old at from new = (next : ℕ) × IsNextFilled old.payload.items from next
-    × (new ≡ record old { stage = if nat_lt next (length old.payload.items) then Filling at next else Publishing (publish.started at) })
+-- what becomes of it by what a step of the making of its record said: it goes on, or the same walk does, or it is refused
+abbrev pub IsMade : Hist → MakingStep → Hist → HistStep → Type 0
+IsMade old made.More new result = (new ≡ old) × (result ≡ More)
+IsMade old made.Done new result = (new ≡ record old { stage = Walking }) × (result ≡ More)
+IsMade old (made.Refused cause) new result = (new ≡ old) × (result ≡ Refused cause)
 
 -- It begins: it walks from the start of the list for a record of what is asked, where an actor may turn to it.
 pub record IsBegun (shape : Dimensions) (asked : Asked) (new : Hist) : Type 0 where
   pub named : new.asked.name ≡ asked.name
   pub specified : new.asked.spec ≡ asked.spec
-  pub stands : (name : List ℕ) (spec : Spec) (a : Actor) → IsAskedFor shape name spec asked → IsShape shape → a.segment.shape ≡ shape → MayTurn a → IsHist shape new a
+  pub stands : (name : List ℕ) (spec : Spec) (a : Actor) → IsAskedFor shape name spec asked → IsShape shape → a.segment.shape ≡ shape → IsFree a → IsHist shape new a

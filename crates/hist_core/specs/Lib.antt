@@ -1,5 +1,6 @@
 pub mod WorldFault
 pub mod Goes
+pub mod Making
 pub mod Hist
 pub mod Add
 pub mod Batch
@@ -10,3 +11,4 @@ pub mod Moves
 pub mod Mounted
 pub mod Taker
 pub mod Looker
+pub mod Sampling

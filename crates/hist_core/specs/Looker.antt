@@ -29,7 +29,7 @@ use Rattle.hist_core.specs.declared.looker.LookerStep.{LookerStep}
 use Rattle.hist_core.specs.declared.looker.LookerStep.TheVariants.{More, Done}
 use Rattle.hist_core.specs.declared.looker.Stage.{Stage}
 use Rattle.hist_core.specs.declared.looker.Stage.TheVariants.{LoadingSingle, LoadingCounts, LoadingCount, LoadingFirst, LoadingType, LoadingHistogram, LoadingValue, LoadingSample, LoadingNext, LoadingSum, LoadingRedundant}
-use Rattle.hist_core.specs.Goes.{Beside, Goes, WalksInOrder}
+use Rattle.hist_core.specs.Goes.{Beside, Goes, IsFree, WalksInOrder}
 use Rattle.hist_core.specs.Mounted.{AreMounted, BeganBefore, HasWord}
 
 -- ---- what it sees
@@ -177,7 +177,7 @@ pub record HasLooked (known : Known) (looker : Looker) (sum : ℤ) (redundant : 
 -- What a step says: it goes on; or it has ended, and its actor may turn to another call.
 abbrev pub LookerGives : Dimensions → Known → Looker → LookerStep → Actor → Actor → Type 0
 LookerGives shape known new More a b = Beside a b × IsLooker shape known new b
-LookerGives shape known new (Done sum redundant) a b = MayTurn b × HasLooked known new sum redundant a b
+LookerGives shape known new (Done sum redundant) a b = IsFree b × HasLooked known new sum redundant a b
 
 -- what a step makes of the words, and of whatever actor stands so
 abbrev pub LookerSteps : Looker → List ℕ → Looker → List ℕ → LookerStep → Type 0

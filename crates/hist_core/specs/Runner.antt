@@ -15,13 +15,13 @@ use Rattle.segment_machine.specs.declared.entry.Entry.{Entry as MachineEntry}
 use Rattle.segment_machine.specs.declared.actor.Actor.{Actor}
 use Rattle.segment_machine.specs.declared.place.Place.TheVariants.{Spent}
 use Rattle.segment_machine.specs.declared.actor.Taken.{Taken as MachineTaken}
-use Rattle.segment_machine.specs.Actor.{is_opener, is_bound, units_listed}
+use Rattle.segment_machine.specs.Actor.{is_opener, units_listed}
 use Rattle.segment_machine.specs.Entry.{batch_entries}
 use Rattle.segment_machine.specs.Note.{MayNote, SawAll, TookAll, noted, begins}
 use Rattle.segment_machine.specs.Seats.{giver}
 use Rattle.segment_machine.specs.declared.actor.Answered.{Answered}
 use Rattle.segment_machine.specs.declared.actor.Known.{Known as MachineKnown}
-use Rattle.hist_core.specs.Goes.{Goes}
+use Rattle.hist_core.specs.Goes.{Goes, HasMet, IsFree}
 use Rattle.hist_core.specs.Add.{IsAdd, alone, counted_entry, IsStarted}
 use Rattle.hist_core.specs.Batch.{IsBatch, IsSameBatch, counted_entries}
 use Rattle.hist_core.specs.declared.batch.Batch.{Batch as BatchCall}
@@ -196,8 +196,8 @@ IsDrawing shape pending taker fresh a =
 
 -- Where the machine's actor stands whose call is this, or that runs none. A `hist` asks for a histogram that is not known.
 abbrev pub StandsIn : Dimensions → List Known → List Entry → Option Running → Actor → Type 0
-StandsIn shape known pending None a = (is_bound a.hand.place ≡ false) × IsQuiet pending a
-StandsIn shape known pending (Some SetCorrupt) a = (is_bound a.hand.place ≡ false) × IsQuiet pending a
+StandsIn shape known pending None a = IsFree a × IsQuiet pending a
+StandsIn shape known pending (Some SetCorrupt) a = IsFree a × IsQuiet pending a
 StandsIn shape known pending (Some (Hist hist)) a = IsHist shape hist a × IsQuiet pending a × NoneHasName known hist.asked.name.items
 StandsIn shape known pending (Some (Add add)) a = IsAdding shape pending add a
 StandsIn shape known pending (Some (Delta taker fresh)) a = IsDrawing shape pending taker fresh a
@@ -210,8 +210,8 @@ HasRoom (Some (Hist hist)) known capacity = known < capacity
 HasRoom running known capacity = ⊤
 
 -- An actor of a segment of this shape and version is a recorder, whose log is the entries of ended calls, and which has begun those of
--- the running call that have begun; its deltas took what is shown; it knows the same histograms, each of another name, and stands where the
--- running call does.
+-- the running call that have begun; its deltas took what is shown; it knows the same histograms, each of another name, has met the record of
+-- each, and stands where the running call does.
 pub record IsRun (shape : Dimensions) (version : ℕ) (runner : Runner) (a : Actor) : Type 0 where
   pub records : is_opener a.role ≡ false
   pub segment : a.segment ≡ record { shape = shape; version = version; cursors = 0 }
@@ -223,6 +223,7 @@ pub record IsRun (shape : Dimensions) (version : ℕ) (runner : Runner) (a : Act
   pub names : map known_of runner.known.items ≡ a.answers.names
   pub lawful : All (IsKnown shape) runner.known.items
   pub once : HaveOwnNames runner.known.items
+  pub met : HasMet a
   pub stands : StandsIn shape runner.known.items (pending_by runner) runner.running a
   pub room : HasRoom runner.running (vec_len runner.known) (vec_capacity runner.known)
   pub draft : HasDraft runner.running runner.taken

@@ -26,7 +26,7 @@ use Rattle.hist_core.specs.declared.taker.Stage.TheVariants.{LoadingSingle, Taki
 use Rattle.hist_core.specs.declared.taker.Taker.{Taker}
 use Rattle.hist_core.specs.declared.taker.TakerStep.{TakerStep}
 use Rattle.hist_core.specs.declared.taker.TakerStep.TheVariants.{More, Took, Done}
-use Rattle.hist_core.specs.Goes.{Goes}
+use Rattle.hist_core.specs.Goes.{Goes, IsFree}
 use Rattle.hist_core.specs.Mounted.{HasWord, AreMounted, HasLoaded}
 
 -- ---- what is taken
@@ -138,7 +138,7 @@ pub record HasEnded (known : Known) (earlier : List Taken) (taker : Taker) (sum 
 
 -- What a step says: it goes on, and may have taken units; or it has ended, and its actor may turn to another call.
 abbrev pub TakerGives : Dimensions → Known → List Taken → Taker → TakerStep → Actor → Actor → Type 0
-TakerGives shape known earlier new (Done sum) a b = TakesAside a b × MayTurn b × HasEnded known earlier new sum b
+TakerGives shape known earlier new (Done sum) a b = TakesAside a b × IsFree b × HasEnded known earlier new sum b
 TakerGives shape known earlier new said a b = TakesAside a b × IsTaker shape known earlier new b
 
 -- what a step makes of the words, and of whatever actor stands so

@@ -279,7 +279,6 @@ impl Board {
         requires reached { ∥ IsReached self.old ∥₁ }
         requires near { actor < vec_len self.old.runners }
         requires rests { Rests self.old actor }
-        requires bucketed { (known : Known) → IsKnownBy self.old actor place known → has_buckets known.spec ≡ true }
         requires known { (name : List ℕ) × IsPlaceOf self.old actor name place }
         ensures fault { OnErr result (IsAsBefore self.old self.new) }
         ensures begins { (state : State) → IsReachedAs self.old state → IsReachedAs self.new state }

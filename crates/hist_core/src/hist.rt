@@ -2,10 +2,9 @@
 
 ghost use Rattle.std.specs.Prelude.{◌≡◌, ◌≢◌, ◌≤◌, ◌<◌, ℕ, List, length};
 
-use alloc_core::event::store;
-use alloc_core::{Alloc, AllocStep};
+use crate::making::{Making, MakingStep};
 use bucket_ranges::{Ranges, Spec};
-use list_core::{PubStep, Publish, Walk, WalkStep};
+use list_core::{Walk, WalkStep};
 use segment_calls::{Asked, Refusal};
 use segment_image::Shape;
 use segment_image::layout::{BLOCK_HEADER, BLOCK_TYPE, HISTOGRAM_NAME_LENGTH, TYPE_HISTOGRAM};
@@ -27,12 +26,8 @@ pub(crate) enum Stage {
     Walking,
     /// It loads a word of the record where the walk stands. So many before it were as they are to be.
     Comparing { same: usize },
-    /// It claims the words of its record.
-    Allocating { alloc: Alloc },
-    /// It stores a word of the payload of its record, which is not 0.
-    Filling { at: u64, index: usize },
-    /// It puts its record on the list.
-    Publishing { publish: Publish },
+    /// It makes its record.
+    Making { making: Making },
 }
 
 /// What a step of a `hist` says.
@@ -63,9 +58,8 @@ pub(crate) struct Hist {
 impl Hist {
     ghost use Rattle.std.specs.Prelude.{◌+◌, ◌-◌, ◌*◌, ◌^◌, vec_len, slice_index};
     ghost use Rattle.segment_machine.specs.declared.actor.Actor.{Actor};
-    ghost use Rattle.hist_core.specs.Hist.{compared_place, compared_index, compared_word, IsBegun, IsSomeHist, HistSteps, BeginsToAllocate, IsAllocated, IsAllocating, IsPublished, IsPublishing, IsNextFilled, IsFilled, IsMatched, IsDifferent};
-    ghost use Rattle.alloc_core.specs.Layout.{IsShape};
-    ghost use Rattle.hist_core.specs.declared.hist.Stage.TheVariants.{Walking, Comparing, Filling};
+    ghost use Rattle.hist_core.specs.Hist.{compared_place, compared_index, compared_word, IsBegun, IsSomeHist, HistSteps, IsMade, IsMakingRecord, IsMatched, IsDifferent};
+    ghost use Rattle.hist_core.specs.declared.hist.Stage.TheVariants.{Walking, Comparing};
 
     // It begins at the start of the list.
     pub(crate) fn start(shape: Shape, asked: Asked) -> Hist
@@ -184,124 +178,44 @@ impl Hist {
                 self.stage = Stage::Comparing { same: 0 };
                 HistStep::More
             }
-            WalkStep::End => self.begin_allocating(),
+            WalkStep::End => {
+                let room = self.payload.len() as u64;
+                let making = Making::start(self.shape, room, TYPE_HISTOGRAM);
+                self.stage = Stage::Making { making };
+                HistStep::More
+            }
             WalkStep::Stray => HistStep::More,
         }
     }
 
-    // There is no record of the name so far.
-    fn begin_allocating(&mut self) -> HistStep
-        requires lawful { IsShape self.old.shape }
-        requires one_page { BLOCK_HEADER + vec_len self.old.payload ≤ self.old.shape.page }
-        ensures { BeginsToAllocate self.old self.new result }
-    {
-        match Alloc::start(self.shape, self.payload.len() as u64, TYPE_HISTOGRAM) {
-            Ok(alloc) => {
-                self.stage = Stage::Allocating { alloc };
-                HistStep::More
-            }
-            Err(_) => HistStep::Refused(Refusal::TooLarge),
-        }
-    }
-
-    // What becomes of it by what a step of its allocation said.
-    fn allocated(&mut self, said: AllocStep) -> HistStep
-        ensures { IsAllocated self.old said self.new result }
+    // What becomes of it by what a step of the making of its record said: it goes on, or the same walk does.
+    fn made(&mut self, said: MakingStep) -> HistStep
+        ensures { IsMade self.old said self.new result }
     {
         match said {
-            AllocStep::More => HistStep::More,
-            AllocStep::Done(at) => {
-                self.stage = Stage::Filling { at, index: 0 };
+            MakingStep::More => HistStep::More,
+            MakingStep::Done => {
+                self.stage = Stage::Walking;
                 HistStep::More
             }
-            AllocStep::Full => HistStep::Refused(Refusal::Full),
-            AllocStep::Corrupt => HistStep::Refused(Refusal::Corrupt),
+            MakingStep::Refused(refusal) => HistStep::Refused(refusal),
         }
     }
 
-    // It goes on with claiming the words of its record.
-    fn allocate(&mut self, words: &mut [u64]) -> HistStep
-        requires allocates { IsAllocating self.old.stage }
+    // It goes on with making its record.
+    fn make(&mut self, words: &mut [u64]) -> HistStep
+        requires makes { IsMakingRecord self.old.stage }
         requires stands { ∥ IsSomeHist (length words.old) self.old ∥₁ }
         ensures steps { HistSteps self.old words.old self.new words.new result }
         ensures asks { self.new.asked ≡ self.old.asked }
     {
         match &mut self.stage {
-            Stage::Allocating { alloc } => {
-                let said = alloc.step(words);
-                self.allocated(said)
+            Stage::Making { making } => {
+                let said = making.step(words, &self.payload);
+                self.made(said)
             }
             _ => HistStep::More,
         }
-    }
-
-    // What becomes of it by what a step of its publish said: the same walk goes on.
-    fn published(&mut self, said: PubStep) -> HistStep
-        ensures { IsPublished self.old said self.new result }
-    {
-        if said == PubStep::Done {
-            self.stage = Stage::Walking;
-        }
-        HistStep::More
-    }
-
-    // It goes on with putting its record on the list.
-    fn publish(&mut self, words: &mut [u64]) -> HistStep
-        requires publishes { IsPublishing self.old.stage }
-        requires stands { ∥ IsSomeHist (length words.old) self.old ∥₁ }
-        ensures steps { HistSteps self.old words.old self.new words.new result }
-        ensures asks { self.new.asked ≡ self.old.asked }
-    {
-        match &mut self.stage {
-            Stage::Publishing { publish } => {
-                let said = publish.step(words);
-                self.published(said)
-            }
-            _ => HistStep::More,
-        }
-    }
-
-    // The next word of the payload from an index on that is not 0, or the end.
-    fn next_filled(&self, from: usize) -> usize
-        requires { from ≤ vec_len self.now.payload }
-        ensures { IsNextFilled self.now.payload.items from result }
-    {
-        let mut next = from;
-        while next < self.payload.len() && self.payload[next] == 0 {
-            next += 1;
-        }
-        next
-    }
-
-    // The words of the payload before an index are stored: it stores the next, or publishes its record.
-    fn filled(&mut self, at: u64, from: usize)
-        requires { from ≤ vec_len self.old.payload }
-        ensures { IsFilled self.old at from self.new }
-    {
-        let index = self.next_filled(from);
-        self.stage = if index < self.payload.len() {
-            Stage::Filling { at, index }
-        } else {
-            Stage::Publishing {
-                publish: Publish::start(at),
-            }
-        };
-    }
-
-    // It stores a word of the payload.
-    fn fill(&mut self, words: &mut [u64], at: u64, index: usize) -> HistStep
-        requires fills { self.old.stage ≡ Filling at index }
-        requires stands { ∥ IsSomeHist (length words.old) self.old ∥₁ }
-        ensures steps { HistSteps self.old words.old self.new words.new result }
-        ensures asks { self.new.asked ≡ self.old.asked }
-    {
-        store(
-            words,
-            at as usize + (BLOCK_HEADER + index),
-            self.payload[index],
-        );
-        self.filled(at, index + 1);
-        HistStep::More
     }
 
     // Goes on by one event.
@@ -313,9 +227,7 @@ impl Hist {
         match self.stage {
             Stage::Walking => self.walk_on(words),
             Stage::Comparing { same } => self.compare(words, same),
-            Stage::Allocating { .. } => self.allocate(words),
-            Stage::Filling { at, index } => self.fill(words, at, index),
-            Stage::Publishing { .. } => self.publish(words),
+            Stage::Making { .. } => self.make(words),
         }
     }
 }

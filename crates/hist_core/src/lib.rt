@@ -12,9 +12,11 @@ mod entry;
 mod fault;
 mod hist;
 mod looker;
+mod making;
 mod mounted;
 mod runner;
 mod samples;
+mod sampling;
 mod taker;
 mod telling;
 #[cfg(test)]

@@ -7,6 +7,7 @@ mod events;
 mod hists;
 mod memory;
 mod schedules;
+mod sparse_deltas;
 
 use crate::{Answer, Begun, Call, Stepped, World, WorldFault};
 use bucket_ranges::Spec;

@@ -30,7 +30,7 @@ use Rattle.hist_core.specs.declared.add.AddStep.TheVariants.{More, Done, Refused
 use Rattle.hist_core.specs.declared.add.Stage.{Stage}
 use Rattle.hist_core.specs.declared.add.Stage.TheVariants.{SeekingCounts, Allocating, Mounting, Purging, LoadingAgain}
 use Rattle.segment_calls.specs.declared.refusal.Refusal.TheVariants as why
-use Rattle.hist_core.specs.Goes.{Beside, Goes}
+use Rattle.hist_core.specs.Goes.{Beside, Goes, is_tied}
 use Rattle.hist_core.specs.Add.{Amid, HasEntry, AreCounts, StandsAtStage, IsAdd, AddGives, BeginsToAllocate, IsAllocated}
 use Rattle.hist_core.proofs.Adds.Counts.{counts_in}
 use Rattle.hist_core.proofs.Adds.Entries.{counting_of}
@@ -38,9 +38,8 @@ use Rattle.hist_core.proofs.Adds.Going.{acts_on, packs_on, goes_still, aside_cou
 use Rattle.hist_core.proofs.Adds.Packs.{has_them}
 use Rattle.hist_core.proofs.Adds.Refusals.{refuses, beside_aside}
 use Rattle.hist_core.proofs.Looks.{looks_there}
-use Rattle.hist_core.proofs.Parts.Allocations.{allocates_on}
+use Rattle.hist_core.proofs.Parts.Allocations.{allocates_on, goes_with}
 use Rattle.hist_core.proofs.Parts.Alone.{makes_so}
-use Rattle.hist_core.proofs.Parts.Walks.{goes_with}
 use Rattle.hist_core.proofs.Parts.Claims.{claimed_suits, claimed_of, goes_noting, rests_at, filled_at}
 use Rattle.std.proofs.lemmas.Bool.{eq-eqb}
 
@@ -207,12 +206,12 @@ module _ (shape : Dimensions) (known : Known) (amid : Amid) (add : Add) (a : Act
         subst (λ (r : AddStep). Goes shape.size add.version a words new_words (AddGives shape known amid new r a)) (sym result_is)
         (goes_with (claims long y new_words said.Full step) (λ b (beside, apart, goes).
         refuses shape known amid add new a stood_allocating.1 b beside why.Full (ap (λ (n : Add). counting_of known n false false) new_is)
-        (ap is_bound (rests_at b y y.stage (λ e. cc (step.answers ∙ e)) goes.stands)) (filled_at b y y.stage (sym step.answers) goes.stands)))
+        (ap is_tied (rests_at b y y.stage (λ e. cc (step.answers ∙ e)) goes.stands)) (filled_at b y y.stage (sym step.answers) goes.stands)))
     allocates_so long y new_words said.Corrupt new result step more (new_is, result_is) =
         subst (λ (r : AddStep). Goes shape.size add.version a words new_words (AddGives shape known amid new r a)) (sym result_is)
         (goes_with (claims long y new_words said.Corrupt step) (λ b (beside, apart, goes).
         refuses shape known amid add new a stood_allocating.1 b beside why.Corrupt (ap (λ (n : Add). counting_of known n false false) new_is)
-        (ap is_bound (rests_at b y y.stage (λ e. cc (step.answers ∙ e)) goes.stands)) tt))
+        (ap is_tied (rests_at b y y.stage (λ e. cc (step.answers ∙ e)) goes.stands)) tt))
 
     -- what the step of its allocation asks for
     pub asks_long : length words ≡ shape.size → length words ≡ x.shape.size

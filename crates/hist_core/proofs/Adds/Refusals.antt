@@ -3,12 +3,11 @@ use Rattle.std.proofs.Common.{◌≡◌, false, ◌∷◌, ◌++◌, map, sym, a
 use Rattle.segment_image.specs.Shape.{Dimensions}
 use Rattle.segment_machine.specs.declared.actor.Actor.{Actor}
 use Rattle.segment_machine.specs.declared.actor.Known.{Known}
-use Rattle.segment_machine.specs.Calls.{MayTurn}
 use Rattle.segment_machine.specs.Entry.{fresh}
 use Rattle.hist_core.specs.declared.add.Add.{Add}
 use Rattle.hist_core.specs.declared.add.AddStep.TheVariants.{Refused}
 use Rattle.segment_calls.specs.declared.refusal.Refusal.{Refusal}
-use Rattle.hist_core.specs.Goes.{Beside}
+use Rattle.hist_core.specs.Goes.{Beside, IsFree}
 use Rattle.hist_core.specs.Add.{Amid, HasEntry, Aside, IsCause, AddGives}
 use Rattle.hist_core.proofs.Adds.Entries.{counting_of}
 
@@ -17,7 +16,7 @@ pub beside_aside : (a b : Actor) → Beside a b → Aside a b
 beside_aside a b beside = record { role = beside.role; segment = beside.segment; deltas = beside.deltas; names = beside.names; chain = beside.chain; words = beside.words }
 
 pub refuses : (shape : Dimensions) (known : Known) (amid : Amid) (add new : Add) (a : Actor) → HasEntry known amid add a false false → (b : Actor) → Beside a b
-    → (why : Refusal) → counting_of known new false false ≡ counting_of known add false false → MayTurn b → IsCause why b
+    → (why : Refusal) → counting_of known new false false ≡ counting_of known add false false → IsFree b → IsCause why b
     → AddGives shape known amid new (Refused why) a b
 refuses shape known amid add new a entry b beside why same turns cause = (
   beside_aside a b beside,

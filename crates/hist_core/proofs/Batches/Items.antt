@@ -13,7 +13,6 @@ use Rattle.segment_machine.specs.declared.actor.Known.{Known}
 use Rattle.segment_machine.specs.declared.entry.Counting.{Counting}
 use Rattle.segment_machine.specs.declared.entry.Entry.{Entry}
 use Rattle.segment_machine.specs.Actor.{known_at}
-use Rattle.segment_machine.specs.Calls.{MayTurn}
 use Rattle.segment_machine.specs.Entry.{fresh, has_ended}
 use Rattle.segment_machine.specs.Note.{is_untouched}
 use Rattle.std.specs.List.{Contains}
@@ -28,11 +27,12 @@ use Rattle.hist_core.specs.declared.batch.BatchStep.TheVariants.{More, Done, Ref
 use Rattle.segment_calls.specs.declared.refusal.Refusal.{Refusal}
 use Rattle.hist_core.specs.Add.{IsAdd, Aside, StaysOpen, HasEntry, HasEnded, IsCause, StandsAtStage, AddSteps, AddGives, counted_entry, ended_entry}
 use Rattle.hist_core.specs.Batch.{IsBatch, IsItem, CountsItem, SumsUp, HaveEnded, BatchGives, IsItemSaid, amid_of, counted_entries, sum_entries, units_among}
-use Rattle.hist_core.specs.Goes.{Goes}
+use Rattle.hist_core.specs.Goes.{Goes, IsFree}
+use Rattle.hist_core.proofs.Parts.Allocations.{goes_with}
+use Rattle.hist_core.proofs.Free.{free_turns}
 use Rattle.hist_core.proofs.Adds.Counts.{counts_on}
 use Rattle.hist_core.proofs.Adds.Entries.{counting_of}
 use Rattle.hist_core.proofs.Batches.Entries.{ended_are, fresh_are, all_over, all_untouched, none_summed, one_sum, no_sum}
-use Rattle.hist_core.proofs.Parts.Walks.{goes_with}
 
 -- a front of a list, and what is behind it
 module _ {X : Type 0} where
@@ -125,7 +125,7 @@ module _ (shape : Dimensions) (known : Known) (batch : Batch) (a : Actor) (is : 
     )
 
     -- it is counted
-    module _ (turns : MayTurn b) (over : HasEnded known (amid_of known batch c.done c.rest) item b) where
+    module _ (turns : IsFree b) (over : HasEnded known (amid_of known batch c.done c.rest) item b) where
       abbrev next : Batch
       next = record now { added = batch.added + 1; left = batch.left - c.item.units }
 
@@ -172,7 +172,7 @@ module _ (shape : Dimensions) (known : Known) (batch : Batch) (a : Actor) (is : 
           held = ap (λ u. u.held) stays.0 ∙ is.held;
           over = all_over known (c.done ++ item ∷ []);
           stands = subst (StandsAtStage shape known (amid_of known batch (c.done ++ item ∷ []) rest) x b) (sym (All-head (λ (y : Add). y.stage ≡ LoadingSingle) x rest waiting))
-              (its.bucketed, over ∙ (ap (λ (l : List Add). map (ended_entry known) c.done ++ ended_entry known item ∷ behind l) are ∙ ended_now (behind (x ∷ rest))), turns);
+              (its.bucketed, over ∙ (ap (λ (l : List Add). map (ended_entry known) c.done ++ ended_entry known item ∷ behind l) are ∙ ended_now (behind (x ∷ rest))), free_turns b.hand.place turns);
         };
       }))
         where
@@ -192,7 +192,7 @@ module _ (shape : Dimensions) (known : Known) (batch : Batch) (a : Actor) (is : 
       sums_next : c.rest ≡ [] → int_eq batch.sum (pos 0) ≡ false → IsBatch shape known next b
       sums_next are some = still_batch (batch.added + 1) (batch.left - c.item.units) (inr (record {
         added = added_now ∙ ap length (sym (there ∙ ap (λ (l : List Add). c.done ++ item ∷ l) are));
-        turns = turns;
+        turns = free_turns b.hand.place turns;
         some = some;
         runs = last_over are ∙ ap (λ (l : List Entry). map (ended_entry known) mid.items.items ++ map fresh l) (one_sum known.name batch.sum some);
       }))
@@ -236,7 +236,7 @@ module _ (shape : Dimensions) (known : Known) (batch : Batch) (a : Actor) (is : 
     others = counting_of known item false false ∷ map fresh (map (counted_entry known) c.rest ++ sum_entries known.name batch.sum)
 
     -- it is refused
-    pub refused_so : (why : Refusal) → MayTurn b → IsCause why b → HasEntry known (amid_of known batch c.done c.rest) item b false false
+    pub refused_so : (why : Refusal) → IsFree b → IsCause why b → HasEntry known (amid_of known batch c.done c.rest) item b false false
         → BatchGives shape known now (Refused (record { added = batch.added; why = why })) a b
     refused_so why turns cause has = (
       aside,

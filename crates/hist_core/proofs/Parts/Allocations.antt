@@ -4,6 +4,8 @@ use Rattle.std.specs.Prelude.{not, ◌&&◌, if◌then◌else◌, slice_index}
 use Rattle.std.proofs.lemmas.List.{append-nil}
 use lib.Seq.{set-get_or}
 use Rattle.list_core.specs.Chain.{stops}
+use Rattle.list_core.specs.declared.walk.WalkStep.{WalkStep}
+use Rattle.segment_image.specs.Shape.{Dimensions}
 use Rattle.list_core.specs.Walk.{IsPrefix, said_of, given_after, stands_behind}
 use Rattle.segment_image.specs.Words.{word_at}
 use Rattle.alloc_core.specs.Alloc.{Allocation, IsLawful, IsAimed}
@@ -23,8 +25,23 @@ use Rattle.segment_machine.proofs.Stages.Allocations.{allocations_agree}
 use Rattle.segment_machine.proofs.Stages.Publishes.{publishes_agree}
 use Rattle.segment_machine.proofs.Stages.Walks.{walks_agree}
 use Rattle.hist_core.proofs.Parts.Alone.{acts_there, makes_so, allocating_beside, publishing_beside}
-use Rattle.hist_core.specs.Goes.{Beside, Goes}
+use Rattle.segment_promises.specs.Onward.{StaysApart}
+use Rattle.hist_core.specs.Goes.{Beside, Goes, IsFree}
+use Rattle.hist_core.proofs.Free.{free_apart, free_of_both, free_turns, still_apart}
 use Rattle.segment_machine.specs.Actor.{AreApart}
+
+-- what holds then may be more than is asked
+pub goes_with : {size version : ℕ} {a : Actor} {words new_words : List ℕ} {holds then_holds : Actor → Type 0} → Goes size version a words new_words holds
+    → ((b : Actor) → holds b → then_holds b) → Goes size version a words new_words then_holds
+goes_with {then_holds = then_holds} go weaker = record {
+  before = go.before;
+  at = go.at;
+  told = go.told;
+  event = go.event;
+  ready = go.ready;
+  words_are = go.words_are;
+  goes = λ learned apart. let did = go.goes learned apart in (did.0, did.1, did.2, weaker did.1 did.3);
+}
 
 -- what was seen of the chain is the front of what is seen of it behind a next
 longer : (more : Bool) (chain : List ℕ) (found : ℕ) → IsPrefix chain (if more then chain ++ found ∷ [] else chain)
@@ -121,7 +138,7 @@ publishes_on version a made old new words new_words said stands long step =
 -- the next of the record where a walk stands
 pub walks_on : (version : ℕ) (a : Actor) (given words : List ℕ) → Walks a given → length words ≡ a.segment.shape.size
     → Goes a.segment.shape.size version a words words
-    (λ b. Beside a b × Walks b (given_after given (said_of (length words) (word_at words (stands_behind given + 3)))))
+    (λ b. Beside a b × StaysApart a b × Walks b (given_after given (said_of (length words) (word_at words (stands_behind given + 3)))))
 walks_on version a given words walks long =
     let size : ℕ = a.segment.shape.size in
     let agrees = walks_agree size 1 a given walks in
@@ -149,7 +166,20 @@ walks_on version a given words walks long =
             chain = extended_behind a.seen.chain (stands_behind given) found;
             words = ([], sym (append-nil a.seen.words));
           },
+          still_apart a.hand.place (stands_behind given) found,
           subst (λ (n : ℕ). Walks (next a event found) (given_after given (said_of n found))) (sym long) (agrees.2 found learned),
         ),
       );
     }
+
+-- whatever a walk says that stands behind these records
+pub walks_saying : (shape : Dimensions) (version : ℕ) (a : Actor) (given words : List ℕ) (walk : ℕ) → a.segment.shape ≡ shape → length words ≡ shape.size
+    → walk ≡ stands_behind given → IsFree a → IsPrefix given a.seen.chain → (said : WalkStep) → said ≡ said_of (length words) (word_at words (walk + 3))
+    → Goes shape.size version a words words (λ b. Beside a b × IsFree b × IsPrefix (given_after given said) b.seen.chain)
+walks_saying shape version a given words walk segment long stands free front said says =
+    let size = ap (λ (d : Dimensions). d.size) segment in
+    let same : said_of (length words) (word_at words (stands_behind given + 3)) ≡ said =
+    ap (λ (w : ℕ). said_of (length words) (word_at words (w + 3))) (sym stands) ∙ sym says in
+    goes_with (subst (λ (p : ℕ × WalkStep). Goes p.0 version a words words (λ b. Beside a b × StaysApart a b × Walks b (given_after given p.1))) (λ i. (size i, same i))
+    (walks_on version a given words (free_turns a.hand.place free, front) (long ∙ sym size)))
+    (λ b (beside, apart, walks). (beside, free_of_both b.hand.place walks.0 (apart (free_apart a.hand.place free)), walks.1))

@@ -26,11 +26,13 @@ use Rattle.hist_core.specs.declared.hist.Stage.TheVariants.{Walking, Comparing}
 use Rattle.segment_calls.specs.declared.refusal.Refusal.{Refusal}
 use Rattle.segment_calls.specs.declared.refusal.Refusal.TheVariants as why
 use Rattle.hist_core.specs.Goes.{Beside, Goes}
+use Rattle.hist_core.proofs.Free.{free_turns}
 use Rattle.hist_core.specs.Hist.{IsHist, StandsAtStage, HaveOtherNames, AreSame, Reaches, HistGives, IsMatched, IsDifferent, IsCause, asked_of, compared_place, compared_index, compared_word}
 use Rattle.segment_invariant.proofs.Walking.Words.{letters_long}
 use Rattle.hist_core.proofs.Parts.Comparisons.{Part, part_of, index_of_rest, then_length, letter_word, field_word, range_word, ranges_if_custom, payload_long, compared_all}
 use Rattle.hist_core.proofs.Parts.Differences.{saw_word, saw_spec, first_named, saw_other_name, saw_other_spec}
-use Rattle.hist_core.proofs.Parts.Walks.{still, others_still, asks_on, some_to_compare_is}
+use Rattle.hist_core.proofs.Parts.Walks.{still, others_still, asks_on}
+use Rattle.hist_core.proofs.Parts.Records.{some_to_compare_is}
 
 -- a word that is seen now is what was found, since it was so where it was seen before
 pub seen_now : (list : List Sighting) (at found : ℕ) → ((word : ℕ) → word_seen list at ≡ Some word → found ≡ word) → word_seen (list ++ sight at found) at ≡ Some found
@@ -261,7 +263,7 @@ module _ (shape : Dimensions) (h : Hist) (a : Actor) (is : IsHist shape h a) (k 
       at = a;
       told = refl;
       event = event;
-      ready = (stands.0, is_met, is_fixed);
+      ready = (free_turns a.hand.place stands.0, is_met, is_fixed);
       words_are = sym (set-get_or words (h.reference + compared_index h.letters k) 0);
       goes = λ learned apart. ([], acted, refl, gives learned);
     }

@@ -33,11 +33,6 @@ begin_snapshot-requires-clause-ranges c = λ known there.
     ranges_now old c.requires.reached c.args.actor r (is_there old.runners.items (vec_len old.runners) c.args.actor r old.runners.ok.0 c.requires.near c.index_mut-runner.ensures.value)
     c.args.place known there
 
-pub begin_snapshot-requires-clause-bucketed : goal.begin_snapshot-requires-clause-bucketed
-begin_snapshot-requires-clause-bucketed c = λ known there.
-    let old = c.args.self.now in let r = c.index_mut-runner.result.now in
-    c.requires.bucketed known (r, is_there old.runners.items (vec_len old.runners) c.args.actor r old.runners.ok.0 c.requires.near c.index_mut-runner.ensures.value, there)
-
 pub returns-in_err-begin_snapshot-clause-begins : goal.returns-in_err-begin_snapshot-clause-begins
 returns-in_err-begin_snapshot-clause-begins c = λ state reach.
     let old = c.args.self.now in let r = c.index_mut-runner.result.now in
@@ -53,7 +48,7 @@ returns-clause-begins c =
     let same = some-injective place.1.0 r (sym place.1.1 ∙ at) in
     let known_there = subst (λ (x : Runner). get_elem? x.known.items c.args.place ≡ some place.0) same place.1.2 in
     snapshot_begins old _ c.args.actor r c.begin_snapshot.new.self at c.args.place place.0 known_there (c.requires.rests r at) refl refl refl refl refl
-    (c.in_ok-begin_snapshot.ensures.begins place.0 known_there) (c.requires.bucketed place.0 (r, at, known_there))
+    (c.in_ok-begin_snapshot.ensures.begins place.0 known_there)
 
 pub returns-clause-others : goal.returns-clause-others
 returns-clause-others c =

@@ -139,15 +139,6 @@ begin_snapshot-requires-clause-rests c =
     let at = is_there board.runners.items (vec_len board.runners) c.args.actor r board.runners.ok.0 (omega (arith, c.if-actor-len.false, c.len.ensures)) c.index.ensures in
     is_resting board c.args.actor r at (sym c.is_some.ensures ∙ c.if-is_some.false)
 
-pub begin_snapshot-requires-clause-bucketed : goal.begin_snapshot-requires-clause-bucketed
-begin_snapshot-requires-clause-bucketed c = λ known (r, here, at).
-    let board = c.args.self.now.board in
-    let can = subst (CanBegin c.args.actor board) c.in-Snapshot.is c.requires in
-    let found : IsPlaceOf board c.args.actor c.deref-in-Snapshot.result.now c.in-Some-place_of.place = c.in-Some-place_of.ensures.found in
-    let one : found.1.0 ≡ r = some-injective found.1.0 r (sym found.1.1 ∙ here) in
-    let same : found.0 ≡ known = some-injective found.0 known (sym found.1.2 ∙ (ap (λ (x : Runner). get_elem? x.known.items c.in-Some-place_of.place) one ∙ at)) in
-    can r known here (contains_at r.known.items c.in-Some-place_of.place known at) (ap (λ (k : Known). k.name.items) (sym same) ∙ (found.2 ∙ c.deref-in-Snapshot.ensures.value))
-
 pub invariant_of-self-in-Snapshot : goal.invariant_of-self-in-Snapshot
 invariant_of-self-in-Snapshot c = record {
   reached = ∥∥₁_elim c.args.self.now.reached (hlevel props) (λ (state, reach). ∣ (state, c.begin_snapshot.ensures.begins state reach) ∣₁);

@@ -1,14 +1,13 @@
--- A `hist` stores the payload of its record, but for the words that are 0.
-use Rattle.std.proofs.Common.{◌≡◌, ◌≢◌, ℕ, zero, suc, ◌+◌, ◌-◌, ◌*◌, ◌<◌, ◌≤◌, ◌==◌, Bool, true, false, List, [], ◌∷◌, ◌++◌, length, take, get_or, replicate, refl, sym, ap, subst, ◌∙◌, arith, append_assoc, eqb-true}
-use Rattle.std.specs.Prelude.{Some, if◌then◌else◌, slice_index, nat_lt, nat_le}
+-- The payload of a record that is made is stored, but for the words that are 0.
+use Rattle.std.proofs.Common.{◌≡◌, ◌≢◌, ℕ, zero, suc, ◌+◌, ◌-◌, ◌<◌, ◌≤◌, ◌==◌, Bool, true, false, List, [], ◌∷◌, ◌++◌, length, take, get_or, replicate, refl, sym, ap, subst, ◌∙◌, arith, append_assoc, eqb-true}
+use Rattle.std.specs.Prelude.{Some, if◌then◌else◌, slice_index, nat_lt}
 use Rattle.std.specs.List.{Contains}
-use Rattle.std.proofs.lemmas.List.{append-nil, replicate-append-replicate, length-take-le}
-use Rattle.std.proofs.Math.Seq.{take-suc, take-length}
-use Rattle.std.proofs.lemmas.Bool.{leb-true, leb-false, ltb-true, ltb-false}
+use Rattle.std.proofs.lemmas.List.{append-nil, replicate-append-replicate, length-take-le, take_all}
+use Rattle.std.proofs.Math.Seq.{take-suc}
+use Rattle.std.proofs.lemmas.Bool.{ltb-true, ltb-false}
 use mathlib.Core.Option.{some}
 use Rattle.segment_invariant.proofs.Lists.Elements.{at_from, contains_at}
 use Rattle.segment_image.specs.Shape.{Dimensions}
-use Rattle.bucket_ranges.specs.Spec.{buckets_of}
 use Rattle.alloc_core.specs.Event as atomic
 use Rattle.list_core.specs.Publish as publish
 use Rattle.segment_machine.specs.declared.actor.Actor.{Actor}
@@ -16,15 +15,16 @@ use Rattle.segment_machine.specs.declared.actor.Own.{Own}
 use Rattle.segment_machine.specs.Allocating.{store_payload, stored}
 use Rattle.segment_machine.specs.Event.{Event, next, allocating_event}
 use Rattle.segment_machine.specs.Publishing.{own_at}
-use Rattle.hist_core.specs.declared.hist.Hist.{Hist}
-use Rattle.hist_core.specs.declared.hist.HistStep.TheVariants.{More}
-use Rattle.hist_core.specs.declared.hist.Stage.{Stage}
-use Rattle.hist_core.specs.declared.hist.Stage.TheVariants.{Filling, Publishing}
+use Rattle.hist_core.specs.declared.making.Making.{Making}
+use Rattle.hist_core.specs.declared.making.MakingStep.TheVariants.{More}
+use Rattle.hist_core.specs.declared.making.Stage.{Stage}
+use Rattle.hist_core.specs.declared.making.Stage.TheVariants.{Filling, Publishing}
 use Rattle.hist_core.specs.Goes.{Beside, Goes}
-use Rattle.hist_core.specs.Hist.{IsHist, IsFilledTo, IsNextFilled, IsFilled, StandsAtStage, HistGives}
+use Rattle.hist_core.specs.Making.{Wanted, IsMaking, IsFilledTo, IsNextFilled, IsFilled, StandsAtStage, MakingGives}
+use Rattle.hist_core.proofs.Free.{free_turns}
+use Rattle.hist_core.proofs.Makes.Drafts.{is_wide, may_still}
 use Rattle.hist_core.proofs.Parts.Alone.{makes_so, allocating_beside}
 use Rattle.hist_core.proofs.Parts.Claims.{changed_at}
-use Rattle.hist_core.proofs.Parts.Walks.{others_still, asks_on, is_wide}
 
 -- ---- the words that are stored
 
@@ -59,20 +59,6 @@ then_filled all index ends_at inside goes =
           ∙ ap (λ (n : ℕ). take n all) exact;
     }
 
--- where none is left, the last was stored, which is not 0: so they are all
-all_stored : (all : List ℕ) (index next : ℕ) → index < length all → IsNextFilled all (index + 1) next → get_or all (length all - 1) 0 ≢ 0
-    → length all ≤ next → take (suc index) all ≡ all
-all_stored all index ends_at inside goes last none =
-    let ends : length all ≤ suc index = by (nat_le (length all) (suc index)) refl in
-    let same : suc index ≡ length all = omega (arith, ends, inside) in
-    ap (λ (n : ℕ). take n all) same ∙ take-length all
-  where
-    by : (whole : Bool) → nat_le (length all) (suc index) ≡ whole → length all ≤ suc index
-    by true e = leb-true (length all) (suc index) e
-    by false e =
-        let more = leb-false (length all) (suc index) e in
-        absurd (last (goes.zeros (length all - 1) (omega (arith, more)) (omega (arith, none, more))))
-
 -- ---- its own block
 
 -- a block that is found stands there
@@ -87,16 +73,16 @@ own_there (own ∷ rest) at x is = by (own.at == at) refl (own_there rest at x) 
 
 -- ---- a step
 
-module _ (shape : Dimensions) (version : ℕ) (h : Hist) (a : Actor) (words : List ℕ) (long : length words ≡ shape.size) (is : IsHist shape h a) (at index : ℕ)
-    (fills : h.stage ≡ Filling at index) where
-  stands : StandsAtStage shape h a is.given (Filling at index)
-  stands = subst (StandsAtStage shape h a is.given) fills is.stands
+module _ (shape : Dimensions) (version : ℕ) (wanted : Wanted) (m : Making) (a : Actor) (words : List ℕ) (long : length words ≡ shape.size)
+    (is : IsMaking shape wanted m a) (at index : ℕ) (fills : m.stage ≡ Filling at index) where
+  stands : StandsAtStage shape wanted a (Filling at index)
+  stands = subst (StandsAtStage shape wanted a) fills is.stands
 
   abbrev all : List ℕ
-  all = h.payload.items
+  all = wanted.payload
 
   abbrev own : Own
-  own = stands.5.0
+  own = stands.4.0
 
   abbrev value : ℕ
   value = slice_index all index
@@ -113,14 +99,14 @@ module _ (shape : Dimensions) (version : ℕ) (h : Hist) (a : Actor) (words : Li
   fuller = record own { payload = stored own.payload index value }
 
   fuller_is : own_at acted.hand.own at ≡ Some fuller
-  fuller_is = changed_at a.hand.own at (λ o. record o { payload = stored o.payload index value }) own (λ o. refl) stands.5.1.0
+  fuller_is = changed_at a.hand.own at (λ o. record o { payload = stored o.payload index value }) own (λ o. refl) stands.4.1.0
 
   whole_front : fuller.payload ≡ take (suc index) all
-  whole_front = stored_is all own.payload index stands.5.2 stands.2
+  whole_front = stored_is all own.payload index stands.4.2 stands.1
 
   -- the next word, or the publish
-  pub fills_so : (new_words : List ℕ) (new : Hist) → new_words ≡ atomic.after (atomic.store_payload at index value) words → IsFilled h at (index + 1) new
-      → Goes shape.size version a words new_words (HistGives shape new More a)
+  pub fills_so : (new_words : List ℕ) (new : Making) → new_words ≡ atomic.after (atomic.store_payload at index value) words → IsFilled all at (index + 1) new
+      → Goes shape.size version a words new_words (MakingGives shape wanted new More a)
   fills_so new_words new are (then_at, goes, new_is) = record {
     before = [];
     at = a;
@@ -128,69 +114,67 @@ module _ (shape : Dimensions) (version : ℕ) (h : Hist) (a : Actor) (words : Li
     event = event;
     ready = (
       own,
-      ((own_there a.hand.own at own stands.5.1.0).0, stands.5.1.1),
-      (own_there a.hand.own at own stands.5.1.0).1,
-      stands.5.2.short,
-      (let size = stands.5.1.4 in let inside = stands.2 in omega (arith, size, inside)),
+      ((own_there a.hand.own at own stands.4.1.0).0, stands.4.1.1),
+      (own_there a.hand.own at own stands.4.1.0).1,
+      stands.4.2.short,
+      (let size = stands.4.1.4 in let inside = stands.1 in let enough = is.draft.enough in omega (arith, size, inside, enough)),
     );
     words_are = are ∙ sym (makes_so shape.size version event (atomic.store_payload at index value) refl refl words);
-    goes = λ learned apart. ([], acted, refl, (allocating_beside a (store_payload at index value) 0, subst (λ (n : Hist). IsHist shape n acted) (sym new_is) (stood (nat_lt then_at (length all)) refl)));
+    goes = λ learned apart. (
+      [],
+      acted,
+      refl,
+      (
+        beside,
+        record {
+          segment = is.segment;
+          lawful_shape = is.lawful_shape;
+          draft = may_still shape wanted a acted beside is.draft;
+          stands = subst (StandsAtStage shape wanted acted) (sym new_is) (stood (nat_lt then_at (length all)) refl);
+        },
+      ),
+    );
   }
     where
       beside : Beside a acted
       beside = allocating_beside a (store_payload at index value) 0
 
-      kept : (stage : Stage) → StandsAtStage shape (record h { stage = stage }) acted is.given stage → IsHist shape (record h { stage = stage }) acted
-      kept stage then_stands = record {
-        asking = asks_on shape h is.asking h.reference h.walk stage;
-        segment = is.segment;
-        lawful_shape = is.lawful_shape;
-        given = is.given;
-        walk = is.walk;
-        reach = is.reach;
-        front = is.front;
-        stands = then_stands;
-      }
-
       stood : (more : Bool) → nat_lt then_at (length all) ≡ more
-          → IsHist shape (record h { stage = if more then Filling at then_at else Publishing (publish.started at) }) acted
+          → StandsAtStage shape wanted acted (if more then Filling at then_at else Publishing (publish.started at))
       stood true e =
-          let inside = ltb-true then_at (length all) e in
-          kept (Filling at then_at) (
+          let inside = ltb-true then_at (length all) e in (
             stands.0,
-            others_still a acted beside h is.given stands.1,
             inside,
             goes.stored inside,
-            stands.4,
+            stands.3,
             (
               fuller,
-              (fuller_is, stands.5.1.1, stands.5.1.2, stands.5.1.3, stands.5.1.4),
-              subst (IsFilledTo all then_at) (sym whole_front) (then_filled all index then_at stands.2 goes),
+              (fuller_is, stands.4.1.1, stands.4.1.2, stands.4.1.3, stands.4.1.4),
+              subst (IsFilledTo all then_at) (sym whole_front) (then_filled all index then_at stands.1 goes),
             ),
           )
       stood false e =
           let none = ltb-false then_at (length all) e in
-          let whole = whole_front ∙ all_stored all index then_at stands.2 goes is.asking.last none in
-          let ends = stands.4.1 in
-          let some = stands.2 in
-          kept (Publishing (publish.started at)) (
-            others_still a acted beside h is.given stands.1,
+          let kept = subst (IsFilledTo all then_at) (sym whole_front) (then_filled all index then_at stands.1 goes) in
+          let ends = stands.3.1 in
+          let some = stands.1 in
+          let enough = is.draft.enough in (
             (
-              stands.0,
+              free_turns a.hand.place stands.0,
               (
                 fuller,
                 fuller_is,
-                stands.5.1.1,
-                stands.5.1.2,
-                (is.asking.letters, is.asking.spells, whole ∙ is.asking.payload),
-                (stands.5.1.3, is.asking.name, is.asking.lawful, subst (λ (d : Dimensions). 4 + 2 * buckets_of h.asked.spec ≤ d.page) (sym is.segment) is.asking.fits),
+                stands.4.1.1,
+                stands.4.1.2,
+                is.draft.holds fuller.payload (then_at - length fuller.payload) (kept.words ∙ take_all then_at all none),
+                (may_still shape wanted a acted beside is.draft).may fuller stands.4.1.3 stands.4.1.4,
               ),
             ),
             refl,
             record {
-              headed = let wide = is_wide shape h a is in omega (arith, wide);
-              from = stands.4.0;
-              ends = omega (arith, ends, some);
+              headed = let wide = is_wide shape is.lawful_shape in omega (arith, wide);
+              from = stands.3.0;
+              ends = omega (arith, ends, some, enough);
               within = tt;
             },
           )
@@ -198,7 +182,7 @@ module _ (shape : Dimensions) (version : ℕ) (h : Hist) (a : Actor) (words : Li
   -- what it stores lies in the payload and in the words, which are few
   pub fill_bounds : (index < length all) × (at + (4 + length all) ≤ length words) × (length words ≤ 1048576)
   fill_bounds = (
-    stands.2,
-    subst (λ (n : ℕ). at + (4 + length all) ≤ n) (sym long) stands.4.1,
+    stands.1,
+    (let ends = stands.3.1 in let enough = is.draft.enough in omega (arith, ends, enough, long)),
     subst (λ (n : ℕ). n ≤ 1048576) (sym long) is.lawful_shape.many,
   )

@@ -1,0 +1,147 @@
+-- The words of a record that is made are claimed.
+use Rattle.std.proofs.Common.{◌≡◌, ◌≢◌, ℕ, ◌+◌, ◌≤◌, true, List, [], ◌∷◌, length, refl, sym, ap, subst, ◌∙◌, arith}
+use Rattle.std.specs.Prelude.{Some, is_some}
+use Rattle.segment_image.specs.Shape.{Dimensions}
+use Rattle.segment_image.specs.Words.{word_at}
+use Rattle.alloc_core.specs.declared.alloc.AllocStep.{AllocStep}
+use Rattle.alloc_core.specs.declared.alloc.AllocStep.TheVariants as said
+use Rattle.alloc_core.specs.declared.alloc.Stage.TheVariants.{Claimed}
+use Rattle.alloc_core.specs.Alloc.{Allocation, IsAimed}
+use Rattle.alloc_core.specs.Alloc as alloc
+use Rattle.alloc_core.specs.Event as atomic
+use Rattle.segment_machine.specs.declared.actor.Actor.{Actor}
+use Rattle.segment_machine.specs.declared.actor.Own.{Own}
+use Rattle.segment_machine.specs.declared.place.Place.TheVariants.{Idle}
+use Rattle.segment_machine.specs.Actor.{AreApart}
+use Rattle.segment_machine.specs.Allocating.{new_own}
+use Rattle.segment_machine.specs.Note.{Note, Notes, noted, asks}
+use Rattle.segment_machine.specs.Stages.{Allocates, StandsAt}
+use Rattle.segment_invariant.proofs.Lists.Elements.{at_from}
+use Rattle.segment_invariant.proofs.Lists.Ends.{own_found}
+use Rattle.segment_calls.specs.declared.refusal.Refusal.{Refusal}
+use Rattle.segment_calls.specs.declared.refusal.Refusal.TheVariants as why
+use Rattle.hist_core.specs.declared.making.Making.{Making}
+use Rattle.hist_core.specs.declared.making.MakingStep.{MakingStep}
+use Rattle.hist_core.specs.declared.making.MakingStep.TheVariants.{More, Refused}
+use Rattle.hist_core.specs.declared.making.Stage.TheVariants.{Allocating, Filling}
+use Rattle.hist_core.specs.Goes.{Beside, Goes, is_tied}
+use Rattle.hist_core.specs.Making.{Wanted, IsMaking, StandsAtStage, MakingGives, IsAllocated, IsCause}
+use Rattle.hist_core.proofs.Makes.Drafts.{may_still}
+use Rattle.hist_core.proofs.Parts.Allocations.{allocates_on, goes_with}
+use Rattle.hist_core.proofs.Parts.Claims.{changed_at, claimed_of, claimed_suits, filled_at, goes_noting, rests_at}
+
+module _ (shape : Dimensions) (version : ℕ) (wanted : Wanted) (m : Making) (a : Actor) (words : List ℕ) (long : length words ≡ shape.size)
+    (is : IsMaking shape wanted m a) (x : Allocation) (allocates : m.stage ≡ Allocating x) where
+  stands : StandsAtStage shape wanted a (Allocating x)
+  stands = subst (StandsAtStage shape wanted a) allocates is.stands
+
+  module _ (y : Allocation) (new_words : List ℕ) (says : AllocStep) (step : alloc.IsStep x words y new_words says) where
+    claims : Goes shape.size version a words new_words (λ b. Beside a b × AreApart b × Allocates b y)
+    claims =
+        let size = ap (λ (d : Dimensions). d.size) is.segment in
+        subst (λ (n : ℕ). Goes n version a words new_words (λ b. Beside a b × AreApart b × Allocates b y)) size
+        (allocates_on version a x y words new_words says stands.0 (long ∙ sym size) step)
+
+    -- it goes on
+    still_claims : is_some (alloc.next_event y) ≡ true → Goes shape.size version a words new_words (MakingGives shape wanted (record { stage = Allocating y }) More a)
+    still_claims more = goes_with claims (λ b (beside, apart, goes). (
+      beside,
+      record {
+        segment = ap (λ s. s.shape) beside.segment ∙ is.segment;
+        lawful_shape = is.lawful_shape;
+        draft = may_still shape wanted a b beside is.draft;
+        stands = (
+          goes,
+          more,
+          ap (λ (z : Allocation). z.tag) step.new_is ∙ stands.2,
+          subst (λ (n : ℕ). 4 + wanted.room ≤ n) (sym (ap (λ (z : Allocation). z.size) step.new_is)) stands.3,
+        );
+      },
+    ))
+
+    -- it is refused
+    is_refused : (why : Refusal) (new : Making) → ((b : Actor) → Allocates b y → b.hand.place ≡ Idle) → ((b : Actor) → Allocates b y → IsCause why b)
+        → Goes shape.size version a words new_words (MakingGives shape wanted new (Refused why) a)
+    is_refused why new idle cause = goes_with claims (λ b (beside, apart, goes). (beside, ap is_tied (idle b goes), cause b goes))
+
+    -- it has a block, which is to be the record: it stores the payload there
+    has_claimed : (at : ℕ) → says ≡ said.Done at → Goes shape.size version a words new_words (MakingGives shape wanted (record { stage = Filling at 0 }) More a)
+    has_claimed at done = goes_noting claims (λ b (beside, apart, goes). claimed b beside apart goes (claimed_of y.stage at (sym done ∙ step.answers)))
+      where
+        claimed : (b : Actor) → Beside a b → AreApart b → Allocates b y → (size : ℕ) × (y.stage ≡ Claimed at size)
+            → (notes : List Note) × (c : Actor) × Notes b notes c × MakingGives shape wanted (record { stage = Filling at 0 }) More a c
+        claimed b beside apart goes (size, ends) =
+            let has = subst (StandsAt b y) ends goes.stands in
+            let place = subst (IsAimed y) ends goes.lawful.aimed in
+            let suits : x.size ≤ size = claimed_suits x x.stage (word_at words (atomic.spot step.event)) at size step.event step.next stands.0.lawful.aimed
+            (sym (ap (λ (z : Allocation). z.stage) step.new_is) ∙ ends) in
+            let own : Own = new_own at size y.tag in
+            let there = at_from b.hand.own own has.1 in
+            let found = own_found b.hand.own there.0 own (apart (λ spent. cc (sym has.0 ∙ spent))) there.1 in
+            let c : Actor = noted b (asks at wanted.made) in
+            let enough = stands.3 in
+            let ends_within = subst (λ (d : Dimensions). at + size ≤ d.size) (goes.shape ∙ ap (λ s. s.shape) beside.segment ∙ is.segment) place.within in
+            let then_beside : Beside a c = record {
+              role = beside.role;
+              segment = beside.segment;
+              units = beside.units;
+              entries = beside.entries;
+              deltas = beside.deltas;
+              names = beside.names;
+              chain = beside.chain;
+              words = beside.words;
+            } in (
+              asks at wanted.made ∷ [],
+              c,
+              ((own, has.1, refl, refl), refl),
+              (
+                then_beside,
+                record {
+                  segment = ap (λ s. s.shape) beside.segment ∙ is.segment;
+                  lawful_shape = is.lawful_shape;
+                  draft = may_still shape wanted a c then_beside is.draft;
+                  stands = (
+                    ap is_tied has.0,
+                    is.draft.some,
+                    is.draft.first,
+                    (place.from, omega (arith, suits, enough, ends_within)),
+                    (
+                      record own { made = Some wanted.made },
+                      (
+                        changed_at b.hand.own at (λ o. record o { made = Some wanted.made }) own (λ o. refl) found,
+                        refl,
+                        refl,
+                        ap (λ (z : Allocation). z.tag) step.new_is ∙ stands.2,
+                        omega (arith, suits, enough),
+                      ),
+                      record { short = omega arith; words = refl },
+                    ),
+                  );
+                },
+              ),
+            )
+
+  -- whatever the allocation says
+  pub allocates_so : (y : Allocation) (new_words : List ℕ) (says : AllocStep) (new : Making) (result : MakingStep) → alloc.IsStep x words y new_words says
+      → (says ≡ said.More → is_some (alloc.next_event y) ≡ true) → IsAllocated (record { stage = Allocating y }) says new result
+      → Goes shape.size version a words new_words (MakingGives shape wanted new result a)
+  allocates_so y new_words said.More new result step more (new_is, result_is) =
+      subst (λ (p : Making × MakingStep). Goes shape.size version a words new_words (MakingGives shape wanted p.0 p.1 a)) (λ i. (sym new_is i, sym result_is i))
+      (still_claims y new_words said.More step (more refl))
+  allocates_so y new_words (said.Done at) new result step more (new_is, result_is) =
+      subst (λ (p : Making × MakingStep). Goes shape.size version a words new_words (MakingGives shape wanted p.0 p.1 a)) (λ i. (sym new_is i, sym result_is i))
+      (has_claimed y new_words (said.Done at) step at refl)
+  allocates_so y new_words said.Full new result step more result_is =
+      subst (λ (r : MakingStep). Goes shape.size version a words new_words (MakingGives shape wanted new r a)) (sym result_is)
+      (is_refused y new_words said.Full step why.Full new (λ b goes. rests_at b y y.stage (λ e. cc (step.answers ∙ e)) goes.stands)
+      (λ b goes. filled_at b y y.stage (sym step.answers) goes.stands))
+  allocates_so y new_words said.Corrupt new result step more result_is =
+      subst (λ (r : MakingStep). Goes shape.size version a words new_words (MakingGives shape wanted new r a)) (sym result_is)
+      (is_refused y new_words said.Corrupt step why.Corrupt new (λ b goes. rests_at b y y.stage (λ e. cc (step.answers ∙ e)) goes.stands) (λ b goes. tt))
+
+  -- what the step of its allocation asks for
+  pub asks_long : length words ≡ x.shape.size
+  asks_long = long ∙ sym (ap (λ (d : Dimensions). d.size) (stands.0.shape ∙ is.segment))
+
+  pub asks_more : is_some (alloc.next_event x) ≡ true
+  asks_more = stands.1

@@ -1,0 +1,59 @@
+-- A `hist` makes its record.
+use Rattle.std.proofs.Common.{◌≡◌, ℕ, List, sym, ap, subst, ◌∙◌}
+use Rattle.segment_image.specs.Shape.{Dimensions}
+use Rattle.list_core.proofs.Prefixes.{prefix_of_prefix}
+use Rattle.segment_machine.specs.declared.actor.Actor.{Actor}
+use Rattle.segment_machine.specs.Calls.{MayTurn}
+use Rattle.segment_calls.specs.declared.refusal.Refusal.{Refusal}
+use Rattle.segment_calls.specs.declared.refusal.Refusal.TheVariants as why
+use Rattle.hist_core.specs.declared.hist.Hist.{Hist}
+use Rattle.hist_core.specs.declared.hist.HistStep.{HistStep}
+use Rattle.hist_core.specs.declared.hist.HistStep.TheVariants.{More, Refused}
+use Rattle.hist_core.specs.declared.hist.Stage.{Stage}
+use Rattle.hist_core.specs.declared.hist.Stage.TheVariants.{Making, Walking}
+use Rattle.hist_core.specs.declared.making.Making.{Making as MakingOf}
+use Rattle.hist_core.specs.declared.making.MakingStep.{MakingStep}
+use Rattle.hist_core.specs.declared.making.MakingStep.TheVariants as made
+use Rattle.hist_core.specs.Goes.{Beside, Goes}
+use Rattle.hist_core.specs.Hist.{wanted_of, IsHist, StandsAtStage, HistGives, IsMade, IsCause}
+use Rattle.hist_core.specs.Making.{MakingGives}
+use Rattle.hist_core.specs.Making as making
+use Rattle.hist_core.proofs.Parts.Allocations.{goes_with}
+use Rattle.hist_core.proofs.Parts.Walks.{others_still, asks_on}
+
+-- what refuses a record refuses the call
+cause_of : (shape : Dimensions) (h : Hist) (cause : Refusal) (b : Actor) → making.IsCause cause b → IsCause shape h cause b
+cause_of shape h why.Full b is = is
+cause_of shape h why.Corrupt b is = is
+cause_of shape h _ b none = absurd none
+
+module _ (shape : Dimensions) (version : ℕ) (h : Hist) (a : Actor) (words : List ℕ) (is : IsHist shape h a) (m : MakingOf) (makes : h.stage ≡ Making m) where
+  pub stood_making : StandsAtStage shape h a is.given (Making m)
+  stood_making = subst (StandsAtStage shape h a is.given) makes is.stands
+
+  -- it goes on from another stage
+  on : (stage : Stage) (b : Actor) → Beside a b → StandsAtStage shape (record h { stage = stage }) b is.given stage → IsHist shape (record h { stage = stage }) b
+  on stage b beside stands = record {
+    asking = asks_on shape h is.asking h.reference h.walk stage;
+    segment = ap (λ s. s.shape) beside.segment ∙ is.segment;
+    lawful_shape = is.lawful_shape;
+    given = is.given;
+    walk = is.walk;
+    reach = is.reach;
+    front = prefix_of_prefix is.given a.seen.chain b.seen.chain is.front beside.chain;
+    stands = stands;
+  }
+
+  -- whatever the step of the making says
+  pub makes_so : (x : MakingOf) (new_words : List ℕ) (says : MakingStep) (new : Hist) (result : HistStep)
+      → Goes shape.size version a words new_words (MakingGives shape (wanted_of h) x says a) → IsMade (record h { stage = Making x }) says new result
+      → Goes shape.size version a words new_words (HistGives shape new result a)
+  makes_so x new_words made.More new result goes (new_is, result_is) =
+      subst (λ (p : Hist × HistStep). Goes shape.size version a words new_words (HistGives shape p.0 p.1 a)) (λ i. (sym new_is i, sym result_is i))
+      (goes_with goes (λ b (beside, makes_on). (beside, on (Making x) b beside (others_still a b beside h is.given stood_making.0, makes_on))))
+  makes_so x new_words made.Done new result goes (new_is, result_is) =
+      subst (λ (p : Hist × HistStep). Goes shape.size version a words new_words (HistGives shape p.0 p.1 a)) (λ i. (sym new_is i, sym result_is i))
+      (goes_with goes (λ b (beside, turns). (beside, on Walking b beside (turns, others_still a b beside h is.given stood_making.0))))
+  makes_so x new_words (made.Refused cause) new result goes (new_is, result_is) =
+      subst (λ (r : HistStep). Goes shape.size version a words new_words (HistGives shape new r a)) (sym result_is)
+      (goes_with goes (λ b (beside, turns, is_cause). (beside, turns, cause_of shape new cause b is_cause)))

@@ -1,0 +1,146 @@
+-- The making of a record: its words are claimed, its payload is stored there, and it is put on the list.
+use Rattle.std.specs.Prelude.{◌≡◌, ◌≢◌, ℕ, ◌+◌, ◌-◌, ◌<◌, ◌≤◌, nat_lt, true, List, [], ◌∷◌, ◌++◌, length, replicate, take, slice_index, is_some, ⊤, Some, if◌then◌else◌}
+use Rattle.segment_image.specs.declared.layout.TheConstants.{BLOCK_HEADER, HEADER_WORDS, TYPE_HISTOGRAM, TYPE_SAMPLE}
+use Rattle.segment_image.specs.Shape.{Dimensions}
+use Rattle.alloc_core.specs.Layout.{IsShape}
+use Rattle.alloc_core.specs.Alloc as alloc
+use Rattle.alloc_core.specs.declared.alloc.AllocStep.{AllocStep}
+use Rattle.alloc_core.specs.declared.alloc.AllocStep.TheVariants as said
+use Rattle.segment_calls.specs.declared.refusal.Refusal.{Refusal}
+use Rattle.segment_calls.specs.declared.refusal.Refusal.TheVariants as why
+use Rattle.list_core.specs.declared.publish.PubStep.{PubStep}
+use Rattle.list_core.specs.declared.publish.PubStep.TheVariants as put
+use Rattle.list_core.specs.Publish as publish
+use Rattle.segment_machine.specs.declared.actor.Actor.{Actor}
+use Rattle.segment_machine.specs.declared.actor.Made.{Made}
+use Rattle.segment_machine.specs.declared.actor.Made.TheVariants.{Histogram, Sample}
+use Rattle.segment_machine.specs.declared.actor.Own.{Own}
+use Rattle.segment_machine.specs.Made.{IsPayload}
+use Rattle.segment_machine.specs.Publishing.{own_at, MayPublish}
+use Rattle.segment_machine.specs.Stages.{Allocates, PublishesAt}
+use Rattle.hist_core.specs.declared.making.Making.{Making}
+use Rattle.hist_core.specs.declared.making.MakingStep.{MakingStep}
+use Rattle.hist_core.specs.declared.making.MakingStep.TheVariants.{More, Done, Refused}
+use Rattle.hist_core.specs.declared.making.Stage.{Stage}
+use Rattle.hist_core.specs.declared.making.Stage.TheVariants.{Allocating, Filling, Publishing}
+use Rattle.hist_core.specs.Goes.{Beside, Goes, IsFree}
+
+-- ---- what it makes
+
+-- the type of a record
+abbrev pub tag_of : Made → ℕ
+tag_of (Histogram name spec) = TYPE_HISTOGRAM
+tag_of (Sample histogram value) = TYPE_SAMPLE
+
+-- A record is wanted: what it is to hold, how many words it has behind its header, and those of them that are stored, but for zeros.
+pub record Wanted : Type 0 where
+  pub made : Made
+  pub room : ℕ
+  pub payload : List ℕ
+
+-- An actor may make it: its first word is not 0, and it fits in a page. Whichever front of it leaves out zeros alone says what the record
+-- is to hold, and a block of its own that has the room may be published so.
+pub record MayMake (shape : Dimensions) (wanted : Wanted) (a : Actor) : Type 0 where
+  pub some : 0 < length wanted.payload
+  pub first : slice_index wanted.payload 0 ≢ 0
+  pub enough : length wanted.payload ≤ wanted.room
+  pub one_page : BLOCK_HEADER + wanted.room ≤ shape.page
+  pub holds : (front : List ℕ) (k : ℕ) → front ++ replicate k 0 ≡ wanted.payload → IsPayload wanted.made front
+  pub may : (own : Own) → own.tag ≡ tag_of wanted.made → BLOCK_HEADER + wanted.room ≤ own.size → MayPublish a own wanted.made
+
+-- ---- what it stores
+
+-- the front of a payload, up to its last word that was stored, while the words before an index are stored: those that are 0 are not
+pub record IsFilledTo (payload : List ℕ) (index : ℕ) (front : List ℕ) : Type 0 where
+  pub short : length front ≤ index
+  pub words : front ++ replicate (index - length front) 0 ≡ take index payload
+
+-- the next word to be stored, from an index on: the first that is not 0, or the end
+pub record IsNextFilled (payload : List ℕ) (from next : ℕ) : Type 0 where
+  pub behind : from ≤ next
+  pub before : next ≤ length payload
+  pub zeros : (i : ℕ) → from ≤ i → i < next → slice_index payload i ≡ 0
+  pub stored : next < length payload → slice_index payload next ≢ 0
+
+-- its own block at a word, which is to be the record
+abbrev pub HasBlock : Wanted → ℕ → Actor → Own → Type 0
+HasBlock wanted at a own =
+    (own_at a.hand.own at ≡ Some own) × (own.next ≡ 0) × (own.made ≡ Some wanted.made) × (own.tag ≡ tag_of wanted.made)
+    × (BLOCK_HEADER + wanted.room ≤ own.size)
+
+-- ---- where it stands
+
+-- where its actor stands
+abbrev pub StandsAtStage : Dimensions → Wanted → Actor → Stage → Type 0
+StandsAtStage shape wanted a (Allocating allocation) =
+    Allocates a allocation × (is_some (alloc.next_event allocation) ≡ true) × (allocation.tag ≡ tag_of wanted.made)
+    × (BLOCK_HEADER + wanted.room ≤ allocation.size)
+StandsAtStage shape wanted a (Filling at index) =
+    IsFree a × (index < length wanted.payload) × (slice_index wanted.payload index ≢ 0)
+    × ((HEADER_WORDS ≤ at) × (at + (BLOCK_HEADER + wanted.room) ≤ shape.size))
+    × ((own : Own) × HasBlock wanted at a own × IsFilledTo wanted.payload index own.payload)
+StandsAtStage shape wanted a (Publishing publishing) =
+    PublishesAt a publishing.reference wanted.made publishing.stage × (is_some (publish.next_event publishing) ≡ true)
+    × publish.IsReach shape.size publishing
+
+-- It makes a record that its actor may make.
+pub record IsMaking (shape : Dimensions) (wanted : Wanted) (m : Making) (a : Actor) : Type 0 where
+  pub segment : a.segment.shape ≡ shape
+  pub lawful_shape : IsShape shape
+  pub draft : MayMake shape wanted a
+  pub stands : StandsAtStage shape wanted a m.stage
+
+-- what its actor has done that is refused: an allocation has set the full flag, or found the corrupt one
+abbrev pub IsCause : Refusal → Actor → Type 0
+IsCause why.Full b = b.done.filled ≡ true
+IsCause why.Corrupt b = ⊤
+IsCause cause b = ⊥
+
+-- what a step says: it goes on; the record is on the list; or it is refused. Its actor may turn to another call then
+abbrev pub MakingGives : Dimensions → Wanted → Making → MakingStep → Actor → Actor → Type 0
+MakingGives shape wanted new More a b = Beside a b × IsMaking shape wanted new b
+MakingGives shape wanted new Done a b = Beside a b × IsFree b
+MakingGives shape wanted new (Refused cause) a b = Beside a b × IsFree b × IsCause cause b
+
+-- what a step makes of the words, and of whatever actor stands so
+abbrev pub MakingSteps : List ℕ → Making → List ℕ → Making → List ℕ → MakingStep → Type 0
+MakingSteps payload old words new new_words said = (shape : Dimensions) (version : ℕ) (wanted : Wanted) (a : Actor) → length words ≡ shape.size
+    → wanted.payload ≡ payload → IsMaking shape wanted old a → Goes shape.size version a words new_words (MakingGives shape wanted new said a)
+
+-- a record that is being made somewhere, in so many words
+abbrev pub IsSomeMaking : ℕ → List ℕ → Making → Type 0
+IsSomeMaking n payload m = (shape : Dimensions) × (wanted : Wanted) × (a : Actor) × (n ≡ shape.size) × (wanted.payload ≡ payload) × IsMaking shape wanted m a
+
+-- ---- what it does next
+
+-- it begins to claim its words
+abbrev pub IsStarted : Dimensions → ℕ → ℕ → Making → Type 0
+IsStarted shape room tag new = new.stage ≡ Allocating (alloc.first_of shape room tag)
+
+-- it is allocating
+abbrev pub IsAllocating : Stage → Type 0
+IsAllocating (Allocating allocation) = ⊤
+IsAllocating _ = ⊥
+
+-- what becomes of it by what a step of its allocation said: it goes on, or stores the payload in its block, or is refused
+abbrev pub IsAllocated : Making → AllocStep → Making → MakingStep → Type 0
+IsAllocated old said.More new result = (new ≡ old) × (result ≡ More)
+IsAllocated old (said.Done at) new result = (new ≡ record { stage = Filling at 0 }) × (result ≡ More)
+IsAllocated old said.Full new result = result ≡ Refused why.Full
+IsAllocated old said.Corrupt new result = result ≡ Refused why.Corrupt
+
+-- it is publishing
+abbrev pub IsPublishing : Stage → Type 0
+IsPublishing (Publishing publishing) = ⊤
+IsPublishing _ = ⊥
+
+-- what a step of its publish leads to
+abbrev pub IsPublished : PubStep → MakingStep → Type 0
+IsPublished put.More result = result ≡ More
+IsPublished put.Done result = result ≡ Done
+IsPublished put.Stray result = result ≡ More
+
+-- the words of the payload before an index are stored: it stores the next that is not 0, or publishes the record
+abbrev pub IsFilled : List ℕ → ℕ → ℕ → Making → Type 0
+IsFilled payload at from new = (next : ℕ) × IsNextFilled payload from next
+    × (new.stage ≡ (if nat_lt next (length payload) then Filling at next else Publishing (publish.started at)))

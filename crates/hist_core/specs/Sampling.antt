@@ -1,0 +1,117 @@
+-- The search for the sample of a value of a sparse histogram: a walk on from the histogram's record, which makes a sample where there is none.
+use Rattle.std.specs.Prelude.{◌≡◌, ◌≢◌, ◌⊎◌, ◌==◌, Bool, true, false, ℕ, ◌+◌, ◌≤◌, ℤ, List, [], ◌∷◌, ◌++◌, length, if◌then◌else◌, Some, ⊤}
+use Rattle.std.specs.Int.{w64, cast_unsigned}
+use Rattle.std.specs.List.{All}
+use Rattle.bucket_ranges.specs.Reading.{is_i32}
+use Rattle.segment_image.specs.declared.layout.TheConstants.{BLOCK_LEAST, SAMPLE_HISTOGRAM, SAMPLE_LEAST, TYPE_SAMPLE}
+use Rattle.segment_image.specs.Shape.{Dimensions}
+use Rattle.alloc_core.specs.Layout.{IsShape}
+use Rattle.list_core.specs.Chain.{is_reference}
+use Rattle.list_core.specs.Walk.{IsPrefix, stands_behind}
+use Rattle.segment_calls.specs.declared.refusal.Refusal.{Refusal}
+use Rattle.segment_machine.specs.declared.actor.Actor.{Actor}
+use Rattle.segment_machine.specs.declared.actor.Known.{Known}
+use Rattle.segment_machine.specs.declared.actor.Made.TheVariants.{Sample}
+use Rattle.segment_machine.specs.Actor.{Sparse, word_seen}
+use Rattle.segment_machine.specs.Made.{IsFirstSample, SawOther}
+use Rattle.hist_core.specs.declared.making.MakingStep.{MakingStep}
+use Rattle.hist_core.specs.declared.making.MakingStep.TheVariants as made
+use Rattle.hist_core.specs.declared.sampling.Sampling.{Sampling}
+use Rattle.hist_core.specs.declared.sampling.SamplingStep.{SamplingStep}
+use Rattle.hist_core.specs.declared.sampling.SamplingStep.TheVariants.{More, Found, Refused}
+use Rattle.hist_core.specs.declared.sampling.Stage.{Stage}
+use Rattle.hist_core.specs.declared.sampling.Stage.TheVariants.{Walking, LoadingType, LoadingHistogram, LoadingValue, Making}
+use Rattle.hist_core.specs.Goes.{Beside, Goes, IsFree}
+use Rattle.hist_core.specs.Looker.{IsSample}
+use Rattle.hist_core.specs.Making.{IsCause, IsMaking, Wanted}
+
+-- ---- what it makes where there is none
+
+-- the sample of its value, with a count and a mark of 0
+abbrev pub wanted_of : Sampling → Wanted
+wanted_of s = record { made = Sample s.histogram s.value; room = 4; payload = s.histogram ∷ cast_unsigned w64 s.value ∷ [] }
+
+-- ---- where it stands
+
+-- none of these records is a sample of its value
+abbrev pub HaveOthers : Sampling → Actor → List ℕ → Type 0
+HaveOthers s a records = All (SawOther a.seen s.histogram s.value) records
+
+-- It stands at a record behind the histogram's, within the segment. None of those between is a sample of its value.
+pub record MetRecord (shape : Dimensions) (s : Sampling) (at : ℕ) (a : Actor) (behind : List ℕ) : Type 0 where
+  pub free : IsFree a
+  pub passed : List ℕ
+  pub are : behind ≡ passed ++ at ∷ []
+  pub others : HaveOthers s a passed
+  pub within : at + BLOCK_LEAST ≤ shape.size
+
+-- Where its actor stands, whose walk has given these records behind the histogram's.
+abbrev pub StandsAtStage : Dimensions → Sampling → Actor → List ℕ → Stage → Type 0
+StandsAtStage shape s a behind Walking = IsFree a × HaveOthers s a behind
+StandsAtStage shape s a behind (LoadingType at) = MetRecord shape s at a behind
+StandsAtStage shape s a behind (LoadingHistogram at) = MetRecord shape s at a behind × IsSample shape at a
+StandsAtStage shape s a behind (LoadingValue at of) =
+    MetRecord shape s at a behind × IsSample shape at a × (word_seen a.seen.words (at + SAMPLE_HISTOGRAM) ≡ Some of)
+StandsAtStage shape s a behind (Making making) = HaveOthers s a behind × IsMaking shape (wanted_of s) making a
+
+-- Its actor knows a sparse histogram there. Its walk has given the front of the chain that its actor has seen, on to the histogram's record
+-- and behind it.
+pub record IsSampling (shape : Dimensions) (s : Sampling) (a : Actor) : Type 0 where
+  pub shaped : s.shape ≡ shape
+  pub segment : a.segment.shape ≡ shape
+  pub lawful_shape : IsShape shape
+  pub some : s.histogram ≢ 0
+  pub valued : is_i32 s.value ≡ true
+  pub knows : (known : Known) × Sparse a s.histogram known
+  pub front : List ℕ
+  pub behind : List ℕ
+  pub walk : s.walk ≡ stands_behind (front ++ s.histogram ∷ behind)
+  pub reach : is_reference shape.size s.walk ≡ true
+  pub chain : IsPrefix (front ++ s.histogram ∷ behind) a.seen.chain
+  pub stands : StandsAtStage shape s a behind s.stage
+
+-- What a step says: it goes on; the first sample of the value stands there, within the segment; or it is refused. Its actor may turn to
+-- something else then.
+abbrev pub SamplingGives : Dimensions → Sampling → SamplingStep → Actor → Actor → Type 0
+SamplingGives shape new More a b = Beside a b × IsSampling shape new b
+SamplingGives shape new (Found at) a b = Beside a b × IsFree b × IsFirstSample b.seen new.histogram new.value at × (at + SAMPLE_LEAST ≤ shape.size)
+SamplingGives shape new (Refused cause) a b = Beside a b × IsFree b × IsCause cause b
+
+-- what a step makes of the words, and of whatever actor stands so
+abbrev pub SamplingSteps : Sampling → List ℕ → Sampling → List ℕ → SamplingStep → Type 0
+SamplingSteps old words new new_words said = (shape : Dimensions) (version : ℕ) (a : Actor) → length words ≡ shape.size
+    → IsSampling shape old a → Goes shape.size version a words new_words (SamplingGives shape new said a)
+
+-- a search that stands so somewhere, in so many words
+abbrev pub IsSomeSampling : ℕ → Sampling → Type 0
+IsSomeSampling n s = (shape : Dimensions) × (a : Actor) × (n ≡ shape.size) × IsSampling shape s a
+
+-- ---- what it does next
+
+-- it begins at the histogram's record
+pub record IsStarted (shape : Dimensions) (histogram : ℕ) (value : ℤ) (s : Sampling) : Type 0 where
+  pub shaped : s.shape ≡ shape
+  pub of : s.histogram ≡ histogram
+  pub counts : s.value ≡ value
+  pub walk : s.walk ≡ histogram
+  pub stage : s.stage ≡ Walking
+
+-- what the type of a record leads to: the histogram of a sample, or the next of another record
+abbrev pub behind_type : ℕ → ℕ → Stage
+behind_type at tag = if tag == TYPE_SAMPLE then LoadingHistogram at else Walking
+
+-- whether a sample of a histogram, whose value has this word, is that of its own value
+abbrev pub IsIts : Sampling → ℕ → ℕ → Bool → Type 0
+IsIts s of word true = (of ≡ s.histogram) × (word ≡ cast_unsigned w64 s.value)
+IsIts s of word false = (of ≢ s.histogram) ⊎ (word ≢ cast_unsigned w64 s.value)
+
+-- it is making its sample
+abbrev pub IsMakingSample : Stage → Type 0
+IsMakingSample (Making making) = ⊤
+IsMakingSample _ = ⊥
+
+-- what becomes of it by what a step of the making of its sample said: it goes on, or the same walk does, or it is refused
+abbrev pub IsMade : Sampling → MakingStep → Sampling → SamplingStep → Type 0
+IsMade old made.More new result = (new ≡ old) × (result ≡ More)
+IsMade old made.Done new result = (new ≡ record old { stage = Walking }) × (result ≡ More)
+IsMade old (made.Refused cause) new result = (new ≡ old) × (result ≡ Refused cause)

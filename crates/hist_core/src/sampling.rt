@@ -1,0 +1,198 @@
+//! The search for the sample of a value of a sparse histogram: a walk on from the histogram's record, which makes a sample where there is
+//! none.
+
+ghost use Rattle.std.specs.Prelude.{◌≡◌, length};
+ghost use Rattle.hist_core.specs.Sampling.{behind_type};
+
+use crate::making::{Making, MakingStep};
+use list_core::{Walk, WalkStep};
+use segment_calls::Refusal;
+use segment_image::Shape;
+use segment_image::layout::{
+    BLOCK_HEADER, BLOCK_TYPE, SAMPLE_HISTOGRAM, SAMPLE_LEAST, SAMPLE_VALUE, TYPE_SAMPLE,
+};
+
+/// What a search for a sample does next.
+#[derive(Debug, Drop)]
+pub(crate) enum Stage {
+    /// It loads the next of where the walk stands.
+    Walking,
+    /// It loads the type of the record that the walk gave last.
+    LoadingType { at: u64 },
+    /// It loads the histogram of a sample.
+    LoadingHistogram { at: u64 },
+    /// It loads the value of a sample of this histogram.
+    LoadingValue { at: u64, of: u64 },
+    /// It makes a sample.
+    Making { making: Making },
+}
+
+/// What a step of a search for a sample says.
+#[derive(Clone, Copy, Debug, PartialEq, Eq)]
+pub(crate) enum SamplingStep {
+    /// It goes on.
+    More,
+    /// The first sample of the value stands there.
+    Found(u64),
+    /// It is refused: there is none, and none could be made.
+    Refused(Refusal),
+}
+
+/// A search for the sample of a value that is going on.
+#[derive(Debug, Drop)]
+pub(crate) struct Sampling {
+    pub(crate) shape: Shape,
+    // The histogram's record, and the value.
+    pub(crate) histogram: u64,
+    pub(crate) value: i32,
+    pub(crate) walk: Walk,
+    pub(crate) stage: Stage,
+}
+
+// What the type of a record leads to: the histogram of a sample, or the next of another record.
+fn behind_type(at: u64, tag: u64) -> Stage
+    ensures { result ≡ behind_type at tag }
+{
+    if tag == TYPE_SAMPLE {
+        Stage::LoadingHistogram { at }
+    } else {
+        Stage::Walking
+    }
+}
+
+impl Sampling {
+    ghost use Rattle.std.specs.Int.{w64, cast_unsigned};
+    ghost use Rattle.hist_core.specs.declared.sampling.Stage.TheVariants.{Walking, LoadingType, LoadingHistogram, LoadingValue};
+    ghost use Rattle.hist_core.specs.Sampling.{IsSomeSampling, SamplingSteps, IsStarted, IsIts, IsMade, IsMakingSample};
+
+    // It begins to walk on from the histogram's record.
+    pub(crate) fn start(shape: Shape, histogram: u64, value: i32) -> Sampling
+        ensures { IsStarted shape histogram value result }
+    {
+        Sampling {
+            shape,
+            histogram,
+            value,
+            walk: Walk::from(histogram),
+            stage: Stage::Walking,
+        }
+    }
+
+    // The word of its value.
+    fn value_word(&self) -> u64
+        ensures { result ≡ cast_unsigned w64 self.now.value }
+    {
+        i64::from(self.value).cast_unsigned()
+    }
+
+    // It loads the next of where the walk stands. At the end of the list it begins to make a sample.
+    fn walk_on(&mut self, words: &[u64]) -> SamplingStep
+        requires walks { self.old.stage ≡ Walking }
+        requires stands { ∥ IsSomeSampling (length words.now) self.old ∥₁ }
+        ensures steps { SamplingSteps self.old words.now self.new words.now result }
+        ensures same { self.new ≡ record self.old { walk = self.new.walk; stage = self.new.stage } }
+    {
+        match self.walk.step(words) {
+            WalkStep::Record(at) => self.stage = Stage::LoadingType { at },
+            WalkStep::End => {
+                let room = (SAMPLE_LEAST - BLOCK_HEADER) as u64;
+                let making = Making::start(self.shape, room, TYPE_SAMPLE);
+                self.stage = Stage::Making { making };
+            }
+            WalkStep::Stray => {}
+        }
+        SamplingStep::More
+    }
+
+    // It loads the type of a record.
+    fn load_type(&mut self, words: &[u64], at: u64) -> SamplingStep
+        requires loads { self.old.stage ≡ LoadingType at }
+        requires stands { ∥ IsSomeSampling (length words.now) self.old ∥₁ }
+        ensures steps { SamplingSteps self.old words.now self.new words.now result }
+        ensures same { self.new ≡ record self.old { walk = self.new.walk; stage = self.new.stage } }
+    {
+        let tag = words[at as usize + BLOCK_TYPE];
+        self.stage = behind_type(at, tag);
+        SamplingStep::More
+    }
+
+    // It loads the histogram of a sample.
+    fn load_histogram(&mut self, words: &[u64], at: u64) -> SamplingStep
+        requires loads { self.old.stage ≡ LoadingHistogram at }
+        requires stands { ∥ IsSomeSampling (length words.now) self.old ∥₁ }
+        ensures steps { SamplingSteps self.old words.now self.new words.now result }
+        ensures same { self.new ≡ record self.old { walk = self.new.walk; stage = self.new.stage } }
+    {
+        let of = words[at as usize + SAMPLE_HISTOGRAM];
+        self.stage = Stage::LoadingValue { at, of };
+        SamplingStep::More
+    }
+
+    // Whether a sample of a histogram is that of its value, which has this word.
+    fn is_its(&self, of: u64, word: u64) -> bool
+        ensures { IsIts self.now of word result }
+    {
+        of == self.histogram && word == self.value_word()
+    }
+
+    // It loads the value of a sample: that is the one, or the walk goes on.
+    fn load_value(&mut self, words: &[u64], at: u64, of: u64) -> SamplingStep
+        requires loads { self.old.stage ≡ LoadingValue at of }
+        requires stands { ∥ IsSomeSampling (length words.now) self.old ∥₁ }
+        ensures steps { SamplingSteps self.old words.now self.new words.now result }
+        ensures same { self.new ≡ record self.old { walk = self.new.walk; stage = self.new.stage } }
+    {
+        let word = words[at as usize + SAMPLE_VALUE];
+        if self.is_its(of, word) {
+            return SamplingStep::Found(at);
+        }
+        self.stage = Stage::Walking;
+        SamplingStep::More
+    }
+
+    // What becomes of it by what a step of the making of its sample said: it goes on, or the same walk does.
+    fn made(&mut self, said: MakingStep) -> SamplingStep
+        ensures { IsMade self.old said self.new result }
+    {
+        match said {
+            MakingStep::More => SamplingStep::More,
+            MakingStep::Done => {
+                self.stage = Stage::Walking;
+                SamplingStep::More
+            }
+            MakingStep::Refused(refusal) => SamplingStep::Refused(refusal),
+        }
+    }
+
+    // It goes on with making its sample.
+    fn make(&mut self, words: &mut [u64]) -> SamplingStep
+        requires makes { IsMakingSample self.old.stage }
+        requires stands { ∥ IsSomeSampling (length words.old) self.old ∥₁ }
+        ensures steps { SamplingSteps self.old words.old self.new words.new result }
+        ensures same { self.new ≡ record self.old { walk = self.new.walk; stage = self.new.stage } }
+    {
+        let payload = [self.histogram, self.value_word()];
+        match &mut self.stage {
+            Stage::Making { making } => {
+                let said = making.step(words, &payload);
+                self.made(said)
+            }
+            _ => SamplingStep::More,
+        }
+    }
+
+    // Goes on by one event.
+    pub(crate) fn step(&mut self, words: &mut [u64]) -> SamplingStep
+        requires stands { ∥ IsSomeSampling (length words.old) self.old ∥₁ }
+        ensures steps { SamplingSteps self.old words.old self.new words.new result }
+        ensures same { self.new ≡ record self.old { walk = self.new.walk; stage = self.new.stage } }
+    {
+        match self.stage {
+            Stage::Walking => self.walk_on(words),
+            Stage::LoadingType { at } => self.load_type(words, at),
+            Stage::LoadingHistogram { at } => self.load_histogram(words, at),
+            Stage::LoadingValue { at, of } => self.load_value(words, at, of),
+            Stage::Making { .. } => self.make(words),
+        }
+    }
+}

@@ -10,7 +10,7 @@ use Rattle.segment_machine.specs.declared.actor.Known.{Known as MachineKnown}
 use Rattle.segment_machine.specs.declared.entry.Counting.{Counting}
 use Rattle.segment_machine.specs.declared.entry.Entry.{Entry as MachineEntry}
 use Rattle.segment_machine.specs.Entry.{has_ended, tally_noted}
-use Rattle.segment_machine.specs.Note.{Note, Notes, is_untouched}
+use Rattle.segment_machine.specs.Note.{Note, Notes, is_untouched, noted, refused}
 use Rattle.hist_core.specs.declared.add.Add.{Add as AddCall}
 use Rattle.hist_core.specs.declared.add.AddStep.{AddStep}
 use Rattle.hist_core.specs.declared.add.AddStep.TheVariants.{More, Done, Refused}
@@ -23,7 +23,8 @@ use Rattle.hist_core.specs.declared.runner.Runner.{Runner}
 use Rattle.hist_core.specs.Add.{Amid, alone, counted_entry, ended_entry, HasEntry, HasEnded, StandsAtStage, IsAdd, IsSomeAdd, AddSteps, AddGives}
 use Rattle.hist_core.specs.Batch.{Runs, HaveEnded, IsCutAt}
 use Rattle.hist_core.specs.Goes.{Goes}
-use Rattle.hist_core.specs.Runner.{ended_by, begun_by, pending_by, held_by, IsTelling, IsAdding, StandsIn, IsRun, IsAddSaid, LandsBack, Advances, Answers}
+use Rattle.hist_core.specs.Runner.{ended_by, begun_by, pending_by, held_by, IsTelling, IsAdding, StandsIn, IsRun, IsAddSaid, LandsBack, Advances, Answers, IsRefusedBy}
+use Rattle.hist_core.proofs.Causes.{refused_still}
 use Rattle.hist_core.proofs.Parts.Allocations.{goes_with}
 use Rattle.hist_core.proofs.Adds.Entries.{ended_is_over}
 use Rattle.hist_core.proofs.Apart.{asks_not, looks_not, batches_not}
@@ -127,9 +128,11 @@ module _ (shape : Dimensions) (version : ℕ) (old : Runner) (add : AddCall) (is
         (has_counted shape version old its.name add.units (entries its) (standing its) (runs its) (into its) b counts c aside stays turns counts.counting.rests (ends_so its at b counts c over)))))
     goes_so (Refused why) result steps (new_is, items, result_is) =
         subst (λ said. Advances shape version old words new new_words said a) (sym result_is) (goes (λ b counts. goes_noting (its_steps its at b counts words new_words (Refused why) long steps)
-        (λ c (aside, stays, turns, cause, has). subst (λ (units : ℕ). (notes : List Note) × (d : Actor) × Notes c notes d × LandsBack shape version units new d) (sym (ap held_by is))
+        (λ c (aside, stays, turns, cause, has). subst (λ (units : ℕ). (notes : List Note) × (d : Actor) × Notes c notes d
+        × (LandsBack shape version units new d × IsRefusedBy old.running why d)) (sym (ap held_by is))
         (is_cut shape version old its.name add.units (entries its) (standing its) (runs its) (into its) b counts c aside stays turns counts.counting.rests counts.counting.held
-        0 add.units (omega arith) (nothing_yet its at b counts c has) (let none : tally_noted (take 0 (entries its)) its.name ≡ 0 = refl in omega (arith, none)) new old.ended (omega arith) new_is items))))
+        0 add.units (omega arith) (nothing_yet its at b counts c has) (let none : tally_noted (take 0 (entries its)) its.name ≡ 0 = refl in omega (arith, none)) new old.ended (omega arith) new_is items
+        (IsRefusedBy old.running why) (refused_still old.running why c (noted c (refused 0)) refl refl (inl cause))))))
 
   pub add_goes : (a : Actor) (run : IsRun shape version old a) (now : AddCall) → now ≡ record add { stage = now.stage } → (words new_words : List ℕ) → length words ≡ shape.size
       → (said : AddStep) (new : Runner) (result : Stepped) → AddSteps add words now new_words said → IsAddSaid (record old { running = Some (Add now) }) said new result

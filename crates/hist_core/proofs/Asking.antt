@@ -38,8 +38,9 @@ use Rattle.hist_core.proofs.Free.{free_turns}
 use Rattle.hist_core.proofs.Quiet.{met_on, quiet_on, gives_none, begun_there, takes_none, takes_not}
 use Rattle.hist_core.specs.declared.runner.Runner.{Runner}
 use Rattle.hist_core.specs.Goes.{Beside, Goes, IsFree}
-use Rattle.hist_core.specs.Hist.{IsSomeHist, HistSteps, asked_of}
-use Rattle.hist_core.specs.Runner.{known_of, AreShown, HasDraft, IsKnown, NoneHasName, HaveOwnNames, StandsIn, HasRoom, IsRun, IsSomeRun, IsHistSaid, BeginsHist, IsAsItWas, IsQuiet, Advances, Answers, held_by, entry_of, ended_by, begun_by, pending_by}
+use Rattle.hist_core.specs.Hist.{HasOtherSpec, IsCause, IsSomeHist, HistSteps, asked_of}
+use Rattle.segment_calls.specs.declared.refusal.Refusal.{Refusal}
+use Rattle.hist_core.specs.Runner.{known_of, AreShown, HasDraft, IsKnown, NoneHasName, HaveOwnNames, StandsIn, HasRoom, IsRun, IsSomeRun, IsHistSaid, IsRefusedBy, BeginsHist, IsAsItWas, IsQuiet, Advances, Answers, held_by, entry_of, ended_by, begun_by, pending_by}
 
 -- ---- a note more
 
@@ -160,6 +161,11 @@ module _ (shape : Dimensions) (version : ℕ) (old : Runner) (a : Actor) (run : 
   still_quiet : (b : Actor) → Beside a b → IsQuiet (pending_by old) b
   still_quiet b beside = quiet_on (pending_by old) a b beside.units beside.entries beside.deltas stands.1
 
+  -- why it is refused
+  refused_by : (cause : Refusal) (b : Actor) → IsCause now.asked.name.items now.asked.spec cause b → IsRefusedBy old.running cause b
+  refused_by cause b its =
+      ⊎_elim (λ own. inl own) (λ (other, saw). inr (h, is, other, subst (λ (k : Known). HasOtherSpec k.name.items k.spec b.seen) same saw)) its
+
   -- what the machine's actor does, and what becomes of that at run time
   pub hist_goes : (said : HistStep) (new : Runner) (result : Stepped) → HistSteps h words now new_words said
       → IsHistSaid (record old { running = Some (Hist now) }) said new result → Advances shape version old words new new_words result a
@@ -178,9 +184,11 @@ module _ (shape : Dimensions) (version : ℕ) (old : Runner) (a : Actor) (run : 
             (record { name = asking.name; lawful = asking.lawful; ranges = asking.ranges; fits = asking.fits; within = within }) none,
       )))
   hist_goes (Refused why) new result steps (new_is, result_is) =
-      subst (λ said. Advances shape version old words new new_words said a) (sym result_is) (goes_with (steps shape version a long stands.0) (λ b (beside, may, cause).
-      gives_none shape version new b (held_by old.running) (ap held_by is) (free_turns b.hand.place may) (subst (λ (r : Runner). IsRun shape version r b) (sym new_is)
-      (runs_on shape version old a run b None beside (may, still_quiet b beside) tt tt))))
+      subst (λ said. Advances shape version old words new new_words said a) (sym result_is) (goes_with (steps shape version a long stands.0) (λ b (beside, may, cause). (
+        gives_none shape version new b (held_by old.running) (ap held_by is) (free_turns b.hand.place may) (subst (λ (r : Runner). IsRun shape version r b) (sym new_is)
+            (runs_on shape version old a run b None beside (may, still_quiet b beside) tt tt)),
+        refused_by why b cause,
+      )))
 
 -- what is answered
 module _ (old : Runner) (h now : HistCall) (is : old.running ≡ Some (Hist h)) (same : now.asked ≡ h.asked) (words new_words : List ℕ)

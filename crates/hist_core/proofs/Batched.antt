@@ -1,12 +1,12 @@
 -- What becomes of an actor by what its `batch` says.
-use Rattle.std.proofs.Common.{◌≡◌, ◌≤◌, ◌+◌, ◌-◌, ℕ, List, ◌++◌, map, length, take, inr, refl, sym, ap, subst, ◌∙◌, arith, length-append}
+use Rattle.std.proofs.Common.{◌≡◌, ◌≤◌, ◌+◌, ◌-◌, ℕ, List, ◌++◌, map, length, take, inr, refl, sym, ap, subst, ◌∙◌, arith, length-append, inl}
 use Rattle.std.specs.Prelude.{Option, Some, vec_len}
 use Rattle.std.proofs.lemmas.List.{length-map, length-drop, take-append-drop, take-take, take_all, drop-take}
 use Rattle.segment_image.specs.Shape.{Dimensions}
 use Rattle.segment_machine.specs.declared.actor.Actor.{Actor}
 use Rattle.segment_machine.specs.declared.actor.Known.{Known as MachineKnown}
 use Rattle.segment_machine.specs.declared.entry.Entry.{Entry as MachineEntry}
-use Rattle.segment_machine.specs.Note.{Note, Notes}
+use Rattle.segment_machine.specs.Note.{Note, Notes, noted, refused}
 use Rattle.hist_core.specs.declared.batch.Batch.{Batch as BatchCall}
 use Rattle.hist_core.specs.declared.batch.BatchStep.{BatchStep}
 use Rattle.hist_core.specs.declared.batch.BatchStep.TheVariants.{More, Done, Refused}
@@ -18,7 +18,8 @@ use Rattle.hist_core.specs.Add.{counted_entry}
 use Rattle.segment_machine.specs.Entry.{tally_noted}
 use Rattle.hist_core.specs.Batch.{IsBatch, IsCutAt, HaveEnded, IsSomeBatch, IsSameBatch, IsRefusedAt, BatchSteps, BatchGives, added_of, counted_entries, sum_entries, units_among}
 use Rattle.hist_core.specs.Goes.{Goes}
-use Rattle.hist_core.specs.Runner.{ended_by, begun_by, pending_by, entry_of, held_by, IsTelling, IsBatching, StandsIn, IsRun, IsBatchSaid, LandsBack, Advances, Answers}
+use Rattle.hist_core.specs.Runner.{ended_by, begun_by, pending_by, entry_of, held_by, IsTelling, IsBatching, StandsIn, IsRun, IsBatchSaid, LandsBack, Advances, Answers, IsRefusedBy}
+use Rattle.hist_core.proofs.Causes.{refused_still}
 use Rattle.hist_core.proofs.Parts.Allocations.{goes_with}
 use Rattle.hist_core.proofs.Apart.{asks_not, adds_not, looks_not}
 use Rattle.hist_core.proofs.Batching.{runs_so, first_units}
@@ -100,9 +101,11 @@ module _ (shape : Dimensions) (version : ℕ) (old : Runner) (batch : BatchCall)
         (subst (λ (l : List MachineEntry). HaveEnded l c) still_same over)))))
     batch_goes (Refused refusal) result steps at (new_is, items, result_is) =
         subst (λ said. Advances shape version old words new new_words said a) (sym result_is) (goes (λ b counts. goes_noting (its_steps its now same still_same b counts words new_words (Refused refusal) long steps)
-        (λ c (aside, stays, turns, cause, cut, few, spent). subst (λ (units : ℕ). (notes : List Note) × (d : Actor) × Notes c notes d × LandsBack shape version units new d) (sym (ap held_by is))
+        (λ c (aside, stays, turns, cause, cut, few, spent). subst (λ (units : ℕ). (notes : List Note) × (d : Actor) × Notes c notes d
+        × (LandsBack shape version units new d × IsRefusedBy old.running refusal.why d)) (sym (ap held_by is))
         (is_cut shape version old its.name batch.cost (entries its) (standing its) (runs its) (into its) b counts c aside stays turns counts.counting.rests counts.counting.held
-        refusal.added batch.left (few_entries few) (subst (λ (l : List MachineEntry). IsCutAt refusal.added l c) still_same cut) (left_so few spent) new (old.ended + refusal.added) refl new_is items))))
+        refusal.added batch.left (few_entries few) (subst (λ (l : List MachineEntry). IsCutAt refusal.added l c) still_same cut) (left_so few spent) new (old.ended + refusal.added) refl new_is items
+        (IsRefusedBy old.running refusal.why) (refused_still old.running refusal.why c (noted c (refused refusal.added)) refl refl (inl cause))))))
       where
         few_entries : refusal.added ≤ length now.items.items → refusal.added ≤ length (entries its)
         few_entries few =

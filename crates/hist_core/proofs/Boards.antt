@@ -6,7 +6,7 @@ use Rattle.std.proofs.Math.Logic.{∥∥₁_elim}
 use Rattle.std.proofs.Props.{props}
 use mathlib.Core.Option.{some, some-injective, some-ne-none}
 use lib.ListN.{get_elem?}
-use Rattle.atomic_table.proofs.Lists.{set_again}
+use Rattle.atomic_table.proofs.Lists.{set_again, set_else}
 use Rattle.segment_image.specs.Shape.{Dimensions}
 use Rattle.segment_image.specs.Words.{word_at}
 use Rattle.segment_machine.specs.declared.actor.Actor.{Actor}
@@ -49,14 +49,16 @@ use Rattle.hist_core.specs.declared.call.Stepped.{Stepped}
 use Rattle.hist_core.specs.declared.call.Stepped.TheVariants.{More, Done}
 use Rattle.hist_core.specs.declared.call.Answer.TheVariants as answer
 use Rattle.hist_core.specs.Goes.{Goes, WalksInOrder}
-use Rattle.hist_core.specs.Runner.{IsAnswer, IsTook, IsKnown, IsRun, IsSomeRun, Lands, Advances, held_by, looked_by, returned_by, StandsIn, known_of, pending_by}
-use Rattle.hist_core.specs.Board.{AreRun, IsReachedAs, IsReached, IsConsistentAs, IsReadAs, AreKnownFirst, HasSeen, HasTaken, IsPromised, StepsTo, BeginsFrom}
+use Rattle.hist_core.specs.Runner.{IsAnswer, IsTook, IsKnown, IsRun, IsSomeRun, Lands, Advances, held_by, looked_by, returned_by, StandsIn, known_of, pending_by, IsRefusedBy}
+use Rattle.hist_core.specs.Board.{AreRun, IsReachedAs, IsReached, IsConsistentAs, IsReadAs, AreKnownFirst, HasSeen, HasTaken, IsPromised, StepsTo, BeginsFrom, IsDue}
 use Rattle.bucket_ranges.specs.Ranges.{boundaries_of}
 use Rattle.bucket_ranges.specs.Spec.{spec_fault}
 use Rattle.std.specs.Prelude.{None}
 use Rattle.hist_core.specs.World.{of_actor}
 use Rattle.hist_core.proofs.Orders.{walks_in_order}
 use Rattle.hist_core.proofs.Free.{free_turns}
+use Rattle.hist_core.proofs.Causes.{is_due, refused_still}
+use Rattle.segment_calls.specs.declared.refusal.Refusal.{Refusal}
 use Rattle.hist_core.proofs.Quiet.{not_spent, counts_none, some_quiet}
 
 -- ---- actors and those that they stand for
@@ -254,7 +256,7 @@ module _ (old : Board) (state : State) (reach : IsReachedAs old state) (size : l
     -- it lands there once its units have come back
     lands_back : (event : Event) (b : Actor) (units : ℕ) → IsStep old.version state (actor + 1) event (changed b) → new.units ≡ old.units + units
         → b.hand.place ≢ Spent → is_opener b.role ≡ false → units ≤ b.units.share → IsRun old.shape old.version r' (giver b units) → (said : Stepped)
-        → ((last : State) (there : IsReachedAs new last) → IsPromised old actor said new last there) → StepsTo old actor state new said
+        → ((there : IsReachedAs new (traded b (getter reach.shows.opener units) (giver b units))) → IsPromised old actor said new _ there) → StepsTo old actor state new said
     lands_back event b units step pooled living recorder fits run said promised =
         let opener : Actor = reach.shows.opener in
         let last : State = traded b (getter opener units) (giver b units) in
@@ -279,8 +281,19 @@ module _ (old : Board) (state : State) (reach : IsReachedAs old state) (size : l
           event,
           changed b,
           step,
-          (last, inr (units, back), (there, promised last there)),
+          (last, inr (units, back), (there, promised there)),
         )
+
+    -- why it was refused shows there
+    due_back : (b : Actor) (units : ℕ) (cause : Refusal) → b.hand.place ≢ Spent → IsRefusedBy r.running cause b
+        → (there : IsReachedAs new (traded b (getter reach.shows.opener units) (giver b units))) (before : Runner) → get_elem? old.runners.items actor ≡ some before
+        → IsDue actor before.running cause new (traded b (getter reach.shows.opener units) (giver b units))
+    due_back b units cause living is reaches_it before was =
+        let last : State = traded b (getter reach.shows.opener units) (giver b units) in
+        let opener : Actor = getter reach.shows.opener units in
+        let mine = set_else (set state.actors (actor + 1) b) 0 (actor + 1) opener (λ same. not_first (sym same)) ∙ set_at state.actors (actor + 1) its.0 b there in
+        subst (λ (x : Runner). IsDue actor x.running cause new last) (some-injective r before (sym at ∙ was))
+        (is_due new last reaches_it actor (giver b units) (set_at (set (set state.actors (actor + 1) b) 0 opener) (actor + 1) b (giver b units) mine) living r.running cause (refused_still r.running cause b (giver b units) refl refl is))
 
     -- where its actor lands by what its call says
     lands_so : (event : Event) (b : Actor) → IsStep old.version state (actor + 1) event (changed b) → (said : Stepped)
@@ -299,10 +312,11 @@ module _ (old : Board) (state : State) (reach : IsReachedAs old state) (size : l
         lands event b step same run (Done (answer.Snapshot snapshot)) (λ before was.
         subst (λ (x : Runner). HasSeen actor (looked_by x.running) snapshot new (changed b) (reached_so event b step same run)) (some-injective r before (sym at ∙ was))
         (has_seen new (changed b) (reached_so event b step same run) actor b (set_at state.actors (actor + 1) its.0 b there) run.records (looked_by r.running) snapshot is))
-    lands_so event b step (Done (answer.BatchRefused refused)) pooled (living, fits, run) =
-        lands_back event b (held_by r.running) step pooled living run.records fits run (Done (answer.BatchRefused refused)) (λ last there. tt)
-    lands_so event b step (Done (answer.Refused why)) pooled (living, fits, run) =
-        lands_back event b (held_by r.running) step pooled living run.records fits run (Done (answer.Refused why)) (λ last there. tt)
+    lands_so event b step (Done (answer.BatchRefused refused)) pooled ((living, fits, run), cause) =
+        lands_back event b (held_by r.running) step pooled living run.records fits run (Done (answer.BatchRefused refused))
+        (due_back b (held_by r.running) refused.why living cause)
+    lands_so event b step (Done (answer.Refused why)) pooled ((living, fits, run), cause) =
+        lands_back event b (held_by r.running) step pooled living run.records fits run (Done (answer.Refused why)) (due_back b (held_by r.running) why living cause)
 
     -- an actor that goes on by an event leads to the next state
     pub steps : (said : Stepped) → ((a : Actor) → WalksInOrder a → IsRun old.shape old.version r a → Advances old.shape old.version r words r' new.words.items said a)

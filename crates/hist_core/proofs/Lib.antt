@@ -9,6 +9,7 @@ mod Batching
 mod Beginnings
 mod Boards
 mod Buckets
+mod Causes
 mod Deltas
 mod Free
 mod Looks

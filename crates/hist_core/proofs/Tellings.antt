@@ -254,38 +254,37 @@ module _ (shape : Dimensions) (version : ℕ) (old : Runner) (name : List ℕ) (
               ∙ ((λ i. map (λ (x : Counting). x.entry) (sym log_is i) ++ sym first_are i)
               ∙ sym (map-append (λ (x : Counting). x.entry) b.entries.log (take added b.entries.running))))))
 
-          pub is_cut : (notes : List Note) × (d : Actor) × Notes b notes d × LandsBack shape version units new d
-          is_cut = (
-            refused added ∷ [],
-            c,
-            ((free_turns b.hand.place turns, cut.ended, cut.untouched, cut.unsummed), refl),
-            (
-              not_spent b.hand.place (free_turns b.hand.place turns),
-              (let share = share_is in omega (arith, share)),
-              subst (λ (r : Runner). IsRun shape version r (giver c units)) (sym new_is) (record {
-                records = ap is_opener aside.role ∙ counts.run.records;
-                segment = aside.segment ∙ counts.run.segment;
-                first = ap (λ (e : Entries). e.first) open_still.1 ∙ counts.run.first;
-                within = (omega arith, (let here = ap length items in omega (arith, here, long)));
-                ended = ended_are;
-                begun = ended_are ∙ ap (map (λ (x : Counting). x.entry)) (sym (append-nil c.entries.log));
-                taken = subst (AreShown old.taken.items) (sym (ap (λ d. d.taken) aside.deltas)) counts.run.taken;
-                names = counts.run.names ∙ sym aside.names;
-                lawful = counts.run.lawful;
-                once = counts.run.once;
-                met = met_on a b aside.names aside.chain counts.run.met;
-                stands = (
-                  turns,
-                  record {
-                    none = drop_all ended new.entries.items (let here = ap length items in omega (arith, here, long));
-                    runs = refl;
-                    holds = refl;
-                    share = (let share = share_is in omega (arith, share));
-                    takes = ap (λ d. d.taking) aside.deltas ∙ rests;
-                  },
-                );
-                room = tt;
-                draft = tt;
-              }),
-            ),
+          lands_cut : LandsBack shape version units new c
+          lands_cut = (
+            not_spent b.hand.place (free_turns b.hand.place turns),
+            (let share = share_is in omega (arith, share)),
+            subst (λ (r : Runner). IsRun shape version r (giver c units)) (sym new_is) (record {
+              records = ap is_opener aside.role ∙ counts.run.records;
+              segment = aside.segment ∙ counts.run.segment;
+              first = ap (λ (e : Entries). e.first) open_still.1 ∙ counts.run.first;
+              within = (omega arith, (let here = ap length items in omega (arith, here, long)));
+              ended = ended_are;
+              begun = ended_are ∙ ap (map (λ (x : Counting). x.entry)) (sym (append-nil c.entries.log));
+              taken = subst (AreShown old.taken.items) (sym (ap (λ d. d.taken) aside.deltas)) counts.run.taken;
+              names = counts.run.names ∙ sym aside.names;
+              lawful = counts.run.lawful;
+              once = counts.run.once;
+              met = met_on a b aside.names aside.chain counts.run.met;
+              stands = (
+                turns,
+                record {
+                  none = drop_all ended new.entries.items (let here = ap length items in omega (arith, here, long));
+                  runs = refl;
+                  holds = refl;
+                  share = (let share = share_is in omega (arith, share));
+                  takes = ap (λ d. d.taking) aside.deltas ∙ rests;
+                },
+              );
+              room = tt;
+              draft = tt;
+            }),
           )
+
+          -- what its actor has done and seen is as before
+          pub is_cut : (holds : Actor → Type 0) → holds c → (notes : List Note) × (d : Actor) × Notes b notes d × (LandsBack shape version units new d × holds d)
+          is_cut holds its = (refused added ∷ [], c, ((free_turns b.hand.place turns, cut.ended, cut.untouched, cut.unsummed), refl), (lands_cut, its))

@@ -34,6 +34,7 @@ use Rattle.hist_core.specs.declared.add.Stage.{Stage}
 use Rattle.hist_core.specs.declared.add.Stage.TheVariants.{LoadingSingle, Packing, LoadingCounts, SeekingCounts, Allocating, Mounting, Purging, LoadingAgain, Disabling, Moving, Counting, Summing, Noting}
 use Rattle.segment_calls.specs.declared.refusal.Refusal.{Refusal}
 use Rattle.segment_calls.specs.declared.refusal.Refusal.TheVariants as why
+use Rattle.hist_core.specs.Making.{IsCause}
 use Rattle.hist_core.specs.Goes.{Goes, IsFree}
 
 -- ---- what it counts
@@ -182,12 +183,6 @@ pub record Aside (a b : Actor) : Type 0 where
 -- while it goes on: units and log are as before
 abbrev pub StaysOpen : Actor → Actor → Type 0
 StaysOpen a b = (b.units ≡ a.units) × (b.entries ≡ record a.entries { running = b.entries.running })
-
--- what its actor has done that is refused: an allocation has set the full flag, or found the segment corrupt
-abbrev pub IsCause : Refusal → Actor → Type 0
-IsCause why.Full b = b.done.filled ≡ true
-IsCause why.Corrupt b = ⊤
-IsCause cause b = ⊥
 
 -- What a step says: it goes on; all of its entry has happened; or it is refused, and nothing has. Its actor may turn to another entry or
 -- another call then.

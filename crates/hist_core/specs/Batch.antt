@@ -19,7 +19,8 @@ use Rattle.hist_core.specs.declared.add.Stage.TheVariants.{LoadingSingle}
 use Rattle.hist_core.specs.declared.batch.Batch.{Batch}
 use Rattle.hist_core.specs.declared.batch.BatchStep.{BatchStep}
 use Rattle.hist_core.specs.declared.batch.BatchStep.TheVariants.{More, Done, Refused}
-use Rattle.hist_core.specs.Add.{Amid, IsAdd, IsCounting, IsCause, Aside, StaysOpen, counted_entry, ended_entry}
+use Rattle.hist_core.specs.Add.{Amid, IsAdd, IsCounting, Aside, StaysOpen, counted_entry, ended_entry}
+use Rattle.hist_core.specs.Making.{IsCause}
 use Rattle.hist_core.specs.Goes.{Goes, IsFree}
 
 -- ---- what it counts

@@ -1,5 +1,5 @@
 -- The words of a segment with its actors, and the states of the machine that they stand for.
-use Rattle.std.specs.Prelude.{◌≡◌, ◌≢◌, ◌⊎◌, ◌<◌, ◌≤◌, ℕ, ℤ, pos, map, ◌+◌, true, List, [], ◌∷◌, take, IsSome, Option, Some, None, Result, Ok, Err, All, vec_len, ⊤}
+use Rattle.std.specs.Prelude.{◌≡◌, ◌≢◌, ◌⊎◌, ◌<◌, ◌≤◌, ℕ, ℤ, pos, map, ◌+◌, true, List, [], ◌∷◌, take, bit_and, IsSome, Option, Some, None, Result, Ok, Err, All, vec_len, ⊤}
 use mathlib.Core.Option.{some}
 use lib.ListN.{get_elem?}
 use Rattle.std.specs.List.{Contains}
@@ -9,7 +9,8 @@ use Rattle.bucket_ranges.specs.Reading.{Histogram, Reading, IsReading}
 use Rattle.alloc_core.specs.Layout.{render, fresh}
 use Rattle.segment_machine.specs.declared.place.Place.TheVariants.{Idle}
 use Rattle.segment_machine.specs.declared.actor.Actor.{Actor}
-use Rattle.segment_image.specs.declared.layout.TheConstants.{HISTOGRAM_REDUNDANT}
+use Rattle.segment_image.specs.Words.{word_at}
+use Rattle.segment_image.specs.declared.layout.TheConstants.{FLAG_CORRUPT, FLAG_FULL, FLAGS_WORD, HISTOGRAM_REDUNDANT}
 use Rattle.segment_machine.specs.Actor.{accepted_since, is_opener, offered_of, units_listed}
 use Rattle.segment_machine.specs.Event.{Event}
 use Rattle.segment_machine.specs.State.{State, IsStep}
@@ -39,7 +40,7 @@ use Rattle.segment_calls.specs.declared.refusal.Refusal.TheVariants as refusal
 use Rattle.hist_core.specs.declared.runner.Running.{Running}
 use Rattle.hist_core.specs.declared.runner.Running.TheVariants.{Hist, Add, Delta, Snapshot, Batch}
 use Rattle.segment_calls.specs.Asked.{IsRefusedFor}
-use Rattle.hist_core.specs.Runner.{IsFresh, IsRun, IsAsItWas, IsAnswer, IsTook, IsKnownAnswer, NoneHasName, Answers, entry_of, looked_by, pending_by, ended_by, begun_by}
+use Rattle.hist_core.specs.Runner.{IsFresh, IsRun, IsAsItWas, IsAnswer, IsTook, IsKnownAnswer, IsRefusedBy, NoneHasName, Answers, entry_of, looked_by, pending_by, ended_by, begun_by}
 use Rattle.segment_machine.specs.Entry.{batch_cost, batch_entries, sample_entry, tally_noted}
 use Rattle.segment_machine.specs.declared.entry.Entry.{Entry as MachineEntry}
 use Rattle.hist_core.specs.Batch.{sample_of}
@@ -131,12 +132,29 @@ pub record HasTaken (actor histogram : ℕ) (delta : DeltaAnswer) (board : Board
   pub kept : Invariant board.shape (blank board.version reach.id board.shape.size) state
   pub enough : IsEnough state.words kept.anatomy.records recorder answer.known (units_taken state.actors answer.known.name)
 
--- what an answer promises of the state behind it, by what the call took of or looked at
+-- the flag is set that a call is refused for
+abbrev pub IsFlagSet : Refusal → List ℕ → Type 0
+IsFlagSet refusal.Full words = bit_and (word_at words FLAGS_WORD) FLAG_FULL ≡ FLAG_FULL
+IsFlagSet refusal.Corrupt words = bit_and (word_at words FLAGS_WORD) FLAG_CORRUPT ≡ FLAG_CORRUPT
+IsFlagSet cause words = ⊤
+
+-- A running call is refused for what its actor has done or seen; of a full or a corrupt segment the words show it.
+pub record IsDue (actor : ℕ) (running : Option Running) (cause : Refusal) (board : Board) (state : State) : Type 0 where
+  pub recorder : Actor
+  pub there : get_elem? state.actors (actor + 1) ≡ some recorder
+  pub refused : IsRefusedBy running cause recorder
+  pub flagged : IsFlagSet cause board.words.items
+
+-- what an answer promises of the state behind it, by what the call was to do
 abbrev pub IsPromised : Board → ℕ → Stepped → (new : Board) (last : State) → IsReachedAs new last → Type 0
 IsPromised old actor (Done (answer.Delta delta)) new last reach =
     (before : Runner) → get_elem? old.runners.items actor ≡ some before → HasTaken actor (looked_by before.running) delta new last reach
 IsPromised old actor (Done (answer.Snapshot snapshot)) new last reach =
     (before : Runner) → get_elem? old.runners.items actor ≡ some before → HasSeen actor (looked_by before.running) snapshot new last reach
+IsPromised old actor (Done (answer.Refused cause)) new last reach =
+    (before : Runner) → get_elem? old.runners.items actor ≡ some before → IsDue actor before.running cause new last
+IsPromised old actor (Done (answer.BatchRefused refused)) new last reach =
+    (before : Runner) → get_elem? old.runners.items actor ≡ some before → IsDue actor before.running refused.why new last
 IsPromised old actor said new last reach = ⊤
 
 -- One event of the actor leads from a state to another; then the units of a call that is refused come back. What the call says is as it

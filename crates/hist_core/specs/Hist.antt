@@ -1,5 +1,5 @@
 -- A `hist` that is going on.
-use Rattle.std.specs.Prelude.{◌≡◌, ◌≢◌, ℕ, ◌+◌, ◌-◌, ◌*◌, ◌<◌, ◌≤◌, ◌==◌, nat_lt, true, List, [], ◌∷◌, ◌++◌, length, replicate, take, slice_index, is_some, ⊤, Some, None, if◌then◌else◌, vec_len}
+use Rattle.std.specs.Prelude.{◌≡◌, ◌≢◌, ◌⊎◌, ℕ, ◌+◌, ◌-◌, ◌*◌, ◌<◌, ◌≤◌, ◌==◌, nat_lt, true, List, [], ◌∷◌, ◌++◌, length, replicate, take, slice_index, is_some, ⊤, Some, None, if◌then◌else◌, vec_len}
 use Rattle.std.specs.List.{All}
 use Rattle.bucket_ranges.specs.Ranges.{boundaries_of}
 use Rattle.bucket_ranges.specs.Spec.{spec_fault, buckets_of}
@@ -31,6 +31,7 @@ use Rattle.hist_core.specs.declared.hist.Stage.TheVariants.{Walking, Comparing, 
 use Rattle.hist_core.specs.declared.making.MakingStep.{MakingStep}
 use Rattle.hist_core.specs.declared.making.MakingStep.TheVariants as made
 use Rattle.hist_core.specs.Making.{IsMaking, Wanted}
+use Rattle.hist_core.specs.Making as making
 
 -- ---- what it asks for
 
@@ -129,15 +130,14 @@ pub record IsHist (shape : Dimensions) (h : Hist) (a : Actor) : Type 0 where
   pub front : IsPrefix given a.seen.chain
   pub stands : StandsAtStage shape h a given h.stage
 
--- what its actor has seen or done that is refused: the first record of the name has another spec; an allocation has set the full flag;
--- or it found the corrupt one
-abbrev pub IsCause : Dimensions → Hist → Refusal → Actor → Type 0
-IsCause shape h why.OtherSpec b =
-    (at : ℕ) × (letters : List ℕ) × IsFirstNamed b.seen h.asked.name.items at × AreNameWords h.asked.name.items letters
-    × SawOtherSpec b.seen h.asked.spec (length letters) at
-IsCause shape h why.Full b = b.done.filled ≡ true
-IsCause shape h why.Corrupt b = ⊤
-IsCause shape h cause b = ⊥
+-- the first record of a name was seen to have another spec
+abbrev pub HasOtherSpec : List ℕ → Spec → Seen → Type 0
+HasOtherSpec name spec seen =
+    (at : ℕ) × (letters : List ℕ) × IsFirstNamed seen name at × AreNameWords name letters × SawOtherSpec seen spec (length letters) at
+
+-- why a `hist` of a name and a spec is refused: for that, or for what refuses its record
+abbrev pub IsCause : List ℕ → Spec → Refusal → Actor → Type 0
+IsCause name spec cause b = making.IsCause cause b ⊎ ((cause ≡ why.OtherSpec) × HasOtherSpec name spec b.seen)
 
 -- What a step says: it goes on; the record that was compared last, which lies in the segment, is the one that is asked for; or the call is
 -- refused, and its actor may turn to another.
@@ -145,7 +145,7 @@ abbrev pub HistGives : Dimensions → Hist → HistStep → Actor → Actor → 
 HistGives shape new More a b = Beside a b × IsHist shape new b
 HistGives shape new Done a b =
     Beside a b × IsFree b × MayNote b (knows (asked_of new)) × IsAsking shape new × (new.reference + HISTOGRAM_NAME ≤ shape.size)
-HistGives shape new (Refused cause) a b = Beside a b × IsFree b × IsCause shape new cause b
+HistGives shape new (Refused cause) a b = Beside a b × IsFree b × IsCause new.asked.name.items new.asked.spec cause b
 
 -- what a step makes of the words, and of whatever actor stands so
 abbrev pub HistSteps : Hist → List ℕ → Hist → List ℕ → HistStep → Type 0

@@ -90,10 +90,10 @@ pub record IsMaking (shape : Dimensions) (wanted : Wanted) (m : Making) (a : Act
   pub draft : MayMake shape wanted a
   pub stands : StandsAtStage shape wanted a m.stage
 
--- what its actor has done that is refused: an allocation has set the full flag, or found the corrupt one
+-- what its actor has done or seen that is refused: an allocation has set the full flag, or has seen the corrupt one
 abbrev pub IsCause : Refusal → Actor → Type 0
 IsCause why.Full b = b.done.filled ≡ true
-IsCause why.Corrupt b = ⊤
+IsCause why.Corrupt b = b.seen.corrupt ≡ true
 IsCause cause b = ⊥
 
 -- what a step says: it goes on; the record is on the list; or it is refused. Its actor may turn to another call then

@@ -30,13 +30,15 @@ use Rattle.hist_core.specs.declared.batch.BatchStep.TheVariants as batch
 use Rattle.hist_core.specs.declared.add.Add.{Add as AddCall}
 use Rattle.hist_core.specs.declared.add.AddStep.{AddStep}
 use Rattle.hist_core.specs.declared.add.AddStep.TheVariants as add
-use Rattle.hist_core.specs.Hist.{IsHist, IsBegun}
+use Rattle.hist_core.specs.Hist.{HasOtherSpec, IsHist, IsBegun}
+use Rattle.hist_core.specs.Making.{IsCause}
 use Rattle.hist_core.specs.Looker.{IsLooker, IsStarted as IsLookerStarted}
 use Rattle.segment_calls.specs.declared.answer.Snapshot.{Snapshot as SnapshotAnswer}
 use Rattle.hist_core.specs.declared.looker.Looker.{Looker}
 use Rattle.hist_core.specs.declared.looker.LookerStep.{LookerStep}
 use Rattle.hist_core.specs.declared.looker.LookerStep.TheVariants as look
 use Rattle.segment_calls.specs.declared.asked.Asked.{Asked}
+use Rattle.segment_calls.specs.declared.refusal.Refusal.{Refusal}
 use Rattle.segment_calls.specs.declared.refusal.Refusal.TheVariants as why
 use Rattle.hist_core.specs.declared.call.Answer.{Answer}
 use Rattle.hist_core.specs.declared.call.Begun.{Begun}
@@ -280,15 +282,23 @@ pub record IsTook (histogram : ℕ) (delta : DeltaAnswer) (a : Actor) : Type 0 w
   pub sum : delta.sum ≡ last.sum
   pub took : TookAll a known
 
+-- Why a call is refused: an allocation of it has set the full flag, or its actor has seen the corrupt one; or its actor has seen that the
+-- first record of the name that a `hist` asks for has another spec.
+abbrev pub IsRefusedBy : Option Running → Refusal → Actor → Type 0
+IsRefusedBy running cause b =
+    IsCause cause b
+    ⊎ ((hist : HistCall) × (running ≡ Some (Hist hist)) × (cause ≡ why.OtherSpec) × HasOtherSpec hist.asked.name.items hist.asked.spec b.seen)
+
 -- where its actor lands whose call is refused: it gives the units back that are left of it
 abbrev pub LandsBack : Dimensions → ℕ → ℕ → Runner → Actor → Type 0
 LandsBack shape version units new b = (b.hand.place ≢ Spent) × (units ≤ b.units.share) × IsRun shape version new (giver b units)
 
--- Where its actor lands: a call that is refused gives units back; a snapshot is answered with what was seen, and a delta with what it
+-- Where its actor lands: a call that is refused gives units back, and has a cause; a snapshot is answered with what was seen, and a delta with what it
 -- took.
 abbrev pub Lands : Dimensions → ℕ → Runner → Runner → Stepped → Actor → Type 0
-Lands shape version old new (Done (answer.Refused why)) b = LandsBack shape version (held_by old.running) new b
-Lands shape version old new (Done (answer.BatchRefused refusal)) b = LandsBack shape version (held_by old.running) new b
+Lands shape version old new (Done (answer.Refused cause)) b = LandsBack shape version (held_by old.running) new b × IsRefusedBy old.running cause b
+Lands shape version old new (Done (answer.BatchRefused refusal)) b =
+    LandsBack shape version (held_by old.running) new b × IsRefusedBy old.running refusal.why b
 Lands shape version old new (Done (answer.Delta delta)) b = IsRun shape version new b × IsTook (looked_by old.running) delta b
 Lands shape version old new (Done (answer.Snapshot snapshot)) b = IsRun shape version new b × IsAnswer (looked_by old.running) snapshot b
 Lands shape version old new said b = IsRun shape version new b

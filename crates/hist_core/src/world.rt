@@ -182,7 +182,9 @@ impl World {
 
     /// An actor goes on with its call by one event. `Added` puts what the call counted at the end of `ended`; a `BatchRefused` puts
     /// the entries of the items there that are counted, and their units are spent; nothing else changes that. The other units of a
-    /// call that is refused come back to the pool. A `Snapshot` answers what the actor saw since it began: of each key at least the
+    /// call that is refused come back to the pool. A call is refused `Full` where the full flag is set and an allocation of the actor
+    /// has set it, `Corrupt` where the corrupt flag is set and the actor has seen it, and a `Hist` `OtherSpec` where the actor has
+    /// seen that the first record of the name has another spec. A `Snapshot` answers what the actor saw since it began: of each key at least the
     /// units that it had accepted and those that it had seen before; so does its redundant count.
     ///
     /// `NoActor` where there is no such actor, then `Idle` where no call of it is going on. It takes no memory.

@@ -44,7 +44,7 @@ allocates allocation Full = None
 allocates allocation Corrupt = None
 
 -- where the actor stands at a stage: it has loaded and stored what the allocation has; in the end it has a block of its own, or it
--- has set the full flag
+-- has set the full flag, or has seen the corrupt one
 abbrev pub StandsAt : Actor → Allocation → AllocStage → Type 0
 StandsAt a allocation LoadFlags = MayTurn a
 StandsAt a allocation LoadFree = a.hand.place ≡ FlagsLoaded
@@ -56,7 +56,7 @@ StandsAt a allocation (StoreType at size) = a.hand.place ≡ Marked at size
 StandsAt a allocation SetFull = a.hand.place ≡ FreeLoaded allocation.seen
 StandsAt a allocation (Claimed at size) = (a.hand.place ≡ Idle) × Contains a.hand.own (new_own at size allocation.tag)
 StandsAt a allocation Full = (a.hand.place ≡ Idle) × (a.done.filled ≡ true)
-StandsAt a allocation Corrupt = a.hand.place ≡ Idle
+StandsAt a allocation Corrupt = (a.hand.place ≡ Idle) × (a.seen.corrupt ≡ true)
 
 -- an actor goes along with an allocation of a block that it may have
 pub record Allocates (a : Actor) (allocation : Allocation) : Type 0 where

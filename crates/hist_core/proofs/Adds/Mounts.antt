@@ -40,7 +40,7 @@ use Rattle.hist_core.proofs.Adds.Refusals.{refuses, beside_aside}
 use Rattle.hist_core.proofs.Looks.{looks_there}
 use Rattle.hist_core.proofs.Parts.Allocations.{allocates_on, goes_with}
 use Rattle.hist_core.proofs.Parts.Alone.{makes_so}
-use Rattle.hist_core.proofs.Parts.Claims.{claimed_suits, claimed_of, goes_noting, rests_at, filled_at}
+use Rattle.hist_core.proofs.Parts.Claims.{claimed_suits, claimed_of, goes_noting, rests_at, ended_so}
 use Rattle.std.proofs.lemmas.Bool.{eq-eqb}
 
 module _ (shape : Dimensions) (known : Known) (amid : Amid) (add : Add) (a : Actor) (words : List ℕ) (is : IsAdd shape known amid add a) where
@@ -206,12 +206,12 @@ module _ (shape : Dimensions) (known : Known) (amid : Amid) (add : Add) (a : Act
         subst (λ (r : AddStep). Goes shape.size add.version a words new_words (AddGives shape known amid new r a)) (sym result_is)
         (goes_with (claims long y new_words said.Full step) (λ b (beside, apart, goes).
         refuses shape known amid add new a stood_allocating.1 b beside why.Full (ap (λ (n : Add). counting_of known n false false) new_is)
-        (ap is_tied (rests_at b y y.stage (λ e. cc (step.answers ∙ e)) goes.stands)) (filled_at b y y.stage (sym step.answers) goes.stands)))
+        (ap is_tied (rests_at b y y.stage (λ e. cc (step.answers ∙ e)) goes.stands)) (ended_so b y said.Full step.answers goes.stands)))
     allocates_so long y new_words said.Corrupt new result step more (new_is, result_is) =
         subst (λ (r : AddStep). Goes shape.size add.version a words new_words (AddGives shape known amid new r a)) (sym result_is)
         (goes_with (claims long y new_words said.Corrupt step) (λ b (beside, apart, goes).
         refuses shape known amid add new a stood_allocating.1 b beside why.Corrupt (ap (λ (n : Add). counting_of known n false false) new_is)
-        (ap is_tied (rests_at b y y.stage (λ e. cc (step.answers ∙ e)) goes.stands)) tt))
+        (ap is_tied (rests_at b y y.stage (λ e. cc (step.answers ∙ e)) goes.stands)) (ended_so b y said.Corrupt step.answers goes.stands)))
 
     -- what the step of its allocation asks for
     pub asks_long : length words ≡ shape.size → length words ≡ x.shape.size

@@ -8,7 +8,8 @@ use Rattle.hist_core.specs.declared.add.Add.{Add}
 use Rattle.hist_core.specs.declared.add.AddStep.TheVariants.{Refused}
 use Rattle.segment_calls.specs.declared.refusal.Refusal.{Refusal}
 use Rattle.hist_core.specs.Goes.{Beside, IsFree}
-use Rattle.hist_core.specs.Add.{Amid, HasEntry, Aside, IsCause, AddGives}
+use Rattle.hist_core.specs.Add.{Amid, HasEntry, Aside, AddGives}
+use Rattle.hist_core.specs.Making.{IsCause}
 use Rattle.hist_core.proofs.Adds.Entries.{counting_of}
 
 -- what is beside leaves aside what no call of `add` changes

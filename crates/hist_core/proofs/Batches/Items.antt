@@ -25,7 +25,8 @@ use Rattle.hist_core.specs.declared.batch.Batch.{Batch}
 use Rattle.hist_core.specs.declared.batch.BatchStep.{BatchStep}
 use Rattle.hist_core.specs.declared.batch.BatchStep.TheVariants.{More, Done, Refused}
 use Rattle.segment_calls.specs.declared.refusal.Refusal.{Refusal}
-use Rattle.hist_core.specs.Add.{IsAdd, Aside, StaysOpen, HasEntry, HasEnded, IsCause, StandsAtStage, AddSteps, AddGives, counted_entry, ended_entry}
+use Rattle.hist_core.specs.Add.{IsAdd, Aside, StaysOpen, HasEntry, HasEnded, StandsAtStage, AddSteps, AddGives, counted_entry, ended_entry}
+use Rattle.hist_core.specs.Making.{IsCause}
 use Rattle.hist_core.specs.Batch.{IsBatch, IsItem, CountsItem, SumsUp, HaveEnded, BatchGives, IsItemSaid, amid_of, counted_entries, sum_entries, units_among}
 use Rattle.hist_core.specs.Goes.{Goes, IsFree}
 use Rattle.hist_core.proofs.Parts.Allocations.{goes_with}

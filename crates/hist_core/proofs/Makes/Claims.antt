@@ -28,7 +28,7 @@ use Rattle.hist_core.specs.Goes.{Beside, Goes, is_tied}
 use Rattle.hist_core.specs.Making.{Wanted, IsMaking, StandsAtStage, MakingGives, IsAllocated, IsCause}
 use Rattle.hist_core.proofs.Makes.Drafts.{may_still}
 use Rattle.hist_core.proofs.Parts.Allocations.{allocates_on, goes_with}
-use Rattle.hist_core.proofs.Parts.Claims.{changed_at, claimed_of, claimed_suits, filled_at, goes_noting, rests_at}
+use Rattle.hist_core.proofs.Parts.Claims.{changed_at, claimed_of, claimed_suits, ended_so, goes_noting, rests_at}
 
 module _ (shape : Dimensions) (version : ℕ) (wanted : Wanted) (m : Making) (a : Actor) (words : List ℕ) (long : length words ≡ shape.size)
     (is : IsMaking shape wanted m a) (x : Allocation) (allocates : m.stage ≡ Allocating x) where
@@ -134,10 +134,10 @@ module _ (shape : Dimensions) (version : ℕ) (wanted : Wanted) (m : Making) (a 
   allocates_so y new_words said.Full new result step more result_is =
       subst (λ (r : MakingStep). Goes shape.size version a words new_words (MakingGives shape wanted new r a)) (sym result_is)
       (is_refused y new_words said.Full step why.Full new (λ b goes. rests_at b y y.stage (λ e. cc (step.answers ∙ e)) goes.stands)
-      (λ b goes. filled_at b y y.stage (sym step.answers) goes.stands))
+      (λ b goes. ended_so b y said.Full step.answers goes.stands))
   allocates_so y new_words said.Corrupt new result step more result_is =
       subst (λ (r : MakingStep). Goes shape.size version a words new_words (MakingGives shape wanted new r a)) (sym result_is)
-      (is_refused y new_words said.Corrupt step why.Corrupt new (λ b goes. rests_at b y y.stage (λ e. cc (step.answers ∙ e)) goes.stands) (λ b goes. tt))
+      (is_refused y new_words said.Corrupt step why.Corrupt new (λ b goes. rests_at b y y.stage (λ e. cc (step.answers ∙ e)) goes.stands) (λ b goes. ended_so b y said.Corrupt step.answers goes.stands))
 
   -- what the step of its allocation asks for
   pub asks_long : length words ≡ x.shape.size

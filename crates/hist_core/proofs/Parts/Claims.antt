@@ -1,6 +1,6 @@
 -- A block is claimed.
 use Rattle.std.proofs.Common.{◌≡◌, ◌≢◌, ℕ, ◌+◌, ◌-◌, ◌<◌, ◌≤◌, ◌==◌, Bool, true, false, List, [], ◌∷◌, ◌++◌, length, refl, sym, ap, subst, ◌∙◌, arith}
-use Rattle.std.specs.Prelude.{Some, if◌then◌else◌, is_some, slice_index, bit_and}
+use Rattle.std.specs.Prelude.{Some, if◌then◌else◌, is_some, slice_index, bit_and, ⊤}
 use Rattle.segment_image.specs.Shape.{Dimensions}
 use Rattle.segment_image.specs.Words.{word_at}
 use Rattle.alloc_core.specs.declared.alloc.AllocStep.{AllocStep}
@@ -105,7 +105,7 @@ goes_noting go then_notes = record {
 pub rests_at : (b : Actor) (y : Allocation) (stage : AllocStage) → answer stage ≢ said.More → StandsAt b y stage → b.hand.place ≡ Idle
 rests_at b y (Claimed at size) ends stands = stands.0
 rests_at b y Full ends stands = stands.0
-rests_at b y Corrupt ends stands = stands
+rests_at b y Corrupt ends stands = stands.0
 rests_at b y LoadFlags ends stands = absurd (ends refl)
 rests_at b y LoadFree ends stands = absurd (ends refl)
 rests_at b y (ExchangeFree next wants) ends stands = absurd (ends refl)
@@ -114,15 +114,23 @@ rests_at b y (StoreCookie at n wants) ends stands = absurd (ends refl)
 rests_at b y (StoreType at n) ends stands = absurd (ends refl)
 rests_at b y SetFull ends stands = absurd (ends refl)
 
--- and where it was refused for want of room, it has set the full flag
-pub filled_at : (b : Actor) (y : Allocation) (stage : AllocStage) → answer stage ≡ said.Full → StandsAt b y stage → b.done.filled ≡ true
-filled_at b y Full ends stands = stands.1
-filled_at b y (Claimed at size) ends stands = cc ends
-filled_at b y Corrupt ends stands = cc ends
-filled_at b y LoadFlags ends stands = cc ends
-filled_at b y LoadFree ends stands = cc ends
-filled_at b y (ExchangeFree next wants) ends stands = cc ends
-filled_at b y (StoreSize at n wants) ends stands = cc ends
-filled_at b y (StoreCookie at n wants) ends stands = cc ends
-filled_at b y (StoreType at n) ends stands = cc ends
-filled_at b y SetFull ends stands = cc ends
+-- what its actor has done or seen where an allocation ends so: it has set the full flag, or has seen the corrupt one
+abbrev pub IsEnd : AllocStep → Actor → Type 0
+IsEnd said.Full b = b.done.filled ≡ true
+IsEnd said.Corrupt b = b.seen.corrupt ≡ true
+IsEnd says b = ⊤
+
+stands_so : (b : Actor) (y : Allocation) (stage : AllocStage) → StandsAt b y stage → IsEnd (answer stage) b
+stands_so b y Full stands = stands.1
+stands_so b y Corrupt stands = stands.1
+stands_so b y (Claimed at size) stands = tt
+stands_so b y LoadFlags stands = tt
+stands_so b y LoadFree stands = tt
+stands_so b y (ExchangeFree next wants) stands = tt
+stands_so b y (StoreSize at n wants) stands = tt
+stands_so b y (StoreCookie at n wants) stands = tt
+stands_so b y (StoreType at n) stands = tt
+stands_so b y SetFull stands = tt
+
+pub ended_so : (b : Actor) (y : Allocation) (says : AllocStep) → says ≡ answer y.stage → StandsAt b y y.stage → IsEnd says b
+ended_so b y says is stands = subst (λ (end : AllocStep). IsEnd end b) (sym is) (stands_so b y y.stage stands)

@@ -27,7 +27,7 @@ use Rattle.segment_calls.specs.declared.refusal.Refusal.{Refusal}
 use Rattle.segment_calls.specs.declared.refusal.Refusal.TheVariants as why
 use Rattle.hist_core.specs.Goes.{Beside, Goes}
 use Rattle.hist_core.proofs.Free.{free_turns}
-use Rattle.hist_core.specs.Hist.{IsHist, StandsAtStage, HaveOtherNames, AreSame, Reaches, HistGives, IsMatched, IsDifferent, IsCause, asked_of, compared_place, compared_index, compared_word}
+use Rattle.hist_core.specs.Hist.{IsHist, StandsAtStage, HaveOtherNames, AreSame, Reaches, HistGives, IsMatched, IsDifferent, IsCause, HasOtherSpec, asked_of, compared_place, compared_index, compared_word}
 use Rattle.segment_invariant.proofs.Walking.Words.{letters_long}
 use Rattle.hist_core.proofs.Parts.Comparisons.{Part, part_of, index_of_rest, then_length, letter_word, field_word, range_word, ranges_if_custom, payload_long, compared_all}
 use Rattle.hist_core.proofs.Parts.Differences.{saw_word, saw_spec, first_named, saw_other_name, saw_other_spec}
@@ -332,10 +332,10 @@ module _ (shape : Dimensions) (h : Hist) (a : Actor) (is : IsHist shape h a) (k 
         does new (Refused cause) (λ learned. (
           beside,
           stands.0,
-          subst (λ (p : Hist × Refusal). IsCause shape p.0 p.1 acted) (λ i. (sym new_is i, sym why_is i)) (declined learned),
+          subst (λ (p : Hist × Refusal). IsCause p.0.asked.name.items p.0.asked.spec p.1 acted) (λ i. (sym new_is i, sym why_is i)) (inr (refl, declined learned)),
         ))
       where
-        declined : Learns → IsCause shape h why.OtherSpec acted
+        declined : Learns → HasOtherSpec h.asked.name.items h.asked.spec acted.seen
         declined learned =
             let still_same : AreSame acted.seen h k = λ j below. still a acted beside (h.reference + compared_index h.letters j) (compared_word h j) (stands.4 j below) in (
               h.reference,

@@ -1,11 +1,9 @@
 -- A `hist` makes its record.
-use Rattle.std.proofs.Common.{◌≡◌, ℕ, List, sym, ap, subst, ◌∙◌}
+use Rattle.std.proofs.Common.{◌≡◌, ℕ, List, inl, sym, ap, subst, ◌∙◌}
 use Rattle.segment_image.specs.Shape.{Dimensions}
 use Rattle.list_core.proofs.Prefixes.{prefix_of_prefix}
 use Rattle.segment_machine.specs.declared.actor.Actor.{Actor}
 use Rattle.segment_machine.specs.Calls.{MayTurn}
-use Rattle.segment_calls.specs.declared.refusal.Refusal.{Refusal}
-use Rattle.segment_calls.specs.declared.refusal.Refusal.TheVariants as why
 use Rattle.hist_core.specs.declared.hist.Hist.{Hist}
 use Rattle.hist_core.specs.declared.hist.HistStep.{HistStep}
 use Rattle.hist_core.specs.declared.hist.HistStep.TheVariants.{More, Refused}
@@ -15,17 +13,10 @@ use Rattle.hist_core.specs.declared.making.Making.{Making as MakingOf}
 use Rattle.hist_core.specs.declared.making.MakingStep.{MakingStep}
 use Rattle.hist_core.specs.declared.making.MakingStep.TheVariants as made
 use Rattle.hist_core.specs.Goes.{Beside, Goes}
-use Rattle.hist_core.specs.Hist.{wanted_of, IsHist, StandsAtStage, HistGives, IsMade, IsCause}
+use Rattle.hist_core.specs.Hist.{wanted_of, IsHist, StandsAtStage, HistGives, IsMade}
 use Rattle.hist_core.specs.Making.{MakingGives}
-use Rattle.hist_core.specs.Making as making
 use Rattle.hist_core.proofs.Parts.Allocations.{goes_with}
 use Rattle.hist_core.proofs.Parts.Walks.{others_still, asks_on}
-
--- what refuses a record refuses the call
-cause_of : (shape : Dimensions) (h : Hist) (cause : Refusal) (b : Actor) → making.IsCause cause b → IsCause shape h cause b
-cause_of shape h why.Full b is = is
-cause_of shape h why.Corrupt b is = is
-cause_of shape h _ b none = absurd none
 
 module _ (shape : Dimensions) (version : ℕ) (h : Hist) (a : Actor) (words : List ℕ) (is : IsHist shape h a) (m : MakingOf) (makes : h.stage ≡ Making m) where
   pub stood_making : StandsAtStage shape h a is.given (Making m)
@@ -56,4 +47,4 @@ module _ (shape : Dimensions) (version : ℕ) (h : Hist) (a : Actor) (words : Li
       (goes_with goes (λ b (beside, turns). (beside, on Walking b beside (turns, others_still a b beside h is.given stood_making.0))))
   makes_so x new_words (made.Refused cause) new result goes (new_is, result_is) =
       subst (λ (r : HistStep). Goes shape.size version a words new_words (HistGives shape new r a)) (sym result_is)
-      (goes_with goes (λ b (beside, turns, is_cause). (beside, turns, cause_of shape new cause b is_cause)))
+      (goes_with goes (λ b (beside, turns, is_cause). (beside, turns, inl is_cause)))

@@ -48,9 +48,10 @@ module _ (a : Actor) (allocation : Allocation) (same : allocation.shape ≡ a.se
   behind found stage = record allocation { seen = seen_after allocation found stage; stage = stage_after allocation found stage }
 
   flags_loaded : (clear : Bool) (now : Allocation)
-      → StandsAt (record a { hand = record a.hand { place = if clear then FlagsLoaded else Idle } }) now (if clear then LoadFree else Corrupt)
+      → StandsAt (record a { hand = record a.hand { place = if clear then FlagsLoaded else Idle }; seen = record a.seen { corrupt = if clear then a.seen.corrupt else true } })
+      now (if clear then LoadFree else Corrupt)
   flags_loaded true now = refl
-  flags_loaded false now = refl
+  flags_loaded false now = (refl, refl)
 
   planned_so : (found : ℕ) (stage : Stage) → is_pointer a.segment.shape found ≡ true → (way : Planned)
       → StandsAt (next a load_free found) (record allocation { seen = found; stage = stage }) (stage_of_plan found way)

@@ -1,5 +1,5 @@
 -- A `delta` of an actor goes on, what it is shown as, and what it is answered with.
-use Rattle.std.proofs.Common.{◌≡◌, ◌<◌, ◌≤◌, ◌+◌, ◌-◌, ℕ, zero, suc, ℤ, pos, true, arith, set, List, [], ◌∷◌, ◌++◌, length, map, take, refl, sym, ap, subst, ◌∙◌, vec_len}
+use Rattle.std.proofs.Common.{◌≡◌, ◌⊎◌, inl, inr, ◌<◌, ◌≤◌, ◌+◌, ◌-◌, ℕ, zero, suc, ℤ, pos, true, arith, set, List, [], ◌∷◌, ◌++◌, length, map, take, refl, sym, ap, subst, ◌∙◌, vec_len}
 use Rattle.std.specs.Prelude.{Option, Some, None, option_to_list, slice_index_or, slice_set, vec_capacity}
 use Rattle.std.specs.declared.alloc.Global.{Global}
 use Rattle.std.specs.declared.vec.Vec.{Vec}
@@ -9,6 +9,7 @@ use Rattle.std.specs.Ordering.{int_cmp}
 use Rattle.std.proofs.Props.{props}
 use Rattle.std.proofs.Math.Logic.{∥∥₁_elim}
 use Rattle.std.proofs.lemmas.List.{append-nil, length_push, same_from_push, take-append-le, take_all}
+use Rattle.std.proofs.lemmas.List.Sorted.{IsPermutation-insert, length_permutation}
 use mathlib.Core.Option.{some, some-injective, some-ne-none}
 use lib.ListN.{get_elem?}
 use Rattle.alloc_core.specs.Layout.{IsShape}
@@ -37,7 +38,7 @@ use Rattle.hist_core.specs.declared.taker.TakerStep.TheVariants.{More, Took, Don
 use Rattle.hist_core.specs.Board.{IsReached, IsReachedAs, TakesOf}
 use Rattle.hist_core.specs.Goes.{Goes, IsFree}
 use Rattle.hist_core.specs.Runner.{Advances, Answers, AreShown, BeginsDelta, Becomes, Fits, HasDraft, HasPlace, HasRoom, IsDeltaSaid, IsDraft, IsDrawing, IsKnown, IsLast, IsQuiet, IsRun, IsShown, IsSomeRun, IsTimely, IsTook, StandsIn, TakenGoes, apart_from_delta, begun_by, ended_by, ended_deltas, known_of, looked_by, pending_by}
-use Rattle.hist_core.specs.Taker.{AreUnits, HasBegun, HasEnded, IsSomeTaker, IsTaker, IsUnderWay, Lists, StandsAtStage, TakerGives, TakerSteps, TakesAside}
+use Rattle.hist_core.specs.Taker.{AreUnits, HasBegun, HasEnded, IsSomeTaker, IsTaker, IsUnderWay, Lists, StandsAtStage, TakerGives, TakerSteps, TakesAside, insert_by_key, place_of}
 use Rattle.hist_core.proofs.Parts.Allocations.{goes_with}
 use Rattle.hist_core.proofs.Apart.{asks_not, adds_not, looks_not, batches_not}
 use Rattle.hist_core.proofs.Boards.{each_runs, is_there}
@@ -155,7 +156,7 @@ draft_on : (taker now : Taker) (said : TakerStep) (last then_is : Taken) → IsD
 draft_on taker now More last then_is draft lists room same =
     (ap (λ (t : Taken). t.name) same, ap (λ (t : Taken). t.counts.items) same ∙ (draft.0 ∙ sym lists))
 draft_on taker now (Took key units) last then_is draft lists room (same, listed, capacity) =
-    (ap (λ (t : Taken). t.name) same, listed ∙ (ap (λ (l : List (ℤ × ℕ)). l ++ (key, units) ∷ []) draft.0 ∙ sym lists))
+    (ap (λ (t : Taken). t.name) same, listed ∙ (ap (insert_by_key (key, units)) draft.0 ∙ sym lists))
 draft_on taker now (Done sum) last then_is draft lists room same =
     (ap (λ (t : Taken). t.name) same, ap (λ (t : Taken). t.counts.items) same ∙ (draft.0 ∙ sym lists))
 
@@ -231,13 +232,13 @@ module _ (shape : Dimensions) (version : ℕ) (old : Runner) (a : Actor) (run : 
       are_named = named_so fresh stands.1.3 before last shown
 
       -- it is shown as the machine has it
-      shows_it : (its : MachineTaken) → b.deltas.taken ≡ earlier ++ its ∷ [] → its.name ≡ known.name → its.counts ≡ now.counts.items → AreUnits now.counts.items
+      shows_it : (its : MachineTaken) → b.deltas.taken ≡ earlier ++ its ∷ [] → its.name ≡ known.name → ((key : ℤ) → units_listed now.counts.items key ≡ units_listed its.counts key) → AreUnits now.counts.items
           → then_is.sum ≡ its.sum → AreShown new.taken.items b.deltas.taken
       shows_it its deltas its_name its_counts units sum =
           subst (λ (p : List Taken × List MachineTaken). AreShown p.0 p.1) (λ i. (sym taken i, sym deltas i)) (shown_more before earlier then_is its are_named.0 (record {
             name = ap (λ n. n.items) name ∙ (are_named.1 ∙ sym its_name);
             sum = sum;
-            counts = λ key. ap (λ (l : List (ℤ × ℕ)). units_listed l key) (counts ∙ sym its_counts);
+            counts = λ key. ap (λ (l : List (ℤ × ℕ)). units_listed l key) counts ∙ its_counts key;
             units = subst AreUnits (sym counts) units;
           }))
 
@@ -271,7 +272,7 @@ module _ (shape : Dimensions) (version : ℕ) (old : Runner) (a : Actor) (run : 
       last = ended.last;
       deltas = ended.taken;
       name = ended.name;
-      counts = λ key. ap (λ (l : List (ℤ × ℕ)). units_listed l key) (sym ended.counts);
+      counts = ended.counts;
       ascending = ended.units;
       sum = sym ended.sum_is;
       took = ended.all;
@@ -305,11 +306,15 @@ module _ (shape : Dimensions) (version : ℕ) (old : Runner) (a : Actor) (run : 
 
 -- ---- there is room for what it says
 
+longer_by_key : (one : ℤ × ℕ) (counts : List (ℤ × ℕ)) → length (insert_by_key one counts) ≡ length counts + 1
+longer_by_key one counts =
+    let moved = length_permutation (one ∷ counts) (insert_by_key one counts) (IsPermutation-insert counts (place_of one.0 counts) one) in omega (arith, moved)
+
 -- what it took it listed, so there was room for it
 fits : (taker now : Taker) (said : TakerStep) (last : Taken) → IsDraft taker last → Lists taker now said → vec_capacity now.counts ≡ vec_capacity taker.counts → Fits said last
 fits taker now More last draft lists room = tt
 fits taker now (Took key units) last (counts, capacity, sum) lists room =
-    let longer = ap length lists ∙ length_push taker.counts.items (key, units) in
+    let longer = ap length lists ∙ longer_by_key (key, units) taker.counts.items in
     let its = now.counts.ok in let last_ok = last.counts.ok in let same = ap length counts in
     omega (arith, longer, its, last_ok, same, capacity, room)
 fits taker now (Done sum) last draft lists room = tt
@@ -375,7 +380,7 @@ module _ (old : Runner) (taker now : Taker) (fresh : Option Taken) (is : old.run
   -- it goes on
   goes_answered : (new : Runner) (last : Taken) (before : List Taken) → new ≡ record old { taken = new.taken; running = Some (Delta now None) }
       → new.taken.items ≡ before ++ last ∷ [] → before ≡ ended_deltas (Some (Delta taker fresh)) old.taken.items → last.sum ≡ pos 0
-      → (units : List (ℤ × ℕ)) × (length units ≤ 1) × (last.counts.items ≡ taker.counts.items ++ units) → Answers old words new new_words stepped.More
+      → (last.counts.items ≡ taker.counts.items) ⊎ ((one : ℤ × ℕ) × (last.counts.items ≡ insert_by_key one taker.counts.items)) → Answers old words new new_words stepped.More
   goes_answered new last before new_is taken ended sum units = (
     (
       ap (λ (r : Runner). r.known.items) new_is,
@@ -396,12 +401,12 @@ module _ (old : Runner) (taker now : Taker) (fresh : Option Taken) (is : old.run
       let draft = drafts before last shown in
       subst (Answers old words new new_words) (sym result_is) (goes_answered new then_is before new_is taken (ended_before old.taken.items taker fresh before last shown)
       (ap (λ (t : Taken). t.sum) becomes ∙ draft.2)
-      ([], omega arith, ap (λ (t : Taken). t.counts.items) becomes ∙ (draft.0 ∙ sym (append-nil taker.counts.items))))
+      (inl (ap (λ (t : Taken). t.counts.items) becomes ∙ draft.0)))
   delta_answers (Took key units) new result lists ((before, last, then_is, shown, taken, becomes), new_is, result_is) =
       let draft = drafts before last shown in
       subst (Answers old words new new_words) (sym result_is) (goes_answered new then_is before new_is taken (ended_before old.taken.items taker fresh before last shown)
       (ap (λ (t : Taken). t.sum) becomes.0 ∙ draft.2)
-      ((key, units) ∷ [], omega arith, becomes.1 ∙ ap (λ (l : List (ℤ × ℕ)). l ++ (key, units) ∷ []) draft.0))
+      (inr ((key, units), becomes.1 ∙ ap (insert_by_key (key, units)) draft.0)))
   delta_answers (Done sum) new result lists ((before, last, then_is, shown, taken, becomes), new_is, result_is) =
       let draft = drafts before last shown in
       subst (Answers old words new new_words) (sym result_is) (

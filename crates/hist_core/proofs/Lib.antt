@@ -29,5 +29,6 @@ mod Takes
 mod Tellings
 mod ValuesSeen
 mod Viewing
+mod Walking
 mod Worlds
 mod Zips

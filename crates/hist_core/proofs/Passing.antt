@@ -20,7 +20,9 @@ use Rattle.segment_promises.specs.Values.{ComesTo}
 use Rattle.segment_promises.proofs.ListedValues.{lists_still}
 use Rattle.segment_promises.proofs.SortedKeys.{one_place, once_still}
 use Rattle.hist_core.specs.Goes.{IsInOrder}
-use Rattle.hist_core.specs.Looker.{HasListed, HasSeenAll, HasSeenValues, HasTotal, IsOnWay}
+use Rattle.hist_core.specs.Looker.{HasListed, HasSeenAll, HasSeenValues, HasTotal}
+use Rattle.hist_core.specs.Mounted.{BeganBefore}
+use Rattle.hist_core.specs.Walk.{IsOnWay}
 use Rattle.hist_core.proofs.SampleLists.{all_passed, did_with}
 use Rattle.hist_core.proofs.Takes.Sights.{SeesMore, began_still, saw_count}
 
@@ -51,6 +53,12 @@ module _ (known : Known) (a b : Actor) (sees : SeesMore a b) where
     comes = comes_still known.reference passed at a b sees.segment chain way.comes;
   }
 
+  pub seen_still : BeganBefore a → (seen : List ℕ) (listed : List (ℤ × ℕ)) → HasSeenValues known seen listed a → HasSeenValues known seen listed b
+  seen_still began seen listed lists =
+      lists_still a.seen b.seen sees.words known.reference (HasListed listed a) (HasListed listed b)
+      (λ value sample (count, saw, either). (count, saw_count a b sees began (sample + 6) count saw, either)) (HasTotal a) (HasTotal b)
+      (λ sample units (saw, has). (saw_count a b sees began (sample + 6) units saw, has)) seen listed lists
+
   module _ (passed : List ℕ) (at : ℕ) (way : IsOnWay known passed at a) where
     -- what it listed is among more that it lists
     pub listed_still : (listed more : List (ℤ × ℕ)) (value : ℤ) (sample : ℕ) → HasListed listed a value sample → HasListed (listed ++ more) b value sample
@@ -65,10 +73,7 @@ module _ (known : Known) (a b : Actor) (sees : SeesMore a b) where
     total_still sample units (saw, has) = (saw_count a b sees way.began (sample + 6) units saw, has)
 
     pub values_still : (seen : List ℕ) (listed : List (ℤ × ℕ)) → HasSeenValues known seen listed a → HasSeenValues known seen listed b
-    values_still seen listed lists =
-        lists_still a.seen b.seen sees.words known.reference (HasListed listed a) (HasListed listed b)
-        (λ value sample (count, saw, either). (count, saw_count a b sees way.began (sample + 6) count saw, either)) (HasTotal a) (HasTotal b) total_still
-        seen listed lists
+    values_still = seen_still way.began
 
   pub all_still : (totals : List (ℤ × ℕ)) → b.seen.chain ≡ a.seen.chain → is_looking b.hand.place ≡ false → HasSeenAll known totals a → HasSeenAll known totals b
   all_still totals chain apart all = record {

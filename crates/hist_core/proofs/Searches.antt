@@ -43,7 +43,7 @@ use Rattle.hist_core.proofs.Free.{free_turns}
 use Rattle.hist_core.proofs.Makes.Drafts.{begins}
 use Rattle.hist_core.proofs.Parts.Allocations.{goes_with, walks_saying}
 use Rattle.hist_core.proofs.Parts.Compares.{seen_now}
-use Rattle.hist_core.proofs.ValuesSeen.{walk_beside}
+use Rattle.hist_core.proofs.Walking.{walk_beside}
 
 -- ---- it begins
 

@@ -34,7 +34,7 @@ use Rattle.segment_machine.specs.Taking.{load_count, load_redundant, load_sum}
 use Rattle.hist_core.specs.declared.looker.Looker.{Looker}
 use Rattle.hist_core.specs.declared.looker.LookerStep.TheVariants.{More, Done}
 use Rattle.hist_core.specs.declared.looker.Stage.{Stage}
-use Rattle.hist_core.specs.declared.looker.Stage.TheVariants.{LoadingSingle, LoadingCounts, LoadingCount, LoadingFirst, LoadingType, LoadingHistogram, LoadingValue, LoadingSample, LoadingNext, LoadingSum, LoadingRedundant}
+use Rattle.hist_core.specs.declared.looker.Stage.TheVariants.{LoadingSingle, LoadingCounts, LoadingCount, Walking, LoadingSample, LoadingSum, LoadingRedundant}
 use Rattle.hist_core.specs.declared.mounted.Mounted.{Mounted}
 use Rattle.hist_core.specs.Goes.{Beside, Goes, IsInOrder, WalksInOrder, is_tied}
 use Rattle.hist_core.specs.Looker.{HasKeys, IsBehindSingle, IsLooker, IsPut, IsSomeLooker, LookerGives, SawBefore, SawTotalsOf, StandsAtStage, behind_bucket}
@@ -162,12 +162,8 @@ module _ (shape : Dimensions) (known : Known) (looker : Looker) (a : Actor) (wor
       same_behind LoadingSingle none = absurd none
       same_behind (LoadingCount mounted bucket) none = absurd none
       same_behind (LoadingRedundant sum) none = absurd none
-      same_behind LoadingFirst none = absurd none
-      same_behind (LoadingType at) none = absurd none
-      same_behind (LoadingHistogram at) none = absurd none
-      same_behind (LoadingValue at of) none = absurd none
+      same_behind (Walking walk) none = absurd none
       same_behind (LoadingSample at value) none = absurd none
-      same_behind (LoadingNext at) none = absurd none
 
       stands_behind : (stage : Stage) → IsBehindSingle looker found new stage → StandsAtStage shape known new acted stage
       stands_behind (LoadingCounts packed kept) (off, says, small, same) = (
@@ -203,12 +199,8 @@ module _ (shape : Dimensions) (known : Known) (looker : Looker) (a : Actor) (wor
       stands_behind LoadingSingle none = absurd none
       stands_behind (LoadingCount mounted bucket) none = absurd none
       stands_behind (LoadingRedundant sum) none = absurd none
-      stands_behind LoadingFirst none = absurd none
-      stands_behind (LoadingType at) none = absurd none
-      stands_behind (LoadingHistogram at) none = absurd none
-      stands_behind (LoadingValue at of) none = absurd none
+      stands_behind (Walking walk) none = absurd none
       stands_behind (LoadingSample at value) none = absurd none
-      stands_behind (LoadingNext at) none = absurd none
 
     pub loads_single : (new : Looker) → IsBehindSingle looker (word_at words (looker.histogram + 9)) new new.stage
         → Goes shape.size looker.version a words words (LookerGives shape known new More a)

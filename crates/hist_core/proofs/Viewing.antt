@@ -1,5 +1,5 @@
 -- A `snapshot` of an actor goes on, and what it is answered with.
-use Rattle.std.proofs.Common.{◌≡◌, ◌≤◌, ◌+◌, ◌-◌, ℕ, ℤ, pos, true, true≢false, arith, set, slice_index, List, ◌∷◌, ◌++◌, length, map, take, All, refl, sym, ap, subst, ◌∙◌}
+use Rattle.std.proofs.Common.{◌≡◌, ◌≤◌, ◌+◌, ◌-◌, ℕ, ℤ, pos, true, true≢false, arith, set, slice_index, List, [], ◌∷◌, ◌++◌, length, map, take, All, refl, sym, ap, subst, ◌∙◌}
 use Rattle.std.specs.Prelude.{Option, Some, None}
 use Rattle.std.specs.List.{Contains}
 use Rattle.segment_image.specs.Shape.{Dimensions}
@@ -36,9 +36,11 @@ use Rattle.segment_machine.specs.Actor.{bucket_key, has_buckets, known_at}
 use Rattle.hist_core.specs.declared.board.Board.{Board}
 use Rattle.hist_core.specs.declared.hist.Known.{Known}
 use Rattle.hist_core.specs.Board.{IsReachedAs, LooksAt}
-use Rattle.hist_core.specs.Looker.{IsStarted, OpensWith, StandsAtStage, blank_totals}
+use Rattle.hist_core.specs.Looker.{HasListed, HasSeenValues, HasTotal, IsStarted, OpensWith, StandsAtStage, blank_totals}
 use Rattle.hist_core.specs.declared.looker.Stage.{Stage}
-use Rattle.hist_core.specs.declared.looker.Stage.TheVariants.{LoadingSingle, LoadingCounts, LoadingCount, LoadingFirst, LoadingType, LoadingHistogram, LoadingValue, LoadingSample, LoadingNext, LoadingSum, LoadingRedundant}
+use Rattle.hist_core.specs.declared.looker.Stage.TheVariants.{LoadingSingle, LoadingCounts, LoadingCount, Walking, LoadingSample, LoadingSum, LoadingRedundant}
+use Rattle.hist_core.specs.declared.walk.Walk.TheVariants.{LoadingFirst, LoadingType, LoadingHistogram, LoadingValue, LoadingNext}
+use Rattle.segment_promises.proofs.ListedValues.{lists_nothing}
 use Rattle.hist_core.proofs.Parts.Allocations.{goes_with}
 use Rattle.hist_core.proofs.Asking.{place_below, runs_on}
 use Rattle.hist_core.proofs.Boards.{same_there}
@@ -215,15 +217,20 @@ module _ (shape : Dimensions) (version : ℕ) (known : Known) (old new : Runner)
           record { bucketed = has; keys = keys.0; buckets = keys.1 },
           subst (All (λ total. total.1 ≡ 0)) (sym blank) (no_units (boundaries_of known.spec)),
         )
-    stands_first LoadingFirst (sparse, none, room) =
-        (sparse, none, room, free_apart a.hand.place stood.0, met_split a.seen.chain known.reference (run.met (known_of known) knows))
+    stands_first (Walking LoadingFirst) (sparse, none, room) = (
+      room,
+      (
+        record { sparse = sparse; apart = free_apart a.hand.place stood.0; met = met_split a.seen.chain known.reference (run.met (known_of known) knows) },
+        λ b. subst (λ (l : List (ℤ × ℕ)). HasSeenValues (known_of known) [] l b) (sym none) (lists_nothing (HasListed [] b) (HasTotal b) known.reference b.seen),
+      ),
+    )
+    stands_first (Walking (LoadingType at)) none = absurd none
+    stands_first (Walking (LoadingHistogram at)) none = absurd none
+    stands_first (Walking (LoadingValue at of)) none = absurd none
+    stands_first (Walking (LoadingNext at)) none = absurd none
     stands_first (LoadingCounts packed kept) none = absurd none
     stands_first (LoadingCount mounted bucket) none = absurd none
-    stands_first (LoadingType at) none = absurd none
-    stands_first (LoadingHistogram at) none = absurd none
-    stands_first (LoadingValue at of) none = absurd none
     stands_first (LoadingSample at value) none = absurd none
-    stands_first (LoadingNext at) none = absurd none
     stands_first LoadingSum none = absurd none
     stands_first (LoadingRedundant sum) none = absurd none
 

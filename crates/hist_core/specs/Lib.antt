@@ -9,6 +9,7 @@ pub mod Board
 pub mod World
 pub mod Moves
 pub mod Mounted
+pub mod Walk
 pub mod Taker
 pub mod Looker
 pub mod Sampling

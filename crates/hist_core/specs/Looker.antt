@@ -1,6 +1,5 @@
 -- A snapshot that is going on.
 use Rattle.std.specs.Prelude.{◌≡◌, ◌≢◌, ◌⊎◌, ◌==◌, true, false, nat_lt, ℕ, ◌+◌, ◌-◌, ◌/◌, ◌<◌, ◌≤◌, ℤ, pos, slice_index, List, [], ◌∷◌, ◌++◌, map, length, if◌then◌else◌, Some, None, vec_capacity}
-use Rattle.std.specs.Int.{cast_unsigned, w64}
 use Rattle.std.specs.List.{All, Contains, range_with_len}
 use mathlib.Core.Option.{some}
 use lib.ListN.{get_elem?}
@@ -8,18 +7,15 @@ use Rattle.bucket_ranges.specs.Single.{packed_bucket, single_of, units_packed}
 use Rattle.bucket_ranges.specs.Ranges.{boundaries_of}
 use Rattle.bucket_ranges.specs.Spec.{buckets_of, spec_fault}
 use Rattle.bucket_ranges.specs.declared.spec.Spec.TheVariants.{Sparse}
-use Rattle.bucket_ranges.specs.Reading.{is_i32}
-use Rattle.segment_image.specs.declared.layout.TheConstants.{BLOCK_LEAST, BLOCK_TYPE, HEADER_WORDS, HISTOGRAM_NAME, QUEUE, SAMPLE_COUNT, SAMPLE_HISTOGRAM, SAMPLE_LEAST, TYPE_SAMPLE}
+use Rattle.segment_image.specs.declared.layout.TheConstants.{BLOCK_LEAST, HEADER_WORDS, HISTOGRAM_NAME, QUEUE, SAMPLE_COUNT}
 use Rattle.segment_image.specs.Shape.{Dimensions}
 use Rattle.alloc_core.specs.Layout.{IsShape}
 use Rattle.segment_machine.specs.declared.actor.Actor.{Actor}
 use Rattle.segment_machine.specs.declared.actor.Answered.{Answered}
 use Rattle.segment_machine.specs.declared.actor.Known.{Known}
 use Rattle.segment_machine.specs.declared.place.Place.TheVariants.{SumLoaded}
-use Rattle.segment_machine.specs.Actor.{SawCount, bucket_key, has_buckets, is_opener, known_at, word_seen}
-use Rattle.segment_machine.specs.Made.{SawSample}
-use Rattle.segment_machine.specs.Taking.{is_looking}
-use Rattle.segment_promises.specs.Values.{AreSorted, ComesTo, ListsValues, listed_of}
+use Rattle.segment_machine.specs.Actor.{SawCount, bucket_key, has_buckets, is_opener, known_at}
+use Rattle.segment_promises.specs.Values.{AreSorted, ListsValues, listed_of}
 use Rattle.segment_machine.specs.Calls.{MayTurn}
 use Rattle.segment_machine.specs.Form.{is_off, SaysPacked}
 use Rattle.segment_machine.specs.Note.{SawAll, SawBucket}
@@ -28,9 +24,13 @@ use Rattle.hist_core.specs.declared.looker.Looker.{Looker}
 use Rattle.hist_core.specs.declared.looker.LookerStep.{LookerStep}
 use Rattle.hist_core.specs.declared.looker.LookerStep.TheVariants.{More, Done}
 use Rattle.hist_core.specs.declared.looker.Stage.{Stage}
-use Rattle.hist_core.specs.declared.looker.Stage.TheVariants.{LoadingSingle, LoadingCounts, LoadingCount, LoadingFirst, LoadingType, LoadingHistogram, LoadingValue, LoadingSample, LoadingNext, LoadingSum, LoadingRedundant}
+use Rattle.hist_core.specs.declared.looker.Stage.TheVariants.{LoadingSingle, LoadingCounts, LoadingCount, Walking, LoadingSample, LoadingSum, LoadingRedundant}
 use Rattle.hist_core.specs.Goes.{Beside, Goes, IsFree, WalksInOrder}
+use Rattle.hist_core.specs.declared.walk.Met.{Met}
+use Rattle.hist_core.specs.declared.walk.Met.TheVariants.{Nothing, Sample, End}
+use Rattle.hist_core.specs.declared.walk.Walk.TheVariants.{LoadingFirst}
 use Rattle.hist_core.specs.Mounted.{AreMounted, BeganBefore, HasWord}
+use Rattle.hist_core.specs.Walk.{IsOnWay, MetSample, WalksAt}
 
 -- ---- what it sees
 
@@ -59,36 +59,17 @@ HasListed listed a value sample =
 abbrev pub HasTotal : Actor → ℕ → ℕ → Type 0
 HasTotal a sample units = SawCount a (sample + SAMPLE_COUNT) units × (1 ≤ units)
 
--- It has passed records behind that of a sparse histogram, and comes to one of them, or to the end of the list.
-pub record IsOnWay (known : Known) (passed : List ℕ) (at : ℕ) (a : Actor) : Type 0 where
-  pub sparse : known.spec ≡ Sparse
-  pub apart : is_looking a.hand.place ≡ false
-  pub began : BeganBefore a
-  pub comes : ComesTo known.reference passed at a
-
 -- it lists the values with units among records that it passed, each once
 abbrev pub HasSeenValues : Known → List ℕ → List (ℤ × ℕ) → Actor → Type 0
 HasSeenValues known passed listed a = ListsValues (HasListed listed a) (HasTotal a) known.reference passed listed a.seen
 
--- It stands at a record behind that of a sparse histogram, and lists what it saw of these. There is room for as many values as fit in the
--- segment.
-pub record StandsBehind (shape : Dimensions) (known : Known) (looker : Looker) (at : ℕ) (seen : List ℕ → List ℕ) (a : Actor) : Type 0 where
-  pub passed : List ℕ
-  pub way : IsOnWay known passed at a
-  pub record_there : at ≢ QUEUE
-  pub lists : HasSeenValues known (seen passed) looker.totals.items a
-  pub room : (shape.size - HEADER_WORDS) / BLOCK_LEAST ≤ vec_capacity looker.totals
+-- of a sparse histogram there is room for as many values as fit in the segment
+abbrev pub HasRoom : Dimensions → Looker → Type 0
+HasRoom shape looker = (shape.size - HEADER_WORDS) / BLOCK_LEAST ≤ vec_capacity looker.totals
 
--- what it saw of the records before that one, or of that one too
-abbrev pub MetRecord : Dimensions → Known → Looker → ℕ → Actor → Type 0
-MetRecord shape known looker at a = StandsBehind shape known looker at (λ passed. passed) a
-
-abbrev pub PassedRecord : Dimensions → Known → Looker → ℕ → Actor → Type 0
-PassedRecord shape known looker at a = StandsBehind shape known looker at (λ passed. passed ++ at ∷ []) a
-
--- it saw that the record is a sample, which has eight words
-abbrev pub IsSample : Dimensions → ℕ → Actor → Type 0
-IsSample shape at a = (word_seen a.seen.words (at + BLOCK_TYPE) ≡ Some TYPE_SAMPLE) × (at + SAMPLE_LEAST ≤ shape.size)
+-- it lists what it saw of the records that it passed
+abbrev pub ListsSeen : Known → Looker → List ℕ → Actor → Type 0
+ListsSeen known looker passed a = HasSeenValues known passed looker.totals.items a
 
 -- It has come to the end of the list, and its totals are what it lists, by their keys.
 pub record HasSeenAll (known : Known) (totals : List (ℤ × ℕ)) (a : Actor) : Type 0 where
@@ -111,16 +92,8 @@ StandsAtStage shape known looker a (LoadingCounts packed kept) =
     × ((word : ℕ) × HasWord known word a × (is_off word ≡ true) × SaysPacked looker.version (buckets_of known.spec) word packed kept)
 StandsAtStage shape known looker a (LoadingCount mounted bucket) =
     HasKeys known looker × SawBefore known looker.totals.items bucket a × (bucket < buckets_of known.spec) × ((word : ℕ) × AreMounted known mounted word a)
-StandsAtStage shape known looker a LoadingFirst =
-    (known.spec ≡ Sparse) × (looker.totals.items ≡ []) × ((shape.size - HEADER_WORDS) / BLOCK_LEAST ≤ vec_capacity looker.totals)
-    × (is_looking a.hand.place ≡ false) × ((front behind : List ℕ) × (a.seen.chain ≡ front ++ known.reference ∷ behind))
-StandsAtStage shape known looker a (LoadingType at) = MetRecord shape known looker at a
-StandsAtStage shape known looker a (LoadingHistogram at) = MetRecord shape known looker at a × IsSample shape at a
-StandsAtStage shape known looker a (LoadingValue at of) =
-    MetRecord shape known looker at a × IsSample shape at a × (word_seen a.seen.words (at + SAMPLE_HISTOGRAM) ≡ Some of)
-StandsAtStage shape known looker a (LoadingSample at value) =
-    MetRecord shape known looker at a × (at + SAMPLE_LEAST ≤ shape.size) × SawSample a.seen known.reference value at
-StandsAtStage shape known looker a (LoadingNext at) = PassedRecord shape known looker at a
+StandsAtStage shape known looker a (Walking walk) = HasRoom shape looker × WalksAt shape known (ListsSeen known looker) walk a
+StandsAtStage shape known looker a (LoadingSample at value) = HasRoom shape looker × MetSample shape known (ListsSeen known looker) at value a
 StandsAtStage shape known looker a LoadingSum = SawTotalsOf known looker a × BeganBefore a
 StandsAtStage shape known looker a (LoadingRedundant sum) =
     SawTotalsOf known looker a × BeganBefore a × (a.hand.place ≡ SumLoaded known.reference sum)
@@ -151,8 +124,7 @@ blank_totals boundaries = map (λ i. (pos (slice_index boundaries i), 0)) (range
 -- segment.
 abbrev pub OpensWith : Dimensions → Known → Looker → Stage → Type 0
 OpensWith shape known looker LoadingSingle = (has_buckets known.spec ≡ true) × (looker.totals.items ≡ blank_totals (boundaries_of known.spec))
-OpensWith shape known looker LoadingFirst =
-    (known.spec ≡ Sparse) × (looker.totals.items ≡ []) × ((shape.size - HEADER_WORDS) / BLOCK_LEAST ≤ vec_capacity looker.totals)
+OpensWith shape known looker (Walking LoadingFirst) = (known.spec ≡ Sparse) × (looker.totals.items ≡ []) × HasRoom shape looker
 OpensWith shape known looker stage = ⊥
 
 pub record IsStarted (shape : Dimensions) (version : ℕ) (known : Known) (looker : Looker) : Type 0 where
@@ -220,22 +192,11 @@ IsBehindSingle old word new _ = ⊥
 abbrev pub behind_bucket : ℕ → Mounted → ℕ → Stage
 behind_bucket buckets mounted bucket = if nat_lt (bucket + 1) buckets then LoadingCount mounted (bucket + 1) else LoadingSum
 
--- behind the next of a record comes the type of the record there; at the end of the list the totals are sorted, and the sum comes
-abbrev pub IsBehindNext : Looker → ℕ → Looker → Type 0
-IsBehindNext old next new =
-    ((next ≡ QUEUE) × AreSorted old.totals.items new.totals.items × (new ≡ record old { totals = new.totals; stage = LoadingSum }))
-    ⊎ ((next ≢ QUEUE) × (new ≡ record old { stage = LoadingType next }))
-
--- behind the type of a record comes its histogram, where it is a sample, or else its next
-abbrev pub behind_type : ℕ → ℕ → Stage
-behind_type at tag = if tag == TYPE_SAMPLE then LoadingHistogram at else LoadingNext at
-
--- behind the value of a sample comes its count, where it is one of this histogram and its word is that of a value, or else its next
-abbrev pub IsBehindValue : ℕ → ℕ → ℕ → ℕ → Stage → Type 0
-IsBehindValue histogram at of word (LoadingSample r value) = (r ≡ at) × (of ≡ histogram) × (is_i32 value ≡ true) × (word ≡ cast_unsigned w64 value)
-IsBehindValue histogram at of word (LoadingNext r) =
-    (r ≡ at) × ((of ≢ histogram) ⊎ ((value : ℤ) → is_i32 value ≡ true → word ≢ cast_unsigned w64 value))
-IsBehindValue histogram at of word stage = ⊥
+-- What its walk met leads to: it goes on, or to the count of a sample; at the end of the list the totals are sorted, and the sum comes.
+abbrev pub IsBehindWalk : Looker → Met → Looker → Type 0
+IsBehindWalk old (Nothing walk) new = new ≡ record old { stage = Walking walk }
+IsBehindWalk old (Sample at value) new = new ≡ record old { stage = LoadingSample at value }
+IsBehindWalk old End new = AreSorted old.totals.items new.totals.items × (new ≡ record old { totals = new.totals; stage = LoadingSum })
 
 -- the units of a value are listed, where it has some
 pub record IsListed (value : ℤ) (count : ℕ) (old new : Looker) : Type 0 where

@@ -52,7 +52,7 @@ use Rattle.hist_core.specs.declared.hist.HistStep.TheVariants as hist
 use Rattle.hist_core.specs.declared.hist.Known.{Known}
 use Rattle.hist_core.specs.declared.entry.Entry.{Entry}
 use Rattle.hist_core.specs.declared.entry.Taken.{Taken}
-use Rattle.hist_core.specs.Taker.{AreUnits, HasBegun, IsTaker, IsStarted as IsTakerStarted}
+use Rattle.hist_core.specs.Taker.{AreUnits, HasBegun, insert_by_key, IsTaker, IsStarted as IsTakerStarted}
 use Rattle.segment_calls.specs.declared.answer.Delta.{Delta as DeltaAnswer}
 use Rattle.hist_core.specs.declared.taker.Stage.TheVariants.{LoadingSingle}
 use Rattle.hist_core.specs.declared.taker.Taker.{Taker}
@@ -373,7 +373,9 @@ ended_deltas running list = list
 
 -- What a delta is shown as behind an event: what it had taken, with what that event took; once it has ended, what it is answered with.
 abbrev pub TakesMore : Taker → Stepped → Taken → Type 0
-TakesMore taker More last = (last.sum ≡ pos 0) × ((units : List (ℤ × ℕ)) × (length units ≤ 1) × (last.counts.items ≡ taker.counts.items ++ units))
+TakesMore taker More last =
+    (last.sum ≡ pos 0)
+    × ((last.counts.items ≡ taker.counts.items) ⊎ ((one : ℤ × ℕ) × (last.counts.items ≡ insert_by_key one taker.counts.items)))
 TakesMore taker (Done (answer.Delta delta)) last = (last.counts.items ≡ delta.counts.items) × (last.sum ≡ delta.sum)
 TakesMore taker said last = ⊥
 
@@ -480,7 +482,7 @@ HasPlace said running taken = ⊥
 abbrev pub Becomes : TakerStep → Taken → Taken → Type 0
 Becomes take_step.More last now = now ≡ last
 Becomes (take_step.Took key units) last now =
-    (now ≡ record last { counts = now.counts }) × (now.counts.items ≡ last.counts.items ++ (key, units) ∷ [])
+    (now ≡ record last { counts = now.counts }) × (now.counts.items ≡ insert_by_key (key, units) last.counts.items)
     × (vec_capacity now.counts ≡ vec_capacity last.counts)
 Becomes (take_step.Done sum) last now = now ≡ record last { sum = sum }
 

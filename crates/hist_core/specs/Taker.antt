@@ -1,6 +1,6 @@
 -- A delta that is going on.
-use Rattle.std.specs.Prelude.{◌≡◌, true, false, nat_lt, nat_eq, ℕ, ◌+◌, ◌-◌, ◌<◌, ◌≤◌, ℤ, pos, List, [], ◌∷◌, ◌++◌, map, length, slice_index, vec_capacity, if◌then◌else◌, Some, None, ⊤}
-use Rattle.std.specs.List.{All, AllByRecursion, Contains}
+use Rattle.std.specs.Prelude.{◌≡◌, true, false, nat_lt, nat_eq, int_lt, ℕ, suc, ◌+◌, ◌-◌, ◌<◌, ◌≤◌, ℤ, pos, List, [], ◌∷◌, ◌++◌, map, length, slice_index, vec_capacity, if◌then◌else◌, Some, None, ⊤}
+use Rattle.std.specs.List.{All, AllByRecursion, Contains, insert}
 use Rattle.std.specs.List.Sorted.{IsStrictlySortedBy}
 use Rattle.std.specs.Option.{option_eq}
 use Rattle.std.specs.Ordering.{int_cmp}
@@ -16,7 +16,7 @@ use Rattle.segment_machine.specs.declared.actor.Known.{Known}
 use Rattle.segment_machine.specs.declared.actor.Taken.{Taken}
 use Rattle.segment_machine.specs.declared.place.Place.TheVariants.{SumLoaded}
 use Rattle.segment_machine.specs.declared.seen.Sighting.{Sighting}
-use Rattle.segment_machine.specs.Actor.{bucket_key, has_buckets, is_opener, known_at}
+use Rattle.segment_machine.specs.Actor.{bucket_key, has_buckets, is_opener, known_at, units_listed}
 use Rattle.segment_machine.specs.Calls.{MayTurn}
 use Rattle.segment_machine.specs.Form.{is_off, SaysPacked}
 use Rattle.segment_machine.specs.Note.{TookAll, TookBucket}
@@ -40,15 +40,24 @@ pub record AreUnits (counts : List (ℤ × ℕ)) : Type 0 where
 abbrev pub AreBelow : Known → ℕ → List (ℤ × ℕ) → Type 0
 AreBelow known bucket counts = AllByRecursion (λ count. (i : ℕ) × (i < bucket) × (count.0 ≡ bucket_key (Some known) i)) counts
 
+-- before how many of these keys one is to stand: the first that is not less
+abbrev pub place_of : ℤ → List (ℤ × ℕ) → ℕ
+place_of key [] = 0
+place_of key (count ∷ rest) = if int_lt count.0 key then suc (place_of key rest) else 0
+
+-- with units of a key more, which stand there
+abbrev pub insert_by_key : ℤ × ℕ → List (ℤ × ℕ) → List (ℤ × ℕ)
+insert_by_key one counts = insert counts (place_of one.0 counts) one
+
 -- ---- where it stands
 
--- It has begun: it is the last of what its actor's deltas took, behind those before it, and has taken what it lists.
+-- It has begun: it is the last of what its actor's deltas took, behind those before it, and has taken the units that it lists of each key.
 pub record IsUnderWay (known : Known) (earlier : List Taken) (taker : Taker) (a : Actor) : Type 0 where
   pub taking : a.deltas.taking ≡ true
   pub last : Taken
   pub taken : a.deltas.taken ≡ earlier ++ last ∷ []
   pub name : last.name ≡ known.name
-  pub counts : last.counts ≡ taker.counts.items
+  pub counts : (key : ℤ) → units_listed taker.counts.items key ≡ units_listed last.counts key
   pub sum : last.sum ≡ pos 0
 
 -- what it saw of each bucket is taken
@@ -130,7 +139,7 @@ pub record HasEnded (known : Known) (earlier : List Taken) (taker : Taker) (sum 
   pub last : Taken
   pub taken : a.deltas.taken ≡ earlier ++ last ∷ []
   pub name : last.name ≡ known.name
-  pub counts : last.counts ≡ taker.counts.items
+  pub counts : (key : ℤ) → units_listed taker.counts.items key ≡ units_listed last.counts key
   pub sum_is : last.sum ≡ sum
   pub swapped : last.swapped ≡ true
   pub all : TookAll a known
@@ -151,9 +160,9 @@ abbrev pub IsSomeTaker : ℕ → Taker → Type 0
 IsSomeTaker n taker =
     (shape : Dimensions) × (known : Known) × (earlier : List Taken) × (a : Actor) × (n ≡ shape.size) × IsTaker shape known earlier taker a
 
--- what it lists behind a step: the units that it took, where it took some, behind those before
+-- what it lists behind a step: the units that it took, where it took some, beside those before
 abbrev pub Lists : Taker → Taker → TakerStep → Type 0
-Lists old new (Took key units) = new.counts.items ≡ old.counts.items ++ (key, units) ∷ []
+Lists old new (Took key units) = new.counts.items ≡ insert_by_key (key, units) old.counts.items
 Lists old new said = new.counts.items ≡ old.counts.items
 
 -- its first event has happened
@@ -182,10 +191,14 @@ mark_of taker mounted bucket =
     if option_eq nat_eq mounted.packed (Some bucket) then taker.histogram + HISTOGRAM_SINGLE_MARK
     else mounted.counts + BLOCK_HEADER + (length taker.ranges - 1) + bucket
 
--- it lists the units of a bucket that stood between a mark and what that was raised to
+-- it lists the units of a key that stood between a mark and what that was raised to
+abbrev pub TakesUnits : ℤ → ℕ → ℕ → Taker → Taker → TakerStep → Type 0
+TakesUnits of total mark old new More = (total ≤ mark) × (new ≡ old)
+TakesUnits of total mark old new (Took key units) =
+    (mark < total) × (key ≡ of) × (units ≡ total - mark) × (new ≡ record old { counts = new.counts })
+    × (new.counts.items ≡ insert_by_key (key, units) old.counts.items) × (vec_capacity new.counts ≡ vec_capacity old.counts)
+TakesUnits of total mark old new (Done sum) = ⊥
+
+-- of a bucket
 abbrev pub IsTaken : ℕ → ℕ → ℕ → Taker → Taker → TakerStep → Type 0
-IsTaken bucket total mark old new More = (total ≤ mark) × (new ≡ old)
-IsTaken bucket total mark old new (Took key units) =
-    (mark < total) × (key ≡ pos (slice_index old.ranges bucket)) × (units ≡ total - mark) × (new ≡ record old { counts = new.counts })
-    × (new.counts.items ≡ old.counts.items ++ (key, units) ∷ []) × (vec_capacity new.counts ≡ vec_capacity old.counts)
-IsTaken bucket total mark old new (Done sum) = ⊥
+IsTaken bucket total mark old new said = TakesUnits (pos (slice_index old.ranges bucket)) total mark old new said

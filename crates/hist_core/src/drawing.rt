@@ -6,6 +6,7 @@ ghost use Rattle.hist_core.specs.declared.taker.TakerStep.TheVariants.{Took, Don
 ghost use Rattle.hist_core.specs.Runner.{IsLast, LastBecomes};
 
 use crate::entry::Taken;
+use crate::samples::list_by_key;
 
 // The last has taken so many units of a key too. There is room for them.
 pub(crate) fn draw(taken: &mut Vec<Taken>, key: i32, units: u64)
@@ -14,7 +15,7 @@ pub(crate) fn draw(taken: &mut Vec<Taken>, key: i32, units: u64)
     ensures { LastBecomes (Took key units) taken.old.items taken.new.items }
 {
     let last = taken.len() - 1;
-    taken[last].counts.push_reserved((key, units));
+    list_by_key(&mut taken[last].counts, key, units);
 }
 
 // The last has taken this of the sum.

@@ -21,6 +21,7 @@ mod taker;
 mod telling;
 #[cfg(test)]
 mod tests;
+mod walk;
 mod world;
 
 pub use call::{Answer, Begun, Call, Move, Stepped};

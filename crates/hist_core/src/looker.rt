@@ -1,18 +1,18 @@
 //! A snapshot that is going on: it looks at all that is counted of a histogram, and changes nothing.
 
 ghost use Rattle.std.specs.Prelude.{◌≡◌, IfOk};
-ghost use Rattle.hist_core.specs.Looker.{IsBehindValue, behind_type, blank_totals};
+ghost use Rattle.hist_core.specs.Looker.{blank_totals};
 
 use crate::hist::Known;
 use crate::mounted::Mounted;
 use crate::samples::sort_by_key;
+use crate::walk::{Met, Walk};
 use bucket_ranges::Ranges;
 use segment_calls::packing::{DISABLED_BIT, packed_in};
 use segment_image::Shape;
 use segment_image::layout::{
-    BLOCK_HEADER, BLOCK_LEAST, BLOCK_NEXT, BLOCK_TYPE, HEADER_WORDS, HISTOGRAM_COUNTS,
-    HISTOGRAM_REDUNDANT, HISTOGRAM_SINGLE, HISTOGRAM_SUM, QUEUE, SAMPLE_COUNT, SAMPLE_HISTOGRAM,
-    SAMPLE_VALUE, TYPE_SAMPLE,
+    BLOCK_HEADER, BLOCK_LEAST, HEADER_WORDS, HISTOGRAM_COUNTS, HISTOGRAM_REDUNDANT,
+    HISTOGRAM_SINGLE, HISTOGRAM_SUM, SAMPLE_COUNT,
 };
 use std::alloc::{AllocError, Global};
 
@@ -25,18 +25,10 @@ pub(crate) enum Stage {
     LoadingCounts { packed: Option<usize>, kept: u64 },
     /// It loads the count of a bucket.
     LoadingCount { mounted: Mounted, bucket: usize },
-    /// It loads the next of the histogram's record. The histogram is sparse.
-    LoadingFirst,
-    /// It loads the type of a record that it met behind the histogram's.
-    LoadingType { at: u64 },
-    /// It loads the histogram of a sample.
-    LoadingHistogram { at: u64 },
-    /// It loads the value of a sample of this histogram.
-    LoadingValue { at: u64, of: u64 },
-    /// It loads the count of a sample of its own histogram.
+    /// It walks along the samples. The histogram is sparse.
+    Walking { walk: Walk },
+    /// It loads the count of a sample of its histogram.
     LoadingSample { at: u64, value: i32 },
-    /// It loads the next of a record behind the histogram's.
-    LoadingNext { at: u64 },
     /// It loads the sum.
     LoadingSum,
     /// It loads the redundant count.
@@ -75,37 +67,13 @@ fn blank_totals(alloc: Global, ranges: &Ranges) -> Result<Vec<(i32, u64)>, Alloc
     Ok(totals)
 }
 
-// What the type of a record leads to: the histogram of a sample, or the next of another record.
-fn behind_type(at: u64, tag: u64) -> Stage
-    ensures { result ≡ behind_type at tag }
-{
-    if tag == TYPE_SAMPLE {
-        Stage::LoadingHistogram { at }
-    } else {
-        Stage::LoadingNext { at }
-    }
-}
-
-// What the value of a sample leads to: its count, where it is one of this histogram, or else its next.
-fn behind_value(histogram: u64, at: u64, of: u64, word: u64) -> Stage
-    ensures { IsBehindValue histogram at of word result }
-{
-    if of != histogram {
-        return Stage::LoadingNext { at };
-    }
-    match i32::try_from(word.cast_signed()) {
-        Ok(value) => Stage::LoadingSample { at, value },
-        Err(_) => Stage::LoadingNext { at },
-    }
-}
-
 impl Looker {
     ghost use Rattle.std.specs.Prelude.{◌≤◌, ◌<◌, length, vec_len, vec_capacity, None};
     ghost use Rattle.bucket_ranges.specs.Ranges.{boundaries_of};
     ghost use Rattle.bucket_ranges.specs.Spec.{spec_fault};
     ghost use Rattle.hist_core.specs.Runner.{known_of};
-    ghost use Rattle.hist_core.specs.declared.looker.Stage.TheVariants.{LoadingSingle, LoadingCounts, LoadingCount, LoadingFirst, LoadingType, LoadingHistogram, LoadingValue, LoadingSample, LoadingNext, LoadingSum, LoadingRedundant};
-    ghost use Rattle.hist_core.specs.Looker.{IsSomeLooker, IsStarted, LookerSteps, IsPut, IsBehindSingle, IsBehindNext, IsListed, behind_bucket};
+    ghost use Rattle.hist_core.specs.declared.looker.Stage.TheVariants.{LoadingSingle, LoadingCounts, LoadingCount, Walking, LoadingSample, LoadingSum, LoadingRedundant};
+    ghost use Rattle.hist_core.specs.Looker.{IsSomeLooker, IsStarted, LookerSteps, IsPut, IsBehindSingle, IsBehindWalk, IsListed, behind_bucket};
 
     // It begins to look at a known histogram: it loads the single word, or, where the histogram is sparse, the next of its record.
     pub(crate) fn start(
@@ -124,7 +92,9 @@ impl Looker {
                 version,
                 histogram: known.reference,
                 totals: Vec::with_capacity(alloc, most)?,
-                stage: Stage::LoadingFirst,
+                stage: Stage::Walking {
+                    walk: Walk::LoadingFirst,
+                },
             });
         }
         Ok(Looker {
@@ -216,75 +186,29 @@ impl Looker {
         LookerStep::More
     }
 
-    // What the next of a record leads to: the record there, or at the end of the list the sum.
-    fn behind_next(&mut self, next: u64)
-        ensures { IsBehindNext self.old next self.new }
+    // What its walk met leads to: it goes on, or to the count of a sample, or at the end of the list to the sum.
+    fn meet(&mut self, met: Met)
+        ensures { IsBehindWalk self.old met self.new }
     {
-        if next == QUEUE {
-            sort_by_key(&mut self.totals);
-            self.stage = Stage::LoadingSum;
-        } else {
-            self.stage = Stage::LoadingType { at: next };
-        }
+        self.stage = match met {
+            Met::Nothing(walk) => Stage::Walking { walk },
+            Met::Sample { at, value } => Stage::LoadingSample { at, value },
+            Met::End => {
+                sort_by_key(&mut self.totals);
+                Stage::LoadingSum
+            }
+        };
     }
 
-    // It loads the next of the histogram's record.
-    fn load_first(&mut self, words: &[u64]) -> LookerStep
-        requires loads { self.old.stage ≡ LoadingFirst }
+    // It walks on.
+    fn walk_on(&mut self, words: &[u64], walk: Walk) -> LookerStep
+        requires loads { self.old.stage ≡ Walking walk }
         requires stands { ∥ IsSomeLooker (length words.now) self.old ∥₁ }
         ensures steps { LookerSteps self.old words.now self.new words.now result }
         ensures of { self.new.histogram ≡ self.old.histogram }
     {
-        let next = words[self.histogram as usize + BLOCK_NEXT];
-        self.behind_next(next);
-        LookerStep::More
-    }
-
-    // It loads the next of a record behind that.
-    fn load_next(&mut self, words: &[u64], at: u64) -> LookerStep
-        requires loads { self.old.stage ≡ LoadingNext at }
-        requires stands { ∥ IsSomeLooker (length words.now) self.old ∥₁ }
-        ensures steps { LookerSteps self.old words.now self.new words.now result }
-        ensures of { self.new.histogram ≡ self.old.histogram }
-    {
-        let next = words[at as usize + BLOCK_NEXT];
-        self.behind_next(next);
-        LookerStep::More
-    }
-
-    // It loads the type of a record.
-    fn load_type(&mut self, words: &[u64], at: u64) -> LookerStep
-        requires loads { self.old.stage ≡ LoadingType at }
-        requires stands { ∥ IsSomeLooker (length words.now) self.old ∥₁ }
-        ensures steps { LookerSteps self.old words.now self.new words.now result }
-        ensures of { self.new.histogram ≡ self.old.histogram }
-    {
-        let tag = words[at as usize + BLOCK_TYPE];
-        self.stage = behind_type(at, tag);
-        LookerStep::More
-    }
-
-    // It loads the histogram of a sample.
-    fn load_histogram(&mut self, words: &[u64], at: u64) -> LookerStep
-        requires loads { self.old.stage ≡ LoadingHistogram at }
-        requires stands { ∥ IsSomeLooker (length words.now) self.old ∥₁ }
-        ensures steps { LookerSteps self.old words.now self.new words.now result }
-        ensures of { self.new.histogram ≡ self.old.histogram }
-    {
-        let of = words[at as usize + SAMPLE_HISTOGRAM];
-        self.stage = Stage::LoadingValue { at, of };
-        LookerStep::More
-    }
-
-    // It loads the value of a sample.
-    fn load_value(&mut self, words: &[u64], at: u64, of: u64) -> LookerStep
-        requires loads { self.old.stage ≡ LoadingValue at of }
-        requires stands { ∥ IsSomeLooker (length words.now) self.old ∥₁ }
-        ensures steps { LookerSteps self.old words.now self.new words.now result }
-        ensures of { self.new.histogram ≡ self.old.histogram }
-    {
-        let word = words[at as usize + SAMPLE_VALUE];
-        self.stage = behind_value(self.histogram, at, of, word);
+        let met = walk.step(self.histogram, words);
+        self.meet(met);
         LookerStep::More
     }
 
@@ -306,7 +230,9 @@ impl Looker {
         ensures of { self.new.histogram ≡ self.old.histogram }
     {
         let count = words[at as usize + SAMPLE_COUNT];
-        self.stage = Stage::LoadingNext { at };
+        self.stage = Stage::Walking {
+            walk: Walk::LoadingNext { at },
+        };
         self.list(value, count);
         LookerStep::More
     }
@@ -344,12 +270,8 @@ impl Looker {
             Stage::LoadingSingle => self.load_single(words),
             Stage::LoadingCounts { packed, kept } => self.load_counts(words, packed, kept),
             Stage::LoadingCount { mounted, bucket } => self.load_count(words, mounted, bucket),
-            Stage::LoadingFirst => self.load_first(words),
-            Stage::LoadingType { at } => self.load_type(words, at),
-            Stage::LoadingHistogram { at } => self.load_histogram(words, at),
-            Stage::LoadingValue { at, of } => self.load_value(words, at, of),
+            Stage::Walking { walk } => self.walk_on(words, walk),
             Stage::LoadingSample { at, value } => self.load_sample(words, at, value),
-            Stage::LoadingNext { at } => self.load_next(words, at),
             Stage::LoadingSum => self.load_sum(words),
             Stage::LoadingRedundant { sum } => self.load_redundant(words, sum),
         }

@@ -1,11 +1,12 @@
 //! What a sample counts: the key that its units have, and what it adds to the sum.
 
-ghost use Rattle.std.specs.Prelude.{◌≡◌, ◌*◌, ◌≤◌};
+ghost use Rattle.std.specs.Prelude.{◌≡◌, ◌*◌, ◌<◌, ◌≤◌, length, vec_len, vec_capacity};
 ghost use Rattle.std.specs.Int.RustNames.{unsigned_abs};
 ghost use Rattle.bucket_ranges.specs.Tally.{amount_of as amount_of_sample, counted_value as counted_value_of};
 ghost use Rattle.bucket_ranges.specs.Ranges.{AreBoundaries};
 ghost use Rattle.segment_machine.specs.Entry.{key_of as key_of_value};
 ghost use Rattle.segment_promises.specs.Values.{AreSorted};
+ghost use Rattle.hist_core.specs.Taker.{insert_by_key, place_of as place_of_key};
 
 use bucket_ranges::Ranges;
 use bucket_ranges::limits::MAX_VALUE;
@@ -26,6 +27,29 @@ pub(crate) fn sort_by_key(counts: &mut Vec<(i32, u64)>)
     ensures { AreSorted counts.old.items counts.new.items }
 {
     counts.sort_unstable_by_key(|count| count.0);
+}
+
+// Before how many of these keys one is to stand: the first that is not less.
+fn place_of(counts: &[(i32, u64)], key: i32) -> usize
+    ensures within { result ≤ length counts.now }
+    ensures place { result ≡ place_of_key key counts.now }
+{
+    for (place, count) in counts.iter().enumerate() {
+        if count.0 >= key {
+            return place;
+        }
+    }
+    counts.len()
+}
+
+// Lists units of a key too, in the order of the keys. There is room for them.
+pub(crate) fn list_by_key(counts: &mut Vec<(i32, u64)>, key: i32, units: u64)
+    requires { vec_len counts.old < vec_capacity counts.old }
+    ensures items { counts.new.items ≡ insert_by_key (key, units) counts.old.items }
+    ensures room { vec_capacity counts.new ≡ vec_capacity counts.old }
+{
+    let place = place_of(counts, key);
+    counts.insert(place, (key, units)).unwrap();
 }
 
 // What a sample adds to the sum: its value as often as it has units.

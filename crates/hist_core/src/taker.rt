@@ -4,6 +4,7 @@
 use crate::counting::{fetch_max, swap};
 use crate::hist::Known;
 use crate::mounted::Mounted;
+use crate::samples::list_by_key;
 use bucket_ranges::Ranges;
 use segment_calls::packing::{DISABLED_BIT, packed_in};
 use segment_image::layout::{
@@ -75,7 +76,7 @@ impl Taker {
     ghost use Rattle.segment_machine.specs.Actor.{has_buckets};
     ghost use Rattle.hist_core.specs.Runner.{known_of};
     ghost use Rattle.hist_core.specs.declared.taker.Stage.TheVariants.{LoadingSingle, TakingPacked, LoadingCounts, LoadingCount, Raising, LoadingSum, Swapping};
-    ghost use Rattle.hist_core.specs.Taker.{IsSomeTaker, IsStarted, TakerSteps, Lists, IsBehindSingle, HasBegun, behind_bucket, IsTaken, mark_of};
+    ghost use Rattle.hist_core.specs.Taker.{IsSomeTaker, IsStarted, TakerSteps, Lists, IsBehindSingle, HasBegun, behind_bucket, IsTaken, TakesUnits, mark_of};
 
     // It begins to take of a known histogram with buckets: it loads the single word. There is room for all buckets.
     pub(crate) fn start(alloc: Global, version: u64, known: &Known) -> Result<Taker, AllocError>
@@ -129,18 +130,26 @@ impl Taker {
         TakerStep::More
     }
 
-    // It lists the units of a bucket that stood between its mark and what that was raised to.
-    fn take(&mut self, bucket: usize, total: u64, mark: u64) -> TakerStep
-        requires inside { bucket + 1 < length self.old.ranges }
-        requires room { vec_len self.old.counts < vec_capacity self.old.counts }
-        ensures { IsTaken bucket total mark self.old self.new result }
+    // It lists the units of a key that stood between a mark and what that was raised to.
+    fn take(&mut self, key: i32, total: u64, mark: u64) -> TakerStep
+        requires { vec_len self.old.counts < vec_capacity self.old.counts }
+        ensures { TakesUnits key total mark self.old self.new result }
     {
         if mark >= total {
             return TakerStep::More;
         }
-        let key = self.ranges.low(bucket);
-        self.counts.push_reserved((key, total - mark));
+        list_by_key(&mut self.counts, key, total - mark);
         TakerStep::Took(key, total - mark)
+    }
+
+    // Those of a bucket.
+    fn take_bucket(&mut self, bucket: usize, total: u64, mark: u64) -> TakerStep
+        requires inside { bucket + 1 < length self.old.ranges }
+        requires room { vec_len self.old.counts < vec_capacity self.old.counts }
+        ensures { IsTaken bucket total mark self.old self.new result }
+    {
+        let key = self.ranges.low(bucket);
+        self.take(key, total, mark)
     }
 
     // It raises the single mark to the packed units.
@@ -156,7 +165,7 @@ impl Taker {
         let at = self.histogram as usize + HISTOGRAM_SINGLE_MARK;
         let mark = fetch_max(words, at, units);
         self.stage = Stage::LoadingSum;
-        self.take(bucket, units, mark)
+        self.take_bucket(bucket, units, mark)
     }
 
     // It loads the counts reference. The counts are in use, so they lie within the segment.
@@ -243,7 +252,7 @@ impl Taker {
     {
         let mark = fetch_max(words, self.mark_of(mounted, bucket), total);
         self.stage = self.behind_bucket(mounted, bucket);
-        self.take(bucket, total, mark)
+        self.take_bucket(bucket, total, mark)
     }
 
     // It loads the sum.

@@ -14,7 +14,7 @@ use Rattle.segment_invariant.proofs.Packing.OffForms.{few_buckets}
 use Rattle.segment_machine.specs.declared.actor.Actor.{Actor}
 use Rattle.segment_machine.specs.declared.actor.Known.{Known}
 use Rattle.segment_machine.specs.declared.actor.Taken.{Taken}
-use Rattle.segment_machine.specs.Actor.{Buckets, has_buckets, is_opener, known_at}
+use Rattle.segment_machine.specs.Actor.{Buckets, has_buckets, is_opener, known_at, units_listed}
 use Rattle.segment_machine.specs.Calls.{MayTurn, sight}
 use Rattle.segment_machine.specs.Event.{Event, spot, after, next, Ready, Learned, taking_event}
 use Rattle.segment_machine.specs.Taking.{TakingEvent, Takes, load_count, raise_mark, raise_single_mark, load_sum, swap_sum_mark, load_redundant}
@@ -58,7 +58,7 @@ same_way known earlier old new a same way = record {
   last = way.last;
   taken = way.taken;
   name = way.name;
-  counts = way.counts ∙ ap (λ l. l.items) (sym same);
+  counts = λ key. ap (λ l. units_listed l.items key) same ∙ way.counts key;
   sum = way.sum;
 }
 

@@ -22,7 +22,7 @@ use Rattle.segment_machine.specs.declared.actor.Known.{Known}
 use Rattle.segment_machine.specs.declared.actor.Taken.{Taken}
 use Rattle.segment_machine.specs.declared.place.Place.{Place}
 use Rattle.segment_machine.specs.declared.place.Place.TheVariants.{Looking}
-use Rattle.segment_machine.specs.Actor.{SawSingle, bucket_key, is_bound, known_at, known_buckets}
+use Rattle.segment_machine.specs.Actor.{SawSingle, bucket_key, is_bound, known_at, known_buckets, units_listed}
 use Rattle.segment_machine.specs.Calls.{back, form_seen, look_of, sight}
 use Rattle.segment_machine.specs.Event.{Event, next, packing_event, taking_event}
 use Rattle.segment_machine.specs.Form.{is_off, units_in, SaysPacked}
@@ -81,7 +81,7 @@ module _ (shape : Dimensions) (known : Known) (earlier : List Taken) (taker : Ta
       last = nothing_taken a known.name;
       taken = ap (λ (l : List Taken). l ++ nothing_taken a known.name ∷ []) begins.1;
       name = refl;
-      counts = sym none;
+      counts = λ key. ap (λ (l : List (ℤ × ℕ)). units_listed l key) none;
       sum = refl;
     }
 

@@ -1,13 +1,14 @@
-use Rattle.std.proofs.Common.{◌≡◌, ◌-◌, ◌++◌, ◌∷◌, [], ℤ, w32, to_z, of_z, rules, length, refl, subst, ap, ◌∙◌, vec_len, arith}
+use Rattle.std.proofs.Common.{◌≡◌, ◌-◌, ℤ, w32, to_z, of_z, rules, length, refl, subst, ap, ◌∙◌, vec_len, arith}
 use mathlib.Core.Option.{some}
 use lib.ListN.{get_elem?}
 use Rattle.hist_core.specs.declared.entry.Taken.{Taken}
+use Rattle.hist_core.specs.Taker.{insert_by_key}
 use Rattle.hist_core.proofs.Boards.{is_there}
 use Rattle.hist_core.proofs.Deltas.{last_set_at}
 use Rattle.hist_core.proofs.drawing.draw.Goals as goal
 
-pub push_reserved-requires : goal.push_reserved-requires
-push_reserved-requires c =
+pub list_by_key-requires : goal.list_by_key-requires
+list_by_key-requires c =
     let list = c.args.taken.now in let last = c.index_mut.result.now in
     let at = is_there list.items (vec_len list) (c.len-last.result - 1) last list.ok.0 (omega (arith, c.len-last.ensures, c.requires.some)) c.index_mut.ensures.value in
     let same : c.len-last.result - 1 ≡ length list.items - 1 = (let ok = list.ok.0 in omega (arith, ok, c.len-last.ensures)) in
@@ -17,6 +18,6 @@ pub returns : goal.returns
 returns c =
     let list = c.args.taken.now in let last = c.index_mut.result.now in
     let whole : to_z w32 (of_z w32 c.args.key) ≡ c.args.key = search rules in
-    let now : Taken = record last { counts = c.push_reserved.new.self } in
+    let now : Taken = record last { counts = c.list_by_key.new.counts } in
     let parts = last_set_at list.items (vec_len list) (c.len-last.result - 1) last now list.ok.0 (omega (arith, c.len-last.ensures)) (omega (arith, c.requires.some)) c.index_mut.ensures.value in
-    (parts.0, last, now, parts.1, parts.2, (refl, c.push_reserved.ensures.items ∙ ap (λ (k : ℤ). last.counts.items ++ (k, c.args.units) ∷ []) whole, c.push_reserved.ensures.capacity))
+    (parts.0, last, now, parts.1, parts.2, (refl, c.list_by_key.ensures.items ∙ ap (λ (k : ℤ). insert_by_key (k, c.args.units) last.counts.items) whole, c.list_by_key.ensures.room))

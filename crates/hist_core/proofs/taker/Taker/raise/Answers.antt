@@ -31,17 +31,17 @@ behind_bucket-self-requires c =
     let there = some_mark c.args.self.now c.args.words.now c.args.mounted c.args.bucket c.args.total c.requires.raises c.requires.stands in
     omega (arith, inside.2, there.1)
 
-pub take-requires-clause-inside : goal.take-requires-clause-inside
-take-requires-clause-inside c = (some_mark c.args.self.now c.args.words.now c.args.mounted c.args.bucket c.args.total c.requires.raises c.requires.stands).1
+pub take_bucket-requires-clause-inside : goal.take_bucket-requires-clause-inside
+take_bucket-requires-clause-inside c = (some_mark c.args.self.now c.args.words.now c.args.mounted c.args.bucket c.args.total c.requires.raises c.requires.stands).1
 
-pub take-requires-clause-room : goal.take-requires-clause-room
-take-requires-clause-room c =
+pub take_bucket-requires-clause-room : goal.take_bucket-requires-clause-room
+take_bucket-requires-clause-room c =
     let room = (some_mark c.args.self.now c.args.words.now c.args.mounted c.args.bucket c.args.total c.requires.raises c.requires.stands).2 in
     let ok = c.args.self.now.counts.ok.0 in omega (arith, room, ok)
 
 pub returns-clause-steps : goal.returns-clause-steps
 returns-clause-steps c = λ shape known earlier a long is.
-    gives_raised shape known earlier c.args.self.now a c.args.words.now is c.args.mounted c.args.bucket c.args.total c.requires.raises c.take.new.self c.take.result c.fetch_max-mark.result
-    (subst (λ (stage : Stage). IsTaken c.args.bucket c.args.total c.fetch_max-mark.result (record c.args.self.now { stage = stage }) c.take.new.self c.take.result) c.behind_bucket-self.ensures c.take.ensures)
+    gives_raised shape known earlier c.args.self.now a c.args.words.now is c.args.mounted c.args.bucket c.args.total c.requires.raises c.take_bucket.new.self c.take_bucket.result c.fetch_max-mark.result
+    (subst (λ (stage : Stage). IsTaken c.args.bucket c.args.total c.fetch_max-mark.result (record c.args.self.now { stage = stage }) c.take_bucket.new.self c.take_bucket.result) c.behind_bucket-self.ensures c.take_bucket.ensures)
     (c.fetch_max-mark.ensures.found ∙ ap (word_at c.args.words.now) c.mark_of.ensures) c.fetch_max-mark.new.words
     (c.fetch_max-mark.ensures.words ∙ ap (λ (n : ℕ). slice_set c.args.words.now n (max (word_at c.args.words.now n) c.args.total)) c.mark_of.ensures)

@@ -1,14 +1,16 @@
 -- What is written where two images are merged, and why nothing is.
-use Rattle.std.specs.Prelude.{◌≡◌, ◌≢◌, ◌⊎◌, ℕ, List, ◌++◌, Ok, ⊤}
-use Rattle.std.specs.List.{Contains}
+use Rattle.std.specs.Prelude.{◌≡◌, ◌⊎◌, false, ℕ, ◌<◌, List, [], ◌∷◌, ◌++◌, sum_by, Some, Ok, ⊤}
 use Rattle.std.specs.declared.alloc.Global.{Global}
 use Rattle.std.specs.declared.vec.Vec.{Vec}
 use Rattle.segment_image.specs.Head.{header_of}
 use Rattle.segment_image.specs.declared.head.SegmentHead.{SegmentHead}
-use Rattle.bucket_ranges.specs.Reading.{Histogram, Reading, IsReading}
+use Rattle.bucket_ranges.specs.Reading.{Histogram, Reading, IsReading, is_name}
+use Rattle.bucket_ranges.specs.Spec.{spec_fault}
+use Rattle.segment_calls.specs.Asked.{IsTooLarge}
 use Rattle.segment_calls.specs.declared.refusal.Refusal.{Refusal}
 use Rattle.segment_calls.specs.declared.refusal.Refusal.TheVariants as refusal
 use Rattle.segment_merge.specs.Image.{IsMergedImage}
+use Rattle.segment_merge.specs.Merge.{cost_left}
 use Rattle.persist_report_core.specs.Report.{AreWordsOf, IsCausedBy}
 use Rattle.persist_report_core.specs.declared.fault.CliFault.{CliFault}
 use Rattle.persist_report_core.specs.declared.fault.CliFault.TheVariants.{Merge, NoMemory}
@@ -33,22 +35,45 @@ pub record AreMerged (base dead words : List ℕ) : Type 0 where
 
 -- ---- why nothing is written
 
--- A merge of histograms is refused: there is no memory, or it stops at one of them, and that is not for want of memory.
-abbrev pub IsStopOf : List Histogram → CliFault → Type 0
-IsStopOf hists (Merge name why) = (why ≢ refusal.NoMemory) × ((h : Histogram) × Contains hists h × (h.name ≡ name.items))
-IsStopOf hists NoMemory = ⊤
-IsStopOf hists _ = ⊥
+-- Why a merge stops at a histogram, in a segment with pages of this size, behind others that are merged and with so many units for all of
+-- them: its name or its spec is not lawful; its record or its counts have more words than a page; they cost more units than there are; or the
+-- histogram of the name has another spec, or no block could be claimed.
+abbrev pub MayStop : ℕ → ℕ → List Histogram → Histogram → Refusal → Type 0
+MayStop page units front h refusal.BadName = is_name h.name ≡ false
+MayStop page units front h (refusal.BadSpec fault) = spec_fault h.spec ≡ Some fault
+MayStop page units front h refusal.TooLarge = IsTooLarge page h.name h.spec
+MayStop page units front h refusal.NoUnits = units < sum_by cost_left (front ++ h ∷ [])
+MayStop page units front h refusal.OtherSpec = ⊤
+MayStop page units front h refusal.Corrupt = ⊤
+MayStop page units front h refusal.Full = ⊤
+MayStop page units front h _ = ⊥
+
+-- a merge of histograms stops at the one of this name
+pub record StopsIn (page units : ℕ) (hists : List Histogram) (name : List ℕ) (why : Refusal) : Type 0 where
+  pub front : List Histogram
+  pub last : Histogram
+  pub behind : List Histogram
+  pub split : hists ≡ front ++ last ∷ behind
+  pub named : last.name ≡ name
+  pub cause : MayStop page units front last why
+
+-- A merge of histograms is refused: there is no memory, or it stops at one of them.
+abbrev pub IsStopOf : ℕ → ℕ → List Histogram → CliFault → Type 0
+IsStopOf page units hists (Merge name why) = StopsIn page units hists name.items why
+IsStopOf page units hists NoMemory = ⊤
+IsStopOf page units hists _ = ⊥
 
 -- the fault of a merge that stopped at a histogram of a name
 abbrev pub fault_of_stop : Vec ℕ Global → Refusal → CliFault
 fault_of_stop name refusal.NoMemory = NoMemory
 fault_of_stop name why = Merge name why
 
--- a fault of the merge of two images: one of the first; or of the second, where the first has none; or of the merge of both
+-- a fault of the merge of two images: one of the first; or of the second, where the first has none; or of the merge of both, in a segment with
+-- the pages of the first and all units
 abbrev pub IsMergeFault : List ℕ → List ℕ → CliFault → Type 0
 IsMergeFault base dead fault =
     IsCausedBy base fault
     ⊎ ((head : SegmentHead) × (reading : Reading) × IsImageOf base head reading
     × (IsCausedBy dead fault
     ⊎ ((dead_head : SegmentHead) × (dead_reading : Reading) × IsImageOf dead dead_head dead_reading
-    × IsStopOf (reading.hists ++ dead_reading.hists) fault)))
+    × IsStopOf head.shape.page 4294967295 (reading.hists ++ dead_reading.hists) fault)))

@@ -63,7 +63,7 @@ fn merge_whole(alloc: Global, recorder: &mut Recorder, reading: &Reading) -> Res
     requires { All HasRemainder reading.now.hists.items }
     ensures same { KnowsOn recorder.old recorder.new }
     ensures merged { OnOk result (IsMerged (reading_view reading.now).hists (view_of_recorder recorder.old) (view_of_recorder recorder.new)) }
-    ensures fault { IfErr result (IsStopOf (reading_view reading.now).hists) }
+    ensures fault { IfErr result (IsStopOf (view_of_recorder recorder.old).segment.shape.page (view_of_recorder recorder.old).units.share (reading_view reading.now).hists) }
 {
     let Ok(report) = merge(alloc, recorder, reading) else {
         return Err(CliFault::NoMemory);
@@ -91,7 +91,7 @@ fn merge_inputs(alloc: Global, base: &Input, dead: &Input) -> Result<Image, CliF
     requires base { (bytes : List ℕ) × IsImageOf bytes base.now.head (reading_view base.now.reading) }
     requires dead { (bytes : List ℕ) × IsImageOf bytes dead.now.head (reading_view dead.now.reading) }
     ensures image { IfOk result (IsMergedImage base.now.head ((reading_view base.now.reading).hists ++ (reading_view dead.now.reading).hists)) }
-    ensures fault { IfErr result (IsStopOf ((reading_view base.now.reading).hists ++ (reading_view dead.now.reading).hists)) }
+    ensures fault { IfErr result (IsStopOf base.now.head.shape.page 4294967295 ((reading_view base.now.reading).hists ++ (reading_view dead.now.reading).hists)) }
 {
     let shape = base.head.shape;
     let Ok((segment, mut opener)) = Segment::create(

@@ -14,7 +14,7 @@ use Rattle.segment_merge.specs.Merge.{IsMerged}
 use Rattle.segment_merge.proofs.Merged.{merged_then}
 use Rattle.segment_merge.proofs.MergedImage.{closing, merged_image}
 use Rattle.segment_merge.proofs.Readings.{read_remains}
-use Rattle.persist_commands.proofs.MergeFaults.{stop_first, stop_second}
+use Rattle.persist_commands.proofs.MergeFaults.{stop_in_first, stop_in_second}
 use Rattle.persist_commands.proofs.merging.merge_inputs.Goals as goal
 
 pub merge_whole-requires : goal.merge_whole-requires
@@ -26,15 +26,30 @@ merge_whole-requires-2 c = let image = c.requires.dead.1 in read_remains image.w
 pub returns-in_err-merge_whole-clause-fault : goal.returns-in_err-merge_whole-clause-fault
 returns-in_err-merge_whole-clause-fault c =
     let p = err_from_is_err_and c.from_residual.result c.from_residual.ensures.1 in
+    let base : List Histogram = map histogram_view c.args.base.now.reading.hists.items in
+    let dead : List Histogram = map histogram_view c.args.dead.now.reading.hists.items in
+    let setting : Setting = record { shape = record { size = c.size.result; page = c.page.result }; version = 2; id = c.args.base.now.head.id; cursors = 0 } in
+    let new : IsNew setting c.in-Ok.segment c.in-Ok.opener = search rules in
+    let opener : Actor = view_of_opener c.in-Ok.opener in
+    let recorder : Actor = view_of_recorder c.in-Ok-recorder.recorder in
+    let theirs : recorder ≡ newcomer (offering opener 4294967295) = (all_given setting opener new.view _ _ c.in-Ok-recorder.ensures.theirs).1 in
     rw (p.1, p.2)
-    (stop_first (map histogram_view c.args.base.now.reading.hists.items) (map histogram_view c.args.dead.now.reading.hists.items) c.in_err-merge_whole.field-0.0
+    (stop_in_first setting opener recorder c.args.base.now.head.shape.page new.view theirs c.page.ensures.value base dead c.in_err-merge_whole.field-0.0
     c.in_err-merge_whole.ensures.fault)
 
 pub returns-in_err-merge_whole-2-clause-fault : goal.returns-in_err-merge_whole-2-clause-fault
 returns-in_err-merge_whole-2-clause-fault c =
     let p = err_from_is_err_and c.from_residual-in_err-merge_whole-2.result c.from_residual-in_err-merge_whole-2.ensures.1 in
+    let base : List Histogram = map histogram_view c.args.base.now.reading.hists.items in
+    let dead : List Histogram = map histogram_view c.args.dead.now.reading.hists.items in
+    let setting : Setting = record { shape = record { size = c.size.result; page = c.page.result }; version = 2; id = c.args.base.now.head.id; cursors = 0 } in
+    let new : IsNew setting c.in-Ok.segment c.in-Ok.opener = search rules in
+    let opener : Actor = view_of_opener c.in-Ok.opener in
+    let recorder : Actor = view_of_recorder c.in-Ok-recorder.recorder in
+    let theirs : recorder ≡ newcomer (offering opener 4294967295) = (all_given setting opener new.view _ _ c.in-Ok-recorder.ensures.theirs).1 in
     rw (p.1, p.2)
-    (stop_second (map histogram_view c.args.base.now.reading.hists.items) (map histogram_view c.args.dead.now.reading.hists.items) c.in_err-merge_whole-2.field-0.0
+    (stop_in_second setting opener recorder c.args.base.now.head.shape.page new.view theirs c.page.ensures.value base dead
+    c.in_err-merge_whole-2.field-0.0 (view_of_recorder c.merge_whole.new.recorder) c.in_ok-merge_whole.ensures.merged
     c.in_err-merge_whole-2.ensures.fault)
 
 pub returns-clause-image : goal.returns-clause-image

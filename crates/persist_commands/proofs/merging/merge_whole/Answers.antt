@@ -17,4 +17,4 @@ returns-clause-fault c =
     let new : Actor = view_of_recorder c.merge.new.recorder in
     let stopped : IsStopped hists c.in-Ok.report c.in-Some.stop old new = subst (λ (o : Option MergeStop). MatchOption o (IsWhole hists c.in-Ok.report old new)
     (λ stop. IsStopped hists c.in-Ok.report stop old new)) c.in-Some.is c.in-Ok.ensures.answer in
-    subst (IsStopOf hists) (sym c.fault_of.ensures) (stop_among hists c.in-Ok.report c.in-Some.stop old new stopped)
+    subst (IsStopOf old.segment.shape.page old.units.share hists) (sym c.fault_of.ensures) (stop_among hists c.in-Ok.report c.in-Some.stop old new stopped)

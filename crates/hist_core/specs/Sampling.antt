@@ -22,7 +22,7 @@ use Rattle.hist_core.specs.declared.sampling.SamplingStep.TheVariants.{More, Fou
 use Rattle.hist_core.specs.declared.sampling.Stage.{Stage}
 use Rattle.hist_core.specs.declared.sampling.Stage.TheVariants.{Walking, LoadingType, LoadingHistogram, LoadingValue, Making}
 use Rattle.hist_core.specs.Goes.{Beside, Goes, IsFree}
-use Rattle.hist_core.specs.Looker.{IsSample}
+use Rattle.hist_core.specs.Walk.{IsSample}
 use Rattle.hist_core.specs.Making.{IsCause, IsMaking, Wanted}
 
 -- ---- what it makes where there is none

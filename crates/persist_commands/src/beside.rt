@@ -45,6 +45,10 @@ pub(crate) enum NotRun {
 }
 
 impl From<AllocError> for NotRun {
+    ghost use Rattle.persist_commands.specs.declared.beside.NotRun.TheVariants.{NoMemory};
+
+    ghost from_gives = { λ _ result. result ≡ NoMemory };
+
     fn from(_: AllocError) -> NotRun {
         NotRun::NoMemory
     }

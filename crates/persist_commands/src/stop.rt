@@ -21,6 +21,11 @@ pub(crate) enum Stop {
 }
 
 impl From<AllocError> for Stop {
+    ghost use Rattle.std.specs.Prelude.{◌≡◌};
+    ghost use Rattle.persist_commands.specs.declared.stop.Stop.TheVariants.{NoMemory};
+
+    ghost from_gives = { λ _ result. result ≡ NoMemory };
+
     fn from(_: AllocError) -> Stop {
         Stop::NoMemory
     }

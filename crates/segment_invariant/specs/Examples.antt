@@ -1,5 +1,5 @@
 -- Worked examples: what the words of small segments count, a consistent state, and small ones that are not, one for each part.
-use Rattle.std.specs.Prelude.{◌≡◌, ℕ, ◌+◌, ◌^◌, pos, negsuc, List, [], ◌∷◌, map, replicate, slice_set}
+use Rattle.std.specs.Prelude.{◌≡◌, ℕ, ◌+◌, ◌^◌, pos, negsuc, List, [], ◌∷◌, map, replicate, slice_set, true}
 use Rattle.segment_image.specs.Image.{blank_words}
 use Rattle.segment_image.specs.Blocks.{field_at}
 use Rattle.bucket_ranges.specs.Reading.{sum_of, sum_mark_of, total_of, mark_of}
@@ -128,9 +128,11 @@ SumsBreak = ¬ (SumsAreAmounts opening.words (packed_segment 4294967297 0 0 0 1)
 abbrev pub TransitBreaks : Type 0
 TransitBreaks = ¬ (TransitIsLocal 1 (mounted_segment (2 ^ 63 + 65535) 0 2 0 2 (replicate 6 0)) (mover ∷ []))
 
--- the corrupt flag is set, and nobody has set it
+-- the corrupt flag is set, and nobody has set it; or somebody has seen it, and it is not set
 abbrev pub FlagsBreak : Type 0
-FlagsBreak = ¬ (FlagsAreSet opening.words (slice_set (packed_segment 0 0 0 0 0) 6 1) (maker [] ∷ []))
+FlagsBreak =
+    (¬ (FlagsAreSet opening.words (slice_set (packed_segment 0 0 0 0 0) 6 1) (maker [] ∷ [])))
+    × (¬ (FlagsAreSet opening.words (packed_segment 0 0 0 0 0) (record (maker []) { seen = record (maker []).seen { corrupt = true } } ∷ [])))
 
 -- a unit was spent and is still in the share
 abbrev pub saver : Actor

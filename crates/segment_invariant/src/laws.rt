@@ -100,7 +100,7 @@ pub fn transit_breaks()
     ensures { TransitBreaks }
 {}
 
-/// Flags are not set rightly where nobody has set the corrupt flag.
+/// Flags are not set rightly where nobody has set the corrupt flag, nor where somebody has seen it and it is not set.
 pub fn flags_break()
     ensures { FlagsBreak }
 {}
@@ -225,7 +225,7 @@ pub fn announcements_keep()
     ensures { AnnouncementsKeep }
 {}
 
-/// The flags of a kept state are set exactly where an actor has set them.
+/// The flags of a kept state are set exactly where an actor has set them, and so the corrupt one where an actor has seen it.
 pub fn kept_flags_are_set()
     ensures { KeptFlagsAreSet }
 {}

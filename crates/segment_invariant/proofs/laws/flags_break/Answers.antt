@@ -8,4 +8,7 @@ nobody zero below e = true≢false (sym e)
 nobody (suc k) below e = absurd (omega (arith, below))
 
 pub returns : goal.returns
-returns c flags = ⊎_elim (λ e. absurd (omega (arith, e))) (λ set. nobody set.0 set.1 set.2) (flags.corrupt.0 refl)
+returns c = (
+  λ flags. ⊎_elim (λ e. absurd (omega (arith, e))) (λ set. nobody set.0 set.1 set.2) (flags.corrupt.0 refl),
+  λ flags. let is = flags.noticed 0 _ refl (λ spent. cc spent) refl in absurd (omega (arith, is)),
+)

@@ -45,6 +45,7 @@ has_entry shape known amid add a (stage.Purging at counts) stands = (false, fals
 has_entry shape known amid add a (stage.LoadingAgain counts) stands = (false, false, stands.1)
 has_entry shape known amid add a (stage.Disabling counts old) stands = (false, false, stands.1)
 has_entry shape known amid add a (stage.Moving counts bucket units) stands = (false, false, stands.1)
+has_entry shape known amid add a (stage.Sampling sampling) stands = (false, false, stands.0)
 has_entry shape known amid add a (stage.Counting at) stands = (false, false, stands.0)
 has_entry shape known amid add a stage.Summing stands = (true, false, stands.1)
 has_entry shape known amid add a stage.Noting stands = (true, not (int_eq add.amount (pos 0)), stands.1)

@@ -8,4 +8,5 @@ pub mod Moves
 pub mod Packs
 pub mod Redundants
 pub mod Refusals
+pub mod Samples
 pub mod Sums

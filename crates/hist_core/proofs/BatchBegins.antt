@@ -34,11 +34,16 @@ use Rattle.hist_core.specs.declared.hist.Known.{Known}
 use Rattle.hist_core.specs.declared.runner.Running.TheVariants.{Batch}
 use Rattle.hist_core.specs.declared.runner.Runner.{Runner}
 use Rattle.hist_core.specs.Add.{IsStarted, StandsAtStage, counted_entry, ended_entry}
-use Rattle.hist_core.specs.Batch.{IsBatch, IsItem, CountsItem, SumsUp, amid_of, counted_entries, sample_of, sum_entries, units_among}
+use Rattle.hist_core.specs.Batch.{IsBatch, IsItem, CountsItem, SumsUp, amid_of, counted_entries, sample_of, sum_entries, units_among, Waits}
 use Rattle.hist_core.specs.Board.{AreSome}
 use Rattle.hist_core.specs.Runner.{known_of, pending_by, IsKnown, IsQuiet, IsTelling, StandsIn, IsRun, BeginsBatch}
 use Rattle.hist_core.proofs.Batches.Entries.{one_sum}
-use Rattle.hist_core.proofs.Opening.{before_it, counts_so, stands}
+use Rattle.hist_core.proofs.Adds.Samples.{stands_first as begins_first}
+use Rattle.hist_core.proofs.Free.{free_turns}
+use Rattle.hist_core.proofs.Quiet.{met_split}
+use Rattle.hist_core.specs.Goes.{IsFree}
+use Rattle.list_core.specs.Chain.{is_reference}
+use Rattle.hist_core.proofs.Opening.{before_it, counts_so, known_inside, stands}
 use Rattle.hist_core.proofs.Zips.{zip_all}
 
 -- ---- its entries are within its cost
@@ -158,9 +163,9 @@ costs_none items sum none least = by (int_eq sum (pos 0)) refl
 
 module _ (shape : Dimensions) (version : ℕ) (known : Known) (items : List (ℤ × ℕ)) (sum : ℤ) (cost : ℕ) (old new : Runner)
     (starts : BeginsBatch shape version known items sum cost old new) (i : ℕ) (at : get_elem? old.known.items i ≡ some known) (are_some : AreSome items)
-    (cost_is : cost ≡ batch_cost items sum) (some_units : 0 < cost) (bucketed : has_buckets known.spec ≡ true) (rests : old.running ≡ None)
+    (cost_is : cost ≡ batch_cost items sum) (some_units : 0 < cost) (rests : old.running ≡ None)
     (a : Actor) (run : IsRun shape version old a) (lawful : IsShape shape) (versions : (version ≡ 1) ⊎ (version ≡ 2))
-    (alone_there : known_at a.answers.names known.reference ≡ Some (known_of known)) where
+    (alone_there : known_at a.answers.names known.reference ≡ Some (known_of known)) (reach : is_reference shape.size known.reference ≡ true) where
   abbrev call : BatchCall
   call = starts.call
 
@@ -173,14 +178,14 @@ module _ (shape : Dimensions) (version : ℕ) (known : Known) (items : List (ℤ
   abbrev b : Actor
   b = noted (getter a cost) (begins machine.name cost told)
 
-  free : (is_bound a.hand.place ≡ false) × IsQuiet (pending_by old) a
+  free : IsFree a × IsQuiet (pending_by old) a
   free = stands shape version old new told (Batch call) starts.begins rests a run
 
   its_known : IsKnown shape known
   its_known = all_at (IsKnown shape) old.known.items i known run.lawful at
 
   inside : Contains a.answers.names machine
-  inside = subst (λ (l : List MachineKnown). Contains l machine) run.names (contains_map known_of old.known.items known (contains_at old.known.items i known at))
+  inside = known_inside old.known.items a.answers.names known run.names i at
 
   sum_same : call.sum ≡ sum
   sum_same = ap (λ (x : BatchCall). x.sum) starts.fresh
@@ -195,12 +200,11 @@ module _ (shape : Dimensions) (version : ℕ) (known : Known) (items : List (ℤ
   all_one = zip_all (Starts shape version known) (λ (item : ℤ × ℕ). 1 ≤ item.1) IsOne (λ item add started some. record {
     counting = counts_so shape version known item.0 item.1 (pos 0) add started its_known versions (omega (arith, some));
     versioned = ap (λ s. s.version) run.segment ∙ sym started.versioned;
-    bucketed = bucketed;
     amount = started.amounts;
   }) items call.items.items starts.started are_some
 
-  all_wait : All (λ (add : Add). add.stage ≡ LoadingSingle) call.items.items
-  all_wait = zip_all (Starts shape version known) (λ (item : ℤ × ℕ). 1 ≤ item.1) (λ (add : Add). add.stage ≡ LoadingSingle) (λ item add started some. started.stage) items call.items.items
+  all_wait : All (Waits shape machine) call.items.items
+  all_wait = zip_all (Starts shape version known) (λ (item : ℤ × ℕ). 1 ≤ item.1) (Waits shape machine) (λ item add started some. started.opens) items call.items.items
       starts.started are_some
 
   stands_first : CountsItem shape machine call b ⊎ SumsUp machine call b
@@ -209,7 +213,7 @@ module _ (shape : Dimensions) (version : ℕ) (known : Known) (items : List (ℤ
       by : (adds : List Add) → call.items.items ≡ adds → CountsItem shape machine call b ⊎ SumsUp machine call b
       by [] are = inr (record {
         added = ap (λ (x : BatchCall). x.added) starts.fresh ∙ ap length (sym are);
-        turns = free.0;
+        turns = free_turns a.hand.place free.0;
         some = some_sum;
         runs = ap (map fresh) told_are
             ∙ ((λ j. map fresh (map (counted_entry machine) (are j) ++ one_sum known.name.items call.sum some_sum j))
@@ -228,7 +232,7 @@ module _ (shape : Dimensions) (version : ℕ) (known : Known) (items : List (ℤ
         are = are;
         added = ap (λ (y : BatchCall). y.added) starts.fresh;
         left = (let same : call.left ≡ call.cost = ap (λ (y : BatchCall). y.left) starts.fresh ∙ sym (ap (λ (y : BatchCall). y.cost) starts.fresh) in omega (arith, same));
-        waits = All-tail (λ (add : Add). add.stage ≡ LoadingSingle) x rest (subst (All (λ (add : Add). add.stage ≡ LoadingSingle)) are all_wait);
+        waits = All-tail (Waits shape machine) x rest (subst (All (Waits shape machine)) are all_wait);
         stands = record {
           counting = its.counting;
           segment = ap (λ s. s.shape) run.segment;
@@ -239,9 +243,9 @@ module _ (shape : Dimensions) (version : ℕ) (known : Known) (items : List (ℤ
           rests = free.1.takes;
           held = ap (λ (n : ℕ). record { name = machine.name; units = n } ∷ []) (sym (ap (λ (y : BatchCall). y.cost) starts.fresh));
           over = All-nil (λ c. has_ended c ≡ true);
-          stands = subst (StandsAtStage shape machine (amid_of machine call [] rest) x b)
-              (sym (All-head (λ (add : Add). add.stage ≡ LoadingSingle) x rest (subst (All (λ (add : Add). add.stage ≡ LoadingSingle)) are all_wait)))
-              (bucketed, ap (map fresh) told_are ∙ ap (λ (l : List Add). map fresh (map (counted_entry machine) l ++ sum_entries known.name.items call.sum)) are, free.0);
+          stands = begins_first shape machine (amid_of machine call [] rest) x b x.stage (All-head (Waits shape machine) x rest (subst (All (Waits shape machine)) are all_wait))
+              (ap (λ s. s.shape) run.segment) lawful inside reach (met_split a.seen.chain known.reference (run.met machine inside))
+              (ap (map fresh) told_are ∙ ap (λ (l : List Add). map fresh (map (counted_entry machine) l ++ sum_entries known.name.items call.sum)) are) free.0;
         };
       })
         where
@@ -256,6 +260,8 @@ module _ (shape : Dimensions) (version : ℕ) (known : Known) (items : List (ℤ
     lawful_shape = lawful;
     knows = inside;
     alone = alone_there;
+    reach = reach;
+    met = run.met machine inside;
     rests = free.1.takes;
     held = ap (λ (n : ℕ). record { name = machine.name; units = n } ∷ []) (sym (ap (λ (x : BatchCall). x.cost) starts.fresh));
     items = all_one;

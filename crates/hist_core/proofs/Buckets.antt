@@ -6,7 +6,7 @@ use Rattle.std.proofs.lemmas.Int.{to_z-of_z}
 use Rattle.std.proofs.lemmas.List.{get_or_past}
 use Rattle.std.specs.Prelude.{slice_index}
 use Rattle.bucket_ranges.specs.declared.spec.Spec.{Spec}
-use Rattle.bucket_ranges.specs.declared.spec.Spec.TheVariants.{Sparse}
+use Rattle.bucket_ranges.specs.declared.spec.Spec.TheVariants.{Linear, Boolean, Custom, Sparse}
 use Rattle.bucket_ranges.specs.Ranges.{boundaries_of, clamped, AreBoundaries, IsBucketOf, IsSplit}
 use Rattle.bucket_ranges.specs.Spec.{buckets_of, spec_fault}
 use Rattle.bucket_ranges.proofs.Ascent.{boundaries_of-split}
@@ -67,3 +67,28 @@ module _ (spec : Spec) (lawful : spec_fault spec ≡ None) (bucketed : has_bucke
     (let within = is.within in let count = split.count in omega (arith, within, count)),
     sym (keys_are_least (boundaries_of spec) value bucket are is),
   )
+
+-- ranges without a bucket are those of a sparse histogram
+pub sparse_of : (spec : Spec) → spec_fault spec ≡ None → length (boundaries_of spec) - 1 ≡ 0 → spec ≡ Sparse
+sparse_of (Linear low high n) lawful none = absurd (let more = are_some (Linear low high n) lawful refl in omega (arith, more, none))
+sparse_of Boolean lawful none = absurd (let more = are_some Boolean lawful refl in omega (arith, more, none))
+sparse_of (Custom values) lawful none = absurd (let more = are_some (Custom values) lawful refl in omega (arith, more, none))
+sparse_of Sparse lawful none = refl
+
+pub bucketed_of : (spec : Spec) → length (boundaries_of spec) - 1 ≢ 0 → has_buckets spec ≡ true
+bucketed_of (Linear low high n) _ = refl
+bucketed_of Boolean _ = refl
+bucketed_of (Custom values) _ = refl
+bucketed_of Sparse more = absurd (more refl)
+
+-- the ranges of a lawful spec are boundaries
+pub are_always : (spec : Spec) → spec_fault spec ≡ None → AreBoundaries (boundaries_of spec)
+are_always (Linear low high n) lawful = are (Linear low high n) lawful refl
+are_always Boolean lawful = are Boolean lawful refl
+are_always (Custom values) lawful = are (Custom values) lawful refl
+are_always Sparse lawful = record {
+  few = omega arith;
+  small = λ i. omega arith;
+  ascending = λ i inside. absurd (omega (arith, inside));
+  ends = λ least. absurd (omega (arith, least));
+}

@@ -1,7 +1,7 @@
 -- A call of an actor that counts begins: what it counts, and that it may.
 use Rattle.std.proofs.Common.{◌≡◌, ◌≢◌, ◌≤◌, ◌<◌, ◌+◌, ◌*◌, ℕ, zero, suc, ℤ, pos, ◌+ℤ◌, Bool, true, false, not, ◌==◌, ◌⊎◌, List, [], ◌∷◌, ◌++◌, map, length, take, drop, set, fold, Contains, inl, refl, sym, ap, subst, ◌∙◌, arith, length-append}
 use Rattle.std.specs.Prelude.{Option, Some, None, IfSome, IfNone, Result, Ok, Err, OnErr, unsigned_abs, if◌then◌else◌, vec_len, vec_capacity}
-use Rattle.std.proofs.lemmas.List.Elements.{All-nil}
+use Rattle.std.proofs.lemmas.List.Elements.{All-nil, Contains-append_left}
 use Rattle.std.specs.Str.{bytes_eq}
 use Rattle.std.specs.Ordering.{int_eq}
 use Rattle.std.proofs.Math.IntN.{+ℤ_idl}
@@ -23,12 +23,12 @@ use Rattle.segment_machine.specs.Entry.{AreWithin, has_ended, key_of}
 use Rattle.segment_machine.specs.Note.{noted, begins}
 use Rattle.segment_machine.specs.Seats.{getter}
 use Rattle.segment_machine.specs.State.{State}
-use Rattle.segment_invariant.specs.Body.{Anatomy}
+use Rattle.segment_invariant.specs.Body.{Anatomy, order_of}
 use Rattle.segment_invariant.specs.Invariant.{Invariant}
 use Rattle.segment_invariant.specs.Seen.{IsFirst, Knows}
 use Rattle.segment_invariant.proofs.Consistency.Books.{one_name}
 use Rattle.segment_invariant.proofs.Consistency.Totals.{find_known}
-use Rattle.segment_invariant.proofs.Lists.Elements.{all_at, all_from, at_from, contains_at, each_of_one, from_map}
+use Rattle.segment_invariant.proofs.Lists.Elements.{all_at, all_from, at_from, contains_at, each_of_one, from_map, index_at}
 use Rattle.segment_invariant.proofs.Lists.Maps.{contains_map}
 use Rattle.hist_core.specs.declared.add.Add.{Add as AddCall}
 use Rattle.hist_core.specs.declared.hist.Known.{Known}
@@ -46,7 +46,11 @@ use Rattle.segment_invariant.specs.Body.{blank}
 use Rattle.hist_core.specs.Add.{alone, counted_entry, IsAdd, IsCounting, IsStarted, StandsAtStage}
 use Rattle.hist_core.specs.Runner.{entry_of, known_of, pending_by, IsKnown, NoneHasName, HaveOwnNames, IsKnownAt, IsQuiet, HasDraft, HasRoom, StandsIn, IsRun, IsTelling, BeginsToCount, BeginsAdd}
 use Rattle.hist_core.proofs.Free.{free_turns}
-use Rattle.hist_core.proofs.Quiet.{not_spent, all_ended}
+use Rattle.hist_core.proofs.Adds.Samples.{stands_first}
+use Rattle.hist_core.specs.Goes.{IsFree}
+use Rattle.segment_invariant.proofs.Walking.Walks.{stop_reference}
+use Rattle.list_core.specs.Chain.{is_reference}
+use Rattle.hist_core.proofs.Quiet.{not_spent, all_ended, met_split}
 
 -- ---- what an actor knows
 
@@ -61,13 +65,19 @@ own_one (first ∷ rest) own (suc i) zero x y here there same =
     absurd (own.0 i x here (same ∙ ap (λ (k : Known). k.name.items) (sym (some-injective first y there))))
 own_one (first ∷ rest) own (suc i) (suc j) x y here there same = own_one rest own.1 i j x y here there same
 
+-- what it knows is among what its actor knows
+pub known_inside : (list : List Known) (names : List MachineKnown) (known : Known) → map known_of list ≡ names → (i : ℕ) → get_elem? list i ≡ some known
+    → Contains names (known_of known)
+known_inside list names known same i at =
+    subst (λ (l : List MachineKnown). Contains l (known_of known)) same (contains_map known_of list known (contains_at list i known at))
+
 -- in a kept state no two histograms that an actor knows have one reference
 module _ (shape : Dimensions) (opened : Anatomy) (state : State) (kept : Invariant shape opened state) (id : ℕ) (a : Actor)
     (mine : get_elem? state.actors id ≡ some a) (lives : a.hand.place ≢ Spent) (list : List Known) (own : HaveOwnNames list)
     (names : map known_of list ≡ a.answers.names) where
   pub alone_there : (i : ℕ) (known : Known) → get_elem? list i ≡ some known → known_at a.answers.names known.reference ≡ Some (known_of known)
   alone_there i known at =
-      let inside = subst (λ (l : List MachineKnown). Contains l (known_of known)) names (contains_map known_of list known (contains_at list i known at)) in
+      let inside = known_inside list a.answers.names known names i at in
       let there = at_from a.answers.names (known_of known) inside in
       let (found, is, among, refers) = find_known a.answers.names known.reference there.0 (known_of known) there.1 refl in
       let knows : (k : MachineKnown) → Contains a.answers.names k → Knows kept.anatomy k = λ k inside.
@@ -80,13 +90,22 @@ module _ (shape : Dimensions) (opened : Anatomy) (state : State) (kept : Invaria
       let (k, at_k, k_is) = from_map known_of list j found (ap (λ (l : List MachineKnown). get_elem? l j) names ∙ at_j) in
       is ∙ ap Some (sym k_is ∙ ap known_of (own_one list own j i k known at_k at (ap (λ (m : MachineKnown). m.name) k_is ∙ same)))
 
+-- a record that it has met is one that a list can have
+pub reference_there : (shape : Dimensions) (opened : Anatomy) (state : State) (kept : Invariant shape opened state) (id : ℕ) (a : Actor)
+    → get_elem? state.actors id ≡ some a → a.hand.place ≢ Spent → (at : ℕ) → Contains a.seen.chain at → is_reference shape.size at ≡ true
+reference_there shape opened state kept id a mine lives at met =
+    let (rest, walked) = (kept.each id a mine lives).sees.walked in
+    let order : List ℕ = order_of kept.anatomy in
+    let (k, there) = at_from order at (subst (λ (l : List ℕ). Contains l at) (sym walked) (Contains-append_left a.seen.chain rest at met)) in
+    stop_reference shape opened state kept at (suc k, place_below order k at there, index_at order k at 0 there)
+
 -- ---- it begins
 
 -- a call of an actor that rests, which counts entries: they are pending, and it stands for the same actor with the units of it
 module _ (shape : Dimensions) (version : ℕ) (old new : Runner) (entries : List MachineEntry) (running : Running) (starts : BeginsToCount entries running old new)
     (rests : old.running ≡ None) (a : Actor) (run : IsRun shape version old a) where
-  pub stands : (is_bound a.hand.place ≡ false) × IsQuiet (pending_by old) a
-  stands = let stood = subst (λ running. StandsIn shape old.known.items (pending_by old) running a) rests run.stands in (free_turns a.hand.place stood.0, stood.1)
+  pub stands : IsFree a × IsQuiet (pending_by old) a
+  stands = subst (λ running. StandsIn shape old.known.items (pending_by old) running a) rests run.stands
 
   none_left : length old.entries.items ≡ old.ended
   none_left = all_ended shape version old a run stands.1.none
@@ -103,7 +122,7 @@ module _ (shape : Dimensions) (version : ℕ) (old new : Runner) (entries : List
       stands = inl (record {
         share = has_units;
         may = (
-          not_spent a.hand.place stands.0,
+          not_spent a.hand.place (free_turns a.hand.place stands.0),
           run.records,
           stands.1.runs,
           stands.1.holds,
@@ -175,13 +194,12 @@ counts_so shape version known value units amount add started its versions some_u
   lawful = its.lawful;
   buckets = started.buckets;
   fits = subst (λ n. BLOCK_HEADER + 2 * n ≤ shape.page) (sym started.buckets) its.fits;
-  bucket = λ _. subst (λ v. IsKeyOfBucket (known_of known) add.bucket (key_of (boundaries_of known.spec) v)) (sym started.counts) started.bucket;
+  bucket = λ has. subst (λ v. IsKeyOfBucket (known_of known) add.bucket (key_of (boundaries_of known.spec) v)) (sym started.counts) (started.bucket has);
 }
 
 module _ (shape : Dimensions) (version : ℕ) (known : Known) (value : ℤ) (units : ℕ) (old new : Runner) (starts : BeginsAdd shape version known value units old new)
-    (i : ℕ) (at : get_elem? old.known.items i ≡ some known) (some_units : 0 < units) (bucketed : has_buckets known.spec ≡ true)
-    (rests : old.running ≡ None) (a : Actor) (run : IsRun shape version old a) (lawful : IsShape shape) (versions : (version ≡ 1) ⊎ (version ≡ 2))
-    (alone_there : known_at a.answers.names known.reference ≡ Some (known_of known)) where
+    (i : ℕ) (at : get_elem? old.known.items i ≡ some known) (some_units : 0 < units) (rests : old.running ≡ None) (a : Actor) (run : IsRun shape version old a) (lawful : IsShape shape) (versions : (version ≡ 1) ⊎ (version ≡ 2))
+    (alone_there : known_at a.answers.names known.reference ≡ Some (known_of known)) (reach : is_reference shape.size known.reference ≡ true) where
   abbrev add : AddCall
   add = starts.add
 
@@ -203,19 +221,19 @@ module _ (shape : Dimensions) (version : ℕ) (known : Known) (value : ℤ) (uni
           rests = free.1.takes;
           held = refl;
           over = All-nil (λ c. has_ended c ≡ true);
-          stands = subst (StandsAtStage shape machine (alone add) add (noted (getter a add.units) (begins machine.name add.units (counted_entry machine add ∷ []))))
-              (sym starts.started.stage) (bucketed, refl, free.0);
+          stands = stands_first shape machine (alone add) add (noted (getter a add.units) (begins machine.name add.units (counted_entry machine add ∷ []))) add.stage
+              starts.started.opens (ap (λ s. s.shape) run.segment) lawful inside reach (met_split a.seen.chain known.reference (run.met machine inside)) refl free.0;
         }),
   )
     where
-      free : (is_bound a.hand.place ≡ false) × IsQuiet (pending_by old) a
+      free : IsFree a × IsQuiet (pending_by old) a
       free = stands shape version old new (counted_entry machine add ∷ []) (Add add) starts.begins rests a run
 
       its_known : IsKnown shape known
       its_known = all_at (IsKnown shape) old.known.items i known run.lawful at
 
       inside : Contains a.answers.names machine
-      inside = subst (λ (l : List MachineKnown). Contains l machine) run.names (contains_map known_of old.known.items known (contains_at old.known.items i known at))
+      inside = known_inside old.known.items a.answers.names known run.names i at
 
 -- ---- on a board
 
@@ -240,7 +258,7 @@ module _ (old new : Board) (actor : ℕ) (r now : Runner) (here : get_elem? old.
     (pooled : new.units + cost ≡ old.units) (runners : new.runners.items ≡ set old.runners.items actor now) where
   pub count_begins : ∥ IsReached old ∥₁ → HasRoom (Some running) (vec_len r.known) (vec_capacity r.known) → HasDraft (Some running) r.taken
       → ((a : Actor) → IsRun old.shape old.version r a → IsShape old.shape → (old.version ≡ 1) ⊎ (old.version ≡ 2)
-      → known_at a.answers.names known.reference ≡ Some (known_of known) → StandsIn old.shape r.known.items starts.pending (Some running) (getter a cost))
+      → known_at a.answers.names known.reference ≡ Some (known_of known) → is_reference old.shape.size known.reference ≡ true → StandsIn old.shape r.known.items starts.pending (Some running) (getter a cost))
       → (state : State) → IsReachedAs old state → BeginsFrom state actor new
   count_begins reached room draft stood state reach =
       let kept = states_are_kept old.shape old.version reach.id 0 state reach.reached in
@@ -249,7 +267,8 @@ module _ (old new : Board) (actor : ℕ) (r now : Runner) (here : get_elem? old.
       let lives = not_spent a.hand.place free in (
         lives,
         begins_with old.shape old.version r now entries running starts rests a run cost (stood a run reach.reached.0 reach.reached.1
-            (alone_there old.shape (blank old.version reach.id old.shape.size) state kept (actor + 1) a there lives r.known.items run.once run.names place known at)) room draft,
+            (alone_there old.shape (blank old.version reach.id old.shape.size) state kept (actor + 1) a there lives r.known.items run.once run.names place known at)
+            (reference_there old.shape (blank old.version reach.id old.shape.size) state kept (actor + 1) a there lives known.reference (run.met (known_of known) (known_inside r.known.items a.answers.names known run.names place at)))) room draft,
       ))
 
   pub count_begun : (name : List ℕ) → known.name.items ≡ name → (all : length r.entries.items ≡ r.ended) → (begun : r.begun ≡ r.ended)

@@ -1,6 +1,7 @@
 -- Of a call that counts nothing: none of its actor's entries is pending, and what it leaves as it was.
-use Rattle.std.proofs.Common.{◌≡◌, ◌≢◌, ◌≤◌, ◌-◌, false, true≢false, ℕ, List, [], ◌++◌, length, take, sym, ap, subst, ◌∙◌, arith}
+use Rattle.std.proofs.Common.{◌≡◌, ◌≢◌, ◌≤◌, ◌-◌, false, true≢false, ℕ, List, [], ◌∷◌, ◌++◌, length, take, sym, ap, subst, ◌∙◌, arith}
 use Rattle.std.specs.List.{Contains}
+use Rattle.segment_invariant.proofs.Lists.Elements.{at_from, split_at}
 use Rattle.std.proofs.lemmas.List.Elements.{Contains-append_left}
 use Rattle.std.proofs.lemmas.List.{length-map, length-drop, length-take-le, append-nil, drop_all}
 use Rattle.segment_image.specs.Shape.{Dimensions}
@@ -36,6 +37,11 @@ pub met_on : (a b : Actor) → b.answers.names ≡ a.answers.names → IsPrefix 
 met_on a b names (rest, grown) met known inside =
     subst (λ (l : List ℕ). Contains l known.reference) (sym grown)
     (Contains-append_left a.seen.chain rest known.reference (met known (subst (λ (l : List MachineKnown). Contains l known) names inside)))
+
+-- a record that was met stands somewhere on the list
+pub met_split : (chain : List ℕ) (at : ℕ) → Contains chain at → (front behind : List ℕ) × (chain ≡ front ++ at ∷ behind)
+met_split chain at met =
+    let (i, there) = at_from chain at met in let (front, behind, is, others) = split_at chain i at there in (front, behind, is)
 
 -- a place that is spent is bound
 pub not_spent : (place : Place) → is_bound place ≡ false → place ≢ Spent

@@ -47,7 +47,7 @@ use Rattle.hist_core.proofs.Boards.{same_there}
 use Rattle.hist_core.proofs.Opening.{alone_there}
 use Rattle.hist_core.proofs.Apart.{asks_not, adds_not, batches_not}
 use Rattle.hist_core.proofs.Free.{free_apart, free_turns}
-use Rattle.hist_core.proofs.Quiet.{begun_there, not_spent, quiet_on, takes_none, takes_not}
+use Rattle.hist_core.proofs.Quiet.{begun_there, met_split, not_spent, quiet_on, takes_none, takes_not}
 
 abbrev looks_by : Looker → Option Running → Looker
 looks_by d (Some (Snapshot looker)) = looker
@@ -181,11 +181,6 @@ no_units boundaries k d below =
     let blank_one : ℕ → ℤ × ℕ = λ i. (pos (slice_index boundaries i), 0) in
     let long = length-map-range_with_len blank_one 0 (length boundaries - 1) in
     ap (λ (total : ℤ × ℕ). total.1) (get_or-map-range_with_len blank_one 0 (length boundaries - 1) k k d (omega (arith, below, long)) (omega arith))
-
--- a record that was met stands somewhere on the list
-pub met_split : (chain : List ℕ) (at : ℕ) → Contains chain at → (front behind : List ℕ) × (chain ≡ front ++ at ∷ behind)
-met_split chain at met =
-    let (i, there) = at_from chain at met in let (front, behind, is, others) = split_at chain i at there in (front, behind, is)
 
 -- who rests begins it, which is no event
 module _ (shape : Dimensions) (version : ℕ) (known : Known) (old new : Runner) (starts : BeginsSnapshot shape version known old new) (i : ℕ)

@@ -8,7 +8,7 @@ use Rattle.hist_core.specs.declared.runner.Running.{Running}
 use Rattle.hist_core.specs.declared.runner.Runner.{Runner}
 use Rattle.hist_core.specs.declared.board.Board.{Board}
 use Rattle.hist_core.specs.Board.{Rests, IsBusy, IsPlaceOf, LacksName}
-use Rattle.hist_core.specs.World.{runs, rests, lacks, lacks_name, named_by, of_actor, CanBegin, IsBucketed}
+use Rattle.hist_core.specs.World.{runs, rests, lacks, lacks_name, named_by, of_actor}
 use Rattle.hist_core.proofs.Asking.{place_below}
 use Rattle.std.specs.declared.alloc.Global.{Global}
 use Rattle.std.specs.declared.vec.Vec.{Vec}
@@ -103,15 +103,6 @@ module _ (board : Board) (i : ℕ) (r : Runner) (at : get_elem? board.runners.it
 
   pub is_busy : is_some r.running ≡ true → IsBusy board i
   is_busy runs = λ runner is. subst (λ (x : Runner). IsSome x.running) (some-injective r runner (sym at ∙ is)) runs
-
--- each call of a name can begin of a histogram with buckets
-pub each_begins : (actor : ℕ) (board : Board) (call : Call) (name : Vec ℕ Global)
-    → ((value : ℤ) × (count : ℕ) × (call ≡ calls.Add name value count))
-    ⊎ ((call ≡ calls.Delta name) ⊎ ((items : Vec (ℤ × ℕ) Global) × (sum : ℤ) × (call ≡ calls.Batch name items sum)))
-    → IsBucketed actor board name.items → CanBegin actor board call
-each_begins actor board call name is bucketed =
-    ⊎_elim (λ (value, count, adds). subst (CanBegin actor board) (sym adds) bucketed)
-    (⊎_elim (λ takes. subst (CanBegin actor board) (sym takes) bucketed) (λ (items, sum, counts). subst (CanBegin actor board) (sym counts) bucketed)) is
 
 -- an actor that is not there shows nothing
 pub shows_nothing : {X : Type 0} (shown : Runner → List X) (board : Board) (i : ℕ) → length board.runners.items ≤ i

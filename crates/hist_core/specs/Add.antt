@@ -5,6 +5,8 @@ use Rattle.std.specs.Ordering.{int_eq}
 use Rattle.bucket_ranges.specs.Ranges.{boundaries_of}
 use Rattle.bucket_ranges.specs.Single.{single_of}
 use Rattle.bucket_ranges.specs.Spec.{buckets_of, spec_fault}
+use Rattle.bucket_ranges.specs.Reading.{is_i32}
+use Rattle.bucket_ranges.specs.declared.spec.Spec.TheVariants as spec
 use Rattle.segment_image.specs.declared.layout.TheConstants.{BLOCK_HEADER, BLOCK_LEAST, HEADER_WORDS, HISTOGRAM_NAME, HISTOGRAM_SINGLE, SAMPLE_COUNT, TYPE_COUNTS}
 use Rattle.segment_image.specs.Shape.{Dimensions}
 use Rattle.alloc_core.specs.Layout.{IsShape}
@@ -31,11 +33,14 @@ use Rattle.hist_core.specs.declared.add.Add.{Add}
 use Rattle.hist_core.specs.declared.add.AddStep.{AddStep}
 use Rattle.hist_core.specs.declared.add.AddStep.TheVariants.{More, Done, Refused}
 use Rattle.hist_core.specs.declared.add.Stage.{Stage}
-use Rattle.hist_core.specs.declared.add.Stage.TheVariants.{LoadingSingle, Packing, LoadingCounts, SeekingCounts, Allocating, Mounting, Purging, LoadingAgain, Disabling, Moving, Counting, Summing, Noting}
+use Rattle.hist_core.specs.declared.add.Stage.TheVariants.{LoadingSingle, Packing, LoadingCounts, SeekingCounts, Allocating, Mounting, Purging, LoadingAgain, Disabling, Moving, Sampling, Counting, Summing, Noting}
 use Rattle.segment_calls.specs.declared.refusal.Refusal.{Refusal}
 use Rattle.segment_calls.specs.declared.refusal.Refusal.TheVariants as why
 use Rattle.hist_core.specs.Making.{IsCause}
 use Rattle.hist_core.specs.Goes.{Goes, IsFree}
+use Rattle.hist_core.specs.Sampling.{IsSampling, IsStarted as BeginsToSearch}
+use Rattle.hist_core.specs.declared.sampling.SamplingStep.{SamplingStep}
+use Rattle.hist_core.specs.declared.sampling.SamplingStep.TheVariants as found
 
 -- ---- what it counts
 
@@ -72,17 +77,25 @@ pub record IsCounting (shape : Dimensions) (known : Known) (add : Add) : Type 0 
   pub fits : BLOCK_HEADER + 2 * add.buckets ≤ shape.page
   pub bucket : has_buckets known.spec ≡ true → IsKeyOfBucket known add.bucket (key_of (boundaries_of known.spec) add.value)
 
--- It begins: it counts so many units of a value in a histogram with buckets, and an amount, and loads the single word.
+-- What it does first: it loads the single word, or, where the histogram is sparse, looks for the sample of the value, which is one of an
+-- `i32`.
+abbrev pub OpensWith : Dimensions → Known → Add → Stage → Type 0
+OpensWith shape known add LoadingSingle = has_buckets known.spec ≡ true
+OpensWith shape known add (Sampling sampling) =
+    (known.spec ≡ spec.Sparse) × (is_i32 add.value ≡ true) × BeginsToSearch shape known.reference add.value sampling
+OpensWith shape known add stage = ⊥
+
+-- It begins: it counts so many units of a value in a known histogram, and an amount.
 pub record IsStarted (shape : Dimensions) (version : ℕ) (known : Known) (value : ℤ) (units : ℕ) (amount : ℤ) (add : Add) : Type 0 where
   pub shaped : add.shape ≡ shape
   pub versioned : add.version ≡ version
   pub reference : add.histogram ≡ known.reference
   pub buckets : add.buckets ≡ buckets_of known.spec
-  pub bucket : IsKeyOfBucket known add.bucket (key_of (boundaries_of known.spec) value)
+  pub bucket : has_buckets known.spec ≡ true → IsKeyOfBucket known add.bucket (key_of (boundaries_of known.spec) value)
   pub counts : add.value ≡ value
   pub holds : add.units ≡ units
   pub amounts : add.amount ≡ amount
-  pub stage : add.stage ≡ LoadingSingle
+  pub opens : OpensWith shape known add add.stage
 
 -- ---- where it stands
 
@@ -150,6 +163,9 @@ StandsBefore shape known add a _ = ⊥
 -- Where its actor stands, and what has happened of its entry.
 abbrev pub StandsAtStage : Dimensions → Known → Amid → Add → Actor → Stage → Type 0
 StandsAtStage shape known amid add a (Counting at) = HasEntry known amid add a false false × IsCountOf known add a at × (at < shape.size)
+StandsAtStage shape known amid add a (Sampling sampling) =
+    HasEntry known amid add a false false × (known.spec ≡ spec.Sparse) × (sampling.histogram ≡ known.reference) × (sampling.value ≡ add.value)
+    × IsSampling shape sampling a
 StandsAtStage shape known amid add a Summing = MayTurn a × HasEntry known amid add a true false × (int_eq add.amount (pos 0) ≡ false)
 StandsAtStage shape known amid add a Noting = MayTurn a × HasEntry known amid add a true (not (int_eq add.amount (pos 0)))
 StandsAtStage shape known amid add a stage =
@@ -231,6 +247,17 @@ IsAllocated old said.More new result = (new ≡ old) × (result ≡ More)
 IsAllocated old (said.Done at) new result = (new ≡ record old { stage = Mounting at }) × (result ≡ More)
 IsAllocated old said.Full new result = (new ≡ old) × (result ≡ Refused why.Full)
 IsAllocated old said.Corrupt new result = (new ≡ old) × (result ≡ Refused why.Corrupt)
+
+-- it looks for the sample of its value
+abbrev pub IsSearching : Stage → Type 0
+IsSearching (Sampling sampling) = ⊤
+IsSearching _ = ⊥
+
+-- what becomes of it by what a step of its search said: it goes on, or counts in the sample, or is refused
+abbrev pub IsSampled : Add → SamplingStep → Add → AddStep → Type 0
+IsSampled old found.More new result = (new ≡ old) × (result ≡ More)
+IsSampled old (found.Found sample) new result = (new ≡ record old { stage = Counting ((sample + SAMPLE_COUNT) % 2 ^ 64) }) × (result ≡ More)
+IsSampled old (found.Refused cause) new result = (new ≡ old) × (result ≡ Refused cause)
 
 -- where the count of its value stands among counts
 abbrev pub count_in : Add → ℕ → ℕ

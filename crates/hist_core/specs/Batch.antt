@@ -5,21 +5,21 @@ use Rattle.std.specs.Ordering.{int_eq}
 use Rattle.segment_image.specs.declared.layout.TheConstants.{HISTOGRAM_NAME}
 use Rattle.segment_image.specs.Shape.{Dimensions}
 use Rattle.alloc_core.specs.Layout.{IsShape}
+use Rattle.list_core.specs.Chain.{is_reference}
 use Rattle.segment_machine.specs.declared.actor.Actor.{Actor}
 use Rattle.segment_machine.specs.declared.actor.Known.{Known}
 use Rattle.segment_machine.specs.declared.entry.Entry.{Entry}
-use Rattle.segment_machine.specs.Actor.{has_buckets, known_at}
+use Rattle.segment_machine.specs.Actor.{known_at}
 use Rattle.segment_machine.specs.Calls.{MayTurn}
 use Rattle.segment_machine.specs.Entry.{fresh, sum_entry, has_ended}
 use Rattle.segment_machine.specs.Note.{is_untouched}
 use Rattle.hist_core.specs.declared.add.Add.{Add}
 use Rattle.hist_core.specs.declared.add.AddStep.{AddStep}
 use Rattle.hist_core.specs.declared.add.AddStep.TheVariants as said
-use Rattle.hist_core.specs.declared.add.Stage.TheVariants.{LoadingSingle}
 use Rattle.hist_core.specs.declared.batch.Batch.{Batch}
 use Rattle.hist_core.specs.declared.batch.BatchStep.{BatchStep}
 use Rattle.hist_core.specs.declared.batch.BatchStep.TheVariants.{More, Done, Refused}
-use Rattle.hist_core.specs.Add.{Amid, IsAdd, IsCounting, Aside, StaysOpen, counted_entry, ended_entry}
+use Rattle.hist_core.specs.Add.{Amid, IsAdd, IsCounting, Aside, StaysOpen, counted_entry, ended_entry, OpensWith}
 use Rattle.hist_core.specs.Making.{IsCause}
 use Rattle.hist_core.specs.Goes.{Goes, IsFree}
 
@@ -49,12 +49,15 @@ pub record IsSameBatch (old new : Batch) : Type 0 where
   pub sum : new.sum ≡ old.sum
   pub cost : new.cost ≡ old.cost
 
--- An item: it counts some units of a value in a known histogram with buckets, and no amount.
+-- An item: it counts some units of a value in a known histogram, and no amount.
 pub record IsItem (shape : Dimensions) (version : ℕ) (known : Known) (item : Add) : Type 0 where
   pub counting : IsCounting shape known item
   pub versioned : version ≡ item.version
-  pub bucketed : has_buckets known.spec ≡ true
   pub amount : item.amount ≡ pos 0
+
+-- an item that has not begun
+abbrev pub Waits : Dimensions → Known → Add → Type 0
+Waits shape known item = OpensWith shape known item item.stage
 
 -- ---- where it stands
 
@@ -74,7 +77,7 @@ pub record CountsItem (shape : Dimensions) (known : Known) (batch : Batch) (a : 
   pub are : batch.items.items ≡ done ++ item ∷ rest
   pub added : batch.added ≡ length done
   pub left : batch.left + units_among done ≡ batch.cost
-  pub waits : All (λ item. item.stage ≡ LoadingSingle) rest
+  pub waits : All (Waits shape known) rest
   pub stands : IsAdd shape known (amid_of known batch done rest) item a
 
 -- all items are counted, and its sum, which is not 0, is added next
@@ -84,8 +87,8 @@ pub record SumsUp (known : Known) (batch : Batch) (a : Actor) : Type 0 where
   pub some : int_eq batch.sum (pos 0) ≡ false
   pub runs : a.entries.running ≡ map (ended_entry known) batch.items.items ++ fresh (sum_entry known.name batch.sum) ∷ []
 
--- Its actor knows the histogram, whose record lies in the segment and which alone has its reference there, takes nothing, and holds the
--- units, of which the items have no more.
+-- Its actor knows the histogram, whose record lies in the segment and which alone has its reference there, and has met it on the list. It
+-- takes nothing, and holds the units, of which the items have no more.
 pub record IsBatch (shape : Dimensions) (known : Known) (batch : Batch) (a : Actor) : Type 0 where
   pub reference : known.reference ≡ batch.histogram
   pub within : batch.histogram + HISTOGRAM_NAME ≤ shape.size
@@ -93,6 +96,8 @@ pub record IsBatch (shape : Dimensions) (known : Known) (batch : Batch) (a : Act
   pub lawful_shape : IsShape shape
   pub knows : Contains a.answers.names known
   pub alone : known_at a.answers.names known.reference ≡ Some known
+  pub reach : is_reference shape.size known.reference ≡ true
+  pub met : Contains a.seen.chain known.reference
   pub rests : a.deltas.taking ≡ false
   pub held : a.units.held ≡ record { name = known.name; units = batch.cost } ∷ []
   pub items : All (IsItem shape a.segment.version known) batch.items.items

@@ -2,6 +2,7 @@ pub mod WorldFault
 pub mod Goes
 pub mod Making
 pub mod Hist
+pub mod Sampling
 pub mod Add
 pub mod Batch
 pub mod Runner
@@ -12,4 +13,3 @@ pub mod Mounted
 pub mod Walk
 pub mod Taker
 pub mod Looker
-pub mod Sampling

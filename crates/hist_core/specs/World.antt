@@ -98,9 +98,9 @@ abbrev pub CanBegin : ℕ → Board → Call → Type 0
 CanBegin actor board (Hist name spec) = ⊤
 CanBegin actor board SetCorrupt = ⊤
 CanBegin actor board (Snapshot name) = ⊤
-CanBegin actor board (Add name value count) = IsBucketed actor board name.items
+CanBegin actor board (Add name value count) = ⊤
 CanBegin actor board (Delta name) = IsBucketed actor board name.items
-CanBegin actor board (Batch name items sum) = IsBucketed actor board name.items
+CanBegin actor board (Batch name items sum) = ⊤
 
 -- a call for whose begin there may be no memory
 abbrev pub TakesMemory : Call → Type 0

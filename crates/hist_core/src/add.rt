@@ -4,6 +4,7 @@ ghost use Rattle.std.specs.Prelude.{◌≡◌, length};
 
 use crate::counting::fetch_add;
 use crate::hist::Known;
+use crate::sampling::{Sampling, SamplingStep};
 use alloc_core::event::{exchange, store};
 use alloc_core::{Alloc, AllocStep};
 use segment_calls::Refusal;
@@ -11,7 +12,7 @@ use segment_calls::packing::{DISABLED_BIT, off_word, packed_with, unpacked};
 use segment_image::Shape;
 use segment_image::layout::{
     BLOCK_HEADER, BLOCK_TYPE, HISTOGRAM_COUNTS, HISTOGRAM_REDUNDANT, HISTOGRAM_SINGLE,
-    HISTOGRAM_SUM, TYPE_COUNTS, TYPE_PURGED, VERSION_MOVING,
+    HISTOGRAM_SUM, SAMPLE_COUNT, TYPE_COUNTS, TYPE_PURGED, VERSION_MOVING,
 };
 
 /// What an `add` does next.
@@ -56,6 +57,10 @@ pub(crate) enum Stage {
         bucket: usize,
         units: u64,
     },
+    /// It looks for the first sample of its value, or makes one. The histogram is sparse.
+    Sampling {
+        sampling: Sampling,
+    },
     /// It adds its units to the count at a word.
     Counting {
         at: u64,
@@ -97,13 +102,13 @@ impl Add {
     ghost use Rattle.std.specs.Prelude.{◌≤◌, ◌+◌, ◌*◌, ◌^◌, ◌<◌, true, None};
     ghost use Rattle.bucket_ranges.specs.Ranges.{boundaries_of};
     ghost use Rattle.bucket_ranges.specs.Spec.{spec_fault};
-    ghost use Rattle.segment_machine.specs.Actor.{has_buckets};
     ghost use Rattle.hist_core.specs.Runner.{known_of};
     ghost use Rattle.alloc_core.specs.Layout.{IsShape};
     ghost use Rattle.hist_core.specs.declared.add.Stage.TheVariants.{LoadingSingle, Packing, LoadingCounts, SeekingCounts, Mounting, Purging, LoadingAgain, Disabling, Moving, Counting, Summing, Noting};
-    ghost use Rattle.hist_core.specs.Add.{IsSomeAdd, AddSteps, IsBehindSingle, BeginsToAllocate, IsAllocating, IsAllocated, IsStarted, behind_count, behind_disabling, count_in};
+    ghost use Rattle.hist_core.specs.Add.{IsSomeAdd, AddSteps, IsBehindSingle, BeginsToAllocate, IsAllocating, IsAllocated, IsSampled, IsSearching, IsStarted, behind_count, behind_disabling, count_in};
 
-    // It begins to count so many units of a value in a known histogram with buckets, and an amount: it loads the single word.
+    // It begins to count so many units of a value in a known histogram, and an amount: it loads the single word, or, where the
+    // histogram is sparse, it looks for the sample of the value.
     pub(crate) fn start(
         shape: Shape,
         version: u64,
@@ -113,10 +118,23 @@ impl Add {
         amount: i64,
     ) -> Add
         requires lawful { spec_fault known.now.spec ≡ None }
-        requires bucketed { has_buckets known.now.spec ≡ true }
         requires ranges { known.now.ranges ≡ boundaries_of known.now.spec }
         ensures { IsStarted shape version (known_of known.now) value units amount result }
     {
+        if known.ranges.len() == 0 {
+            let sampling = Sampling::start(shape, known.reference, value);
+            return Add {
+                shape,
+                version,
+                histogram: known.reference,
+                buckets: 0,
+                bucket: 0,
+                value,
+                units,
+                amount,
+                stage: Stage::Sampling { sampling },
+            };
+        }
         Add {
             shape,
             version,
@@ -362,6 +380,37 @@ impl Add {
         AddStep::More
     }
 
+    // What becomes of it by what a step of its search said: it goes on, or counts in the sample, which lies within the segment.
+    fn sampled(&mut self, said: SamplingStep) -> AddStep
+        ensures { IsSampled self.old said self.new result }
+    {
+        match said {
+            SamplingStep::More => AddStep::More,
+            SamplingStep::Found(sample) => {
+                let at = sample.wrapping_add(SAMPLE_COUNT as u64);
+                self.stage = Stage::Counting { at };
+                AddStep::More
+            }
+            SamplingStep::Refused(refusal) => AddStep::Refused(refusal),
+        }
+    }
+
+    // It goes on with its search for the sample of its value.
+    fn sample(&mut self, words: &mut [u64]) -> AddStep
+        requires samples { IsSearching self.old.stage }
+        requires stands { ∥ IsSomeAdd (length words.old) self.old ∥₁ }
+        ensures steps { AddSteps self.old words.old self.new words.new result }
+        ensures same { self.new ≡ record self.old { stage = self.new.stage } }
+    {
+        match &mut self.stage {
+            Stage::Sampling { sampling } => {
+                let said = sampling.step(words);
+                self.sampled(said)
+            }
+            _ => AddStep::More,
+        }
+    }
+
     // It adds its units to a count.
     fn count(&mut self, words: &mut [u64], at: u64) -> AddStep
         requires counts { self.old.stage ≡ Counting at }
@@ -420,6 +469,7 @@ impl Add {
                 bucket,
                 units,
             } => self.move_units(words, counts, bucket, units),
+            Stage::Sampling { .. } => self.sample(words),
             Stage::Counting { at } => self.count(words, at),
             Stage::Summing => self.sum(words),
             Stage::Noting => self.note(words),

@@ -165,7 +165,6 @@ impl Board {
         requires reached { ∥ IsReached self.old ∥₁ }
         requires near { actor < vec_len self.old.runners }
         requires rests { Rests self.old actor }
-        requires bucketed { (known : Known) → IsKnownBy self.old actor place known → has_buckets known.spec ≡ true }
         requires known { (name : List ℕ) × IsPlaceOf self.old actor name place }
         ensures fault { OnErr result (IsAsBefore self.old self.new) }
         ensures begins { (state : State) → IsReachedAs self.old state → BeginsFrom state actor self.new }
@@ -193,7 +192,6 @@ impl Board {
         requires reached { ∥ IsReached self.old ∥₁ }
         requires near { actor < vec_len self.old.runners }
         requires rests { Rests self.old actor }
-        requires bucketed { (known : Known) → IsKnownBy self.old actor place known → has_buckets known.spec ≡ true }
         requires known { (name : List ℕ) × IsPlaceOf self.old actor name place }
         requires some { (0 < count) × (count ≤ self.old.units) }
         ensures fault { OnErr result (IsAsBefore self.old self.new) }
@@ -219,7 +217,6 @@ impl Board {
         requires reached { ∥ IsReached self.old ∥₁ }
         requires near { actor < vec_len self.old.runners }
         requires rests { Rests self.old actor }
-        requires bucketed { (known : Known) → IsKnownBy self.old actor place known → has_buckets known.spec ≡ true }
         requires known { (name : List ℕ) × IsPlaceOf self.old actor name place }
         ensures fault { OnErr result (IsAsBefore self.old self.new) }
         ensures begins { (state : State) → IsReachedAs self.old state → BeginsFrom state actor self.new }
@@ -252,7 +249,6 @@ impl Board {
         requires reached { ∥ IsReached self.old ∥₁ }
         requires near { actor < vec_len self.old.runners }
         requires rests { Rests self.old actor }
-        requires bucketed { (known : Known) → IsKnownBy self.old actor place known → has_buckets known.spec ≡ true }
         requires known { (name : List ℕ) × IsPlaceOf self.old actor name place }
         requires some { AreSome items.now × (0 < cost) × (cost ≤ self.old.units) × (cost ≡ cost_of_batch items.now sum) }
         ensures fault { OnErr result (IsAsBefore self.old self.new) }

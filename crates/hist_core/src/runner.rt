@@ -153,7 +153,6 @@ impl Runner {
         requires near { i < vec_len self.old.known }
         requires lawful { (known : Known) → get_elem? self.old.known.items i ≡ some known → spec_fault known.spec ≡ None }
         requires ranges { (known : Known) → get_elem? self.old.known.items i ≡ some known → known.ranges ≡ boundaries_of known.spec }
-        requires bucketed { (known : Known) → get_elem? self.old.known.items i ≡ some known → has_buckets known.spec ≡ true }
         ensures begins { IfOk result (λ _. (known : Known) → get_elem? self.old.known.items i ≡ some known → BeginsAdd shape version known value units self.old self.new) }
         ensures fails { OnErr result (IsAsItWas self.old self.new) }
     {
@@ -180,7 +179,6 @@ impl Runner {
         requires near { i < vec_len self.old.known }
         requires lawful { (known : Known) → get_elem? self.old.known.items i ≡ some known → spec_fault known.spec ≡ None }
         requires ranges { (known : Known) → get_elem? self.old.known.items i ≡ some known → known.ranges ≡ boundaries_of known.spec }
-        requires bucketed { (known : Known) → get_elem? self.old.known.items i ≡ some known → has_buckets known.spec ≡ true }
         ensures begins { IfOk result (λ _. (known : Known) → get_elem? self.old.known.items i ≡ some known → BeginsBatch shape version known items.now sum cost self.old self.new) }
         ensures fails { OnErr result (IsAsItWas self.old self.new) }
     {

@@ -64,7 +64,6 @@ pub(crate) fn new_items(
     items: &[(i32, u32)],
 ) -> Result<Vec<Add>, AllocError>
     requires lawful { spec_fault known.now.spec ≡ None }
-    requires bucketed { has_buckets known.now.spec ≡ true }
     requires ranges { known.now.ranges ≡ boundaries_of known.now.spec }
     ensures { IfOk result (λ adds. AllZip (λ item add. IsStarted shape version (known_of known.now) item.0 item.1 (pos 0) add) items.now adds.items) }
 {

@@ -20,7 +20,7 @@ use Rattle.segment_machine.specs.Packing.{load_single, IsSingleOf, PackingEvent,
 use Rattle.hist_core.specs.declared.add.Add.{Add}
 use Rattle.hist_core.specs.declared.add.AddStep.TheVariants.{More}
 use Rattle.hist_core.specs.declared.add.Stage.{Stage}
-use Rattle.hist_core.specs.declared.add.Stage.TheVariants.{LoadingSingle, Packing, LoadingCounts, SeekingCounts, Allocating, Mounting, Purging, LoadingAgain, Disabling, Moving, Counting, Summing, Noting}
+use Rattle.hist_core.specs.declared.add.Stage.TheVariants.{LoadingSingle, Packing, LoadingCounts, SeekingCounts, Allocating, Mounting, Purging, LoadingAgain, Disabling, Moving, Sampling, Counting, Summing, Noting}
 use Rattle.hist_core.specs.Goes.{Goes}
 use Rattle.hist_core.specs.Add.{Amid, IsCounting, Looks, HasSeenSingle, HasEntry, IsBehindSingle, StandsAtStage, IsAdd, AddGives, IsSomeAdd, behind_count}
 use Rattle.hist_core.proofs.Adds.Going.{packs_on}
@@ -93,6 +93,7 @@ module _ (shape : Dimensions) (known : Known) (amid : Amid) (add : Add) (a : Act
       stood (LoadingAgain counts) is learned = absurd is
       stood (Disabling counts old) is learned = absurd is
       stood (Moving counts bucket units) is learned = absurd is
+      stood (Sampling sampling) is learned = absurd is
       stood (Counting at) is learned = absurd is
       stood Summing is learned = absurd is
       stood Noting is learned = absurd is

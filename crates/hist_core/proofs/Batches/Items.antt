@@ -4,7 +4,7 @@ use Rattle.std.specs.Prelude.{◌&&◌, if◌then◌else◌, vec_len, ◌⊎◌}
 use Rattle.std.specs.Ordering.{int_eq}
 use Rattle.std.proofs.lemmas.Bool.{eq-eqb, ne_eqb}
 use Rattle.std.proofs.lemmas.List.{map-append, append-nil, length-map}
-use Rattle.std.proofs.lemmas.List.Elements.{All-cons, All-head, All-tail, All-take, All-drop, All-set, All-contains, All-weaker, Contains-append_right}
+use Rattle.std.proofs.lemmas.List.Elements.{All-cons, All-head, All-tail, All-take, All-drop, All-set, All-contains, All-weaker, Contains-append_left, Contains-append_right}
 use Rattle.std.proofs.lemmas.List.Sums.{sum_by-cons, sum_by-append, sum_by_push}
 use Rattle.segment_image.specs.Shape.{Dimensions}
 use Rattle.segment_invariant.proofs.Lists.Elements.{contains_at}
@@ -20,19 +20,20 @@ use Rattle.hist_core.specs.declared.add.Add.{Add}
 use Rattle.hist_core.specs.declared.add.AddStep.{AddStep}
 use Rattle.hist_core.specs.declared.add.AddStep.TheVariants as said
 use Rattle.hist_core.specs.declared.add.Stage.{Stage}
-use Rattle.hist_core.specs.declared.add.Stage.TheVariants.{LoadingSingle}
 use Rattle.hist_core.specs.declared.batch.Batch.{Batch}
 use Rattle.hist_core.specs.declared.batch.BatchStep.{BatchStep}
 use Rattle.hist_core.specs.declared.batch.BatchStep.TheVariants.{More, Done, Refused}
 use Rattle.segment_calls.specs.declared.refusal.Refusal.{Refusal}
-use Rattle.hist_core.specs.Add.{IsAdd, Aside, StaysOpen, HasEntry, HasEnded, StandsAtStage, AddSteps, AddGives, counted_entry, ended_entry}
+use Rattle.hist_core.specs.Add.{IsAdd, Aside, StaysOpen, HasEntry, HasEnded, AddSteps, AddGives, counted_entry, ended_entry}
 use Rattle.hist_core.specs.Making.{IsCause}
-use Rattle.hist_core.specs.Batch.{IsBatch, IsItem, CountsItem, SumsUp, HaveEnded, BatchGives, IsItemSaid, amid_of, counted_entries, sum_entries, units_among}
+use Rattle.hist_core.specs.Batch.{IsBatch, IsItem, CountsItem, SumsUp, HaveEnded, BatchGives, IsItemSaid, Waits, amid_of, counted_entries, sum_entries, units_among}
 use Rattle.hist_core.specs.Goes.{Goes, IsFree}
 use Rattle.hist_core.proofs.Parts.Allocations.{goes_with}
 use Rattle.hist_core.proofs.Free.{free_turns}
 use Rattle.hist_core.proofs.Adds.Counts.{counts_on}
 use Rattle.hist_core.proofs.Adds.Entries.{counting_of}
+use Rattle.hist_core.proofs.Adds.Samples.{stands_first}
+use Rattle.hist_core.proofs.Quiet.{met_split}
 use Rattle.hist_core.proofs.Batches.Entries.{ended_are, fresh_are, all_over, all_untouched, none_summed, one_sum, no_sum}
 
 -- a front of a list, and what is behind it
@@ -96,9 +97,13 @@ module _ (shape : Dimensions) (known : Known) (batch : Batch) (a : Actor) (is : 
   all_rest = All-tail IsOne c.item c.rest (subst (All IsOne) (behind_is c.done (c.item ∷ c.rest)) (All-drop IsOne (length c.done) (c.done ++ c.item ∷ c.rest) these))
 
   still_one : IsOne item
-  still_one = record { counting = counts_on shape known c.item at one.counting; versioned = one.versioned; bucketed = one.bucketed; amount = one.amount }
+  still_one = record { counting = counts_on shape known c.item at one.counting; versioned = one.versioned; amount = one.amount }
 
   module _ (b : Actor) (aside : Aside a b) (stays : StaysOpen a b) where
+    -- it has met the histogram's record
+    met_now : Contains b.seen.chain known.reference
+    met_now = subst (λ (l : List ℕ). Contains l known.reference) (sym aside.chain.1) (Contains-append_left a.seen.chain aside.chain.0 known.reference is.met)
+
     -- it is a batch still, which stands so
     still_batch : (added left : ℕ) → let new : Batch = record now { added = added; left = left } in CountsItem shape known new b ⊎ SumsUp known new b
         → IsBatch shape known new b
@@ -109,6 +114,8 @@ module _ (shape : Dimensions) (known : Known) (batch : Batch) (a : Actor) (is : 
       lawful_shape = is.lawful_shape;
       knows = subst (λ (l : List Known). Contains l known) (sym aside.names) is.knows;
       alone = ap (λ (l : List Known). known_at l known.reference) aside.names ∙ is.alone;
+      reach = is.reach;
+      met = met_now;
       rests = ap (λ d. d.taking) aside.deltas ∙ is.rests;
       held = ap (λ u. u.held) stays.0 ∙ is.held;
       items = subst (λ (v : ℕ). All (IsItem shape v known) mid.items.items) (sym (ap (λ s. s.version) aside.segment))
@@ -161,7 +168,7 @@ module _ (shape : Dimensions) (known : Known) (batch : Batch) (a : Actor) (is : 
         are = there ∙ (ap (λ (l : List Add). c.done ++ item ∷ l) are ∙ sym (append_assoc c.done (item ∷ []) (x ∷ rest)));
         added = added_now;
         left = left_now;
-        waits = All-tail (λ (y : Add). y.stage ≡ LoadingSingle) x rest waiting;
+        waits = All-tail (Waits shape known) x rest waiting;
         stands = record {
           counting = its.counting;
           segment = ap (λ s. s.shape) aside.segment ∙ is.segment;
@@ -172,13 +179,15 @@ module _ (shape : Dimensions) (known : Known) (batch : Batch) (a : Actor) (is : 
           rests = ap (λ d. d.taking) aside.deltas ∙ is.rests;
           held = ap (λ u. u.held) stays.0 ∙ is.held;
           over = all_over known (c.done ++ item ∷ []);
-          stands = subst (StandsAtStage shape known (amid_of known batch (c.done ++ item ∷ []) rest) x b) (sym (All-head (λ (y : Add). y.stage ≡ LoadingSingle) x rest waiting))
-              (its.bucketed, over ∙ (ap (λ (l : List Add). map (ended_entry known) c.done ++ ended_entry known item ∷ behind l) are ∙ ended_now (behind (x ∷ rest))), free_turns b.hand.place turns);
+          stands = stands_first shape known (amid_of known batch (c.done ++ item ∷ []) rest) x b x.stage (All-head (Waits shape known) x rest waiting)
+              (ap (λ s. s.shape) aside.segment ∙ is.segment) is.lawful_shape (subst (λ (l : List Known). Contains l known) (sym aside.names) is.knows) is.reach
+              (met_split b.seen.chain known.reference met_now)
+              (over ∙ (ap (λ (l : List Add). map (ended_entry known) c.done ++ ended_entry known item ∷ behind l) are ∙ ended_now (behind (x ∷ rest)))) turns;
         };
       }))
         where
-          waiting : All (λ (y : Add). y.stage ≡ LoadingSingle) (x ∷ rest)
-          waiting = subst (All (λ (y : Add). y.stage ≡ LoadingSingle)) are c.waits
+          waiting : All (Waits shape known) (x ∷ rest)
+          waiting = subst (All (Waits shape known)) are c.waits
 
           its : IsOne x
           its = All-head IsOne x rest (subst (All IsOne) are all_rest)

@@ -40,11 +40,6 @@ begin_batch-requires-clause-ranges c = λ known there.
     ranges_now old c.requires.reached c.args.actor r (is_there old.runners.items (vec_len old.runners) c.args.actor r old.runners.ok.0 c.requires.near c.index_mut-runner.ensures.value)
     c.args.place known there
 
-pub begin_batch-requires-clause-bucketed : goal.begin_batch-requires-clause-bucketed
-begin_batch-requires-clause-bucketed c = λ known there.
-    let old = c.args.self.now in let r = c.index_mut-runner.result.now in
-    c.requires.bucketed known (r, is_there old.runners.items (vec_len old.runners) c.args.actor r old.runners.ok.0 c.requires.near c.index_mut-runner.ensures.value, there)
-
 pub returns-in_err-begin_batch-clause-fault : goal.returns-in_err-begin_batch-clause-fault
 returns-in_err-begin_batch-clause-fault c =
     let old = c.args.self.now in let r = c.index_mut-runner.result.now in
@@ -76,8 +71,8 @@ returns-clause-begins c =
     (c.in_ok-begin_batch.ensures.begins place.0 known_there) in
     count_begins old _ c.args.actor r c.begin_batch.new.self at c.args.place place.0 known_there _ (Batch starts.call) c.args.cost starts.begins (c.requires.rests r at)
     refl refl refl (let some_units = c.requires.some.2 in let count = c.from.ensures in omega (arith, some_units, count)) refl c.requires.reached tt tt
-    (λ a run lawful versions alone. batch_stands old.shape old.version place.0 c.args.items.now c.args.sum c.args.cost r c.begin_batch.new.self starts c.args.place known_there
-    c.requires.some.0 c.requires.some.3 c.requires.some.1 (c.requires.bucketed place.0 (r, at, known_there)) (c.requires.rests r at) a run lawful versions alone)
+    (λ a run lawful versions alone reach. batch_stands old.shape old.version place.0 c.args.items.now c.args.sum c.args.cost r c.begin_batch.new.self starts c.args.place known_there
+    c.requires.some.0 c.requires.some.3 c.requires.some.1 (c.requires.rests r at) a run lawful versions alone reach)
 
 pub returns-clause-others : goal.returns-clause-others
 returns-clause-others c =

@@ -9,18 +9,13 @@ use Rattle.bucket_ranges.specs.Tally.{amount_of}
 use Rattle.hist_core.specs.declared.hist.Known.{Known}
 use Rattle.hist_core.specs.Runner.{known_of}
 use Rattle.hist_core.proofs.Boards.{is_there}
-use Rattle.hist_core.proofs.Buckets.{are}
+use Rattle.hist_core.proofs.Buckets.{are_always}
 use Rattle.hist_core.proofs.runner.Runner.begin_add.Goals as goal
 
 pub start-add-requires-clause-lawful : goal.start-add-requires-clause-lawful
 start-add-requires-clause-lawful c =
     let list = c.args.self.now.known in let known = c.index-known.result.now in
     c.requires.lawful known (is_there list.items (vec_len list) c.args.i known list.ok.0 c.requires.near c.index-known.ensures)
-
-pub start-add-requires-clause-bucketed : goal.start-add-requires-clause-bucketed
-start-add-requires-clause-bucketed c =
-    let list = c.args.self.now.known in let known = c.index-known.result.now in
-    c.requires.bucketed known (is_there list.items (vec_len list) c.args.i known list.ok.0 c.requires.near c.index-known.ensures)
 
 pub start-add-requires-clause-ranges : goal.start-add-requires-clause-ranges
 start-add-requires-clause-ranges c =
@@ -31,7 +26,7 @@ pub key_of-requires : goal.key_of-requires
 key_of-requires c =
     let list = c.args.self.now.known in let known = c.index-known.result.now in
     let at = is_there list.items (vec_len list) c.args.i known list.ok.0 c.requires.near c.index-known.ensures in
-    subst AreBoundaries (sym (c.requires.ranges known at)) (are known.spec (c.requires.lawful known at) (c.requires.bucketed known at))
+    subst AreBoundaries (sym (c.requires.ranges known at)) (are_always known.spec (c.requires.lawful known at))
 
 pub returns-clause-begins : goal.returns-clause-begins
 returns-clause-begins c = λ known at.

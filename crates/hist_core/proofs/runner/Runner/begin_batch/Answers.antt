@@ -9,18 +9,13 @@ use Rattle.hist_core.specs.declared.batch.Batch.{Batch}
 use Rattle.hist_core.specs.declared.hist.Known.{Known}
 use Rattle.hist_core.specs.Runner.{known_of}
 use Rattle.hist_core.proofs.Boards.{is_there}
-use Rattle.hist_core.proofs.Buckets.{are}
+use Rattle.hist_core.proofs.Buckets.{are_always}
 use Rattle.hist_core.proofs.runner.Runner.begin_batch.Goals as goal
 
 pub new_items-requires-clause-lawful : goal.new_items-requires-clause-lawful
 new_items-requires-clause-lawful c =
     let list = c.args.self.now.known in let known = c.index-known.result.now in
     c.requires.lawful known (is_there list.items (vec_len list) c.args.i known list.ok.0 c.requires.near c.index-known.ensures)
-
-pub new_items-requires-clause-bucketed : goal.new_items-requires-clause-bucketed
-new_items-requires-clause-bucketed c =
-    let list = c.args.self.now.known in let known = c.index-known.result.now in
-    c.requires.bucketed known (is_there list.items (vec_len list) c.args.i known list.ok.0 c.requires.near c.index-known.ensures)
 
 pub new_items-requires-clause-ranges : goal.new_items-requires-clause-ranges
 new_items-requires-clause-ranges c =
@@ -31,7 +26,7 @@ pub batch_entries-requires : goal.batch_entries-requires
 batch_entries-requires c =
     let list = c.args.self.now.known in let known = c.index-known.result.now in
     let at = is_there list.items (vec_len list) c.args.i known list.ok.0 c.requires.near c.index-known.ensures in
-    subst AreBoundaries (sym (c.requires.ranges known at)) (are known.spec (c.requires.lawful known at) (c.requires.bucketed known at))
+    subst AreBoundaries (sym (c.requires.ranges known at)) (are_always known.spec (c.requires.lawful known at))
 
 pub returns-clause-begins : goal.returns-clause-begins
 returns-clause-begins c = λ known at.

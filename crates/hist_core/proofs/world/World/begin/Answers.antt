@@ -41,15 +41,6 @@ begin_add-requires-clause-rests c =
     let at = is_there board.runners.items (vec_len board.runners) c.args.actor r board.runners.ok.0 (omega (arith, c.if-actor-len.false, c.len.ensures)) c.index.ensures in
     is_resting board c.args.actor r at (sym c.is_some.ensures ∙ c.if-is_some.false)
 
-pub begin_add-requires-clause-bucketed : goal.begin_add-requires-clause-bucketed
-begin_add-requires-clause-bucketed c = λ known (r, here, at).
-    let board = c.args.self.now.board in
-    let can = subst (CanBegin c.args.actor board) c.in-Add.is c.requires in
-    let found : IsPlaceOf board c.args.actor c.deref-in-Add.result.now c.in-Some.place = c.in-Some.ensures.found in
-    let one : found.1.0 ≡ r = some-injective found.1.0 r (sym found.1.1 ∙ here) in
-    let same : found.0 ≡ known = some-injective found.0 known (sym found.1.2 ∙ (ap (λ (x : Runner). get_elem? x.known.items c.in-Some.place) one ∙ at)) in
-    can r known here (contains_at r.known.items c.in-Some.place known at) (ap (λ (k : Known). k.name.items) (sym same) ∙ (found.2 ∙ c.deref-in-Add.ensures.value))
-
 pub invariant_of-self-in-Add : goal.invariant_of-self-in-Add
 invariant_of-self-in-Add c = record {
   reached = ∥∥₁_elim c.args.self.now.reached (hlevel props) (λ (state, reach). let did = c.begin_add.ensures.begins state reach in ∣ (did.0, did.2) ∣₁);
@@ -239,15 +230,6 @@ begin_batch-requires-clause-rests c =
     let board = c.args.self.now.board in let r = c.index.result.now in
     let at = is_there board.runners.items (vec_len board.runners) c.args.actor r board.runners.ok.0 (omega (arith, c.if-actor-len.false, c.len.ensures)) c.index.ensures in
     is_resting board c.args.actor r at (sym c.is_some.ensures ∙ c.if-is_some.false)
-
-pub begin_batch-requires-clause-bucketed : goal.begin_batch-requires-clause-bucketed
-begin_batch-requires-clause-bucketed c = λ known (r, here, at).
-    let board = c.args.self.now.board in
-    let can = subst (CanBegin c.args.actor board) c.in-Batch.is c.requires in
-    let found : IsPlaceOf board c.args.actor c.deref-in-Batch.result.now c.in-Some-place_of-3.place = c.in-Some-place_of-3.ensures.found in
-    let one : found.1.0 ≡ r = some-injective found.1.0 r (sym found.1.1 ∙ here) in
-    let same : found.0 ≡ known = some-injective found.0 known (sym found.1.2 ∙ (ap (λ (x : Runner). get_elem? x.known.items c.in-Some-place_of-3.place) one ∙ at)) in
-    can r known here (contains_at r.known.items c.in-Some-place_of-3.place known at) (ap (λ (k : Known). k.name.items) (sym same) ∙ (found.2 ∙ c.deref-in-Batch.ensures.value))
 
 pub invariant_of-self-in-Batch : goal.invariant_of-self-in-Batch
 invariant_of-self-in-Batch c = record {

@@ -1,0 +1,18 @@
+use Rattle.std.proofs.Props.{props}
+use Rattle.std.proofs.Math.Logic.{∥∥₁_elim}
+use Rattle.hist_core.proofs.Adds.Samples.{stood_sampling, samples_so}
+use Rattle.hist_core.proofs.add.Add.sample.Goals as goal
+
+pub step-said-requires : goal.step-said-requires
+step-said-requires c = record {
+  stands = ∥∥₁_elim c.requires.stands (hlevel props) (λ (shape, known, amid, a, long, is).
+      ∣ (shape, a, long, (stood_sampling shape known amid c.args.self.now a c.args.words.now is c.in-Sampling.sampling c.in-Sampling.is).4) ∣₁);
+}
+
+pub returns-in-Sampling-clause-steps : goal.returns-in-Sampling-clause-steps
+returns-in-Sampling-clause-steps c = λ shape known amid a long is.
+    let add = c.args.self.now in
+    samples_so shape known amid add a c.args.words.now is c.in-Sampling.sampling c.in-Sampling.is c.step-said.new.self c.step-said.ensures.same c.step-said.new.words
+    c.step-said.result c.sampled.new.self c.sampled.result
+    (c.step-said.ensures.steps shape add.version a long (stood_sampling shape known amid add a c.args.words.now is c.in-Sampling.sampling c.in-Sampling.is).4)
+    c.sampled.ensures

@@ -1,0 +1,29 @@
+-- Why a schedule is not replayed to its end, and the status with which the program then ends.
+use Rattle.std.specs.Prelude.{ℕ}
+use Rattle.hist_core.specs.declared.fault.WorldFault.{WorldFault}
+use Rattle.hist_core.specs.declared.fault.WorldFault.TheVariants as of_world
+use Rattle.schedule.specs.declared.fault.ScheduleFault.{ScheduleFault}
+use Rattle.schedule.specs.declared.fault.ScheduleFault.TheVariants as of_schedule
+use Rattle.stepped.specs.declared.fault.ReplayFault.{ReplayFault}
+use Rattle.stepped.specs.declared.fault.ReplayFault.TheVariants.{Read, Write, TooLong, BadLine, World, NoMemory}
+
+-- 3 for bytes that are no schedule, and for what a world does not take; 4 for a device that failed; 5 for want of memory
+abbrev pub replay_status : ReplayFault → ℕ
+replay_status Read = 4
+replay_status Write = 4
+replay_status TooLong = 3
+replay_status (BadLine number) = 3
+replay_status (World number fault) = 3
+replay_status NoMemory = 5
+
+-- what a fault of the world at the record of a number comes to: want of memory is no fault of the record
+abbrev pub fault_of_world : ℕ → WorldFault → ReplayFault
+fault_of_world number of_world.NoMemory = NoMemory
+fault_of_world number fault = World number fault
+
+-- what a fault of the schedule comes to
+abbrev pub fault_of_schedule : ScheduleFault → ReplayFault
+fault_of_schedule of_schedule.Read = Read
+fault_of_schedule of_schedule.TooLong = TooLong
+fault_of_schedule of_schedule.NoMemory = NoMemory
+fault_of_schedule (of_schedule.BadLine number) = BadLine number

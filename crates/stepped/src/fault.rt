@@ -1,0 +1,78 @@
+//! Why a schedule is not replayed to its end.
+
+ghost use Rattle.std.specs.Prelude.{◌≡◌};
+ghost use Rattle.stepped.specs.Fault.{fault_of_schedule, fault_of_world, replay_status};
+ghost use Rattle.stepped.specs.declared.fault.ReplayFault.TheVariants.{NoMemory};
+
+use hist_core::WorldFault;
+use schedule::ScheduleFault;
+use std::alloc::AllocError;
+use thiserror::Error;
+
+/// Why a schedule is not replayed to its end, or what it leads to is not shown.
+#[derive(Clone, Copy, Debug, PartialEq, Eq, Error)]
+pub enum ReplayFault {
+    /// A read of the schedule failed.
+    #[error("Read")]
+    Read,
+    /// A write of what is shown failed, or its flush did. How much went out is not said.
+    #[error("Write")]
+    Write,
+    /// The schedule has more than 16,777,216 bytes.
+    #[error("TooLong")]
+    TooLong,
+    /// The record of this number, from 1, has no lawful form, or a number out of its type.
+    #[error("BadLine {0}")]
+    BadLine(u64),
+    /// The world is not made, or takes no move of the record of this number; never for want of memory.
+    #[error("World {0} {1}")]
+    World(u64, WorldFault),
+    /// There was no memory for the schedule, for the world, for a call, or for what is shown.
+    #[error("NoMemory")]
+    NoMemory,
+}
+
+impl ReplayFault {
+    /// The status with which the program ends: 3 where the bytes are no schedule, or the world does not take it; 4 where a
+    /// device failed; 5 for want of memory.
+    pub fn status(&self) -> u8
+        ensures { result ≡ replay_status self.now }
+    {
+        match self {
+            ReplayFault::TooLong | ReplayFault::BadLine(_) | ReplayFault::World(..) => 3,
+            ReplayFault::Read | ReplayFault::Write => 4,
+            ReplayFault::NoMemory => 5,
+        }
+    }
+
+    /// What a fault of the world at the record of a number comes to.
+    pub fn of_world(number: u64, fault: WorldFault) -> ReplayFault
+        ensures { result ≡ fault_of_world number fault }
+    {
+        match fault {
+            WorldFault::NoMemory => ReplayFault::NoMemory,
+            fault => ReplayFault::World(number, fault),
+        }
+    }
+}
+
+impl From<ScheduleFault> for ReplayFault {
+    ghost from_gives = { λ fault result. result ≡ fault_of_schedule fault };
+
+    fn from(fault: ScheduleFault) -> ReplayFault {
+        match fault {
+            ScheduleFault::Read => ReplayFault::Read,
+            ScheduleFault::TooLong => ReplayFault::TooLong,
+            ScheduleFault::NoMemory => ReplayFault::NoMemory,
+            ScheduleFault::BadLine(number) => ReplayFault::BadLine(number),
+        }
+    }
+}
+
+impl From<AllocError> for ReplayFault {
+    ghost from_gives = { λ _ result. result ≡ NoMemory };
+
+    fn from(_: AllocError) -> ReplayFault {
+        ReplayFault::NoMemory
+    }
+}

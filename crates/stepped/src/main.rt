@@ -1,0 +1,24 @@
+//! The program `stepped`: replays a schedule of calls on a segment, event by event, so that anybody can look at an
+//! interleaving and stop it anywhere.
+#![tactic(auto)]
+
+mod failure;
+mod fault;
+mod lines;
+mod replay;
+mod request;
+mod run;
+
+use std::process::ExitCode;
+
+fn main(rt: HostRuntime) -> ExitCode {
+    match run::run(&rt) {
+        Ok(()) => ExitCode::SUCCESS,
+        Err(failure) => {
+            let status = failure.status();
+            // Nothing is left to tell where the error stream itself fails.
+            let _ = rt.eprint(failure);
+            ExitCode::from(status)
+        }
+    }
+}

@@ -1,0 +1,111 @@
+//! What the command line asks for.
+
+ghost use Rattle.std.specs.Prelude.{◌≡◌, IfOk};
+ghost use Rattle.clap.specs.Words.{kind_of};
+
+use clap::error::ErrorKind;
+use clap::{Arg, ArgAction, ArgMatches, Command, Error, value_parser};
+use std::alloc::{AllocError, Global};
+use std::convert::AsStr;
+
+/// What is shown of a world.
+#[derive(Clone, Copy, Debug, PartialEq, Eq)]
+pub enum Show {
+    /// A line for each begin, each event and each answer.
+    Lines,
+    /// The report of the segment as it is at the end.
+    Report,
+    /// The words of the segment as they are at the end, eight bytes for each.
+    Image,
+}
+
+/// What the program is asked to do.
+#[derive(Clone, Copy, Debug, PartialEq, Eq)]
+pub struct Request<'a> {
+    /// The file with the schedule.
+    pub schedule: &'a str,
+    /// After how many events it ends at the latest.
+    pub events: u64,
+    /// What it shows.
+    pub show: Show,
+}
+
+fn stop_argument<'a>(alloc: Global) -> Arg<'a> {
+    Arg::new(alloc, "stop")
+        .long("stop")
+        .value_name("EVENTS")
+        .value_parser(value_parser!(u64))
+        .help("Ends after so many events")
+}
+
+fn flag<'a>(alloc: Global, name: &'a str, help: &'a str) -> Arg<'a> {
+    Arg::new(alloc, name)
+        .long(name)
+        .action(ArgAction::SetTrue)
+        .help(help)
+}
+
+fn command<'a>(alloc: Global) -> Result<Command<'a>, AllocError> {
+    let schedule = Arg::new(alloc, "SCHEDULE")
+        .required(true)
+        .help("What the actors are to do, as CSV");
+    let report = flag(
+        alloc,
+        "report",
+        "Writes the report of the segment as it then is",
+    );
+    let image = flag(
+        alloc,
+        "image",
+        "Writes the words of the segment as they then are",
+    );
+    Command::new(alloc, "stepped")
+        .version("0.1.0")
+        .about("Replays a schedule of calls on a segment, event by event")
+        .after_help("Example:\n  stepped examples/race_for_a_name.csv --stop 20 --report")
+        .arg(schedule)?
+        .arg(stop_argument(alloc))?
+        .arg(report.conflicts_with("image")?)?
+        .arg(image)
+}
+
+fn show_of(matches: &ArgMatches<'_>) -> Show {
+    if matches.get_flag("report") {
+        Show::Report
+    } else if matches.get_flag("image") {
+        Show::Image
+    } else {
+        Show::Lines
+    }
+}
+
+impl<'a> Request<'a> {
+    /// The request of a command line, whose first word is the program's name.
+    ///
+    /// The error says what is wrong with the words, or has the help or the version that they ask for.
+    pub fn of<S: AsStr>(alloc: Global, words: &'a [S]) -> Result<Request<'a>, Error> {
+        let mut command = command(alloc)?;
+        let matches = command.try_get_matches_from_mut(words)?;
+        match matches.get_str("SCHEDULE") {
+            Some(schedule) => Ok(Request {
+                schedule,
+                events: matches.get_one::<u64>("stop").unwrap_or(u64::MAX),
+                show: show_of(&matches),
+            }),
+            None => Err(command.error(
+                ErrorKind::MissingRequiredArgument,
+                "a schedule is required",
+            )?),
+        }
+    }
+}
+
+/// What is wrong with a command line in which an argument is not UTF-8 text.
+pub fn not_text(alloc: Global) -> Result<Error, AllocError>
+    ensures { IfOk result (λ error. kind_of error ≡ ErrorKind.ValueValidation) }
+{
+    command(alloc)?.error(
+        ErrorKind::ValueValidation,
+        "invalid UTF-8 was detected in one or more arguments",
+    )
+}

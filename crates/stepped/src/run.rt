@@ -1,0 +1,102 @@
+//! Does what the command line asks for.
+
+ghost use Rattle.std.specs.Prelude.{IfErr};
+ghost use Rattle.stepped.specs.Failure.{UsageIsMistake};
+
+use crate::failure::Failure;
+use crate::fault::ReplayFault;
+use crate::replay::Replay;
+use crate::request::{Request, Show, not_text};
+use persist_report_core::text_of;
+use schedule::{Order, Schedule, read_schedule};
+use segment_image::{Watched, write_words};
+use std::alloc::Global;
+use std::io::Write;
+use std::rt::{Env, Files};
+use std::{env, fs, io};
+
+/// Does what the arguments ask for.
+///
+/// `Usage` where they ask for nothing that the program does; `Fault` where the request failed, `NoMemory` also
+/// where there was none to read the arguments, and `Write` also where a help or version text could not be written.
+pub fn run<R: Env + Files + Print + AllocGlobal>(rt: &R) -> Result<(), Failure>
+    ensures { IfErr result UsageIsMistake }
+{
+    let words = words(rt)?;
+    match Request::of(rt.alloc(), words.as_slice()) {
+        Ok(request) => meet(rt, request)?,
+        Err(error) if error.use_stderr() => return Err(Failure::from(error)),
+        Err(shown) => rt.print(shown).map_err(|_| ReplayFault::Write)?,
+    }
+    Ok(())
+}
+
+fn words<R: Env + AllocGlobal>(rt: &R) -> Result<Vec<String>, Failure>
+    ensures { IfErr result UsageIsMistake }
+{
+    match env::args(rt) {
+        Ok(words) => Ok(words.collect(rt.alloc())?),
+        Err(error) if error.kind() == io::ErrorKind::OutOfMemory => {
+            Err(Failure::Fault(ReplayFault::NoMemory))
+        }
+        Err(_) => Err(Failure::Usage(not_text(rt.alloc())?)),
+    }
+}
+
+// The schedule in a file.
+fn schedule_in<R: Files + AllocGlobal>(rt: &R, path: &str) -> Result<Schedule, ReplayFault> {
+    let file = fs::open(rt, path).map_err(|_| ReplayFault::Read)?;
+    Ok(read_schedule(rt.alloc(), &mut Watched::new(file))?)
+}
+
+// Replays a schedule, and shows what was asked for.
+fn meet<R: Files + Print + AllocGlobal>(rt: &R, request: Request<'_>) -> Result<(), ReplayFault> {
+    let alloc = rt.alloc();
+    let Schedule { opening, orders } = schedule_in(rt, request.schedule)?;
+    let mut replay = Replay::new(alloc, opening, request.events)?;
+    let mut writer = Watched::new(io::writer(rt));
+    match request.show {
+        Show::Lines => write_lines(alloc, &mut writer, &mut replay, &orders),
+        Show::Report => {
+            replay.run(&mut io::sink(), &orders)?;
+            write_report(alloc, &mut writer, replay.words())
+        }
+        Show::Image => {
+            replay.run(&mut io::sink(), &orders)?;
+            write_image(&mut writer, replay.words())
+        }
+    }
+}
+
+// Writes the lines of a schedule as it is replayed. Those before a fault are written too.
+fn write_lines<W: Write>(
+    alloc: Global,
+    writer: &mut Watched<W>,
+    replay: &mut Replay,
+    orders: &[Order],
+) -> Result<(), ReplayFault> {
+    let mut lines = io::BufWriter::new(alloc, writer).map_err(|_| ReplayFault::NoMemory)?;
+    let done = replay.run(&mut lines, orders);
+    lines.flush().map_err(|_| ReplayFault::Write)?;
+    done
+}
+
+// Writes the report of the words of a world, which are an image without a fault.
+fn write_report<W: Write>(
+    alloc: Global,
+    writer: &mut Watched<W>,
+    words: &[u64],
+) -> Result<(), ReplayFault> {
+    let Ok(reading) = image_reader::read(alloc, words) else {
+        return Err(ReplayFault::NoMemory);
+    };
+    let text = text_of(alloc, &reading)?;
+    writer.write_all(&text).map_err(|_| ReplayFault::Write)?;
+    writer.flush().map_err(|_| ReplayFault::Write)
+}
+
+// Writes the words of a world.
+fn write_image<W: Write>(writer: &mut Watched<W>, words: &[u64]) -> Result<(), ReplayFault> {
+    write_words(writer, words).map_err(|_| ReplayFault::Write)?;
+    writer.flush().map_err(|_| ReplayFault::Write)
+}

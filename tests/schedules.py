@@ -4,8 +4,9 @@ Those in the folder cases/schedules have known answers: NNN.csv is a schedule, a
 comes of it; NNN.report and NNN.words are what it shows after the events of NNN.stop. The answers are those of an
 independent implementation.
 
-Others come of a seed and are stopped at events of the seed: the words are those that the lines lead to, the report is that
-of a plain reader and has no fault, and each bucket has no more units than were begun, and no fewer than calls that ended have counted.
+Worked examples are stopped at every event. Others come of a seed and are stopped at events of the seed. Then the words are those
+that the lines lead to, the report is that of a plain reader and has no fault, and each bucket has no more units than were begun,
+and no fewer than calls that ended have counted.
 """
 
 import collections
@@ -18,6 +19,7 @@ import tempfile
 
 import plain_reader
 import seeded_schedules
+import worked_schedules
 from program import ROOT, Answer, answer, difference
 
 BUILT = ROOT / "crates" / "stepped" / "out" / "stepped"
@@ -105,6 +107,17 @@ def wrong_seeded(seed, stops, folder):
     return None
 
 
+def wrong_worked(number, schedule, folder):
+    """What is wrong with a worked example, which is stopped at every event, or None."""
+    path = folder / f"worked-{number}.csv"
+    came = replayed(path, schedule.text())
+    if came.status != 0 or came.error:
+        return f"status {came.status}, {came.error[:200]!r}"
+    lines = came.output.splitlines(True)
+    events = range(sum(b",step" in line for line in lines) + 1)
+    return next(filter(None, (wrong_stop(schedule, path, lines, event) for event in events)), None)
+
+
 def replayed(path, text):
     path.write_text(text)
     return answer(BUILT, [path])
@@ -151,6 +164,9 @@ def cases(_, options):
             yield f"{' '.join(map(str, words))} to {device}", wrong_lawful(words, device, wanted)
         for words, status in (([], 2), (["a", "--report", "--image"], 2), (["a", "--stop", "x"], 2), (["--help"], 0)):
             yield f"usage {' '.join(words)}", wrong_usage(words, status)
+        worked = list(worked_schedules.examples())
+        wrongs = pool.map(lambda one: wrong_worked(one[0], one[1][1], folder), enumerate(worked))
+        yield from zip((name for name, _ in worked), wrongs)
         seeds = [f"{options.seed}-{number}" for number in range(options.schedules)]
         wrongs = pool.map(lambda seed: wrong_seeded(seed, options.stops, folder), seeds)
         yield from zip((f"schedule {seed}" for seed in seeds), wrongs)

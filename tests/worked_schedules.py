@@ -1,0 +1,48 @@
+"""Worked examples of the stepped world, as schedules of two actors: each is stopped at every event, in both versions."""
+
+from seeded_schedules import Schedule
+
+ALL = 10**6
+MOUNTED = [("hist", 0, "A", "boolean"), ("step", 0, ALL), ("add", 0, "A", 1, 1), ("step", 0, ALL), ("add", 0, "A", 1, 1), ("step", 0, ALL)]
+KNOWN_TWICE = [*MOUNTED, ("hist", 1, "A", "boolean"), ("step", 1, ALL)]
+
+
+def ended(*records):
+    """Calls of actor 0, each of which ends before the next begins."""
+    return [part for record in records for part in (record, ("step", 0, ALL))]
+
+
+EXAMPLES = {
+    "packed, then mounted": [*MOUNTED, *ended(("add", 0, "A", 0, 1), ("snapshot", 0, "A"))],
+    "deltas and marks": [*MOUNTED, *ended(("delta", 0, "A"), ("add", 0, "A", 0, 1), ("delta", 0, "A"), ("delta", 0, "A"))],
+    # The one taker has loaded the packed word when the other takes all.
+    "two takers of a packed word": [
+        *KNOWN_TWICE, ("delta", 1, "A"), ("step", 1, 1),
+        *ended(("add", 0, "A", 0, 1), ("add", 0, "A", 1, 1), ("delta", 0, "A")), ("step", 1, ALL),
+    ],
+    # Both find no `A`. Actor 0 claims its block first, and actor 1 publishes first.
+    "race for a name": [
+        ("hist", 0, "A", "boolean"), ("step", 0, 1), ("hist", 1, "A", "boolean"), ("step", 1, 1),
+        ("step", 0, 3), ("step", 1, ALL), ("step", 0, ALL),
+    ],
+    # Both find no sample of the value. Actor 0 claims its block first, and actor 1 publishes first.
+    "race for a value": [
+        ("hist", 0, "S", "sparse"), ("step", 0, ALL), ("hist", 1, "S", "sparse"), ("step", 1, ALL),
+        ("add", 0, "S", -5, 1), ("step", 0, 1), ("add", 1, "S", -5, 2), ("step", 1, 1),
+        ("step", 0, 3), ("step", 1, ALL), ("step", 0, ALL),
+    ],
+    # Both have loaded the count of bucket 1 when one of them takes it.
+    "two takers of one count": [
+        *KNOWN_TWICE, *ended(("add", 0, "A", 0, 1)), ("delta", 0, "A"), ("step", 0, 5), ("delta", 1, "A"), ("step", 1, 5),
+        ("step", 0, ALL), ("step", 1, ALL),
+    ],
+}
+
+
+def examples():
+    """The examples, each with its name, in both versions."""
+    for name, records in EXAMPLES.items():
+        for version in (1, 2):
+            schedule = Schedule(128, 64, 7, 2, version)
+            schedule.records.extend(records)
+            yield f"{name}, version {version}", schedule

@@ -107,11 +107,11 @@ module _ (board : Board) (i : ℕ) (r : Runner) (at : get_elem? board.runners.it
 -- each call of a name can begin of a histogram with buckets
 pub each_begins : (actor : ℕ) (board : Board) (call : Call) (name : Vec ℕ Global)
     → ((value : ℤ) × (count : ℕ) × (call ≡ calls.Add name value count))
-    ⊎ ((call ≡ calls.Delta name) ⊎ ((items : Vec (ℤ × ℕ) Global) × (sum : ℤ) × (call ≡ calls.Batch name items sum)))
+    ⊎ ((items : Vec (ℤ × ℕ) Global) × (sum : ℤ) × (call ≡ calls.Batch name items sum))
     → IsBucketed actor board name.items → CanBegin actor board call
 each_begins actor board call name is bucketed =
     ⊎_elim (λ (value, count, adds). subst (CanBegin actor board) (sym adds) bucketed)
-    (⊎_elim (λ takes. subst (CanBegin actor board) (sym takes) bucketed) (λ (items, sum, counts). subst (CanBegin actor board) (sym counts) bucketed)) is
+    (λ (items, sum, counts). subst (CanBegin actor board) (sym counts) bucketed) is
 
 -- an actor that is not there shows nothing
 pub shows_nothing : {X : Type 0} (shown : Runner → List X) (board : Board) (i : ℕ) → length board.runners.items ≤ i

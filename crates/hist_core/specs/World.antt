@@ -93,13 +93,13 @@ IsBucketed actor board name =
     (runner : Runner) (known : Known) → get_elem? board.runners.items actor ≡ some runner → Contains runner.known.items known → known.name.items ≡ name
     → has_buckets known.spec ≡ true
 
--- The calls that can begin so far. An `add`, a `delta` and a `batch` are of a histogram with buckets.
+-- The calls that can begin so far. An `add` and a `batch` are of a histogram with buckets.
 abbrev pub CanBegin : ℕ → Board → Call → Type 0
 CanBegin actor board (Hist name spec) = ⊤
 CanBegin actor board SetCorrupt = ⊤
 CanBegin actor board (Snapshot name) = ⊤
 CanBegin actor board (Add name value count) = IsBucketed actor board name.items
-CanBegin actor board (Delta name) = IsBucketed actor board name.items
+CanBegin actor board (Delta name) = ⊤
 CanBegin actor board (Batch name items sum) = IsBucketed actor board name.items
 
 -- a call for whose begin there may be no memory

@@ -294,17 +294,17 @@ impl Runner {
     pub(crate) fn begin_delta(
         &mut self,
         alloc: Global,
+        shape: Shape,
         version: u64,
         i: usize,
     ) -> Result<(), AllocError>
         requires near { i < vec_len self.old.known }
         requires lawful { (known : Known) → get_elem? self.old.known.items i ≡ some known → spec_fault known.spec ≡ None }
-        requires bucketed { (known : Known) → get_elem? self.old.known.items i ≡ some known → has_buckets known.spec ≡ true }
-        ensures begins { IfOk result (λ _. (known : Known) → get_elem? self.old.known.items i ≡ some known → BeginsDelta version known self.old self.new) }
+        ensures begins { IfOk result (λ _. (known : Known) → get_elem? self.old.known.items i ≡ some known → BeginsDelta shape version known self.old self.new) }
         ensures fails { OnErr result (IsAsItWas self.old self.new) }
     {
         let known = &self.known[i];
-        let taker = Taker::start(alloc, version, known)?;
+        let taker = Taker::start(alloc, shape, version, known)?;
         let fresh = Taken {
             name: Vec::from_slice(alloc, &known.name)?,
             counts: Vec::with_capacity(alloc, taker.counts.capacity())?,

@@ -115,15 +115,15 @@ impl World {
         ensures { result ≡ true → CanBegin actor self.now.board call.now }
     {
         match call {
-            Call::Hist(..) | Call::Snapshot(_) | Call::SetCorrupt => true,
-            Call::Add(name, ..) | Call::Delta(name) | Call::Batch(name, ..) => {
+            Call::Hist(..) | Call::Snapshot(_) | Call::Delta(_) | Call::SetCorrupt => true,
+            Call::Add(name, ..) | Call::Batch(name, ..) => {
                 actor >= self.board.runners.len() || self.board.runners[actor].is_bucketed(name)
             }
         }
     }
 
     /// An actor begins a call, which asks for a histogram, counts a value or a batch, takes of a histogram or looks at it, or marks the
-    /// segment as corrupt. Calls that count or take in a sparse histogram are to come: `can_begin` tells whether it is none of these.
+    /// segment as corrupt. Calls that count in a sparse histogram are to come: `can_begin` tells whether it is none of these.
     ///
     /// `NoActor` where there is no such actor, then `Busy` where a call of it is going on, then `Unknown` where the call is of a
     /// histogram and no `Hist` of the actor was answered with one of that name, then `NoMemory`. Where the call needs no event it

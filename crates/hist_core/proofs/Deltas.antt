@@ -19,7 +19,10 @@ use Rattle.segment_invariant.proofs.Lists.Maps.{contains_map}
 use Rattle.segment_machine.specs.declared.actor.Actor.{Actor}
 use Rattle.segment_machine.specs.declared.actor.Known.{Known as MachineKnown}
 use Rattle.segment_machine.specs.declared.actor.Taken.{Taken as MachineTaken}
-use Rattle.segment_machine.specs.Actor.{has_buckets, is_opener, known_at, units_listed}
+use Rattle.segment_machine.specs.Actor.{is_opener, known_at, units_listed}
+use Rattle.segment_machine.specs.Note.{TookSample}
+use Rattle.segment_promises.specs.Values.{ListsValues}
+use Rattle.segment_promises.proofs.ListedValues.{lists_nothing}
 use Rattle.segment_machine.specs.State.{State}
 use Rattle.hist_core.specs.declared.board.Board.{Board}
 use Rattle.hist_core.specs.declared.call.Answer.TheVariants as answer
@@ -31,20 +34,23 @@ use Rattle.hist_core.specs.declared.runner.Running.{Running}
 use Rattle.hist_core.specs.declared.runner.Running.TheVariants.{SetCorrupt, Hist, Add, Delta, Snapshot, Batch}
 use Rattle.hist_core.specs.declared.runner.Runner.{Runner}
 use Rattle.hist_core.specs.declared.taker.Stage.{Stage}
-use Rattle.hist_core.specs.declared.taker.Stage.TheVariants.{LoadingSingle, TakingPacked, LoadingCounts, LoadingCount, Raising, LoadingSum, Swapping}
+use Rattle.hist_core.specs.declared.taker.Stage.TheVariants.{LoadingSingle, TakingPacked, LoadingCounts, LoadingCount, Raising, Walking, LoadingSample, RaisingSample, LoadingSum, Swapping}
 use Rattle.hist_core.specs.declared.taker.Taker.{Taker}
 use Rattle.hist_core.specs.declared.taker.TakerStep.{TakerStep}
 use Rattle.hist_core.specs.declared.taker.TakerStep.TheVariants.{More, Took, Done}
 use Rattle.hist_core.specs.Board.{IsReached, IsReachedAs, TakesOf}
-use Rattle.hist_core.specs.Goes.{Goes, IsFree}
+use Rattle.hist_core.specs.Goes.{Goes, IsFree, WalksInOrder}
+use Rattle.hist_core.specs.declared.walk.Walk.{Walk}
+use Rattle.hist_core.specs.declared.walk.Walk.TheVariants.{LoadingFirst, LoadingType, LoadingHistogram, LoadingValue, LoadingNext}
+use Rattle.hist_core.specs.Walk.{HasSetOut}
 use Rattle.hist_core.specs.Runner.{Advances, Answers, AreShown, BeginsDelta, Becomes, Fits, HasDraft, HasPlace, HasRoom, IsDeltaSaid, IsDraft, IsDrawing, IsKnown, IsLast, IsQuiet, IsRun, IsShown, IsSomeRun, IsTimely, IsTook, StandsIn, TakenGoes, apart_from_delta, begun_by, ended_by, ended_deltas, known_of, looked_by, pending_by}
-use Rattle.hist_core.specs.Taker.{AreUnits, HasBegun, HasEnded, IsSomeTaker, IsTaker, IsUnderWay, Lists, StandsAtStage, TakerGives, TakerSteps, TakesAside, insert_by_key, place_of}
+use Rattle.hist_core.specs.Taker.{AreUnits, HasBegun, HasEnded, IsFirst, IsSomeTaker, IsTaker, IsUnderWay, Lists, OpensWith, StandsAtStage, TakerGives, TakerSteps, TakesAlong, TakesAside, insert_by_key, place_of}
 use Rattle.hist_core.proofs.Parts.Allocations.{goes_with}
 use Rattle.hist_core.proofs.Apart.{asks_not, adds_not, looks_not, batches_not}
 use Rattle.hist_core.proofs.Boards.{each_runs, is_there}
-use Rattle.hist_core.proofs.Free.{free_turns}
+use Rattle.hist_core.proofs.Free.{free_apart, free_turns}
 use Rattle.hist_core.proofs.Quiet.{begun_there, met_on}
-use Rattle.hist_core.proofs.Viewing.{call_begins, call_begun}
+use Rattle.hist_core.proofs.Viewing.{call_begins, call_begun, met_split}
 
 -- ---- lists of what deltas took
 
@@ -123,15 +129,43 @@ taken_ascends board reached i r at = ∥∥₁_elim reached (hlevel props) (λ (
 -- ---- it goes on
 
 -- once its first event has happened it is under way
-way_of : (known : MachineKnown) (earlier : List MachineTaken) (taker : Taker) (a : Actor) (stage : Stage) → HasBegun stage
-    → StandsAtStage known earlier taker a stage → IsUnderWay known earlier taker a
-way_of known earlier taker a LoadingSingle begun stands = absurd begun
-way_of known earlier taker a (TakingPacked bucket units) begun stands = stands.0
-way_of known earlier taker a (LoadingCounts packed kept) begun stands = stands.0
-way_of known earlier taker a (LoadingCount mounted bucket) begun stands = stands.0
-way_of known earlier taker a (Raising mounted bucket total) begun stands = stands.0
-way_of known earlier taker a LoadingSum begun stands = stands.0
-way_of known earlier taker a (Swapping sum) begun stands = stands.0
+way_of : (shape : Dimensions) (known : MachineKnown) (earlier : List MachineTaken) (taker : Taker) (a : Actor) (stage : Stage) → HasBegun stage
+    → StandsAtStage shape known earlier taker a stage → IsUnderWay known earlier taker a
+way_of shape known earlier taker a LoadingSingle begun stands = absurd begun
+way_of shape known earlier taker a (TakingPacked bucket units) begun stands = stands.0
+way_of shape known earlier taker a (LoadingCounts packed kept) begun stands = stands.0
+way_of shape known earlier taker a (LoadingCount mounted bucket) begun stands = stands.0
+way_of shape known earlier taker a (Raising mounted bucket total) begun stands = stands.0
+way_of shape known earlier taker a (Walking walk) begun stands = by walk begun stands.0
+  where
+    by : (walk : Walk) → HasSetOut walk → TakesAlong known earlier taker a walk → IsUnderWay known earlier taker a
+    by LoadingFirst begun way = absurd begun
+    by (LoadingType at) begun way = way
+    by (LoadingHistogram at) begun way = way
+    by (LoadingValue at of) begun way = way
+    by (LoadingNext at) begun way = way
+way_of shape known earlier taker a (LoadingSample at value) begun stands = stands.0
+way_of shape known earlier taker a (RaisingSample at value count) begun stands = stands.0
+way_of shape known earlier taker a LoadingSum begun stands = stands.0
+way_of shape known earlier taker a (Swapping sum) begun stands = stands.0
+
+-- before that its actor's deltas took what they took
+taken_first : (shape : Dimensions) (known : MachineKnown) (earlier : List MachineTaken) (taker : Taker) (a : Actor) (stage : Stage) → IsFirst stage
+    → StandsAtStage shape known earlier taker a stage → a.deltas.taken ≡ earlier
+taken_first shape known earlier taker a LoadingSingle first stands = stands.1
+taken_first shape known earlier taker a (Walking LoadingFirst) first stands = stands.0.1
+taken_first shape known earlier taker a (Walking (LoadingType at)) first stands = absurd first
+taken_first shape known earlier taker a (Walking (LoadingHistogram at)) first stands = absurd first
+taken_first shape known earlier taker a (Walking (LoadingValue at of)) first stands = absurd first
+taken_first shape known earlier taker a (Walking (LoadingNext at)) first stands = absurd first
+taken_first shape known earlier taker a (TakingPacked bucket units) first stands = absurd first
+taken_first shape known earlier taker a (LoadingCounts packed kept) first stands = absurd first
+taken_first shape known earlier taker a (LoadingCount mounted bucket) first stands = absurd first
+taken_first shape known earlier taker a (Raising mounted bucket total) first stands = absurd first
+taken_first shape known earlier taker a (LoadingSample at value) first stands = absurd first
+taken_first shape known earlier taker a (RaisingSample at value count) first stands = absurd first
+taken_first shape known earlier taker a LoadingSum first stands = absurd first
+taken_first shape known earlier taker a (Swapping sum) first stands = absurd first
 
 pub some_taker : (n : ℕ) (runner : Runner) (taker : Taker) (fresh : Option Taken) → runner.running ≡ Some (Delta taker fresh) → IsSomeRun n runner → IsSomeTaker n taker
 some_taker n runner taker fresh is (shape, version, a, long, wide, run) =
@@ -162,7 +196,7 @@ draft_on taker now (Done sum) last then_is draft lists room same =
 
 module _ (shape : Dimensions) (version : ℕ) (old : Runner) (a : Actor) (run : IsRun shape version old a) (taker now : Taker) (fresh : Option Taken)
     (is : old.running ≡ Some (Delta taker fresh)) (words new_words : List ℕ) (long : length words ≡ shape.size) (begun : HasBegun now.stage)
-    (room : vec_capacity now.counts ≡ vec_capacity taker.counts) where
+    (room : vec_capacity now.counts ≡ vec_capacity taker.counts) (order : WalksInOrder a) where
   stands : IsDrawing shape (pending_by old) taker fresh a
   stands = subst (λ running. StandsIn shape old.known.items (pending_by old) running a) is run.stands
 
@@ -184,15 +218,15 @@ module _ (shape : Dimensions) (version : ℕ) (old : Runner) (a : Actor) (run : 
   -- what ended before it is shown, and it has its name
   named_so : (fresh : Option Taken) → IsTimely known taker fresh → (before : List Taken) (last : Taken)
       → old.taken.items ++ option_to_list fresh ≡ before ++ last ∷ [] → AreShown before earlier × (last.name.items ≡ known.name)
-  named_so (Some t) (stage, named) before last same =
+  named_so (Some t) (first, named) before last same =
       let parts = same_from_push old.taken.items before t last same in
-      let begins = subst (StandsAtStage known earlier taker a) stage takes.stands in (
-        subst (λ (p : List Taken × List MachineTaken). AreShown p.0 p.1) (λ i. (parts.0 i, begins.1 i)) run.taken,
+      let begins = taken_first shape known earlier taker a taker.stage first takes.stands in (
+        subst (λ (p : List Taken × List MachineTaken). AreShown p.0 p.1) (λ i. (parts.0 i, begins i)) run.taken,
         subst (λ (x : Taken). x.name.items ≡ known.name) parts.1 named,
       )
   named_so None begun_before before last same =
       let here : old.taken.items ≡ before ++ last ∷ [] = sym (append-nil old.taken.items) ∙ same in
-      let way = way_of known earlier taker a taker.stage begun_before takes.stands in
+      let way = way_of shape known earlier taker a taker.stage begun_before takes.stands in
       let both = shown_less before earlier last way.last (subst (λ (p : List Taken × List MachineTaken). AreShown p.0 p.1) (λ i. (here i, way.taken i)) run.taken) in
       (both.0, both.1.name ∙ way.name)
 
@@ -245,7 +279,7 @@ module _ (shape : Dimensions) (version : ℕ) (old : Runner) (a : Actor) (run : 
       goes_on : new ≡ record old { taken = new.taken; running = Some (Delta now None) } → IsTaker shape known earlier now b
           → vec_capacity then_is.counts ≡ vec_capacity now.counts → then_is.sum ≡ pos 0 → IsRun shape version new b
       goes_on new_is its capacity sum =
-          let way = way_of known earlier now b now.stage begun its.stands in
+          let way = way_of shape known earlier now b now.stage begun its.stands in
           let same_length : length new.taken.items ≡ length before + 1 = ap length taken ∙ length_push before then_is in
           let ok = new.taken.ok.0 in
           runs_so new (Some (Delta now None)) new_is (shows_it way.last way.taken way.name way.counts its.units (sum ∙ sym way.sum))
@@ -279,7 +313,7 @@ module _ (shape : Dimensions) (version : ℕ) (old : Runner) (a : Actor) (run : 
     }
 
   its_steps : (said : TakerStep) → TakerSteps taker words now new_words said → Goes shape.size version a words new_words (TakerGives shape known earlier now said a)
-  its_steps said steps = subst (λ (v : ℕ). Goes shape.size v a words new_words (TakerGives shape known earlier now said a)) one_version (steps shape known earlier a long takes)
+  its_steps said steps = subst (λ (v : ℕ). Goes shape.size v a words new_words (TakerGives shape known earlier now said a)) one_version (steps shape known earlier a long order takes)
 
   -- what the machine's actor does, and what becomes of that at run time
   pub delta_goes : (said : TakerStep) (new : Runner) (result : Stepped) → TakerSteps taker words now new_words said → Lists taker now said
@@ -428,9 +462,26 @@ no_keys = tt
 no_units : AreUnits []
 no_units = record { ascending = no_keys; some = λ k d below. absurd (omega (arith, below)) }
 
+-- so it is before its first event
+opens_first : (shape : Dimensions) (known : MachineKnown) (taker : Taker) (stage : Stage) → OpensWith shape known taker stage → IsFirst stage
+opens_first shape known taker LoadingSingle opens = tt
+opens_first shape known taker (Walking LoadingFirst) opens = tt
+opens_first shape known taker (Walking (LoadingType at)) none = absurd none
+opens_first shape known taker (Walking (LoadingHistogram at)) none = absurd none
+opens_first shape known taker (Walking (LoadingValue at of)) none = absurd none
+opens_first shape known taker (Walking (LoadingNext at)) none = absurd none
+opens_first shape known taker (TakingPacked bucket units) none = absurd none
+opens_first shape known taker (LoadingCounts packed kept) none = absurd none
+opens_first shape known taker (LoadingCount mounted bucket) none = absurd none
+opens_first shape known taker (Raising mounted bucket total) none = absurd none
+opens_first shape known taker (LoadingSample at value) none = absurd none
+opens_first shape known taker (RaisingSample at value count) none = absurd none
+opens_first shape known taker LoadingSum none = absurd none
+opens_first shape known taker (Swapping sum) none = absurd none
+
 -- who rests begins it, which is no event
-module _ (shape : Dimensions) (version : ℕ) (known : Known) (old new : Runner) (starts : BeginsDelta version known old new) (i : ℕ)
-    (at : get_elem? old.known.items i ≡ some known) (bucketed : has_buckets known.spec ≡ true) (rests : old.running ≡ None) where
+module _ (shape : Dimensions) (version : ℕ) (known : Known) (old new : Runner) (starts : BeginsDelta shape version known old new) (i : ℕ)
+    (at : get_elem? old.known.items i ≡ some known) (rests : old.running ≡ None) where
   module _ (a : Actor) (run : IsRun shape version old a) (lawful : IsShape shape) (alone : known_at a.answers.names known.reference ≡ Some (known_of known)) where
     stood : IsFree a × IsQuiet (pending_by old) a
     stood = subst (λ running. StandsIn shape old.known.items (pending_by old) running a) rests run.stands
@@ -440,6 +491,34 @@ module _ (shape : Dimensions) (version : ℕ) (known : Known) (old new : Runner)
 
     abbrev taker : Taker
     taker = starts.taker
+
+    knows : Contains a.answers.names (known_of known)
+    knows = subst (λ (l : List MachineKnown). Contains l (known_of known)) run.names (contains_map known_of old.known.items known (contains_at old.known.items i known at))
+
+    -- of a histogram with buckets it stands before the single word, of a sparse one at the record
+    stands_first : (stage : Stage) → OpensWith shape (known_of known) taker stage → StandsAtStage shape (known_of known) a.deltas.taken taker a stage
+    stands_first LoadingSingle has = (stood.1.takes, refl, starts.started.none, has)
+    stands_first (Walking LoadingFirst) (sparse, room) = (
+      (stood.1.takes, refl, starts.started.none),
+      (
+        record { sparse = sparse; apart = free_apart a.hand.place stood.0; met = met_split a.seen.chain known.reference (run.met (known_of known) knows) },
+        λ b. subst (λ (l : List (ℤ × ℕ)). ListsValues (λ value sample. TookSample b sample) (λ sample units. 1 ≤ units) known.reference [] l b.seen)
+            (sym starts.started.none) (lists_nothing (λ value sample. TookSample b sample) (λ sample units. 1 ≤ units) known.reference b.seen),
+      ),
+      room,
+    )
+    stands_first (Walking (LoadingType at)) none = absurd none
+    stands_first (Walking (LoadingHistogram at)) none = absurd none
+    stands_first (Walking (LoadingValue at of)) none = absurd none
+    stands_first (Walking (LoadingNext at)) none = absurd none
+    stands_first (TakingPacked bucket units) none = absurd none
+    stands_first (LoadingCounts packed kept) none = absurd none
+    stands_first (LoadingCount mounted bucket) none = absurd none
+    stands_first (Raising mounted bucket total) none = absurd none
+    stands_first (LoadingSample at value) none = absurd none
+    stands_first (RaisingSample at value count) none = absurd none
+    stands_first LoadingSum none = absurd none
+    stands_first (Swapping sum) none = absurd none
 
     begins_taking : IsTaker shape (known_of known) a.deltas.taken taker a
     begins_taking = record {
@@ -452,13 +531,11 @@ module _ (shape : Dimensions) (version : ℕ) (known : Known) (old new : Runner)
       reference = sym starts.started.reference;
       within = subst (λ n. n + 15 ≤ shape.size) (sym starts.started.reference) its_known.within;
       lawful = its_known.lawful;
-      bucketed = bucketed;
       ranges = starts.started.ranges;
-      knows = subst (λ (l : List MachineKnown). Contains l (known_of known)) run.names (contains_map known_of old.known.items known (contains_at old.known.items i known at));
+      knows = knows;
       alone = alone;
       units = subst AreUnits (sym starts.started.none) no_units;
-      room = starts.started.room;
-      stands = subst (StandsAtStage (known_of known) a.deltas.taken taker a) (sym starts.started.stage) (stood.1.takes, refl, starts.started.none);
+      stands = stands_first taker.stage starts.started.opens;
     }
 
     quiet : IsQuiet (pending_by old) (apart_from_delta a)
@@ -477,23 +554,23 @@ module _ (shape : Dimensions) (version : ℕ) (known : Known) (old new : Runner)
       lawful = run.lawful;
       once = run.once;
       met = run.met;
-      stands = (quiet, (known_of known, a.deltas.taken, begins_taking, (starts.started.stage, starts.named)));
+      stands = (quiet, (known_of known, a.deltas.taken, begins_taking, (opens_first shape (known_of known) taker taker.stage starts.started.opens, starts.named)));
       room = tt;
       draft = (starts.room, starts.draft);
     })
 
 -- on a board
 module _ (old new : Board) (actor : ℕ) (r now : Runner) (here : get_elem? old.runners.items actor ≡ some r) (place : ℕ) (known : Known)
-    (at : get_elem? r.known.items place ≡ some known) (starts : BeginsDelta old.version known r now) where
+    (at : get_elem? r.known.items place ≡ some known) (starts : BeginsDelta old.shape old.version known r now) where
   pub delta_begins : r.running ≡ None → new.shape ≡ old.shape → new.version ≡ old.version → new.words ≡ old.words → new.units ≡ old.units
-      → new.runners.items ≡ set old.runners.items actor now → has_buckets known.spec ≡ true → (state : State) → IsReachedAs old state → IsReachedAs new state
-  delta_begins rests shaped versioned worded pooled runners bucketed =
+      → new.runners.items ≡ set old.runners.items actor now → (state : State) → IsReachedAs old state → IsReachedAs new state
+  delta_begins rests shaped versioned worded pooled runners =
       call_begins old new actor r now here place known at rests shaped versioned worded pooled runners
-      (begins_with old.shape old.version known r now starts place at bucketed rests)
+      (begins_with old.shape old.version known r now starts place at rests)
 
 -- so it is among the actors
-pub delta_begun : {version : ℕ} (runners : List Runner) (actor : ℕ) (r now : Runner) → get_elem? runners actor ≡ some r → (place : ℕ) (known : Known)
-    → get_elem? r.known.items place ≡ some known → BeginsDelta version known r now → (name : List ℕ) → known.name.items ≡ name
+pub delta_begun : {shape : Dimensions} {version : ℕ} (runners : List Runner) (actor : ℕ) (r now : Runner) → get_elem? runners actor ≡ some r → (place : ℕ) (known : Known)
+    → get_elem? r.known.items place ≡ some known → BeginsDelta shape version known r now → (name : List ℕ) → known.name.items ≡ name
     → (before behind : Runner) × (get_elem? runners actor ≡ some before) × (get_elem? (set runners actor now) actor ≡ some behind)
     × (behind.taken.items ≡ before.taken.items)
     × ((k : Known) × Contains behind.known.items k × (k.name.items ≡ name) × TakesOf k.reference behind.running)

@@ -3,6 +3,8 @@ pub mod Counts
 pub mod Going
 pub mod Lists
 pub mod Marks
+pub mod Samples
 pub mod Sights
 pub mod Singles
 pub mod Sums
+pub mod Values

@@ -10,7 +10,7 @@ use Rattle.hist_core.specs.declared.call.Stepped.{Stepped}
 use Rattle.hist_core.specs.declared.fault.WorldFault.{WorldFault}
 use Rattle.hist_core.specs.declared.fault.WorldFault.TheVariants.{NoMemory}
 use Rattle.hist_core.specs.Board.{BeginsFrom, IsNewBoard, IsReachedAs, OthersStay, Says, StepsTo}
-use Rattle.hist_core.specs.World.{world_checks, begin_checks, step_checks, BeginSays, CanBegin, TakesMemory}
+use Rattle.hist_core.specs.World.{world_checks, begin_checks, step_checks, BeginSays, TakesMemory}
 
 -- A move leads from a world to another: an actor begins a call, or goes on by one event. Nothing is wrong with it, and all other actors
 -- stay.
@@ -54,13 +54,3 @@ abbrev pub StopsWith : (size page id actors version : ℕ) → List Move → Wor
 StopsWith size page id actors version moves fault = MatchOption (first_fault (world_checks size page actors version))
     ((fault ≡ NoMemory) ⊎ ((first : Board) × IsNewBoard (record { size = size; page = page }) version id actors first × StopsAt moves first fault))
     (λ why. fault ≡ why)
-
--- the call of a move can begin so far
-abbrev pub CanMake : Move → Board → Type 0
-CanMake (Begin actor call) board = CanBegin actor board call
-CanMake (Step actor) board = ⊤
-
--- so it can wherever the moves before it lead
-abbrev pub CanMakeAll : List Move → Board → Type 0
-CanMakeAll [] board = ⊤
-CanMakeAll (move ∷ rest) board = CanMake move board × ((mid : Board) → Makes move board mid → CanMakeAll rest mid)

@@ -52,9 +52,8 @@ use Rattle.hist_core.specs.declared.hist.HistStep.TheVariants as hist
 use Rattle.hist_core.specs.declared.hist.Known.{Known}
 use Rattle.hist_core.specs.declared.entry.Entry.{Entry}
 use Rattle.hist_core.specs.declared.entry.Taken.{Taken}
-use Rattle.hist_core.specs.Taker.{AreUnits, HasBegun, insert_by_key, IsTaker, IsStarted as IsTakerStarted}
+use Rattle.hist_core.specs.Taker.{AreUnits, HasBegun, insert_by_key, IsFirst, IsTaker, IsStarted as IsTakerStarted}
 use Rattle.segment_calls.specs.declared.answer.Delta.{Delta as DeltaAnswer}
-use Rattle.hist_core.specs.declared.taker.Stage.TheVariants.{LoadingSingle}
 use Rattle.hist_core.specs.declared.taker.Taker.{Taker}
 use Rattle.hist_core.specs.declared.taker.TakerStep.{TakerStep}
 use Rattle.hist_core.specs.declared.taker.TakerStep.TheVariants as take_step
@@ -152,7 +151,7 @@ HasDraft running taken = ⊤
 
 -- the name that it is to be shown with stands ready until then
 abbrev pub IsTimely : MachineKnown → Taker → Option Taken → Type 0
-IsTimely known taker (Some fresh) = (taker.stage ≡ LoadingSingle) × (fresh.name.items ≡ known.name)
+IsTimely known taker (Some fresh) = IsFirst taker.stage × (fresh.name.items ≡ known.name)
 IsTimely known taker None = HasBegun taker.stage
 
 -- ---- what it stands for
@@ -511,10 +510,10 @@ IsDeltaSaid taker fresh old said new result =
     × (new ≡ record old { taken = new.taken; running = Some (Delta taker None) }) × (result ≡ More)
 
 -- It begins a `delta` of a known histogram. What it is to be shown as stands ready, with room for it.
-pub record BeginsDelta (version : ℕ) (known : Known) (old new : Runner) : Type 0 where
+pub record BeginsDelta (shape : Dimensions) (version : ℕ) (known : Known) (old new : Runner) : Type 0 where
   pub taker : Taker
   pub fresh : Taken
-  pub started : IsTakerStarted version (known_of known) taker
+  pub started : IsTakerStarted shape version (known_of known) taker
   pub named : fresh.name.items ≡ known.name.items
   pub draft : IsDraft taker fresh
   pub taken : new.taken.items ≡ old.taken.items

@@ -1,7 +1,6 @@
 -- What a world shows, and why it takes no move.
-use Rattle.std.specs.List.{list_any, Contains}
+use Rattle.std.specs.List.{list_any}
 use Rattle.std.specs.Str.{bytes_eq}
-use Rattle.segment_machine.specs.Actor.{has_buckets}
 use Rattle.hist_core.specs.declared.hist.Known.{Known}
 use Rattle.std.specs.Prelude.{◌≡◌, Bool, true, false, not, ◌&&◌, ◌||◌, ◌==◌, nat_lt, nat_le, ℕ, List, [], ◌∷◌, vec_len, is_some, Ok, ⊤}
 use mathlib.Core.Option.{Option, some, none}
@@ -86,21 +85,6 @@ abbrev pub step_checks : Board → ℕ → List (Bool × WorldFault)
 step_checks board actor = (nat_le (vec_len board.runners) actor, NoActor) ∷ (rests (get_elem? board.runners.items actor), Idle) ∷ []
 
 -- ---- the begin of a call
-
--- the histogram of a name that an actor knows has buckets
-abbrev pub IsBucketed : ℕ → Board → List ℕ → Type 0
-IsBucketed actor board name =
-    (runner : Runner) (known : Known) → get_elem? board.runners.items actor ≡ some runner → Contains runner.known.items known → known.name.items ≡ name
-    → has_buckets known.spec ≡ true
-
--- The calls that can begin so far. An `add`, a `delta` and a `batch` are of a histogram with buckets.
-abbrev pub CanBegin : ℕ → Board → Call → Type 0
-CanBegin actor board (Hist name spec) = ⊤
-CanBegin actor board SetCorrupt = ⊤
-CanBegin actor board (Snapshot name) = ⊤
-CanBegin actor board (Add name value count) = ⊤
-CanBegin actor board (Delta name) = IsBucketed actor board name.items
-CanBegin actor board (Batch name items sum) = ⊤
 
 -- a call for whose begin there may be no memory
 abbrev pub TakesMemory : Call → Type 0

@@ -291,7 +291,6 @@ impl Board {
         requires reached { ∥ IsReached self.old ∥₁ }
         requires near { actor < vec_len self.old.runners }
         requires rests { Rests self.old actor }
-        requires bucketed { (known : Known) → IsKnownBy self.old actor place known → has_buckets known.spec ≡ true }
         requires known { (name : List ℕ) × IsPlaceOf self.old actor name place }
         ensures fault { OnErr result (IsAsBefore self.old self.new) }
         ensures begins { (state : State) → IsReachedAs self.old state → IsReachedAs self.new state }
@@ -299,7 +298,7 @@ impl Board {
         ensures says { IfOk result (λ said. (name : List ℕ) → IsPlaceOf self.old actor name place → DeltaBegins actor name self.old self.new said) }
     {
         let runner = &mut self.runners[actor];
-        runner.begin_delta(self.alloc, self.version, place)?;
+        runner.begin_delta(self.alloc, self.shape, self.version, place)?;
         Ok(Begun::Going)
     }
 

@@ -119,14 +119,6 @@ impl Runner {
         Ok(Begun::Going)
     }
 
-    // Whether each histogram of a name that it knows has buckets.
-    pub(crate) fn is_bucketed(&self, name: &[u8]) -> bool
-        requires ranges { All (λ known. known.ranges ≡ boundaries_of known.spec) self.now.known.items }
-        ensures { result ≡ true → (known : Known) → Contains self.now.known.items known → known.name.items ≡ name.now → has_buckets known.spec ≡ true }
-    {
-        self.known.iter().all(|known| known.name.as_slice() != name || known.ranges.len() > 0)
-    }
-
     // The units of the pool that its running call would give back.
     pub(crate) fn held(&self) -> u64
         ensures units { result ≡ held_by self.now.running }
@@ -292,17 +284,17 @@ impl Runner {
     pub(crate) fn begin_delta(
         &mut self,
         alloc: Global,
+        shape: Shape,
         version: u64,
         i: usize,
     ) -> Result<(), AllocError>
         requires near { i < vec_len self.old.known }
         requires lawful { (known : Known) → get_elem? self.old.known.items i ≡ some known → spec_fault known.spec ≡ None }
-        requires bucketed { (known : Known) → get_elem? self.old.known.items i ≡ some known → has_buckets known.spec ≡ true }
-        ensures begins { IfOk result (λ _. (known : Known) → get_elem? self.old.known.items i ≡ some known → BeginsDelta version known self.old self.new) }
+        ensures begins { IfOk result (λ _. (known : Known) → get_elem? self.old.known.items i ≡ some known → BeginsDelta shape version known self.old self.new) }
         ensures fails { OnErr result (IsAsItWas self.old self.new) }
     {
         let known = &self.known[i];
-        let taker = Taker::start(alloc, version, known)?;
+        let taker = Taker::start(alloc, shape, version, known)?;
         let fresh = Taken {
             name: Vec::from_slice(alloc, &known.name)?,
             counts: Vec::with_capacity(alloc, taker.counts.capacity())?,

@@ -1,15 +1,17 @@
-//! A delta that is going on: it takes of each bucket of a histogram the units that no delta has taken yet, and of the sum what
+//! A delta that is going on: it takes of each bucket or sample of a histogram the units that no delta has taken yet, and of the sum what
 //! is new.
 
 use crate::counting::{fetch_max, swap};
 use crate::hist::Known;
 use crate::mounted::Mounted;
 use crate::samples::list_by_key;
+use crate::walk::{Met, Walk};
 use bucket_ranges::Ranges;
 use segment_calls::packing::{DISABLED_BIT, packed_in};
+use segment_image::Shape;
 use segment_image::layout::{
-    BLOCK_HEADER, HISTOGRAM_COUNTS, HISTOGRAM_SINGLE, HISTOGRAM_SINGLE_MARK, HISTOGRAM_SUM,
-    HISTOGRAM_SUM_MARK,
+    BLOCK_HEADER, BLOCK_LEAST, HEADER_WORDS, HISTOGRAM_COUNTS, HISTOGRAM_SINGLE,
+    HISTOGRAM_SINGLE_MARK, HISTOGRAM_SUM, HISTOGRAM_SUM_MARK, SAMPLE_COUNT, SAMPLE_MARK,
 };
 use std::alloc::{AllocError, Global};
 
@@ -39,6 +41,21 @@ pub(crate) enum Stage {
         bucket: usize,
         total: u64,
     },
+    /// It walks along the samples of a sparse histogram.
+    Walking {
+        walk: Walk,
+    },
+    /// It loads the count of a sample.
+    LoadingSample {
+        at: u64,
+        value: i32,
+    },
+    /// It raises the mark of a sample to its count.
+    RaisingSample {
+        at: u64,
+        value: i32,
+        count: u64,
+    },
     /// It loads the sum.
     LoadingSum,
     /// It swaps the sum into the sum mark.
@@ -58,35 +75,53 @@ pub(crate) enum TakerStep {
     Done(i64),
 }
 
-/// A delta of a histogram with buckets that is going on.
+/// A delta that is going on.
 #[derive(Debug, Drop)]
 pub(crate) struct Taker {
     pub(crate) version: u64,
     // The histogram's record, and the ranges of its buckets.
     pub(crate) histogram: u64,
     pub(crate) ranges: Ranges,
-    // The keys of which it took units so far, each with how many. There is room for all buckets.
+    // The keys of which it took units so far, each with how many. There is room for all buckets, or for as many values as fit in the
+    // segment.
     pub(crate) counts: Vec<(i32, u64)>,
     pub(crate) stage: Stage,
 }
 
 impl Taker {
-    ghost use Rattle.std.specs.Prelude.{◌≡◌, ◌≤◌, ◌<◌, ◌+◌, length, vec_len, vec_capacity, true, None, IfOk};
+    ghost use Rattle.std.specs.Prelude.{◌≡◌, ◌≤◌, ◌<◌, ◌+◌, length, vec_len, vec_capacity, None, IfOk};
     ghost use Rattle.bucket_ranges.specs.Spec.{spec_fault};
-    ghost use Rattle.segment_machine.specs.Actor.{has_buckets};
     ghost use Rattle.hist_core.specs.Runner.{known_of};
-    ghost use Rattle.hist_core.specs.declared.taker.Stage.TheVariants.{LoadingSingle, TakingPacked, LoadingCounts, LoadingCount, Raising, LoadingSum, Swapping};
-    ghost use Rattle.hist_core.specs.Taker.{IsSomeTaker, IsStarted, TakerSteps, Lists, IsBehindSingle, HasBegun, behind_bucket, IsTaken, TakesUnits, mark_of};
+    ghost use Rattle.hist_core.specs.declared.taker.Stage.TheVariants.{LoadingSingle, TakingPacked, LoadingCounts, LoadingCount, Raising, Walking, LoadingSample, RaisingSample, LoadingSum, Swapping};
+    ghost use Rattle.hist_core.specs.Taker.{IsSomeTaker, IsStarted, TakerSteps, Lists, IsBehindSingle, HasBegun, behind_bucket, behind_sample, behind_walk, IsTaken, TakesUnits, mark_of};
 
-    // It begins to take of a known histogram with buckets: it loads the single word. There is room for all buckets.
-    pub(crate) fn start(alloc: Global, version: u64, known: &Known) -> Result<Taker, AllocError>
+    // It begins to take of a known histogram: it loads the single word, or, where the histogram is sparse, the next of its record. There
+    // is room for all keys.
+    pub(crate) fn start(
+        alloc: Global,
+        shape: Shape,
+        version: u64,
+        known: &Known,
+    ) -> Result<Taker, AllocError>
         requires lawful { spec_fault known.now.spec ≡ None }
-        requires bucketed { has_buckets known.now.spec ≡ true }
-        ensures { IfOk result (IsStarted version (known_of known.now)) }
+        ensures { IfOk result (IsStarted shape version (known_of known.now)) }
     {
         let Ok(ranges) = Ranges::of(alloc, &known.spec) else {
             return Err(AllocError);
         };
+        if ranges.len() == 0 {
+            let most = (shape.size() as usize - HEADER_WORDS) / BLOCK_LEAST;
+            let counts = Vec::with_capacity(alloc, most)?;
+            return Ok(Taker {
+                version,
+                histogram: known.reference,
+                ranges,
+                counts,
+                stage: Stage::Walking {
+                    walk: Walk::LoadingFirst,
+                },
+            });
+        }
         let counts = Vec::with_capacity(alloc, ranges.len())?;
         Ok(Taker {
             version,
@@ -255,6 +290,77 @@ impl Taker {
         self.take_bucket(bucket, total, mark)
     }
 
+    // What its walk met leads to: it goes on, or to the count of a sample, or at the end of the list to the sum.
+    fn behind_walk(met: Met) -> Stage
+        ensures { result ≡ behind_walk met }
+    {
+        match met {
+            Met::Nothing(walk) => Stage::Walking { walk },
+            Met::Sample { at, value } => Stage::LoadingSample { at, value },
+            Met::End => Stage::LoadingSum,
+        }
+    }
+
+    // It walks on.
+    fn walk_on(&mut self, words: &[u64], walk: Walk) -> TakerStep
+        requires loads { self.old.stage ≡ Walking walk }
+        requires stands { ∥ IsSomeTaker (length words.now) self.old ∥₁ }
+        ensures steps { TakerSteps self.old words.now self.new words.now result }
+        ensures lists { Lists self.old self.new result }
+        ensures room { vec_capacity self.new.counts ≡ vec_capacity self.old.counts }
+        ensures begun { HasBegun self.new.stage }
+        ensures of { self.new.histogram ≡ self.old.histogram }
+    {
+        let met = walk.step(self.histogram, words);
+        self.stage = Taker::behind_walk(met);
+        TakerStep::More
+    }
+
+    // What the count of a sample leads to: its mark is raised next where it has units.
+    fn behind_sample(at: u64, value: i32, count: u64) -> Stage
+        ensures { result ≡ behind_sample at value count }
+    {
+        if count == 0 {
+            Stage::Walking {
+                walk: Walk::LoadingNext { at },
+            }
+        } else {
+            Stage::RaisingSample { at, value, count }
+        }
+    }
+
+    // It loads the count of a sample of its histogram.
+    fn load_sample(&mut self, words: &[u64], at: u64, value: i32) -> TakerStep
+        requires loads { self.old.stage ≡ LoadingSample at value }
+        requires stands { ∥ IsSomeTaker (length words.now) self.old ∥₁ }
+        ensures steps { TakerSteps self.old words.now self.new words.now result }
+        ensures lists { Lists self.old self.new result }
+        ensures room { vec_capacity self.new.counts ≡ vec_capacity self.old.counts }
+        ensures begun { HasBegun self.new.stage }
+        ensures of { self.new.histogram ≡ self.old.histogram }
+    {
+        let count = words[at as usize + SAMPLE_COUNT];
+        self.stage = Taker::behind_sample(at, value, count);
+        TakerStep::More
+    }
+
+    // It raises the mark of a sample to its count.
+    fn raise_sample(&mut self, words: &mut [u64], at: u64, value: i32, count: u64) -> TakerStep
+        requires raises { self.old.stage ≡ RaisingSample at value count }
+        requires stands { ∥ IsSomeTaker (length words.old) self.old ∥₁ }
+        ensures steps { TakerSteps self.old words.old self.new words.new result }
+        ensures lists { Lists self.old self.new result }
+        ensures room { vec_capacity self.new.counts ≡ vec_capacity self.old.counts }
+        ensures begun { HasBegun self.new.stage }
+        ensures of { self.new.histogram ≡ self.old.histogram }
+    {
+        let mark = fetch_max(words, at as usize + SAMPLE_MARK, count);
+        self.stage = Stage::Walking {
+            walk: Walk::LoadingNext { at },
+        };
+        self.take(value, count, mark)
+    }
+
     // It loads the sum.
     fn load_sum(&mut self, words: &[u64]) -> TakerStep
         requires loads { self.old.stage ≡ LoadingSum }
@@ -304,6 +410,11 @@ impl Taker {
                 bucket,
                 total,
             } => self.raise(words, mounted, bucket, total),
+            Stage::Walking { walk } => self.walk_on(words, walk),
+            Stage::LoadingSample { at, value } => self.load_sample(words, at, value),
+            Stage::RaisingSample { at, value, count } => {
+                self.raise_sample(words, at, value, count)
+            }
             Stage::LoadingSum => self.load_sum(words),
             Stage::Swapping { sum } => self.swap_sum(words, sum),
         }

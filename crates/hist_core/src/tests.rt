@@ -110,7 +110,7 @@ fn at_once(begun: &Begun) -> Result<u64, u32> {
 // The cookie of a claimed block.
 const CLAIMED: u64 = 0xC879_9269;
 
-// An actor begins to count a value. `Idle` where that is no call that can begin so far.
+// An actor begins to count a value.
 fn count(
     world: &mut World,
     alloc: Global,
@@ -120,9 +120,6 @@ fn count(
     units: u32,
 ) -> Result<Begun, WorldFault> {
     let call = Call::Add(Vec::from_slice(alloc, name)?, value, units);
-    if !world.can_begin(actor, &call) {
-        return Err(WorldFault::Idle);
-    }
     world.begin(actor, &call)
 }
 
@@ -162,12 +159,9 @@ fn with_boolean(alloc: Global, version: u64) -> Result<World, WorldFault> {
     Ok(world)
 }
 
-// An actor begins to take of `A`. `Idle` where that is no call that can begin so far.
+// An actor begins to take of `A`.
 fn take(world: &mut World, alloc: Global, actor: usize) -> Result<Begun, WorldFault> {
     let call = Call::Delta(Vec::from_slice(alloc, b"A")?);
-    if !world.can_begin(actor, &call) {
-        return Err(WorldFault::Idle);
-    }
     world.begin(actor, &call)
 }
 
@@ -183,8 +177,5 @@ fn batch(
         Vec::from_slice(alloc, items)?,
         sum,
     );
-    if !world.can_begin(0, &call) {
-        return Err(WorldFault::Idle);
-    }
     world.begin(0, &call)
 }

@@ -29,8 +29,8 @@ impl World {
     ghost use Rattle.alloc_core.specs.Layout.{IsShape};
     ghost use Rattle.segment_machine.specs.State.{State};
     ghost use Rattle.hist_core.specs.Board.{IsReachedAs, IsNewBoard, BeginsFrom, StepsTo, IsAsBefore, OthersStay, Says, IsConsistentAs, IsReadAs, AreKnownFirst};
-    ghost use Rattle.hist_core.specs.Moves.{CanMake, Makes, FaultsAt};
-    ghost use Rattle.hist_core.specs.World.{world_checks, begin_checks, CanBegin, TakesMemory, BeginSays, step_checks, ended_of, begun_of, taken_of};
+    ghost use Rattle.hist_core.specs.Moves.{Makes, FaultsAt};
+    ghost use Rattle.hist_core.specs.World.{world_checks, begin_checks, TakesMemory, BeginSays, step_checks, ended_of, begun_of, taken_of};
 
     /// A new segment of `size` words in pages of `page` words, of version 1 or 2, with so many actors that have done nothing.
     ///
@@ -110,20 +110,8 @@ impl World {
         &runner.entries[..runner.ended]
     }
 
-    /// Whether a call of an actor is one that can begin so far.
-    pub fn can_begin(&self, actor: usize, call: &Call) -> bool
-        ensures { result ≡ true → CanBegin actor self.now.board call.now }
-    {
-        match call {
-            Call::Delta(name) => {
-                actor >= self.board.runners.len() || self.board.runners[actor].is_bucketed(name)
-            }
-            _ => true,
-        }
-    }
-
     /// An actor begins a call, which asks for a histogram, counts a value or a batch, takes of a histogram or looks at it, or marks the
-    /// segment as corrupt. A `Delta` of a sparse histogram is to come: `can_begin` tells whether it is none.
+    /// segment as corrupt.
     ///
     /// `NoActor` where there is no such actor, then `Busy` where a call of it is going on, then `Unknown` where the call is of a
     /// histogram and no `Hist` of the actor was answered with one of that name, then `NoMemory`. Where the call needs no event it
@@ -133,7 +121,6 @@ impl World {
     /// takes its units with its begin, and gives them back where it is refused later. A `Batch` costs the units of its items, and
     /// no fewer than its sum has times 2^31 in size, rounded up. No word of the segment changes.
     pub fn begin(&mut self, actor: usize, call: &Call) -> Result<Begun, WorldFault>
-        requires { CanBegin actor self.old.board call.now }
         ensures faults { MatchOption (first_fault (begin_checks self.old.board actor call.now)) (IfErr result (λ fault. (fault ≡ WorldFault.NoMemory) × TakesMemory call.now)) (λ fault. result ≡ Err fault) }
         ensures fault { OnErr result (IsAsBefore self.old.board self.new.board) }
         ensures begins { (state : State) → IsReachedAs self.old.board state → BeginsFrom state actor self.new.board }
@@ -207,7 +194,6 @@ impl World {
 
     // Makes a move: an actor begins a call, or goes on with it by one event.
     fn make(&mut self, step: &Move) -> Result<(), WorldFault>
-        requires { CanMake step.now self.old.board }
         ensures makes { OnOk result (Makes step.now self.old.board self.new.board) }
         ensures faults { IfErr result (FaultsAt step.now self.old.board) }
     {
@@ -236,13 +222,9 @@ impl World {
 }
 
 ghost use Rattle.std.specs.Prelude.{IfOk, IfErr};
-ghost use Rattle.hist_core.specs.declared.board.Board.{Board as WorldBoard};
-ghost use Rattle.hist_core.specs.Board.{IsNewBoard};
-ghost use Rattle.hist_core.specs.Moves.{CanMakeAll, LeadsTo, StopsWith};
+ghost use Rattle.hist_core.specs.Moves.{LeadsTo, StopsWith};
 
 /// The world after these moves, one after the other. It stops at the first fault, that of `World::new` or of a move.
-///
-/// Each call has to be one that can begin so far, wherever the moves before it lead: `World::can_begin` tells.
 pub fn run_schedule(
     alloc: Global,
     size: u64,
@@ -252,7 +234,6 @@ pub fn run_schedule(
     version: u64,
     moves: &[Move],
 ) -> Result<World, WorldFault>
-    requires { (first : WorldBoard) → IsNewBoard (record { size = size; page = page }) version id actors first → CanMakeAll moves.now first }
     ensures world { IfOk result (λ world. LeadsTo size page id actors version moves.now world.board) }
     ensures fault { IfErr result (StopsWith size page id actors version moves.now) }
 {

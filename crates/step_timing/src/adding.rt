@@ -34,10 +34,6 @@ fn finish(world: &mut World) -> Result<u64> {
 
 // The actor makes a call from its begin to its end.
 fn make(world: &mut World, call: &Call) -> Result<u64> {
-    // Calls on a sparse histogram are to come.
-    if !world.can_begin(0, call) {
-        bail!("the call cannot begin");
-    }
     match world.begin(0, call)? {
         Begun::Going => finish(world),
         Begun::Ended(_) => bail!("a call needed no event"),

@@ -5,7 +5,7 @@ ghost use Rattle.stepped.specs.Replay.{IsChange};
 
 use crate::fault::ReplayFault;
 use crate::lines::{Change, Place, show_answer, show_begin, show_step};
-use hist_core::{Answer, Begun, Call, Stepped, World, WorldFault};
+use hist_core::{Answer, Begun, Call, Stepped, World};
 use schedule::{Opening, Order, OrderKind};
 use std::alloc::Global;
 use std::io::Write;
@@ -78,10 +78,6 @@ impl Replay {
         place: Place,
         call: &Call,
     ) -> Result<(), ReplayFault> {
-        // Calls on a sparse histogram are to come.
-        if !self.world.can_begin(place.actor, call) {
-            return Err(ReplayFault::World(place.record, WorldFault::Unknown));
-        }
         let begun = self
             .world
             .begin(place.actor, call)

@@ -39,7 +39,7 @@ use Rattle.hist_core.specs.declared.taker.Taker.{Taker}
 use Rattle.hist_core.specs.declared.taker.TakerStep.TheVariants.{More}
 use Rattle.hist_core.specs.Goes.{Goes}
 use Rattle.hist_core.specs.Mounted.{AreMounted, HasLoaded, HasWord, look_at, total_at}
-use Rattle.hist_core.specs.Taker.{AreBelow, IsSomeTaker, IsTaker, IsUnderWay, StandsAtStage, TakerGives, TakesAside, behind_bucket}
+use Rattle.hist_core.specs.Taker.{AreBelow, HasBuckets, IsSomeTaker, IsTaker, IsUnderWay, StandsAtStage, TakerGives, TakesAside, behind_bucket}
 use Rattle.hist_core.proofs.Looks.{looks_again}
 use Rattle.hist_core.proofs.Takes.Going.{acts_on, buckets_are, goes_still, knows_it, same_way, split, taking_sees}
 use Rattle.hist_core.proofs.Takes.Sights.{mounted_still, seen_here, took_bucket}
@@ -175,32 +175,33 @@ module _ (shape : Dimensions) (known : Known) (earlier : List Taken) (taker : Ta
   -- behind a bucket
   pub stands_behind : (mounted : Mounted) (word bucket : ℕ) (new : Taker) (b : Actor) → new.ranges ≡ taker.ranges → new.stage ≡ behind_bucket taker mounted bucket
       → IsUnderWay known earlier new b → bucket < buckets_of known.spec → ((i : ℕ) → i < bucket + 1 → TookBucket b known i)
-      → AreBelow known (bucket + 1) new.counts.items → length new.counts.items ≤ bucket + 1 → AreMounted known mounted word b
-      → StandsAtStage known earlier new b new.stage
-  stands_behind mounted word bucket new b ranges stage way inside took below few_units are =
-      subst (StandsAtStage known earlier new b) (sym stage) (by (nat_lt (bucket + 1) (length taker.ranges - 1)) refl)
+      → AreBelow known (bucket + 1) new.counts.items → length new.counts.items ≤ bucket + 1 → AreMounted known mounted word b → HasBuckets known new
+      → StandsAtStage shape known earlier new b new.stage
+  stands_behind mounted word bucket new b ranges stage way inside took below few_units are has =
+      subst (StandsAtStage shape known earlier new b) (sym stage) (by (nat_lt (bucket + 1) (length taker.ranges - 1)) refl)
     where
       by : (test : Bool) → nat_lt (bucket + 1) (length taker.ranges - 1) ≡ test
-          → StandsAtStage known earlier new b (if test then LoadingCount mounted (bucket + 1) else LoadingSum)
+          → StandsAtStage shape known earlier new b (if test then LoadingCount mounted (bucket + 1) else LoadingSum)
       by true lt = (
         way,
         record {
           took = took;
           below = below;
           few = few_units;
-          inside = let under = ltb-true (bucket + 1) (length taker.ranges - 1) lt in let count = buckets_are shape known earlier taker a is in omega (arith, under, count);
+          inside = let under = ltb-true (bucket + 1) (length taker.ranges - 1) lt in let count = buckets_are shape known earlier taker a is has.0 in omega (arith, under, count);
         },
         (word, are),
+        has,
       )
       by false ge = (
         way,
-        λ i lt. took i (let over = ltb-false (bucket + 1) (length taker.ranges - 1) ge in let count = buckets_are shape known earlier taker a is in omega (arith, over, count, lt)),
+        inl (has.0, λ i lt. took i (let over = ltb-false (bucket + 1) (length taker.ranges - 1) ge in let count = buckets_are shape known earlier taker a is has.0 in omega (arith, over, count, lt))),
       )
 
   -- it has loaded the counts reference
   module _ (packed : Option ℕ) (kept : ℕ) (loads : taker.stage ≡ LoadingCounts packed kept) where
-    before_counts : StandsAtStage known earlier taker a (LoadingCounts packed kept)
-    before_counts = subst (StandsAtStage known earlier taker a) loads is.stands
+    before_counts : StandsAtStage shape known earlier taker a (LoadingCounts packed kept)
+    before_counts = subst (StandsAtStage shape known earlier taker a) loads is.stands
 
     pub loads_counts : (counts : ℕ) → counts ≡ word_at words (taker.histogram + 8)
         → let new : Taker = record taker { stage = LoadingCount (record { counts = counts; packed = packed; kept = kept }) 0 } in
@@ -226,7 +227,7 @@ module _ (shape : Dimensions) (known : Known) (earlier : List Taken) (taker : Ta
           at = a;
           told = refl;
           event = event;
-          ready = (is.turns, (known, knows_it shape known earlier taker a is));
+          ready = (is.turns, (known, knows_it shape known earlier taker a is before_counts.4.0));
           words_are = sym (set-get_or words (known.reference + 8) 0);
           goes = λ learned apart. (
             [],
@@ -245,9 +246,10 @@ module _ (shape : Dimensions) (known : Known) (earlier : List Taken) (taker : Ta
                 (
                   before_counts.3.0,
                   subst (λ (n : ℕ). AreMounted known (record { counts = n; packed = packed; kept = kept }) before_counts.3.0 acted) same
-                      (are_mounted known before_counts.3.0 a before_counts.3.1 before_counts.3.2 (knows_it shape known earlier taker a is) found packed kept
+                      (are_mounted known before_counts.3.0 a before_counts.3.1 before_counts.3.2 (knows_it shape known earlier taker a is before_counts.4.0) found packed kept
                       (subst (λ (v : ℕ). SaysPacked v (buckets_of known.spec) before_counts.3.0 packed kept) (sym is.version) before_counts.3.3) before_counts.2 learned),
                 ),
+                before_counts.4,
               ),
             ),
           );
@@ -258,15 +260,15 @@ module _ (shape : Dimensions) (known : Known) (earlier : List Taken) (taker : Ta
           where
             by : (n : ℕ) → buckets_of known.spec ≡ n → 0 < n
             by zero none =
-                let both = split shape known earlier taker a is in
+                let both = split shape known earlier taker a is before_counts.4.0 in
                 let first = both.first in let last = both.last in let same = ap (slice_index (boundaries_of known.spec)) none in
                 absurd (omega (arith, first, last, same))
             by (suc n) e = omega arith
 
   -- it has loaded the count of a bucket
   module _ (mounted : Mounted) (bucket : ℕ) (loads : taker.stage ≡ LoadingCount mounted bucket) where
-    stands : StandsAtStage known earlier taker a (LoadingCount mounted bucket)
-    stands = subst (StandsAtStage known earlier taker a) loads is.stands
+    stands : StandsAtStage shape known earlier taker a (LoadingCount mounted bucket)
+    stands = subst (StandsAtStage shape known earlier taker a) loads is.stands
 
     abbrev word : ℕ
     word = stands.2.0
@@ -284,7 +286,7 @@ module _ (shape : Dimensions) (known : Known) (earlier : List Taken) (taker : Ta
     count_inside n long =
         let inside = stands.1.inside in
         let within = subst (λ s. mounted.counts + (4 + 2 * buckets_of known.spec) ≤ s.size) is.segment are.within in
-        let count = buckets_are shape known earlier taker a is in (omega (arith, inside, within, long), omega (arith, inside, count))
+        let count = buckets_are shape known earlier taker a is stands.3.0 in (omega (arith, inside, within, long), omega (arith, inside, count))
 
     took_before : (i : ℕ) → i < bucket → TookBucket acted known i
     took_before i lt = took_bucket a acted (taking_sees a (load_count (mounted.counts + 4 + bucket)) found) are.began known i (stands.1.took i lt)
@@ -312,7 +314,7 @@ module _ (shape : Dimensions) (known : Known) (earlier : List Taken) (taker : Ta
         (0, subst (SawBucket acted known bucket) (sym (units_are learned.0) ∙ none) (saw_total known mounted word a are bucket stands.1.inside found), inl refl))
         (λ apart. took_before i (omega (arith, lt, apart))))
         (below_on taker.counts.items stands.1.below) (let few_now = stands.1.few in omega (arith, few_now))
-        (still_mounted known mounted word a are bucket stands.1.inside found)))
+        (still_mounted known mounted word a are bucket stands.1.inside found) stands.3))
       where
         below_on : (counts : List (ℤ × ℕ)) → AreBelow known bucket counts → AreBelow known (bucket + 1) counts
         below_on counts below = still_below known bucket counts below
@@ -334,6 +336,7 @@ module _ (shape : Dimensions) (known : Known) (earlier : List Taken) (taker : Ta
             still_mounted known mounted word a are bucket stands.1.inside found,
             loaded_so known mounted word a are bucket stands.1.inside found total (is_total ∙ units_are learned.0),
           ),
+          stands.3,
         ))
 
 -- the count of a bucket lies within the words

@@ -1,12 +1,14 @@
 -- A delta goes on by one event of its actor.
-use Rattle.std.proofs.Common.{◌≡◌, ℕ, ◌+◌, ◌-◌, ◌≤◌, true≢false, List, [], length, refl, sym, ap, ◌∙◌, subst, arith}
-use Rattle.std.specs.Prelude.{vec_capacity}
+use Rattle.std.proofs.Common.{◌≡◌, ℕ, ◌+◌, ◌-◌, ◌≤◌, true, true≢false, List, [], length, refl, sym, ap, ◌∙◌, subst, arith}
+use Rattle.std.specs.Prelude.{None, vec_capacity}
 use Rattle.std.proofs.Props.{props}
 use Rattle.std.proofs.Math.Logic.{∥∥₁_elim}
 use Rattle.std.specs.List.{Contains}
 use Rattle.std.proofs.lemmas.List.{append-nil}
 use Rattle.bucket_ranges.specs.Ranges.{IsSplit, boundaries_of}
-use Rattle.bucket_ranges.specs.Spec.{buckets_of}
+use Rattle.bucket_ranges.specs.Spec.{buckets_of, spec_fault}
+use Rattle.bucket_ranges.specs.declared.spec.Spec.{Spec}
+use Rattle.bucket_ranges.specs.declared.spec.Spec.TheVariants as spec
 use Rattle.bucket_ranges.proofs.Ascent.{boundaries_of-split}
 use Rattle.segment_image.specs.Shape.{Dimensions}
 use Rattle.segment_image.specs.Words.{word_at}
@@ -75,20 +77,18 @@ module _ (shape : Dimensions) (known : Known) (earlier : List Taken) (taker : Ta
   is_inside n long =
       let within = is.within in let many = is.lawful_shape.many in (omega (arith, long, within), omega (arith, long, many))
 
-  pub knows_it : Buckets a known.reference known
-  knows_it = (is.knows, refl, is.bucketed)
+  module _ (bucketed : has_buckets known.spec ≡ true) where
+    pub knows_it : Buckets a known.reference known
+    knows_it = (is.knows, refl, bucketed)
 
-  pub split : IsSplit (buckets_of known.spec) (boundaries_of known.spec)
-  split = boundaries_of-split known.spec is.lawful (λ sparse. true≢false (sym is.bucketed ∙ ap has_buckets sparse))
+    pub split : IsSplit (buckets_of known.spec) (boundaries_of known.spec)
+    split = boundaries_of-split known.spec is.lawful (λ sparse. true≢false (sym bucketed ∙ ap has_buckets sparse))
 
-  pub buckets_are : length taker.ranges - 1 ≡ buckets_of known.spec
-  buckets_are = let count = split.count in let long = ap length is.ranges in omega (arith, count, long)
+    pub buckets_are : length taker.ranges - 1 ≡ buckets_of known.spec
+    buckets_are = let count = split.count in let long = ap length is.ranges in omega (arith, count, long)
 
-  pub long_ranges : length taker.ranges ≡ buckets_of known.spec + 1
-  long_ranges = let count = split.count in let long = ap length is.ranges in omega (arith, count, long)
-
-  pub few : buckets_of known.spec ≤ 1000
-  few = few_buckets known.spec is.lawful
+    pub long_ranges : length taker.ranges ≡ buckets_of known.spec + 1
+    long_ranges = let count = split.count in let long = ap length is.ranges in omega (arith, count, long)
 
   -- it takes the histogram
   pub takes_it : IsUnderWay known earlier taker a → Takes a known.reference known
@@ -96,7 +96,7 @@ module _ (shape : Dimensions) (known : Known) (earlier : List Taken) (taker : Ta
 
   -- it goes on from another stage, and may have taken more
   pub goes_still : (new : Taker) (b : Actor) → IsSame taker new → TakesAside a b → MayTurn b → AreUnits new.counts.items
-      → StandsAtStage known earlier new b new.stage → IsTaker shape known earlier new b
+      → StandsAtStage shape known earlier new b new.stage → IsTaker shape known earlier new b
   goes_still new b same aside turns units stands = record {
     segment = ap (λ s. s.shape) aside.segment ∙ is.segment;
     version = ap (λ s. s.version) aside.segment ∙ (is.version ∙ sym same.version);
@@ -107,12 +107,10 @@ module _ (shape : Dimensions) (known : Known) (earlier : List Taken) (taker : Ta
     reference = is.reference ∙ sym same.histogram;
     within = subst (λ (h : ℕ). h + 15 ≤ shape.size) (sym same.histogram) is.within;
     lawful = is.lawful;
-    bucketed = is.bucketed;
     ranges = same.ranges ∙ is.ranges;
     knows = subst (λ (l : List Known). Contains l known) (sym aside.names) is.knows;
     alone = ap (λ (l : List Known). known_at l known.reference) aside.names ∙ is.alone;
     units = units;
-    room = subst (λ (n : ℕ). buckets_of known.spec ≤ n) (sym same.room) is.room;
     stands = stands;
   }
 
@@ -128,7 +126,7 @@ module _ (shape : Dimensions) (known : Known) (earlier : List Taken) (taker : Ta
     acted = next a event found
 
     pub acts_on : Ready a event → new_words ≡ after shape.size taker.version event words → MayTurn acted → AreUnits new.counts.items
-        → (Learned a event found → StandsAtStage known earlier new acted new.stage)
+        → (Learned a event found → StandsAtStage shape known earlier new acted new.stage)
         → Goes shape.size taker.version a words new_words (λ b. TakesAside a b × IsTaker shape known earlier new b)
     acts_on ready are turns units stands = record {
       before = [];
@@ -140,13 +138,25 @@ module _ (shape : Dimensions) (known : Known) (earlier : List Taken) (taker : Ta
       goes = λ learned apart. ([], acted, refl, (taking_aside a e found, goes_still new acted same (taking_aside a e found) turns units (stands learned)));
     }
 
+-- the boundaries of a lawful spec are few
+few_of : (s : Spec) → spec_fault s ≡ None → has_buckets s ≡ true → length (boundaries_of s) ≤ 1001
+few_of s lawful bucketed =
+    let count = (boundaries_of-split s lawful (λ sparse. true≢false (sym bucketed ∙ ap has_buckets sparse))).count in
+    let few = few_buckets s lawful in omega (arith, count, few)
+
+few_boundaries : (s : Spec) → spec_fault s ≡ None → length (boundaries_of s) ≤ 1001
+few_boundaries spec.Sparse lawful = omega arith
+few_boundaries (spec.Linear min max n) lawful = few_of (spec.Linear min max n) lawful refl
+few_boundaries spec.Boolean lawful = few_of spec.Boolean lawful refl
+few_boundaries (spec.Custom values) lawful = few_of (spec.Custom values) lawful refl
+
 -- the record of a delta that stands somewhere lies in so many words, which are few
 pub some_inside : (taker : Taker) (words : List ℕ) → ∥ IsSomeTaker (length words) taker ∥₁
     → (taker.histogram + 15 ≤ length words) × (length words ≤ 1048576) × (length taker.ranges ≤ 1001)
 some_inside taker words stands = ∥∥₁_elim stands (hlevel props) (λ (shape, known, earlier, a, long, is).
     let inside = is_inside shape known earlier taker a is (length words) long in
-    let ranges = long_ranges shape known earlier taker a is in
-    let some = few shape known earlier taker a is in
+    let ranges = ap length is.ranges in
+    let some = few_boundaries known.spec is.lawful in
     (inside.0, inside.1, omega (arith, ranges, some)))
 
 -- it goes on with another stage, with what it lists as it was or with more

@@ -41,8 +41,8 @@ use Rattle.hist_core.proofs.Takes.Singles.{none_packed}
 
 module _ (shape : Dimensions) (known : Known) (earlier : List Taken) (taker : Taker) (a : Actor) (words : List ℕ) (is : IsTaker shape known earlier taker a)
     (mounted : Mounted) (bucket total : ℕ) (raises : taker.stage ≡ Raising mounted bucket total) where
-  stands : StandsAtStage known earlier taker a (Raising mounted bucket total)
-  stands = subst (StandsAtStage known earlier taker a) raises is.stands
+  stands : StandsAtStage shape known earlier taker a (Raising mounted bucket total)
+  stands = subst (StandsAtStage shape known earlier taker a) raises is.stands
 
   abbrev drawn : HasDrawn known taker bucket a
   drawn = stands.1
@@ -73,8 +73,8 @@ module _ (shape : Dimensions) (known : Known) (earlier : List Taken) (taker : Ta
   mark_inside n long =
       let inside = drawn.inside in
       let within = subst (λ s. mounted.counts + (4 + 2 * buckets_of known.spec) ≤ s.size) is.segment are.within in
-      let count_is = buckets_are shape known earlier taker a is in let ranges = long_ranges shape known earlier taker a is in
-      let listed = drawn.few in let room = is.room in (
+      let count_is = buckets_are shape known earlier taker a is stands.4.0 in let ranges = long_ranges shape known earlier taker a is stands.4.0 in
+      let listed = drawn.few in let room = stands.4.1 in (
         omega (arith, inside, within, count_is, long),
         omega (arith, inside, ranges),
         omega (arith, listed, inside, room),
@@ -88,9 +88,10 @@ module _ (shape : Dimensions) (known : Known) (earlier : List Taken) (taker : Ta
     module _ (deltas : acted.deltas ≡ record a.deltas { taken = change_last (take_units key total found) a.deltas.taken })
         (place : acted.hand.place ≡ back a.hand.place) (counts : acted.seen.counts ≡ a.seen.counts ++ sight at (max found total))
         (since : acted.since ≡ a.since) (names : acted.answers.names ≡ a.answers.names) (is_key : pos (slice_index taker.ranges bucket) ≡ key)
-        (taken : IsTaken bucket total found resting new said) (ranges : new.ranges ≡ taker.ranges) (stage : new.stage ≡ next_stage) where
-      listed : AreListed known (split shape known earlier taker a is) bucket new.counts.items
-      listed = lists_on known (split shape known earlier taker a is) bucket total found resting new said drawn.inside is.ranges is.units drawn.below drawn.few taken
+        (taken : IsTaken bucket total found resting new said) (ranges : new.ranges ≡ taker.ranges) (stage : new.stage ≡ next_stage)
+        (room : vec_capacity new.counts ≡ vec_capacity taker.counts) where
+      listed : AreListed known (split shape known earlier taker a is stands.4.0) bucket new.counts.items
+      listed = lists_on known (split shape known earlier taker a is stands.4.0) bucket total found resting new said drawn.inside is.ranges is.units drawn.below drawn.few taken
 
       still : AreMounted known mounted word acted
       still = mounted_still a acted (taking_sees a e found) are.began known mounted word are
@@ -98,7 +99,7 @@ module _ (shape : Dimensions) (known : Known) (earlier : List Taken) (taker : Ta
             place ∙ ap back loaded.0.1,
             are.used,
             (word, refl, are.off),
-            subst (λ (l : List Known). Contains l known × (known.reference ≡ known.reference) × (has_buckets known.spec ≡ true)) (sym names) (knows_it shape known earlier taker a is),
+            subst (λ (l : List Known). Contains l known × (known.reference ≡ known.reference) × (has_buckets known.spec ≡ true)) (sym names) (knows_it shape known earlier taker a is stands.4.0),
           ))
 
       took : IsMarkOf acted known bucket at → TookBucket acted known bucket
@@ -115,7 +116,7 @@ module _ (shape : Dimensions) (known : Known) (earlier : List Taken) (taker : Ta
         ),
       )
 
-      pub raised_so : IsMarkOf acted known bucket at → StandsAtStage known earlier new acted new.stage
+      pub raised_so : IsMarkOf acted known bucket at → StandsAtStage shape known earlier new acted new.stage
       raised_so of =
           stands_behind shape known earlier taker a words is mounted word bucket new acted ranges stage
           (way_on known earlier bucket total found resting new said a acted key is_key taken (same_way known earlier taker resting a refl stands.0) deltas)
@@ -123,7 +124,7 @@ module _ (shape : Dimensions) (known : Known) (earlier : List Taken) (taker : Ta
           (λ i lt. dite (ℕ_discrete i bucket)
           (λ here. subst (TookBucket acted known) (sym here) (took of))
           (λ apart. took_bucket a acted (taking_sees a e found) are.began known i (drawn.took i (omega (arith, lt, apart)))))
-          listed.below listed.few still
+          listed.below listed.few still (stands.4.0, subst (λ (n : ℕ). buckets_of known.spec ≤ n) (sym room) stands.4.1)
 
       pub units_so : AreUnits new.counts.items
       units_so = listed.units
@@ -174,10 +175,10 @@ module _ (shape : Dimensions) (known : Known) (earlier : List Taken) (taker : Ta
           ),
         )
         (are_words ∙ ap (λ (h : ℕ). slice_set words (h + 10) (max (word_at words (h + 10)) total)) (sym is.reference))
-        (free_so e (known.reference + 10) found (single_key a a.hand.place) new said refl refl refl refl refl key_packed there same.ranges stage)
-        (units_so e (known.reference + 10) found (single_key a a.hand.place) new said refl refl refl refl refl key_packed there same.ranges stage)
+        (free_so e (known.reference + 10) found (single_key a a.hand.place) new said refl refl refl refl refl key_packed there same.ranges stage same.room)
+        (units_so e (known.reference + 10) found (single_key a a.hand.place) new said refl refl refl refl refl key_packed there same.ranges stage same.room)
         (λ learned.
-        raised_so e (known.reference + 10) found (single_key a a.hand.place) new said refl refl refl refl refl key_packed there same.ranges stage
+        raised_so e (known.reference + 10) found (single_key a a.hand.place) new said refl refl refl refl refl key_packed there same.ranges stage same.room
         (inl (word, are.saw, holds, refl)))
 
   -- each other has its own behind the counts
@@ -199,7 +200,7 @@ module _ (shape : Dimensions) (known : Known) (earlier : List Taken) (taker : Ta
         → new_words ≡ slice_set words at (max (word_at words at) total)
         → Goes shape.size taker.version a words new_words (λ b. TakesAside a b × IsTaker shape known earlier new b)
     raises_other at is_at new said taken same stage new_words are_words =
-        let here : at ≡ own_mark = let long = buckets_are shape known earlier taker a is in omega (arith, is_at, long) in
+        let here : at ≡ own_mark = let long = buckets_are shape known earlier taker a is stands.4.0 in omega (arith, is_at, long) in
         let found : ℕ = word_at words own_mark in
         let e : TakingEvent = raise_mark own_mark total in
         let there : IsTaken bucket total found resting new said =
@@ -219,10 +220,10 @@ module _ (shape : Dimensions) (known : Known) (earlier : List Taken) (taker : Ta
           ),
         )
         (are_words ∙ ap (λ (n : ℕ). slice_set words n (max (word_at words n) total)) here)
-        (free_so e own_mark found (taken_key a a.hand.place) new said refl refl refl refl refl key_other there same.ranges stage)
-        (units_so e own_mark found (taken_key a a.hand.place) new said refl refl refl refl refl key_other there same.ranges stage)
+        (free_so e own_mark found (taken_key a a.hand.place) new said refl refl refl refl refl key_other there same.ranges stage same.room)
+        (units_so e own_mark found (taken_key a a.hand.place) new said refl refl refl refl refl key_other there same.ranges stage same.room)
         (λ learned.
-        raised_so e own_mark found (taken_key a a.hand.place) new said refl refl refl refl refl key_other there same.ranges stage
+        raised_so e own_mark found (taken_key a a.hand.place) new said refl refl refl refl refl key_other there same.ranges stage same.room
         (inr (mounted.counts, are.there, refl)))
 
   -- ---- whichever it is

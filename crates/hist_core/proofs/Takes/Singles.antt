@@ -30,7 +30,7 @@ use Rattle.segment_machine.specs.Note.{TookBucket, noted, nothing_taken, takes}
 use Rattle.segment_machine.specs.Packing.{IsSingleOf, load_single}
 use Rattle.segment_machine.specs.Taking.{raise_single_mark, single_key}
 use Rattle.hist_core.specs.declared.taker.Stage.{Stage}
-use Rattle.hist_core.specs.declared.taker.Stage.TheVariants.{LoadingSingle, TakingPacked, LoadingCounts, LoadingCount, Raising, LoadingSum, Swapping}
+use Rattle.hist_core.specs.declared.taker.Stage.TheVariants.{LoadingSingle, TakingPacked, LoadingCounts, LoadingCount, Raising, Walking, LoadingSample, RaisingSample, LoadingSum, Swapping}
 use Rattle.hist_core.specs.declared.taker.Taker.{Taker}
 use Rattle.hist_core.specs.declared.taker.TakerStep.{TakerStep}
 use Rattle.hist_core.specs.declared.taker.TakerStep.TheVariants.{More, Took, Done}
@@ -60,8 +60,8 @@ took_else known word bucket a saw on apart =
 module _ (shape : Dimensions) (known : Known) (earlier : List Taken) (taker : Taker) (a : Actor) (words : List ℕ) (is : IsTaker shape known earlier taker a) where
   -- ---- the single word is loaded
   module _ (loads : taker.stage ≡ LoadingSingle) where
-    begins : StandsAtStage known earlier taker a LoadingSingle
-    begins = subst (StandsAtStage known earlier taker a) loads is.stands
+    begins : StandsAtStage shape known earlier taker a LoadingSingle
+    begins = subst (StandsAtStage shape known earlier taker a) loads is.stands
 
     abbrev found : ℕ
     found = word_at words (known.reference + 9)
@@ -106,30 +106,36 @@ module _ (shape : Dimensions) (known : Known) (earlier : List Taken) (taker : Ta
           counts = omega arith;
         };
         saw = seen_here (length a.seen.singles) a.seen.singles (known.reference + 9) found (omega arith);
-        formed = (learned known (knows_it shape known earlier taker a is)).0;
+        formed = (learned known (knows_it shape known earlier taker a is begins.3.0)).0;
         counts = (look_of a.hand.place known.reference).counts;
         stands = ap (λ (n : ℕ). Looking (record { histogram = n; single = Some found; counts = (look_of a.hand.place known.reference).counts })) (looks_there a.hand.place known.reference);
       }
 
       says_there : (packed : Option ℕ) (kept : ℕ) → SaysPacked taker.version (length taker.ranges - 1) found packed kept
           → SaysPacked taker.version (buckets_of known.spec) found packed kept
-      says_there packed kept says = subst (λ (n : ℕ). SaysPacked taker.version n found packed kept) (buckets_are shape known earlier taker a is) says
+      says_there packed kept says = subst (λ (n : ℕ). SaysPacked taker.version n found packed kept) (buckets_are shape known earlier taker a is begins.3.0) says
 
-      stands_behind : (stage : Stage) → IsBehindSingle taker found stage → StandsAtStage known earlier (record taker { stage = stage }) acted stage
+      stands_behind : (stage : Stage) → IsBehindSingle taker found stage → StandsAtStage shape known earlier (record taker { stage = stage }) acted stage
       stands_behind (LoadingCounts packed kept) (off, says, few) =
-          (way_begun (record taker { stage = LoadingCounts packed kept }) begins.2, begins.2, few, (found, has_word, off, says_there packed kept says))
+          (way_begun (record taker { stage = LoadingCounts packed kept }) begins.2, begins.2, few, (found, has_word, off, says_there packed kept says), begins.3)
       stands_behind (TakingPacked bucket units) (on, says) =
-          (way_begun (record taker { stage = TakingPacked bucket units }) begins.2, begins.2, (found, has_word, on, says_there (Some bucket) units says))
+          (way_begun (record taker { stage = TakingPacked bucket units }) begins.2, begins.2, (found, has_word, on, says_there (Some bucket) units says), begins.3)
       stands_behind LoadingSum (on, none) = (
         way_begun (record taker { stage = LoadingSum }) begins.2,
-        λ i below.
-            took_else known found i acted has_word.saw on
-            (λ e. let there : None ≡ Some i = sym none ∙ (ap (λ (p : ℕ × ℕ). packed_bucket (single_of p.0 p.1 found)) (λ j. (sym is.version j, buckets_are shape known earlier taker a is j)) ∙ e) in cc there),
+        inl (
+          begins.3.0,
+          λ i below.
+              took_else known found i acted has_word.saw on
+              (λ e. let there : None ≡ Some i = sym none ∙ (ap (λ (p : ℕ × ℕ). packed_bucket (single_of p.0 p.1 found)) (λ j. (sym is.version j, buckets_are shape known earlier taker a is begins.3.0 j)) ∙ e) in cc there),
+        ),
       )
       stands_behind LoadingSingle none = absurd none
       stands_behind (LoadingCount mounted bucket) none = absurd none
       stands_behind (Raising mounted bucket total) none = absurd none
       stands_behind (Swapping sum) none = absurd none
+      stands_behind (Walking walk) none = absurd none
+      stands_behind (LoadingSample at value) none = absurd none
+      stands_behind (RaisingSample at value count) none = absurd none
 
     pub loads_single : (stage : Stage) → IsBehindSingle taker (word_at words (taker.histogram + 9)) stage
         → Goes shape.size taker.version a words words (TakerGives shape known earlier (record taker { stage = stage }) More a)
@@ -147,7 +153,7 @@ module _ (shape : Dimensions) (known : Known) (earlier : List Taken) (taker : Ta
         refl,
       );
       event = event;
-      ready = (is.turns, (known, knows_it shape known earlier taker a is));
+      ready = (is.turns, (known, knows_it shape known earlier taker a is begins.3.0));
       words_are = sym (set-get_or words (known.reference + 9) 0);
       goes = λ learned apart. (
         [],
@@ -163,8 +169,8 @@ module _ (shape : Dimensions) (known : Known) (earlier : List Taken) (taker : Ta
 
   -- ---- the packed units are taken
   module _ (bucket units : ℕ) (packs : taker.stage ≡ TakingPacked bucket units) where
-    stands : StandsAtStage known earlier taker a (TakingPacked bucket units)
-    stands = subst (StandsAtStage known earlier taker a) packs is.stands
+    stands : StandsAtStage shape known earlier taker a (TakingPacked bucket units)
+    stands = subst (StandsAtStage shape known earlier taker a) packs is.stands
 
     abbrev word : ℕ
     word = stands.2.0
@@ -237,7 +243,7 @@ module _ (shape : Dimensions) (known : Known) (earlier : List Taken) (taker : Ta
         let there : IsTaken bucket units least_found (record taker { stage = LoadingSum }) new said =
         subst (λ (h : ℕ). IsTaken bucket units (word_at words (h + 10)) (record taker { stage = LoadingSum }) new said) (sym is.reference) taken in
         let none : AreUnits (record taker { stage = LoadingSum }).counts.items = is.units in
-        let listed = lists_on known (split shape known earlier taker a is) bucket units least_found (record taker { stage = LoadingSum }) new said packed_inside is.ranges none
+        let listed = lists_on known (split shape known earlier taker a is stands.3.0) bucket units least_found (record taker { stage = LoadingSum }) new said packed_inside is.ranges none
         (subst (λ (l : List (ℤ × ℕ)). AreBelow known bucket l) (sym stands.1) tt) (let e = ap length stands.1 in omega (arith, e)) there in
         acts_on shape known earlier taker a is words new_words (raise_single_mark known.reference units) new same (
           some,
@@ -246,7 +252,7 @@ module _ (shape : Dimensions) (known : Known) (earlier : List Taken) (taker : Ta
             record { histogram = known.reference; single = Some word; counts = loaded.counts },
             known,
             word,
-            (loaded.stands, refl, refl, on, knows_it shape known earlier taker a is),
+            (loaded.stands, refl, refl, on, knows_it shape known earlier taker a is stands.3.0),
             loaded.saw,
             says.1 ∙ ap units_in (sym form_there),
           ),
@@ -254,9 +260,9 @@ module _ (shape : Dimensions) (known : Known) (earlier : List Taken) (taker : Ta
         (are ∙ ap (λ (h : ℕ). slice_set words (h + 10) (max (word_at words (h + 10)) units)) (sym is.reference))
         (ap (λ (p : Place). is_bound (back p)) loaded.stands) listed.units
         (λ learned.
-        subst (StandsAtStage known earlier new raised) (sym stage) (
+        subst (StandsAtStage shape known earlier new raised) (sym stage) (
           way_on known earlier bucket units least_found (record taker { stage = LoadingSum }) new said a raised (single_key a a.hand.place) key_packed there (same_way known earlier taker (record taker { stage = LoadingSum }) a refl stands.0) refl,
-          took_all,
+          inl (stands.3.0, took_all),
         ))
 
 -- what it does with the packed units lies within what it has
@@ -264,9 +270,10 @@ pub packed_room : (taker : Taker) (words : List ℕ) (bucket units : ℕ) → ta
     → (bucket + 1 < length taker.ranges) × (length taker.counts.items < vec_capacity taker.counts)
 packed_room taker words bucket units packs stands = ∥∥₁_elim stands (hlevel props) (λ (shape, known, earlier, a, long, is).
     let inside = packed_inside shape known earlier taker a words is bucket units packs in
-    let ranges = long_ranges shape known earlier taker a is in
-    let none = ap length (subst (StandsAtStage known earlier taker a) packs is.stands).1 in
-    let room = is.room in
+    let stood : StandsAtStage shape known earlier taker a (TakingPacked bucket units) = subst (StandsAtStage shape known earlier taker a) packs is.stands in
+    let ranges = long_ranges shape known earlier taker a is stood.3.0 in
+    let none = ap length stood.1 in
+    let room = stood.3.1 in
     (omega (arith, inside, ranges), omega (arith, none, room, inside)))
 
 -- whatever it took of them, it goes on

@@ -1,5 +1,5 @@
 -- A delta takes what is new of the sum, and ends.
-use Rattle.std.proofs.Common.{◌≡◌, ℕ, ◌+◌, ◌*◌, ◌-◌, ◌%◌, ◌^◌, ◌<◌, FitsSigned, ◌≤◌, ℤ, List, [], ◌∷◌, ◌++◌, refl, sym, ap, ◌∙◌, subst, true≢false, arith}
+use Rattle.std.proofs.Common.{◌≡◌, ℕ, ◌+◌, ◌*◌, ◌-◌, ◌%◌, ◌^◌, ◌<◌, FitsSigned, ◌≤◌, ℤ, List, [], ◌∷◌, ◌++◌, inl, inr, ⊎_elim, refl, sym, ap, ◌∙◌, subst, true≢false, arith}
 use Rattle.std.specs.Prelude.{◌-ℤ◌, ◌+ℤ◌, slice_set, unsigned_abs}
 use Rattle.std.specs.Int.{cast_signed, cast_unsigned, int_wrap, w64}
 use Rattle.std.proofs.lemmas.Int.{fits_signed_from_abs, int_wrap_fits, wrapping_sub_onto}
@@ -11,7 +11,7 @@ use Rattle.segment_invariant.proofs.Notes.Amounts.{last_changed}
 use Rattle.segment_machine.specs.declared.actor.Actor.{Actor}
 use Rattle.segment_machine.specs.declared.actor.Known.{Known}
 use Rattle.segment_machine.specs.declared.actor.Taken.{Taken}
-use Rattle.segment_machine.specs.Actor.{has_buckets}
+use Rattle.segment_machine.specs.Actor.{has_buckets, is_bound}
 use Rattle.segment_machine.specs.declared.place.Place.TheVariants.{SumLoaded}
 use Rattle.segment_machine.specs.Calls.{change_last}
 use Rattle.segment_machine.specs.Event.{Event, next, taking_event, Learned}
@@ -20,9 +20,12 @@ use Rattle.segment_machine.specs.Taking.{load_sum, swap_sum, swap_sum_mark}
 use Rattle.hist_core.specs.declared.taker.Stage.TheVariants.{LoadingSum, Swapping}
 use Rattle.hist_core.specs.declared.taker.Taker.{Taker}
 use Rattle.hist_core.specs.declared.taker.TakerStep.TheVariants.{More, Done}
-use Rattle.hist_core.specs.Goes.{Goes}
-use Rattle.hist_core.specs.Taker.{HasEnded, IsTaker, IsUnderWay, StandsAtStage, TakerGives, TakesAside}
-use Rattle.hist_core.proofs.Takes.Going.{acts_on, takes_it, taking_aside}
+use Rattle.hist_core.specs.Goes.{Goes, WalksInOrder}
+use Rattle.hist_core.specs.Taker.{HasEnded, IsTaker, IsUnderWay, StandsAtStage, TakerGives, TakesAside, TookEach}
+use Rattle.hist_core.proofs.Passing.{way_still}
+use Rattle.hist_core.proofs.Quiet.{not_spent}
+use Rattle.hist_core.proofs.Takes.Going.{acts_on, takes_it, taking_aside, taking_sees}
+use Rattle.hist_core.proofs.Takes.Values.{took_samples}
 
 -- a difference that fits is what is left of it in 64 bits
 pub difference : (sum found mark : ℤ) → cast_signed w64 (cast_unsigned w64 sum) ≡ sum → cast_unsigned w64 sum < 2 ^ 64 → FitsSigned w64 found → found ≡ mark
@@ -37,8 +40,20 @@ difference sum found mark whole low fits same few =
 module _ (shape : Dimensions) (known : Known) (earlier : List Taken) (taker : Taker) (a : Actor) (words : List ℕ) (is : IsTaker shape known earlier taker a) where
   -- ---- the sum is loaded
   module _ (loads : taker.stage ≡ LoadingSum) where
-    before_sum : StandsAtStage known earlier taker a LoadingSum
-    before_sum = subst (StandsAtStage known earlier taker a) loads is.stands
+    before_sum : StandsAtStage shape known earlier taker a LoadingSum
+    before_sum = subst (StandsAtStage shape known earlier taker a) loads is.stands
+
+    abbrev summed : Actor
+    summed = next a (taking_event (load_sum known.reference)) (word_at words (known.reference + 11))
+
+    -- what it took it has taken still
+    took_still : (sum : ℤ) → TookEach known taker a → TookEach known (record taker { stage = Swapping sum }) summed
+    took_still sum (inl took) = inl took
+    took_still sum (inr all) = inr (record {
+      passed = all.passed;
+      way = way_still known a summed (taking_sees a (load_sum known.reference) (word_at words (known.reference + 11))) all.passed 12 refl refl all.way;
+      lists = all.lists;
+    })
 
     pub loads_sum : (sum : ℤ) → sum ≡ cast_signed w64 (word_at words (taker.histogram + 11))
         → Goes shape.size taker.version a words words (TakerGives shape known earlier (record taker { stage = Swapping sum }) More a)
@@ -48,14 +63,14 @@ module _ (shape : Dimensions) (known : Known) (earlier : List Taken) (taker : Ta
         (is.turns, (known, is.knows, refl)) (sym (set-get_or words (known.reference + 11) 0)) refl is.units
         (λ learned. (
           (let way = before_sum.0 in record { taking = way.taking; last = way.last; taken = way.taken; name = way.name; counts = way.counts; sum = way.sum }),
-          before_sum.1,
+          took_still sum before_sum.1,
           ap (λ (h : ℕ). SumLoaded known.reference (cast_signed w64 (word_at words (h + 11)))) is.reference ∙ ap (SumLoaded known.reference) (sym is_sum),
         ))
 
   -- ---- it is swapped into the sum mark
-  module _ (sum : ℤ) (swaps : taker.stage ≡ Swapping sum) where
-    stands : StandsAtStage known earlier taker a (Swapping sum)
-    stands = subst (StandsAtStage known earlier taker a) swaps is.stands
+  module _ (sum : ℤ) (swaps : taker.stage ≡ Swapping sum) (order : WalksInOrder a) where
+    stands : StandsAtStage shape known earlier taker a (Swapping sum)
+    stands = subst (StandsAtStage shape known earlier taker a) swaps is.stands
 
     abbrev way : IsUnderWay known earlier taker a
     way = stands.0
@@ -77,8 +92,10 @@ module _ (shape : Dimensions) (known : Known) (earlier : List Taken) (taker : Ta
 
     took_all : TookAll acted known
     took_all = record {
-      buckets = λ bucketed. stands.1;
-      samples = λ sparse. absurd (true≢false (sym is.bucketed ∙ ap has_buckets sparse));
+      buckets = λ bucketed. ⊎_elim (λ took. took.1) (λ all. absurd (true≢false (sym bucketed ∙ ap has_buckets all.way.sparse))) stands.1;
+      samples = λ sparse.
+          ⊎_elim (λ took. absurd (true≢false (sym took.0 ∙ ap has_buckets sparse)))
+          (λ all. took_samples known taker a (order (not_spent a.hand.place (ap is_bound stands.2))) all) stands.1;
       summed = (earlier, last, taken_is, way.name, refl);
     }
 

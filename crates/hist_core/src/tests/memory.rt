@@ -30,18 +30,10 @@ fn items_again(alloc: Global) -> Result<Vec<(i32, u32)>, AllocError> {
     }
 }
 
-// `Idle` where a call is none that can begin so far.
-fn begin(world: &mut World, call: &Call) -> Result<Begun, WorldFault> {
-    if !world.can_begin(0, call) {
-        return Err(WorldFault::Idle);
-    }
-    world.begin(0, call)
-}
-
 // The actor begins a call, again where memory was refused, and goes on with it for 50 events at most.
 fn call_again(world: &mut World, call: &Call) -> Result<Answer, WorldFault> {
-    let begun = match begin(world, call) {
-        Err(WorldFault::NoMemory) => begin(world, call)?,
+    let begun = match world.begin(0, call) {
+        Err(WorldFault::NoMemory) => world.begin(0, call)?,
         begun => begun?,
     };
     if let Begun::Ended(answer) = begun {

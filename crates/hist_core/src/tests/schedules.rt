@@ -1,42 +1,13 @@
 //! Tests of `run_schedule`.
 
-ghost use Rattle.std.specs.Prelude.{◌≡◌, true};
-ghost use Rattle.hist_core.specs.declared.board.Board.{Board as WorldBoard};
-ghost use Rattle.hist_core.specs.Moves.{CanMake, CanMakeAll};
-
 use super::{ask, at_once, fault_of, holds};
 use crate::{Call, Move, World, WorldFault, run_schedule};
 use bucket_ranges::Spec;
 use std::alloc::{AllocError, Global};
 use std::test::Fail;
 
-// Whether a move is of no histogram that its actor has to know: it can begin in any world.
-fn is_of_no_name(step: &Move) -> bool
-    ensures { result ≡ true → (board : WorldBoard) → CanMake step.now board }
-{
-    match step {
-        Move::Begin(_, Call::Hist(..) | Call::SetCorrupt) | Move::Step(_) => true,
-        Move::Begin(..) => false,
-    }
-}
-
-// Whether all moves are so.
-fn are_of_no_name(moves: &[Move]) -> bool
-    ensures { result ≡ true → (board : WorldBoard) → CanMakeAll moves.now board }
-{
-    for step in moves {
-        if !is_of_no_name(step) {
-            return false;
-        }
-    }
-    true
-}
-
 // Runs these moves on the first row's shape, and again where there was no memory.
 pub(super) fn run(alloc: Global, actors: usize, moves: &[Move]) -> Result<World, WorldFault> {
-    if !are_of_no_name(moves) {
-        return Err(WorldFault::Unknown);
-    }
     match run_schedule(alloc, 128, 64, 7, actors, 1, moves) {
         Err(WorldFault::NoMemory) => run_schedule(alloc, 128, 64, 7, actors, 1, moves),
         ran => ran,

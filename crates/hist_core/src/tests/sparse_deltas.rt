@@ -30,3 +30,27 @@ fn looks_at_no_samples(rt: HostRuntime) -> Result<(), Fail> {
     }
     Ok(())
 }
+
+// Whether a delta has ended and took nothing.
+fn takes_nothing(said: &Stepped) -> bool {
+    match said {
+        Stepped::Done(Answer::Delta(taken)) => taken.counts.is_empty() && taken.sum == 0,
+        _ => false,
+    }
+}
+
+#[test]
+fn takes_of_no_samples(rt: HostRuntime) -> Result<(), Fail> {
+    let alloc = rt.alloc();
+    for version in [1, 2] {
+        let mut world = World::new(alloc, 128, 64, 7, 2, version)?;
+        ask(&mut world, alloc, 0, b"S", Spec::Sparse)?;
+        let _ = finish(&mut world, 0)?;
+        world.begin(0, &Call::Delta(Vec::from_slice(alloc, b"S")?))?;
+        for _ in 0..2 {
+            assert!(rt; matches!(world.step(0)?, Stepped::More));
+        }
+        assert!(rt; takes_nothing(&world.step(0)?));
+    }
+    Ok(())
+}

@@ -4,8 +4,8 @@ use Rattle.std.proofs.lemmas.Result.{err_from_is_err_and}
 use Rattle.segment_image.specs.Checks.{first_fault}
 use Rattle.hist_core.specs.World.{world_checks}
 use Rattle.hist_core.specs.declared.call.Move.{Move}
-use Rattle.hist_core.specs.Moves.{CanMakeAll, MakesAll}
-use Rattle.hist_core.proofs.Scheduling.{made_next, left_is, stops_next, no_fault, is_fine, stops_behind}
+use Rattle.hist_core.specs.Moves.{MakesAll}
+use Rattle.hist_core.proofs.Scheduling.{made_next, stops_next, no_fault, is_fine, stops_behind}
 use Rattle.hist_core.proofs.world.run_schedule.Goals as goal
 
 pub returns-in_err-make-clause-fault : goal.returns-in_err-make-clause-fault
@@ -27,7 +27,6 @@ loop-step-preserved c =
     let moves = c.args.moves.now in let l = c.loop-step in let move = c.step-item.result in let new = c.make.new.self.board in
     record {
       makes = made_next moves l.step-index move c.in_ok-world.world.board l.world.board new c.loop-step-test.true c.step-item.is l.invariant.makes c.in_ok-make.ensures.makes;
-      can = (subst (λ (left : List Move). CanMakeAll left l.world.board) (left_is moves l.step-index move c.loop-step-test.true c.step-item.is) l.invariant.can).1 new c.in_ok-make.ensures.makes;
     }
 
 pub returns-clause-world : goal.returns-clause-world

@@ -1,9 +1,6 @@
-use Rattle.std.proofs.Common.{take, drop}
-use Rattle.hist_core.specs.Moves.{CanMakeAll, MakesAll}
+use Rattle.std.proofs.Common.{take}
+use Rattle.hist_core.specs.Moves.{MakesAll}
 use Rattle.hist_core.proofs.world.run_schedule.Given as goal
 
 abbrev pub invariant-loop-step : goal.invariant-loop-step
-invariant-loop-step l = record {
-  makes : MakesAll (take l.step-index l.moves) l.initial.world.board l.world.board;
-  can : CanMakeAll (drop l.step-index l.moves) l.world.board;
-}
+invariant-loop-step l = record { makes : MakesAll (take l.step-index l.moves) l.initial.world.board l.world.board }

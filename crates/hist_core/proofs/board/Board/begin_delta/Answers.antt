@@ -28,11 +28,6 @@ begin_delta-requires-clause-lawful c = λ known there.
     lawful_now old c.requires.reached c.args.actor r (is_there old.runners.items (vec_len old.runners) c.args.actor r old.runners.ok.0 c.requires.near c.index_mut-runner.ensures.value)
     c.args.place known there
 
-pub begin_delta-requires-clause-bucketed : goal.begin_delta-requires-clause-bucketed
-begin_delta-requires-clause-bucketed c = λ known there.
-    let old = c.args.self.now in let r = c.index_mut-runner.result.now in
-    c.requires.bucketed known (r, is_there old.runners.items (vec_len old.runners) c.args.actor r old.runners.ok.0 c.requires.near c.index_mut-runner.ensures.value, there)
-
 pub returns-in_err-begin_delta-clause-fault : goal.returns-in_err-begin_delta-clause-fault
 returns-in_err-begin_delta-clause-fault c =
     let old = c.args.self.now in let r = c.index_mut-runner.result.now in
@@ -58,7 +53,7 @@ returns-clause-begins c =
     let same = some-injective place.1.0 r (sym place.1.1 ∙ at) in
     let known_there = subst (λ (x : Runner). get_elem? x.known.items c.args.place ≡ some place.0) same place.1.2 in
     delta_begins old _ c.args.actor r c.begin_delta.new.self at c.args.place place.0 known_there (c.in_ok-begin_delta.ensures.begins place.0 known_there)
-    (c.requires.rests r at) refl refl refl refl refl (c.requires.bucketed place.0 (r, at, known_there))
+    (c.requires.rests r at) refl refl refl refl refl
 
 pub returns-clause-others : goal.returns-clause-others
 returns-clause-others c =

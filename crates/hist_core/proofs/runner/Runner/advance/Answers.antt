@@ -113,7 +113,7 @@ delta_said-requires c = record {
 pub returns-in-Some-Delta-clause-advances : goal.returns-in-Some-Delta-clause-advances
 returns-in-Some-Delta-clause-advances c = λ shape version a size order run.
     delta_goes shape version c.args.self.now a run c.in-Some-Delta.taker c.step-said-in-Some-Delta.new.self c.in-Some-Delta.field-0-1 (c.in-Some-Delta.is ∙ ap Some c.in-Some-Delta.field-0-is)
-    c.args.words.now c.step-said-in-Some-Delta.new.words (sym size) c.step-said-in-Some-Delta.ensures.begun c.step-said-in-Some-Delta.ensures.room
+    c.args.words.now c.step-said-in-Some-Delta.new.words (sym size) c.step-said-in-Some-Delta.ensures.begun c.step-said-in-Some-Delta.ensures.room order
     c.step-said-in-Some-Delta.result c.delta_said.new.self c.delta_said.result c.step-said-in-Some-Delta.ensures.steps c.step-said-in-Some-Delta.ensures.lists
     (c.delta_said.ensures c.step-said-in-Some-Delta.new.self c.in-Some-Delta.field-0-1 refl)
 

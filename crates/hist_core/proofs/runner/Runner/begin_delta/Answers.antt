@@ -6,22 +6,19 @@ use Rattle.hist_core.specs.Runner.{known_of}
 use Rattle.hist_core.proofs.Boards.{is_there}
 use Rattle.hist_core.proofs.runner.Runner.begin_delta.Goals as goal
 
-pub start-requires-clause-lawful : goal.start-requires-clause-lawful
-start-requires-clause-lawful c =
-    let list = c.args.self.now.known in let known = c.index-known.result.now in
-    c.requires.lawful known (is_there list.items (vec_len list) c.args.i known list.ok.0 c.requires.near c.index-known.ensures)
-
-pub start-requires-clause-bucketed : goal.start-requires-clause-bucketed
-start-requires-clause-bucketed c =
-    let list = c.args.self.now.known in let known = c.index-known.result.now in
-    c.requires.bucketed known (is_there list.items (vec_len list) c.args.i known list.ok.0 c.requires.near c.index-known.ensures)
+pub start-requires : goal.start-requires
+start-requires c = record {
+  lawful =
+      let list = c.args.self.now.known in let known = c.index-known.result.now in
+      c.requires.lawful known (is_there list.items (vec_len list) c.args.i known list.ok.0 c.requires.near c.index-known.ensures);
+}
 
 pub returns-clause-begins : goal.returns-clause-begins
 returns-clause-begins c = λ known at.
     let list = c.args.self.now.known in let here = c.index-known.result.now in
     let same : here ≡ known = some-injective here known (sym (is_there list.items (vec_len list) c.args.i here list.ok.0 c.requires.near c.index-known.ensures) ∙ at) in
     let taker = c.in_ok-taker.taker in
-    let started : IsStarted c.args.version (known_of known) taker = subst (λ (k : Known). IsStarted c.args.version (known_of k) taker) same c.in_ok-taker.ensures in
+    let started : IsStarted c.args.shape c.args.version (known_of known) taker = subst (λ (k : Known). IsStarted c.args.shape c.args.version (known_of k) taker) same c.in_ok-taker.ensures in
     record {
       taker = taker;
       fresh = record { name = c.in_ok-from_slice.field-0; counts = c.in_ok-with_capacity.field-0; sum = pos 0 };

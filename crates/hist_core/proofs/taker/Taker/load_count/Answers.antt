@@ -28,7 +28,7 @@ behind_bucket-self-requires c =
     let few = some_inside c.args.self.now c.args.words.now c.requires.stands in omega (arith, inside.2, few.2)
 
 pub returns-clause-steps : goal.returns-clause-steps
-returns-clause-steps c = λ shape known earlier a long is.
+returns-clause-steps c = λ shape known earlier a long order is.
     let taker = c.args.self.now in
     let total_is : c.total-total.result ≡ total_at c.args.mounted c.args.bucket (word_at c.args.words.now (c.args.mounted.counts + (4 + c.args.bucket))) = c.total-total.ensures in
     let gives : Stage → Type 0 = λ stage. Goes shape.size taker.version a c.args.words.now c.args.words.now (TakerGives shape known earlier (record taker { stage = stage }) More a) in

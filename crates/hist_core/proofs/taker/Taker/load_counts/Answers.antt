@@ -13,5 +13,5 @@ pub bounds-words-self : goal.bounds-words-self
 bounds-words-self c = let inside = some_inside c.args.self.now c.args.words.now c.requires.stands in omega (arith, inside.0)
 
 pub returns-clause-steps : goal.returns-clause-steps
-returns-clause-steps c = λ shape known earlier a long is.
+returns-clause-steps c = λ shape known earlier a long order is.
     loads_counts shape known earlier c.args.self.now a c.args.words.now is c.args.packed c.args.kept c.requires.loads _ refl

@@ -16,5 +16,5 @@ pub behind_single-self-requires : goal.behind_single-self-requires
 behind_single-self-requires c = let inside = some_inside c.args.self.now c.args.words.now c.requires.stands in omega (arith, inside.2)
 
 pub returns-clause-steps : goal.returns-clause-steps
-returns-clause-steps c = λ shape known earlier a long is.
+returns-clause-steps c = λ shape known earlier a long order is.
     loads_single shape known earlier c.args.self.now a c.args.words.now is c.requires.loads _ c.behind_single-self.ensures

@@ -40,7 +40,7 @@ take_bucket-requires-clause-room c =
     let ok = c.args.self.now.counts.ok.0 in omega (arith, room, ok)
 
 pub returns-clause-steps : goal.returns-clause-steps
-returns-clause-steps c = λ shape known earlier a long is.
+returns-clause-steps c = λ shape known earlier a long order is.
     gives_raised shape known earlier c.args.self.now a c.args.words.now is c.args.mounted c.args.bucket c.args.total c.requires.raises c.take_bucket.new.self c.take_bucket.result c.fetch_max-mark.result
     (subst (λ (stage : Stage). IsTaken c.args.bucket c.args.total c.fetch_max-mark.result (record c.args.self.now { stage = stage }) c.take_bucket.new.self c.take_bucket.result) c.behind_bucket-self.ensures c.take_bucket.ensures)
     (c.fetch_max-mark.ensures.found ∙ ap (word_at c.args.words.now) c.mark_of.ensures) c.fetch_max-mark.new.words

@@ -6,7 +6,7 @@ use lib.ListN.{get_elem?}
 use Rattle.segment_invariant.proofs.Lists.Elements.{contains_at}
 use Rattle.hist_core.specs.declared.runner.Runner.{Runner}
 use Rattle.hist_core.specs.declared.hist.Known.{Known}
-use Rattle.hist_core.specs.World.{TakesMemory, BeginSays, CanBegin, named_by}
+use Rattle.hist_core.specs.World.{TakesMemory, BeginSays, named_by}
 use Rattle.hist_core.specs.declared.call.Call.{Call}
 use Rattle.hist_core.specs.declared.fault.WorldFault.TheVariants.{NoMemory}
 use Rattle.std.proofs.lemmas.Bool.{lt-leb}
@@ -175,15 +175,6 @@ begin_delta-requires-clause-rests c =
     let board = c.args.self.now.board in let r = c.index.result.now in
     let at = is_there board.runners.items (vec_len board.runners) c.args.actor r board.runners.ok.0 (omega (arith, c.if-actor-len.false, c.len.ensures)) c.index.ensures in
     is_resting board c.args.actor r at (sym c.is_some.ensures ∙ c.if-is_some.false)
-
-pub begin_delta-requires-clause-bucketed : goal.begin_delta-requires-clause-bucketed
-begin_delta-requires-clause-bucketed c = λ known (r, here, at).
-    let board = c.args.self.now.board in
-    let can = subst (CanBegin c.args.actor board) c.in-Delta.is c.requires in
-    let found : IsPlaceOf board c.args.actor c.deref-in-Delta.result.now c.in-Some-place_of-2.place = c.in-Some-place_of-2.ensures.found in
-    let one : found.1.0 ≡ r = some-injective found.1.0 r (sym found.1.1 ∙ here) in
-    let same : found.0 ≡ known = some-injective found.0 known (sym found.1.2 ∙ (ap (λ (x : Runner). get_elem? x.known.items c.in-Some-place_of-2.place) one ∙ at)) in
-    can r known here (contains_at r.known.items c.in-Some-place_of-2.place known at) (ap (λ (k : Known). k.name.items) (sym same) ∙ (found.2 ∙ c.deref-in-Delta.ensures.value))
 
 pub invariant_of-self-in-Delta : goal.invariant_of-self-in-Delta
 invariant_of-self-in-Delta c = record {

@@ -18,22 +18,20 @@ use Rattle.bucket_ranges.specs.Ranges.{boundaries_of}
 use Rattle.bucket_ranges.specs.Tally.{units_of}
 use Rattle.segment_image.specs.Shape.{Dimensions}
 use Rattle.segment_image.specs.declared.layout.TheConstants.{HISTOGRAM_NAME}
-use Rattle.segment_invariant.proofs.Lists.Elements.{all_at, contains_at}
-use Rattle.segment_invariant.proofs.Lists.Maps.{contains_map}
+use Rattle.segment_invariant.proofs.Lists.Elements.{all_at}
 use Rattle.segment_machine.specs.declared.actor.Actor.{Actor}
 use Rattle.segment_machine.specs.declared.actor.Known.{Known as MachineKnown}
 use Rattle.segment_machine.specs.declared.entry.Entry.{Entry as MachineEntry}
-use Rattle.segment_machine.specs.Actor.{has_buckets, is_bound, known_at}
+use Rattle.segment_machine.specs.Actor.{known_at}
 use Rattle.segment_machine.specs.Entry.{AreWithin, batch_cost, batch_entries, fresh, has_ended, item_entry, sum_entry, is_of, key_of, tally_noted, tally_sum}
 use Rattle.segment_machine.specs.Note.{noted, begins}
 use Rattle.segment_machine.specs.Seats.{getter}
 use Rattle.hist_core.specs.declared.add.Add.{Add}
-use Rattle.hist_core.specs.declared.add.Stage.TheVariants.{LoadingSingle}
 use Rattle.hist_core.specs.declared.batch.Batch.{Batch as BatchCall}
 use Rattle.hist_core.specs.declared.hist.Known.{Known}
 use Rattle.hist_core.specs.declared.runner.Running.TheVariants.{Batch}
 use Rattle.hist_core.specs.declared.runner.Runner.{Runner}
-use Rattle.hist_core.specs.Add.{IsStarted, StandsAtStage, counted_entry, ended_entry}
+use Rattle.hist_core.specs.Add.{IsStarted, counted_entry, ended_entry}
 use Rattle.hist_core.specs.Batch.{IsBatch, IsItem, CountsItem, SumsUp, amid_of, counted_entries, sample_of, sum_entries, units_among, Waits}
 use Rattle.hist_core.specs.Board.{AreSome}
 use Rattle.hist_core.specs.Runner.{known_of, pending_by, IsKnown, IsQuiet, IsTelling, StandsIn, IsRun, BeginsBatch}

@@ -17,7 +17,7 @@ use Rattle.segment_machine.specs.declared.actor.Actor.{Actor}
 use Rattle.segment_machine.specs.declared.actor.Known.{Known as MachineKnown}
 use Rattle.segment_machine.specs.declared.entry.Entry.{Entry as MachineEntry}
 use Rattle.segment_machine.specs.declared.place.Place.TheVariants.{Spent}
-use Rattle.segment_machine.specs.Actor.{has_buckets, is_bound, known_at}
+use Rattle.segment_machine.specs.Actor.{known_at}
 use Rattle.segment_machine.specs.Calls.{IsKeyOfBucket}
 use Rattle.segment_machine.specs.Entry.{AreWithin, has_ended, key_of}
 use Rattle.segment_machine.specs.Note.{noted, begins}
@@ -43,7 +43,7 @@ use Rattle.hist_core.proofs.Asking.{place_below}
 use Rattle.atomic_table.proofs.Lists.{set_here}
 use Rattle.segment_promises.proofs.Reached.{states_are_kept}
 use Rattle.segment_invariant.specs.Body.{blank}
-use Rattle.hist_core.specs.Add.{alone, counted_entry, IsAdd, IsCounting, IsStarted, StandsAtStage}
+use Rattle.hist_core.specs.Add.{alone, counted_entry, IsAdd, IsCounting, IsStarted}
 use Rattle.hist_core.specs.Runner.{entry_of, known_of, pending_by, IsKnown, NoneHasName, HaveOwnNames, IsKnownAt, IsQuiet, HasDraft, HasRoom, StandsIn, IsRun, IsTelling, BeginsToCount, BeginsAdd}
 use Rattle.hist_core.proofs.Free.{free_turns}
 use Rattle.hist_core.proofs.Adds.Samples.{stands_first}

@@ -1,7 +1,6 @@
 -- A search for the sample of a value, event by event.
-use Rattle.std.proofs.Common.{◌≡◌, ◌≢◌, ◌⊎◌, ℕ, ◌+◌, ◌≤◌, ◌==◌, ℤ, Bool, true, false, true≢false, if◌then◌else◌, List, [], ◌∷◌, ◌++◌, length, inl, inr, refl, sym, ap, subst, ◌∙◌, arith, append_assoc, eqb-true, eq-eqb}
+use Rattle.std.proofs.Common.{◌≡◌, ◌≢◌, ℕ, ◌+◌, ◌≤◌, ◌==◌, ℤ, Bool, true, false, true≢false, if◌then◌else◌, List, [], ◌∷◌, ◌++◌, length, inl, inr, refl, sym, ap, subst, ◌∙◌, arith, append_assoc, eqb-true, eq-eqb}
 use Rattle.std.specs.Prelude.{Some}
-use Rattle.std.specs.Int.{cast_unsigned, w64}
 use Rattle.std.specs.List.{All, Contains}
 use Rattle.std.proofs.Props.{props}
 use Rattle.std.proofs.Math.Logic.{∥∥₁_elim}
@@ -17,14 +16,11 @@ use Rattle.list_core.specs.declared.walk.WalkStep.TheVariants.{Record, End, Stra
 use Rattle.list_core.specs.Chain.{is_reference, stops}
 use Rattle.list_core.specs.Walk.{IsPrefix, said_of, given_after, stands_behind}
 use Rattle.list_core.proofs.Prefixes.{prefix_of_prefix}
-use Rattle.segment_calls.specs.declared.refusal.Refusal.{Refusal}
 use Rattle.segment_machine.specs.declared.actor.Actor.{Actor}
 use Rattle.segment_machine.specs.declared.actor.Known.{Known}
 use Rattle.segment_machine.specs.Actor.{Sparse, word_seen}
-use Rattle.segment_machine.specs.Calls.{MayTurn}
 use Rattle.segment_machine.specs.Event.{Learned, next, walking_event}
 use Rattle.segment_machine.specs.Made.{SawOther}
-use Rattle.segment_machine.specs.Stages.{Walks}
 use Rattle.segment_machine.specs.Walking.{IsFixed, WalkingEvent, load_published}
 use Rattle.segment_promises.proofs.Growing.{others_still, reference_within, still}
 use Rattle.hist_core.specs.declared.making.Making.{Making as MakingOf}
@@ -32,7 +28,7 @@ use Rattle.hist_core.specs.declared.making.MakingStep.{MakingStep}
 use Rattle.hist_core.specs.declared.making.MakingStep.TheVariants as made
 use Rattle.hist_core.specs.declared.sampling.Sampling.{Sampling}
 use Rattle.hist_core.specs.declared.sampling.SamplingStep.{SamplingStep}
-use Rattle.hist_core.specs.declared.sampling.SamplingStep.TheVariants.{More, Found, Refused}
+use Rattle.hist_core.specs.declared.sampling.SamplingStep.TheVariants.{More, Found}
 use Rattle.hist_core.specs.declared.sampling.Stage.{Stage}
 use Rattle.hist_core.specs.declared.sampling.Stage.TheVariants.{Walking, LoadingType, LoadingHistogram, LoadingValue, Making}
 use Rattle.hist_core.specs.Goes.{Beside, Goes, IsFree}

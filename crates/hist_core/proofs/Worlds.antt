@@ -1,5 +1,5 @@
 -- The faults of a world's calls, and the calls that are going on.
-use Rattle.std.proofs.Common.{◌≡◌, ◌≤◌, arith, length, ◌⊎◌, ⊎_elim, ℤ, zero, suc, List, [], ◌∷◌, ◌||◌, Bool, true, false, true≢false, refl, sym, subst, ℕ, ap, ◌∙◌}
+use Rattle.std.proofs.Common.{◌≡◌, ◌≤◌, arith, length, zero, suc, List, [], ◌∷◌, ◌||◌, Bool, true, false, true≢false, refl, sym, subst, ℕ, ap, ◌∙◌}
 use Rattle.std.specs.Prelude.{Option, Some, None, IsSome, not, is_some, MatchOption, if◌then◌else◌}
 use mathlib.Core.Option.{some, none, some-injective, some-ne-none}
 use lib.ListN.{get_elem?}
@@ -10,9 +10,6 @@ use Rattle.hist_core.specs.declared.board.Board.{Board}
 use Rattle.hist_core.specs.Board.{Rests, IsBusy, IsPlaceOf, LacksName}
 use Rattle.hist_core.specs.World.{runs, rests, lacks, lacks_name, named_by, of_actor}
 use Rattle.hist_core.proofs.Asking.{place_below}
-use Rattle.std.specs.declared.alloc.Global.{Global}
-use Rattle.std.specs.declared.vec.Vec.{Vec}
-use Rattle.hist_core.specs.declared.call.Call.TheVariants as calls
 use Rattle.hist_core.specs.Runner.{NoneHasName}
 use Rattle.hist_core.specs.declared.hist.Known.{Known}
 use Rattle.hist_core.specs.declared.call.Call.{Call}

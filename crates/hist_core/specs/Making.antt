@@ -1,5 +1,5 @@
 -- The making of a record: its words are claimed, its payload is stored there, and it is put on the list.
-use Rattle.std.specs.Prelude.{◌≡◌, ◌≢◌, ℕ, ◌+◌, ◌-◌, ◌<◌, ◌≤◌, nat_lt, true, List, [], ◌∷◌, ◌++◌, length, replicate, take, slice_index, is_some, ⊤, Some, if◌then◌else◌}
+use Rattle.std.specs.Prelude.{◌≡◌, ◌≢◌, ℕ, ◌+◌, ◌-◌, ◌<◌, ◌≤◌, nat_lt, true, List, ◌++◌, length, replicate, take, slice_index, is_some, ⊤, Some, if◌then◌else◌}
 use Rattle.segment_image.specs.declared.layout.TheConstants.{BLOCK_HEADER, HEADER_WORDS, TYPE_HISTOGRAM, TYPE_SAMPLE}
 use Rattle.segment_image.specs.Shape.{Dimensions}
 use Rattle.alloc_core.specs.Layout.{IsShape}

@@ -7,6 +7,7 @@ mod events;
 mod hists;
 mod memory;
 mod schedules;
+mod sparse_adds;
 mod sparse_deltas;
 
 use crate::{Answer, Begun, Call, Stepped, World, WorldFault};
@@ -132,6 +133,16 @@ fn add_answer(answer: &Answer) -> u32 {
     }
 }
 
+// Goes on with what an actor counts for 200 events at most, and gives the number of the answer.
+fn finish_add(world: &mut World, actor: usize) -> Result<u32, WorldFault> {
+    for _ in 0..200 {
+        if let Stepped::Done(answer) = world.step(actor)? {
+            return Ok(add_answer(&answer));
+        }
+    }
+    Ok(300)
+}
+
 // Counts a value, for 200 events at most, and gives the number of the answer.
 fn add(
     world: &mut World,
@@ -143,12 +154,7 @@ fn add(
     if let Begun::Ended(answer) = count(world, alloc, actor, b"A", value, units)? {
         return Ok(add_answer(&answer));
     }
-    for _ in 0..200 {
-        if let Stepped::Done(answer) = world.step(actor)? {
-            return Ok(add_answer(&answer));
-        }
-    }
-    Ok(300)
+    finish_add(world, actor)
 }
 
 // A world of the first row's shape, in which an actor knows the boolean histogram `A`, whose record is at 16.

@@ -1,7 +1,6 @@
 -- An `add` looks for the sample of its value.
-use Rattle.std.proofs.Common.{◌≡◌, ◌≢◌, ℕ, ◌+◌, ◌%◌, ◌^◌, ◌<◌, ◌≤◌, true, false, true≢false, List, ◌∷◌, ◌++◌, length, inr, refl, sym, ap, subst, ◌∙◌, arith}
+use Rattle.std.proofs.Common.{◌≡◌, ℕ, ◌+◌, ◌%◌, ◌^◌, true, false, true≢false, List, ◌∷◌, ◌++◌, inr, refl, sym, ap, subst, ◌∙◌, arith}
 use Rattle.std.specs.List.{Contains}
-use Rattle.bucket_ranges.specs.declared.spec.Spec.TheVariants as spec
 use Rattle.segment_image.specs.Shape.{Dimensions}
 use Rattle.alloc_core.specs.Layout.{IsShape}
 use Rattle.list_core.specs.Chain.{is_reference}
@@ -10,7 +9,6 @@ use Rattle.segment_machine.specs.declared.actor.Known.{Known}
 use Rattle.segment_machine.specs.Made.{IsFirstSample}
 use Rattle.hist_core.specs.declared.add.Add.{Add}
 use Rattle.hist_core.specs.declared.add.AddStep.{AddStep}
-use Rattle.hist_core.specs.declared.add.AddStep.TheVariants.{More, Refused}
 use Rattle.hist_core.specs.declared.add.Stage.{Stage}
 use Rattle.hist_core.specs.declared.add.Stage.TheVariants as stage
 use Rattle.hist_core.specs.declared.sampling.Sampling.{Sampling}
@@ -18,7 +16,7 @@ use Rattle.hist_core.specs.declared.sampling.SamplingStep.{SamplingStep}
 use Rattle.hist_core.specs.declared.sampling.SamplingStep.TheVariants as found
 use Rattle.hist_core.specs.Add.{Amid, HasEntry, IsAdd, IsSampled, OpensWith, StandsAtStage, StaysOpen, AddGives}
 use Rattle.hist_core.specs.Goes.{Beside, Goes, IsFree}
-use Rattle.hist_core.specs.Sampling.{IsSampling, SamplingGives}
+use Rattle.hist_core.specs.Sampling.{SamplingGives}
 use Rattle.hist_core.proofs.Adds.Entries.{counting_of}
 use Rattle.hist_core.proofs.Adds.Going.{goes_still}
 use Rattle.hist_core.proofs.Adds.Refusals.{beside_aside, refuses}

@@ -1,11 +1,9 @@
 -- What a record that is made is to hold.
-use Rattle.std.proofs.Common.{◌≡◌, ℕ, ◌+◌, ◌*◌, ◌≤◌, max, List, length, refl, sym, ap, subst, arith}
+use Rattle.std.proofs.Common.{◌≡◌, ℕ, ◌+◌, ◌*◌, ◌≤◌, max, List, refl, sym, ap, subst, arith}
 use Rattle.std.specs.List.{Contains}
 use Rattle.segment_image.specs.Shape.{Dimensions}
 use Rattle.bucket_ranges.specs.Spec.{buckets_of}
 use Rattle.alloc_core.specs.Layout.{IsShape}
-use Rattle.alloc_core.specs.Alloc as alloc
-use Rattle.alloc_core.specs.Alloc.{Allocation}
 use Rattle.segment_machine.specs.declared.actor.Actor.{Actor}
 use Rattle.segment_machine.specs.declared.actor.Known.{Known}
 use Rattle.segment_machine.specs.declared.actor.Made.{Made}
@@ -14,7 +12,6 @@ use Rattle.segment_machine.specs.declared.actor.Own.{Own}
 use Rattle.segment_machine.specs.Calls.{MayTurn}
 use Rattle.segment_machine.specs.Publishing.{MayPublish}
 use Rattle.hist_core.specs.declared.making.Making.{Making}
-use Rattle.hist_core.specs.declared.making.Stage.TheVariants.{Allocating}
 use Rattle.hist_core.specs.Goes.{Beside}
 use Rattle.hist_core.specs.Making.{Wanted, MayMake, IsMaking, IsStarted, StandsAtStage, tag_of}
 

@@ -1,8 +1,6 @@
 -- A block is claimed.
-use Rattle.std.proofs.Common.{◌≡◌, ◌≢◌, ℕ, ◌+◌, ◌-◌, ◌<◌, ◌≤◌, ◌==◌, Bool, true, false, List, [], ◌∷◌, ◌++◌, length, refl, sym, ap, subst, ◌∙◌, arith}
-use Rattle.std.specs.Prelude.{Some, if◌then◌else◌, is_some, slice_index, bit_and, ⊤}
-use Rattle.segment_image.specs.Shape.{Dimensions}
-use Rattle.segment_image.specs.Words.{word_at}
+use Rattle.std.proofs.Common.{◌≡◌, ◌≢◌, ℕ, ◌-◌, ◌≤◌, ◌==◌, Bool, true, false, List, [], ◌∷◌, ◌++◌, refl, sym, ap, subst, ◌∙◌}
+use Rattle.std.specs.Prelude.{Some, if◌then◌else◌, bit_and, ⊤}
 use Rattle.alloc_core.specs.declared.alloc.AllocStep.{AllocStep}
 use Rattle.alloc_core.specs.declared.alloc.AllocStep.TheVariants as said
 use Rattle.alloc_core.specs.declared.alloc.Purpose.TheVariants as purpose
@@ -12,20 +10,14 @@ use Rattle.alloc_core.specs.declared.planned.Planned.{Planned}
 use Rattle.alloc_core.specs.declared.planned.Planned.TheVariants as plan
 use Rattle.alloc_core.specs.Alloc.{Allocation, IsAimed, event_at, answer, stage_after, stage_of_plan}
 use Rattle.alloc_core.specs.Planned.{planned, is_pointer}
-use Rattle.alloc_core.specs.Alloc as alloc
 use Rattle.alloc_core.specs.Event as atomic
 use Rattle.segment_machine.specs.declared.actor.Actor.{Actor}
 use Rattle.segment_machine.specs.declared.actor.Own.{Own}
 use Rattle.segment_machine.specs.declared.place.Place.TheVariants.{Idle}
-use Rattle.segment_machine.specs.Actor.{AreApart}
-use Rattle.segment_machine.specs.Allocating.{new_own}
 use Rattle.segment_machine.specs.Calls.{change_own}
-use Rattle.segment_machine.specs.Note.{Note, Notes, noted, asks}
+use Rattle.segment_machine.specs.Note.{Note, Notes, noted}
 use Rattle.segment_machine.specs.Publishing.{own_at}
-use Rattle.segment_machine.specs.Stages.{Allocates, StandsAt}
-use Rattle.segment_invariant.proofs.Lists.Elements.{at_from}
-use Rattle.segment_invariant.proofs.Lists.Ends.{own_found}
-use Rattle.list_core.proofs.Prefixes.{prefix_of_prefix}
+use Rattle.segment_machine.specs.Stages.{StandsAt}
 use Rattle.hist_core.specs.Goes.{Goes}
 
 -- ---- a block that is claimed

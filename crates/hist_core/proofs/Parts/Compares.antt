@@ -24,7 +24,6 @@ use Rattle.hist_core.specs.declared.hist.HistStep.{HistStep}
 use Rattle.hist_core.specs.declared.hist.HistStep.TheVariants.{More, Done, Refused}
 use Rattle.hist_core.specs.declared.hist.Stage.TheVariants.{Walking, Comparing}
 use Rattle.segment_calls.specs.declared.refusal.Refusal.{Refusal}
-use Rattle.segment_calls.specs.declared.refusal.Refusal.TheVariants as why
 use Rattle.hist_core.specs.Goes.{Beside, Goes}
 use Rattle.hist_core.proofs.Free.{free_turns}
 use Rattle.hist_core.specs.Hist.{IsHist, StandsAtStage, HaveOtherNames, AreSame, Reaches, HistGives, IsMatched, IsDifferent, IsCause, HasOtherSpec, asked_of, compared_place, compared_index, compared_word}

@@ -12,7 +12,6 @@ use Rattle.segment_machine.specs.declared.actor.Actor.{Actor}
 use Rattle.segment_machine.specs.declared.seen.Sighting.{Sighting}
 use Rattle.segment_machine.specs.Actor.{word_seen}
 use Rattle.segment_machine.specs.Made.{SawOtherName}
-use Rattle.segment_machine.specs.Stages.{Walks}
 use Rattle.segment_invariant.proofs.Walking.Words.{word_still}
 use Rattle.hist_core.specs.declared.hist.Hist.{Hist}
 use Rattle.hist_core.specs.declared.hist.HistStep.TheVariants.{More}

@@ -71,3 +71,16 @@ fn events_of_mounted_counts(rt: HostRuntime) -> Result<(), Fail> {
     }
     Ok(())
 }
+
+#[test]
+fn events_of_sparse_counts(rt: HostRuntime) -> Result<(), Fail> {
+    let alloc = rt.alloc();
+    let mut world = World::new(alloc, 128, 64, 7, 1, 1)?;
+    ask(&mut world, alloc, 0, b"S", Spec::Sparse)?;
+    assert!(rt; ends_with(&mut world, 0, 22)?);
+    for (value, events) in [(-5, 20), (-5, 7), (7, 24), (0, 26)] {
+        count(&mut world, alloc, 0, b"S", value, 1)?;
+        assert!(rt; ends_with(&mut world, 0, events)?);
+    }
+    Ok(())
+}

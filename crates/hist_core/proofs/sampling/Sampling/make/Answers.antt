@@ -1,4 +1,4 @@
-use Rattle.std.proofs.Common.{◌≡◌, ◌∷◌, ℕ, [], sym, ap}
+use Rattle.std.proofs.Common.{◌∷◌, ℕ, [], sym, ap}
 use Rattle.std.proofs.Props.{props}
 use Rattle.std.proofs.Math.Logic.{∥∥₁_elim}
 use Rattle.hist_core.specs.Sampling.{wanted_of}

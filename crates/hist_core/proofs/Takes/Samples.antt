@@ -8,15 +8,17 @@ use Rattle.std.proofs.Math.Logic.{∥∥₁_elim}
 use lib.Seq.{set-get_or}
 use Rattle.segment_image.specs.Shape.{Dimensions}
 use Rattle.segment_image.specs.Words.{word_at}
+use Rattle.list_core.specs.Walk.{IsPrefix}
 use Rattle.segment_invariant.proofs.Lists.Maps.{contains_map}
 use Rattle.segment_machine.specs.declared.actor.Actor.{Actor}
 use Rattle.segment_machine.specs.declared.actor.Known.{Known}
 use Rattle.segment_machine.specs.declared.actor.Taken.{Taken}
 use Rattle.segment_machine.specs.declared.place.Place.{Place}
+use Rattle.segment_machine.specs.declared.seen.Sighting.{Sighting}
 use Rattle.segment_machine.specs.declared.place.Place.TheVariants as place
 use Rattle.segment_machine.specs.Actor.{SawCount, Sparse, is_bound, units_listed}
 use Rattle.segment_machine.specs.Calls.{back}
-use Rattle.segment_machine.specs.Event.{Event, Learned, next, taking_event}
+use Rattle.segment_machine.specs.Event.{Learned, next, taking_event}
 use Rattle.segment_machine.specs.Note.{TookSample, noted, nothing_taken, takes}
 use Rattle.segment_machine.specs.Taking.{TakingEvent, at_count, is_looking, load_count, raise_mark, taken_key}
 use Rattle.segment_machine.proofs.Values.{value_word}
@@ -33,9 +35,8 @@ use Rattle.hist_core.specs.declared.walk.Met.TheVariants.{Nothing, Sample, End}
 use Rattle.hist_core.specs.declared.walk.Walk.{Walk}
 use Rattle.hist_core.specs.declared.walk.Walk.TheVariants.{LoadingFirst, LoadingType, LoadingHistogram, LoadingValue, LoadingNext}
 use Rattle.hist_core.specs.Goes.{Beside, Goes, IsInOrder, WalksInOrder}
-use Rattle.hist_core.specs.Mounted.{BeganBefore}
 use Rattle.hist_core.specs.Taker.{AreUnits, HasBegun, HasCounted, HoldsValues, IsSomeTaker, IsTaker, IsUnderWay, ListsTaken, StandsAtStage, TakerGives, TakesAlong, TakesAside, TakesUnits, behind_sample, behind_walk, insert_by_key}
-use Rattle.hist_core.specs.Walk.{HasComeTo, HasSetOut, IsBehindValue, IsOnWay, Meets, MetRecord, MetSample, WalksAt, behind_next, behind_type, spot_of}
+use Rattle.hist_core.specs.Walk.{HasComeTo, HasSetOut, IsOnWay, Meets, MetRecord, MetSample, WalksAt, spot_of}
 use Rattle.hist_core.proofs.Parts.Allocations.{goes_with}
 use Rattle.hist_core.proofs.Passing.{way_still}
 use Rattle.hist_core.proofs.Quiet.{not_spent}
@@ -128,6 +129,21 @@ module _ (shape : Dimensions) (known : Known) (earlier : List Taken) (taker : Ta
   stands_behind End b way room all =
       (same_way known earlier taker (behind End) b refl way, inr (record { passed = all.passed; way = all.way; lists = all.lists }))
 
+  -- what a walk leaves as it was, from where its call has begun
+  aside_of : (begun b : Actor) → record begun { since = a.since; deltas = a.deltas } ≡ a → begun.deltas.snapshots ≡ a.deltas.snapshots
+      → begun.deltas.first_taken ≡ a.deltas.first_taken → Beside begun b → TakesAside a b
+  aside_of begun b same snapshots first beside = record {
+    role = beside.role ∙ ap (λ (x : Actor). x.role) same;
+    segment = beside.segment ∙ ap (λ (x : Actor). x.segment) same;
+    units = beside.units ∙ ap (λ (x : Actor). x.units) same;
+    entries = beside.entries ∙ ap (λ (x : Actor). x.entries) same;
+    names = beside.names ∙ ap (λ (x : Actor). x.answers.names) same;
+    snapshots = ap (λ d. d.snapshots) beside.deltas ∙ snapshots;
+    first = ap (λ d. d.first_taken) beside.deltas ∙ first;
+    chain = subst (λ (x : Actor). IsPrefix x.seen.chain b.seen.chain) same beside.chain;
+    words = subst (λ (x : Actor). (more : List Sighting) × (b.seen.words ≡ x.seen.words ++ more)) same beside.words;
+  }
+
   module _ (met : Met) where
     goes_behind : (b : Actor) → TakesAside a b → is_bound b.hand.place ≡ false → IsUnderWay known earlier taker b → HoldsValues shape taker
         → HasComeTo shape known (ListsTaken known taker) met b → TakesAside a b × IsTaker shape known earlier (behind met) b
@@ -144,17 +160,7 @@ module _ (shape : Dimensions) (known : Known) (earlier : List Taken) (taker : Ta
     further walk way stands room set_out meets =
         goes_with (walks_so shape taker.version known (ListsTaken known taker) (taken_along known taker) a words is.segment is.turns walk stands
         (began_before shape known (ListsTaken known taker) walk a set_out stands) met meets) (λ b (beside, turns, comes).
-        goes_behind b (record {
-          role = beside.role;
-          segment = beside.segment;
-          units = beside.units;
-          entries = beside.entries;
-          names = beside.names;
-          snapshots = ap (λ d. d.snapshots) beside.deltas;
-          first = ap (λ d. d.first_taken) beside.deltas;
-          chain = beside.chain;
-          words = beside.words;
-        }) turns (way_beside known earlier taker a b beside.deltas way) room comes)
+        goes_behind b (aside_of a b refl refl refl beside) turns (way_beside known earlier taker a b beside.deltas way) room comes)
 
     -- with its first event it begins to take
     sets_out : StandsAtStage shape known earlier taker a (Walking LoadingFirst)
@@ -180,17 +186,7 @@ module _ (shape : Dimensions) (known : Known) (earlier : List Taken) (taker : Ta
         (goes_with (walks_so shape taker.version known (ListsTaken known taker) (taken_along known taker) begun words is.segment is.turns LoadingFirst
         (record { sparse = stands.1.0.sparse; apart = stands.1.0.apart; met = stands.1.0.met }, stands.1.1)
         (record { singles = omega arith; counts = omega arith }) met meets) (λ b (beside, turns, comes).
-        goes_behind b (record {
-          role = beside.role;
-          segment = beside.segment;
-          units = beside.units;
-          entries = beside.entries;
-          names = beside.names;
-          snapshots = ap (λ d. d.snapshots) beside.deltas;
-          first = ap (λ d. d.first_taken) beside.deltas;
-          chain = beside.chain;
-          words = beside.words;
-        }) turns (way_beside known earlier taker begun b beside.deltas way) stands.2 comes))
+        goes_behind b (aside_of begun b refl refl refl beside) turns (way_beside known earlier taker begun b beside.deltas way) stands.2 comes))
 
     pub walks_further : (walk : Walk) → taker.stage ≡ Walking walk → Meets walk taker.histogram (word_at words (spot_of taker.histogram walk)) met
         → Goes shape.size taker.version a words words (TakerGives shape known earlier (behind met) More a)

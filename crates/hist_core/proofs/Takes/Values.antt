@@ -1,5 +1,5 @@
 -- What a delta lists of the samples of a sparse histogram: values in ascending order, each once.
-use Rattle.std.proofs.Common.{◌≡◌, ◌≢◌, ℕ, suc, ◌+◌, ◌≤◌, ℤ, Bool, true, false, if◌then◌else◌, map, sum_by, List, [], ◌∷◌, ◌++◌, Less, Equal, Greater, inl, inr, ⊎_elim, refl, sym, ap, ◌∙◌, arith}
+use Rattle.std.proofs.Common.{◌≡◌, ◌≢◌, ℕ, suc, ◌+◌, ◌≤◌, ℤ, Bool, true, false, if◌then◌else◌, map, sum_by, List, [], ◌∷◌, ◌++◌, Less, Equal, Greater, inl, inr, ⊎_elim, refl, ap, ◌∙◌, arith}
 use Rattle.std.specs.Prelude.{int_lt}
 use Rattle.std.specs.List.{AllByRecursion, Contains, insert}
 use Rattle.std.specs.List.Sorted.{IsPermutation, IsStrictlySortedBy}

@@ -49,8 +49,8 @@ use Rattle.hist_core.proofs.Parts.Allocations.{goes_with}
 use Rattle.hist_core.proofs.Apart.{asks_not, adds_not, looks_not, batches_not}
 use Rattle.hist_core.proofs.Boards.{each_runs, is_there}
 use Rattle.hist_core.proofs.Free.{free_apart, free_turns}
-use Rattle.hist_core.proofs.Quiet.{begun_there, met_on}
-use Rattle.hist_core.proofs.Viewing.{call_begins, call_begun, met_split}
+use Rattle.hist_core.proofs.Quiet.{begun_there, met_on, met_split}
+use Rattle.hist_core.proofs.Viewing.{call_begins, call_begun}
 
 -- ---- lists of what deltas took
 

@@ -107,13 +107,16 @@ def wrong_seeded(seed, stops, folder):
     return None
 
 
-def wrong_worked(number, schedule, folder):
+def wrong_worked(number, schedule, known, folder):
     """What is wrong with a worked example, which is stopped at every event, or None."""
     path = folder / f"worked-{number}.csv"
     came = replayed(path, schedule.text())
     if came.status != 0 or came.error:
         return f"status {came.status}, {came.error[:200]!r}"
     lines = came.output.splitlines(True)
+    last = seeded_schedules.Done(schedule, lines, -1).words
+    if any(last[at] != word for at, word in known.items()):
+        return f"the last words are {last}, and known are {known}"
     events = range(sum(b",step" in line for line in lines) + 1)
     return next(filter(None, (wrong_stop(schedule, path, lines, event) for event in events)), None)
 
@@ -165,8 +168,8 @@ def cases(_, options):
         for words, status in (([], 2), (["a", "--report", "--image"], 2), (["a", "--stop", "x"], 2), (["--help"], 0)):
             yield f"usage {' '.join(words)}", wrong_usage(words, status)
         worked = list(worked_schedules.examples())
-        wrongs = pool.map(lambda one: wrong_worked(one[0], one[1][1], folder), enumerate(worked))
-        yield from zip((name for name, _ in worked), wrongs)
+        wrongs = pool.map(lambda one: wrong_worked(one[0], *one[1][1:], folder), enumerate(worked))
+        yield from zip((name for name, *_ in worked), wrongs)
         seeds = [f"{options.seed}-{number}" for number in range(options.schedules)]
         wrongs = pool.map(lambda seed: wrong_seeded(seed, options.stops, folder), seeds)
         yield from zip((f"schedule {seed}" for seed in seeds), wrongs)

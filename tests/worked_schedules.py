@@ -31,6 +31,9 @@ EXAMPLES = {
         ("add", 0, "S", -5, 1), ("step", 0, 1), ("add", 1, "S", -5, 2), ("step", 1, 1),
         ("step", 0, 3), ("step", 1, ALL), ("step", 0, ALL),
     ],
+    "sparse marks": [
+        ("hist", 0, "S", "sparse"), ("step", 0, ALL), *ended(("add", 0, "S", -5, 2), ("add", 0, "S", 7, 1), ("delta", 0, "S"), ("delta", 0, "S")),
+    ],
     # Both have loaded the count of bucket 1 when one of them takes it.
     "two takers of one count": [
         *KNOWN_TWICE, *ended(("add", 0, "A", 0, 1)), ("delta", 0, "A"), ("step", 0, 5), ("delta", 1, "A"), ("step", 1, 5),
@@ -38,11 +41,17 @@ EXAMPLES = {
     ],
 }
 
+# Words at the end of some: where they stand, and what they are.
+WORDS = {
+    "race for a value": {38: 0, 46: 3},
+    "sparse marks": {27: 2**64 - 3, 28: 2**64 - 3, 36: 16, 37: 2**64 - 5, 38: 2, 39: 2, 44: 16, 45: 7, 46: 1, 47: 1},
+}
+
 
 def examples():
-    """The examples, each with its name, in both versions."""
+    """The examples, each with its name, in both versions, and with the words that are known of its end."""
     for name, records in EXAMPLES.items():
         for version in (1, 2):
             schedule = Schedule(128, 64, 7, 2, version)
             schedule.records.extend(records)
-            yield f"{name}, version {version}", schedule
+            yield f"{name}, version {version}", schedule, WORDS.get(name, {})

@@ -23,23 +23,16 @@
 #include <thread>
 #include <vector>
 
+#include "linear_histogram.h"
+
 namespace {
 
-using Word = std::uint64_t;
+using namespace plain;
 
-constexpr Word kTop = Word{1} << 63;
 constexpr Word kMostPacked = 65'535;
-constexpr std::int32_t kMostValue = 2'147'483'646;
-
-// Words of a record, from where it begins.
-constexpr Word kCounts = 8, kSingle = 9, kSum = 11, kRedundant = 13;
-// Words before the payload of a block.
-constexpr Word kHeader = 4;
 
 constexpr std::size_t kRecordWords = 48;
 constexpr std::size_t kHistograms = 16;
-constexpr std::uint32_t kBuckets = 50;
-constexpr std::int32_t kLeast = 1, kGreatest = 10'000;
 constexpr std::size_t kValues = 4096;
 constexpr std::size_t kMountedSamples = 1'000'000;
 
@@ -64,17 +57,6 @@ struct Known {
     Word reference;
     std::vector<std::uint32_t> boundaries;
 };
-
-// Ranges of equal width, from 0 to the greatest value.
-std::vector<std::uint32_t> linear() {
-    std::vector<std::uint32_t> boundaries{0};
-    for (std::uint32_t i = 1; i < kBuckets; i += 1) {
-        double at = (kLeast * (kBuckets - 1.0 - i) + kGreatest * (i - 1.0)) / (kBuckets - 2);
-        boundaries.push_back(static_cast<std::uint32_t>(at + 0.5));
-    }
-    boundaries.push_back(static_cast<std::uint32_t>(kMostValue) + 1);
-    return boundaries;
-}
 
 // The bucket of a value, by halving and without a branch on the value.
 std::size_t bucket_of(const std::vector<std::uint32_t>& boundaries, std::int32_t value) {

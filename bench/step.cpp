@@ -16,33 +16,14 @@
 #include <string>
 #include <vector>
 
+#include "linear_histogram.h"
+
 namespace {
 
-using Word = std::uint64_t;
-
-constexpr Word kTop = Word{1} << 63;
-constexpr std::int32_t kMostValue = 2'147'483'646;
-
-// Words of a record, from where it begins.
-constexpr Word kCounts = 8, kSingle = 9, kSum = 11, kRedundant = 13;
-// Words before the payload of a block.
-constexpr Word kHeader = 4;
+using namespace plain;
 
 constexpr Word kRecord = 16, kRecordWords = 16;
-constexpr std::uint32_t kBuckets = 50;
-constexpr std::int32_t kLeast = 1, kGreatest = 10'000;
 constexpr std::size_t kWords = 1024, kParts = 10;
-
-// Ranges of equal width, from 0 to the greatest value.
-std::vector<std::uint32_t> linear() {
-    std::vector<std::uint32_t> boundaries{0};
-    for (std::uint32_t i = 1; i < kBuckets; i += 1) {
-        double at = (kLeast * (kBuckets - 1.0 - i) + kGreatest * (i - 1.0)) / (kBuckets - 2);
-        boundaries.push_back(static_cast<std::uint32_t>(at + 0.5));
-    }
-    boundaries.push_back(static_cast<std::uint32_t>(kMostValue) + 1);
-    return boundaries;
-}
 
 // The bucket of a value.
 std::size_t bucket_of(const std::vector<std::uint32_t>& boundaries, std::int32_t value) {

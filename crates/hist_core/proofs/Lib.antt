@@ -14,6 +14,7 @@ mod Deltas
 mod Free
 mod Looks
 mod Makes
+mod Moving
 mod NewBoards
 mod Opening
 mod Orders

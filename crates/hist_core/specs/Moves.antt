@@ -4,6 +4,7 @@ use Rattle.segment_image.specs.Checks.{first_fault}
 use Rattle.segment_machine.specs.State.{State}
 use Rattle.hist_core.specs.declared.board.Board.{Board}
 use Rattle.hist_core.specs.declared.call.Begun.{Begun}
+use Rattle.hist_core.specs.declared.call.Call.{Call}
 use Rattle.hist_core.specs.declared.call.Move.{Move}
 use Rattle.hist_core.specs.declared.call.Move.TheVariants.{Begin, Step}
 use Rattle.hist_core.specs.declared.call.Stepped.{Stepped}
@@ -12,15 +13,24 @@ use Rattle.hist_core.specs.declared.fault.WorldFault.TheVariants.{NoMemory}
 use Rattle.hist_core.specs.Board.{BeginsFrom, IsNewBoard, IsReachedAs, OthersStay, Says, StepsTo}
 use Rattle.hist_core.specs.World.{world_checks, begin_checks, step_checks, BeginSays, TakesMemory}
 
--- A move leads from a world to another: an actor begins a call, or goes on by one event. Nothing is wrong with it, and all other actors
--- stay.
+-- an actor begins a call, which says this: nothing is wrong with it, and all other actors stay
+pub record IsBegun (actor : ℕ) (call : Call) (old new : Board) (said : Begun) : Type 0 where
+  pub lawful : first_fault (begin_checks old actor call) ≡ None
+  pub others : OthersStay actor old new
+  pub says : BeginSays actor call old new said
+  pub leads : (state : State) → IsReachedAs old state → BeginsFrom state actor new
+
+-- an actor goes on with its call by one event, and the call says this: nothing is wrong with it, and all other actors stay
+pub record IsStepped (actor : ℕ) (old new : Board) (said : Stepped) : Type 0 where
+  pub lawful : first_fault (step_checks old actor) ≡ None
+  pub others : OthersStay actor old new
+  pub says : Says actor old new said
+  pub leads : (state : State) → IsReachedAs old state → StepsTo old actor state new said
+
+-- a move leads from a world to another
 abbrev pub Makes : Move → Board → Board → Type 0
-Makes (Begin actor call) old new =
-    (first_fault (begin_checks old actor call) ≡ None) × OthersStay actor old new × ((said : Begun) × BeginSays actor call old new said)
-    × ((state : State) → IsReachedAs old state → BeginsFrom state actor new)
-Makes (Step actor) old new =
-    (first_fault (step_checks old actor) ≡ None) × OthersStay actor old new
-    × ((said : Stepped) × Says actor old new said × ((state : State) → IsReachedAs old state → StepsTo old actor state new said))
+Makes (Begin actor call) old new = (said : Begun) × IsBegun actor call old new said
+Makes (Step actor) old new = (said : Stepped) × IsStepped actor old new said
 
 -- moves lead from a world to another, in order
 abbrev pub MakesAll : List Move → Board → Board → Type 0

@@ -2,7 +2,7 @@
 use Rattle.std.specs.List.{list_any}
 use Rattle.std.specs.Str.{bytes_eq}
 use Rattle.hist_core.specs.declared.hist.Known.{Known}
-use Rattle.std.specs.Prelude.{◌≡◌, Bool, true, false, not, ◌&&◌, ◌||◌, ◌==◌, nat_lt, nat_le, ℕ, List, [], ◌∷◌, vec_len, is_some, Ok, ⊤}
+use Rattle.std.specs.Prelude.{◌≡◌, Bool, true, false, not, ◌&&◌, ◌||◌, ◌==◌, nat_lt, nat_le, ℕ, List, [], ◌∷◌, vec_len, is_some, slice_set, Ok, ⊤}
 use mathlib.Core.Option.{Option, some, none}
 use lib.ListN.{get_elem?}
 use Rattle.segment_image.specs.Shape.{is_page, is_size}
@@ -104,3 +104,9 @@ BeginSays actor (Snapshot name) old new said = SnapshotBegins actor name.items o
 BeginSays actor (Batch name items sum) old new said = BatchBegins actor name.items items.items sum old new said
 BeginSays actor call old new Going = IsBusy new actor
 BeginSays actor call old new (Ended answered) = ⊥
+
+-- ---- a step
+
+-- at most one word is another than before
+abbrev pub ChangesOneWord : List ℕ → List ℕ → Type 0
+ChangesOneWord old new = (at word : ℕ) × (new ≡ slice_set old at word)

@@ -30,7 +30,7 @@ impl World {
     ghost use Rattle.segment_machine.specs.State.{State};
     ghost use Rattle.hist_core.specs.Board.{IsReachedAs, IsNewBoard, BeginsFrom, StepsTo, IsAsBefore, OthersStay, Says, IsConsistentAs, IsReadAs, AreKnownFirst};
     ghost use Rattle.hist_core.specs.Moves.{Makes, FaultsAt};
-    ghost use Rattle.hist_core.specs.World.{world_checks, begin_checks, TakesMemory, BeginSays, step_checks, ended_of, begun_of, taken_of};
+    ghost use Rattle.hist_core.specs.World.{world_checks, begin_checks, TakesMemory, BeginSays, step_checks, ChangesOneWord, ended_of, begun_of, taken_of};
 
     /// A new segment of `size` words in pages of `page` words, of version 1 or 2, with so many actors that have done nothing.
     ///
@@ -180,6 +180,7 @@ impl World {
         ensures fault { OnErr result (self.new.board ≡ self.old.board) }
         ensures steps { IfOk result (λ said. (state : State) → IsReachedAs self.old.board state → StepsTo self.old.board actor state self.new.board said) }
         ensures others { OnOk result (OthersStay actor self.old.board self.new.board) }
+        ensures word { OnOk result (∥ ChangesOneWord self.old.board.words.items self.new.board.words.items ∥₁) }
         ensures says { IfOk result (λ said. Says actor self.old.board self.new.board said) }
     {
         let board = &mut self.board;

@@ -10,7 +10,11 @@ pub returns-in_ok-step-in-Step-clause-makes : goal.returns-in_ok-step-in-Step-cl
 returns-in_ok-step-in-Step-clause-makes c =
     let its = c.in_ok-step-in-Step.ensures in
     subst (λ (move : Move). Makes move c.args.self.now.board c.step.new.self.board) (sym c.in-Step.is) (
-      no_fault (first_fault (step_checks c.args.self.now.board c.in-Step.actor)) c.in_ok-step-in-Step.field-0 _ its.faults,
-      its.others,
-      (c.in_ok-step-in-Step.field-0, its.says, its.steps),
+      c.in_ok-step-in-Step.field-0,
+      record {
+        lawful = no_fault (first_fault (step_checks c.args.self.now.board c.in-Step.actor)) c.in_ok-step-in-Step.field-0 _ its.faults;
+        others = its.others;
+        says = its.says;
+        leads = its.steps;
+      },
     )

@@ -1,6 +1,7 @@
 use Rattle.std.proofs.Common.{◌∙◌, true, false, refl, ap, vec_len, arith}
 use Rattle.std.specs.Prelude.{not}
 use Rattle.hist_core.proofs.Boards.{is_there}
+use Rattle.hist_core.proofs.Moving.{one_word}
 use Rattle.hist_core.proofs.Worlds.{second_fails, none_fails, rests_as, is_busy}
 use Rattle.std.proofs.lemmas.Bool.{lt-leb}
 use Rattle.std.proofs.Props.{props}
@@ -34,3 +35,7 @@ returns-clause-faults c =
     let at = is_there board.runners.items (vec_len board.runners) c.args.actor r board.runners.ok.0 (omega (arith, c.if-actor-len.false, c.len.ensures)) c.index.ensures in
     none_fails _ _ _ _ _ _ (lt-leb (vec_len board.runners) c.args.actor (omega (arith, c.if-actor-len.false, c.len.ensures)))
     (rests_as board c.args.actor r at false (c.is_none.ensures ∙ ap not c.if-is_none.false)) refl
+
+pub returns-clause-word : goal.returns-clause-word
+returns-clause-word c = ∥∥₁_elim c.args.self.now.reached (hlevel props)
+    (λ (state, reach). ∣ one_word c.args.self.now.board c.args.actor state _ _ reach (c.step.ensures.steps state reach) ∣₁)

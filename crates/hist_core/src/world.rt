@@ -123,6 +123,7 @@ impl World {
     pub fn begin(&mut self, actor: usize, call: &Call) -> Result<Begun, WorldFault>
         ensures faults { MatchOption (first_fault (begin_checks self.old.board actor call.now)) (IfErr result (λ fault. (fault ≡ WorldFault.NoMemory) × TakesMemory call.now)) (λ fault. result ≡ Err fault) }
         ensures fault { OnErr result (IsAsBefore self.old.board self.new.board) }
+        ensures words { self.new.board.words.items ≡ self.old.board.words.items }
         ensures begins { (state : State) → IsReachedAs self.old.board state → BeginsFrom state actor self.new.board }
         ensures others { OthersStay actor self.old.board self.new.board }
         ensures says { IfOk result (λ said. BeginSays actor call.now self.old.board self.new.board said) }

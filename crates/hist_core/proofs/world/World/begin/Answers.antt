@@ -12,6 +12,7 @@ use Rattle.hist_core.specs.declared.fault.WorldFault.TheVariants.{NoMemory}
 use Rattle.std.proofs.lemmas.Bool.{lt-leb}
 use Rattle.std.proofs.Props.{props}
 use Rattle.std.proofs.Math.Logic.{∥∥₁_elim}
+use Rattle.hist_core.proofs.Moving.{no_word, no_word_alone}
 use Rattle.hist_core.proofs.Boards.{is_there}
 use Rattle.hist_core.proofs.Worlds.{second_of_three, third_of_three, none_of_three, none_named, by_name, knows_it, lacks_it, runs_as, is_resting}
 use Rattle.hist_core.proofs.world.World.begin.Goals as goal
@@ -262,3 +263,27 @@ returns-in_ok-begin_batch-in-Batch-clause-says c =
     (subst (λ (p : List ℕ × List (ℤ × ℕ) × ℤ). BatchBegins c.args.actor p.0 p.1 p.2 c.args.self.now.board c.begin_batch.new.self c.in_ok-begin_batch-in-Batch.field-0)
     (λ i. (c.deref-in-Batch.ensures.value i, c.deref-in-Batch-2.ensures.value i, held i))
     (c.in_ok-begin_batch-in-Batch.ensures.says c.deref-in-Batch.result.now c.in-Some-place_of-3.ensures.found))
+
+pub returns-in_ok-begin_add-in-Add-clause-words : goal.returns-in_ok-begin_add-in-Add-clause-words
+returns-in_ok-begin_add-in-Add-clause-words c =
+    no_word c.args.self.now.board c.args.actor c.begin_add.new.self c.args.self.now.reached c.begin_add.ensures.begins
+
+pub returns-in_ok-begin_batch-in-Batch-clause-words : goal.returns-in_ok-begin_batch-in-Batch-clause-words
+returns-in_ok-begin_batch-in-Batch-clause-words c =
+    no_word c.args.self.now.board c.args.actor c.begin_batch.new.self c.args.self.now.reached c.begin_batch.ensures.begins
+
+pub returns-in_ok-begin_hist-in-Hist-clause-words : goal.returns-in_ok-begin_hist-in-Hist-clause-words
+returns-in_ok-begin_hist-in-Hist-clause-words c =
+    no_word_alone c.args.self.now.board c.begin_hist.new.self c.args.self.now.reached c.begin_hist.ensures.begins
+
+pub returns-in_ok-begin_snapshot-in-Snapshot-clause-words : goal.returns-in_ok-begin_snapshot-in-Snapshot-clause-words
+returns-in_ok-begin_snapshot-in-Snapshot-clause-words c =
+    no_word_alone c.args.self.now.board c.begin_snapshot.new.self c.args.self.now.reached c.begin_snapshot.ensures.begins
+
+pub returns-in_ok-begin_delta-in-Delta-clause-words : goal.returns-in_ok-begin_delta-in-Delta-clause-words
+returns-in_ok-begin_delta-in-Delta-clause-words c =
+    no_word_alone c.args.self.now.board c.begin_delta.new.self c.args.self.now.reached c.begin_delta.ensures.begins
+
+pub returns-in-SetCorrupt-clause-words : goal.returns-in-SetCorrupt-clause-words
+returns-in-SetCorrupt-clause-words c =
+    no_word_alone c.args.self.now.board c.begin_set_corrupt.new.self c.args.self.now.reached c.begin_set_corrupt.ensures.begins

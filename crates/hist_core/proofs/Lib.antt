@@ -23,7 +23,7 @@ mod Passing
 mod Quiet
 mod Runners
 mod SampleLists
-mod Scheduling
+pub mod Scheduling
 mod Searches
 mod Snapshots
 mod Takes

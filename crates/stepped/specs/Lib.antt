@@ -1,3 +1,4 @@
 pub mod Fault
 pub mod Failure
+pub mod Lines
 pub mod Replay

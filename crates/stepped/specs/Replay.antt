@@ -1,10 +1,128 @@
--- What an event changed.
-use Rattle.std.specs.Prelude.{◌≡◌, ◌≢◌, ◌<◌, ℕ, List, length, slice_index}
+-- A schedule as it is replayed: the moves that its records make, and the lines that show them.
+use Rattle.std.specs.Prelude.{◌≡◌, ◌≢◌, ◌⊎◌, ◌<◌, ◌≤◌, ◌+◌, ℕ, zero, suc, List, [], ◌∷◌, ◌++◌, length, slice_index, slice_set, Option, Some, None}
+use Rattle.std.specs.List.{flat_map}
+use Rattle.hist_core.specs.declared.board.Board.{Board}
+use Rattle.hist_core.specs.declared.call.Answer.{Answer}
+use Rattle.hist_core.specs.declared.call.Begun.{Begun}
+use Rattle.hist_core.specs.declared.call.Begun.TheVariants.{Going, Ended}
+use Rattle.hist_core.specs.declared.call.Move.{Move}
+use Rattle.hist_core.specs.declared.call.Move.TheVariants.{Begin, Step}
+use Rattle.hist_core.specs.declared.call.Stepped.{Stepped}
+use Rattle.hist_core.specs.declared.call.Stepped.TheVariants.{More, Done}
+use Rattle.hist_core.specs.declared.fault.WorldFault.{WorldFault}
+use Rattle.hist_core.specs.Moves.{FaultsAt, IsBegun, IsStepped}
+use Rattle.schedule.specs.declared.order.Order.{Order}
+use Rattle.schedule.specs.declared.order.OrderKind.{OrderKind}
+use Rattle.schedule.specs.declared.order.OrderKind.TheVariants as kind
+use Rattle.stepped.specs.declared.fault.ReplayFault.{ReplayFault}
+use Rattle.stepped.specs.declared.fault.ReplayFault.TheVariants.{Write}
 use Rattle.stepped.specs.declared.lines.Change.{Change}
+use Rattle.stepped.specs.Fault.{fault_of_world}
+use Rattle.stepped.specs.Lines.{Deed, deed_line}
+use Rattle.stepped.specs.Lines.Deed.{Begins, Steps, Ends}
 
--- a word that is another now, by its number, with what it was and what it is
+-- ---- moves
+
+-- a word is another now, and no other is
 pub record IsChange (old new : List ℕ) (change : Change) : Type 0 where
+  pub near : change.at < length old
+  pub was : slice_index old change.at ≡ change.old
+  pub is : new ≡ slice_set old change.at change.new
+  pub other : change.old ≢ change.new
+
+-- what changed of words: one of them, or none
+abbrev pub HasChanged : List ℕ → List ℕ → Option Change → Type 0
+HasChanged old new None = new ≡ old
+HasChanged old new (Some change) = IsChange old new change
+
+-- a word that differs
+pub record IsDifference (old new : List ℕ) (change : Change) : Type 0 where
   pub near : change.at < length old
   pub was : slice_index old change.at ≡ change.old
   pub is : slice_index new change.at ≡ change.new
   pub other : change.old ≢ change.new
+
+-- what is shown of a begin: that the call begins; or its answer alone, where it needs no event
+abbrev pub begin_deeds : Begun → List Deed
+begin_deeds Going = Begins ∷ []
+begin_deeds (Ended answer) = Ends answer ∷ []
+
+-- what is shown of an event: that it happens, and behind it the answer of a call that it ended
+abbrev pub step_deeds : Option Change → Stepped → List Deed
+step_deeds change More = Steps change ∷ []
+step_deeds change (Done answer) = Steps change ∷ Ends answer ∷ []
+
+-- a move leads from a world to another, and is shown so
+abbrev pub Shows : Move → Board → Board → List Deed → Type 0
+Shows (Begin actor call) old new deeds = (said : Begun) × IsBegun actor call old new said × (deeds ≡ begin_deeds said)
+Shows (Step actor) old new deeds =
+    (said : Stepped) × IsStepped actor old new said
+    × ((change : Option Change) × HasChanged old.words.items new.words.items change × (deeds ≡ step_deeds change said))
+
+-- so do the events of an actor's call, one after the other
+abbrev pub GoesBy : ℕ → ℕ → Board → Board → List Deed → Type 0
+GoesBy actor zero old new deeds = (new ≡ old) × (deeds ≡ [])
+GoesBy actor (suc events) old new deeds =
+    (mid : Board) × (before last : List Deed) × GoesBy actor events old mid before × Shows (Step actor) mid new last × (deeds ≡ before ++ last)
+
+-- ---- records
+
+-- the last that is shown is an answer
+abbrev pub EndsCall : List Deed → Type 0
+EndsCall deeds = (before : List Deed) × (answer : Answer) × (deeds ≡ before ++ Ends answer ∷ [])
+
+-- A call goes on by events. They are as many as the record says, fewer only where the call ends or where no event is left.
+pub record GoesOn (actor times left : ℕ) (old new : Board) (then_left : ℕ) (deeds : List Deed) : Type 0 where
+  pub events : ℕ
+  pub goes : GoesBy actor events old new deeds
+  pub spent : left ≡ events + then_left
+  pub few : events ≤ times
+  pub whole : (events ≡ times) ⊎ (then_left ≡ 0) ⊎ EndsCall deeds
+
+-- what a record leads to, how many events it leaves, and what is shown of it
+abbrev pub Does : ℕ → OrderKind → ℕ → Board → Board → ℕ → List Deed → Type 0
+Does actor (kind.Begin call) left old new then_left deeds = Shows (Begin actor call) old new deeds × (then_left ≡ left)
+Does actor (kind.Step times) left old new then_left deeds = GoesOn actor times left old new then_left deeds
+
+-- the lines of what a record does
+abbrev pub lines_of : ℕ → ℕ → List Deed → List ℕ
+lines_of number actor deeds = flat_map (deed_line (record { number = number; actor = actor })) deeds
+
+-- What records from a number on lead to, one after the other, how many events they leave, and the lines that show them. Where no event is
+-- left nothing more is done.
+abbrev pub Replays : ℕ → List Order → ℕ → Board → Board → ℕ → List ℕ → Type 0
+Replays number [] left old new then_left text = (new ≡ old) × (then_left ≡ left) × (text ≡ [])
+Replays number (order ∷ rest) zero old new then_left text = (new ≡ old) × (then_left ≡ 0) × (text ≡ [])
+Replays number (order ∷ rest) (suc left) old new then_left text =
+    (mid : Board) × (left_then : ℕ) × (deeds : List Deed) × (later : List ℕ) × Does order.actor order.kind (suc left) old mid left_then deeds
+    × Replays (number + 1) rest left_then mid new then_left later × (text ≡ lines_of number order.actor deeds ++ later)
+
+-- ---- faults
+
+-- What a record does before the world has a fault at it, and the fault: none before a call begins; else fewer events than it says.
+abbrev pub FailsAt : ℕ → OrderKind → Board → WorldFault → List Deed → Type 0
+FailsAt actor (kind.Begin call) old fault deeds = FaultsAt (Begin actor call) old fault × (deeds ≡ [])
+FailsAt actor (kind.Step times) old fault deeds =
+    (events : ℕ) × (at : Board) × (events < times) × GoesBy actor events old at deeds × FaultsAt (Step actor) at fault
+
+-- the first fault of the world, at a record from number 2 on, and the lines of what was done before it
+pub record StopsAt (orders : List Order) (left : ℕ) (old : Board) (number : ℕ) (fault : WorldFault) (text : List ℕ) : Type 0 where
+  pub before : List Order
+  pub order : Order
+  pub rest : List Order
+  pub are : orders ≡ before ++ order ∷ rest
+  pub number_is : number ≡ length before + 2
+  pub mid : Board
+  pub left_then : ℕ
+  pub some : 0 < left_then
+  pub done : List ℕ
+  pub replays : Replays 2 before left old mid left_then done
+  pub deeds : List Deed
+  pub fails : FailsAt order.actor order.kind mid fault deeds
+  pub text_is : text ≡ done ++ lines_of number order.actor deeds
+
+-- why a replay ends with a fault: a write failed, or the world has a fault; then the lines before it are shown
+abbrev pub StopsWith : List Order → ℕ → Board → ReplayFault → (List ℕ → Type 0) → Type 0
+StopsWith orders left old fault IsShown =
+    (fault ≡ Write)
+    ⊎ ((number : ℕ) × (why : WorldFault) × (text : List ℕ) × StopsAt orders left old number why text × (fault ≡ fault_of_world number why) × IsShown text)

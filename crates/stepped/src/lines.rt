@@ -1,14 +1,21 @@
-//! The lines that show what was done.
+//! The lines that show what was done: the number of a record, its actor, and what it did, with commas between them.
 
+ghost use Rattle.std.specs.Prelude.{◌≡◌, ◌∷◌, ◌++◌, [], Some, OnOk};
+ghost use Rattle.std.specs.Fmt.{decimal, signed_decimal};
+ghost use Rattle.std.specs.Io.KnownBytes.{Appends};
+ghost use Rattle.stepped.specs.Lines.{answer_fields, behind, deed_line, place_text, refusal_fields, refusal_word as refusal_word_of, spec_fault_word as spec_fault_word_of, units_fields};
+ghost use Rattle.stepped.specs.Lines.Deed.{Begins, Steps, Ends};
+
+use bucket_ranges::SpecFault;
 use hist_core::{Answer, Refusal};
 use std::io;
 use std::io::Write;
 
-/// Which record a line belongs to, by its number, and whose call.
+/// Which record a line belongs to, and whose call.
 #[derive(Clone, Copy, Debug, PartialEq, Eq)]
 pub struct Place {
-    /// The record, from 1.
-    pub record: u64,
+    /// The number of the record, from 1.
+    pub number: u64,
     /// The actor, from 0.
     pub actor: usize,
 }
@@ -24,56 +31,168 @@ pub struct Change {
     pub new: u64,
 }
 
-/// The line of a call that begins.
-pub fn show_begin<W: Write>(writer: &mut W, place: Place) -> io::Result<()> {
-    let Place { record, actor } = place;
-    writeln!(writer, "{record},{actor},begin")
+// The number of the record and the actor, with which a line begins.
+fn put_place<W: Write>(writer: &mut W, place: Place) -> io::Result<()>
+    ensures { OnOk result (Appends (W.contents writer.old) (W.contents writer.new) (place_text place)) }
+{
+    let Place { number, actor } = place;
+    write!(writer, "{number},{actor}")
 }
 
-/// The line of an event, with the word that it changed.
-pub fn show_step<W: Write>(writer: &mut W, place: Place, change: Option<Change>) -> io::Result<()> {
-    let Place { record, actor } = place;
-    match change {
-        Some(Change { at, old, new }) => writeln!(writer, "{record},{actor},step,{at},{old},{new}"),
-        None => writeln!(writer, "{record},{actor},step"),
+// A word behind a comma.
+fn put_word<W: Write>(writer: &mut W, word: &[u8]) -> io::Result<()>
+    ensures { OnOk result (Appends (W.contents writer.old) (W.contents writer.new) (behind (word.now ∷ []))) }
+{
+    writer.write_all(b",")?;
+    writer.write_all(word)
+}
+
+// A number behind a comma.
+fn put_number<W: Write>(writer: &mut W, number: u64) -> io::Result<()>
+    ensures { OnOk result (Appends (W.contents writer.old) (W.contents writer.new) (behind (decimal number ∷ []))) }
+{
+    write!(writer, ",{number}")
+}
+
+// A number with its sign behind a comma.
+fn put_signed<W: Write>(writer: &mut W, number: i64) -> io::Result<()>
+    ensures { OnOk result (Appends (W.contents writer.old) (W.contents writer.new) (behind (signed_decimal number ∷ []))) }
+{
+    write!(writer, ",{number}")
+}
+
+// The end of a line.
+fn end_line<W: Write>(writer: &mut W) -> io::Result<()>
+    ensures { OnOk result (Appends (W.contents writer.old) (W.contents writer.new) (10 ∷ [])) }
+{
+    writer.write_all(b"\n")
+}
+
+/// Writes the line of a call that begins. The error is the writer's.
+pub fn show_begin<W: Write>(writer: &mut W, place: Place) -> io::Result<()>
+    ensures { OnOk result (Appends (W.contents writer.old) (W.contents writer.new) (deed_line place Begins)) }
+{
+    put_place(writer, place)?;
+    put_word(writer, b"begin")?;
+    end_line(writer)
+}
+
+// The word that an event changed: its number, what it was and what it is.
+fn put_change<W: Write>(writer: &mut W, change: Change) -> io::Result<()>
+    ensures { OnOk result (Appends (W.contents writer.old) (W.contents writer.new) (behind (decimal change.at ∷ decimal change.old ∷ decimal change.new ∷ []))) }
+{
+    put_number(writer, change.at as u64)?;
+    put_number(writer, change.old)?;
+    put_number(writer, change.new)
+}
+
+/// Writes the line of an event, with the word that it changed. The error is the writer's.
+pub fn show_step<W: Write>(writer: &mut W, place: Place, change: Option<Change>) -> io::Result<()>
+    ensures { OnOk result (Appends (W.contents writer.old) (W.contents writer.new) (deed_line place (Steps change))) }
+{
+    put_place(writer, place)?;
+    put_word(writer, b"step")?;
+    if let Some(change) = change {
+        put_change(writer, change)?;
     }
+    end_line(writer)
 }
 
-/// The line of a call's answer.
-pub fn show_answer<W: Write>(writer: &mut W, place: Place, answer: &Answer) -> io::Result<()> {
-    let Place { record, actor } = place;
-    write!(writer, "{record},{actor},answer,")?;
+/// Writes the line of a call's answer. The error is the writer's.
+pub fn show_answer<W: Write>(writer: &mut W, place: Place, answer: &Answer) -> io::Result<()>
+    ensures { OnOk result (Appends (W.contents writer.old) (W.contents writer.new) (deed_line place (Ends answer.now))) }
+{
+    put_place(writer, place)?;
+    put_word(writer, b"answer")?;
+    put_answer(writer, answer)?;
+    end_line(writer)
+}
+
+// The fields of an answer.
+fn put_answer<W: Write>(writer: &mut W, answer: &Answer) -> io::Result<()>
+    ensures { OnOk result (Appends (W.contents writer.old) (W.contents writer.new) (behind (answer_fields answer.now))) }
+{
     match answer {
-        Answer::Hist(reference) => writeln!(writer, "hist,{reference}"),
-        Answer::Added => writeln!(writer, "added"),
-        Answer::Flagged => writeln!(writer, "flagged"),
+        Answer::Hist(reference) => {
+            put_word(writer, b"hist")?;
+            put_number(writer, *reference)
+        }
+        Answer::Added => put_word(writer, b"added"),
+        Answer::Flagged => put_word(writer, b"flagged"),
         Answer::Delta(delta) => {
-            write!(writer, "delta,{}", delta.sum)?;
-            show_units(writer, &delta.counts)
+            put_word(writer, b"delta")?;
+            put_signed(writer, delta.sum)?;
+            put_units(writer, &delta.counts)
         }
         Answer::Snapshot(snapshot) => {
-            write!(writer, "snapshot,{},{}", snapshot.sum, snapshot.redundant)?;
-            show_units(writer, &snapshot.counts)
+            put_word(writer, b"snapshot")?;
+            put_signed(writer, snapshot.sum)?;
+            put_number(writer, snapshot.redundant)?;
+            put_units(writer, &snapshot.counts)
         }
-        Answer::Refused(why) => show_refusal(writer, *why),
+        Answer::Refused(why) => {
+            put_word(writer, b"refused")?;
+            put_refusal(writer, *why)
+        }
         Answer::BatchRefused(refusal) => {
-            writeln!(writer, "batch_refused,{},{}", refusal.added, refusal.why)
+            put_word(writer, b"batch_refused")?;
+            put_number(writer, refusal.added as u64)?;
+            put_refusal(writer, refusal.why)
         }
     }
 }
 
-// Keys and their units, each behind a comma, and the line's end.
-fn show_units<W: Write>(writer: &mut W, counts: &[(i32, u64)]) -> io::Result<()> {
+// Keys and their units.
+fn put_units<W: Write>(writer: &mut W, counts: &[(i32, u64)]) -> io::Result<()>
+    ensures { OnOk result (Appends (W.contents writer.old) (W.contents writer.new) (behind (units_fields counts.now))) }
+{
     for (key, units) in counts {
-        write!(writer, ",{key},{units}")?;
+        put_signed(writer, i64::from(*key))?;
+        put_number(writer, *units)?;
     }
-    writeln!(writer, "")
+    Ok(())
 }
 
 // Why a call is refused, with the fault of a spec.
-fn show_refusal<W: Write>(writer: &mut W, why: Refusal) -> io::Result<()> {
+fn put_refusal<W: Write>(writer: &mut W, why: Refusal) -> io::Result<()>
+    ensures { OnOk result (Appends (W.contents writer.old) (W.contents writer.new) (behind (refusal_fields why))) }
+{
+    put_word(writer, refusal_word(why))?;
     match why {
-        Refusal::BadSpec(fault) => writeln!(writer, "refused,BadSpec,{fault}"),
-        why => writeln!(writer, "refused,{why}"),
+        Refusal::BadSpec(fault) => put_word(writer, spec_fault_word(fault)),
+        _ => Ok(()),
+    }
+}
+
+// The word for a refusal.
+fn refusal_word(why: Refusal) -> &'static [u8]
+    ensures { result.now ≡ refusal_word_of why }
+{
+    match why {
+        Refusal::BadName => b"BadName",
+        Refusal::BadSpec(_) => b"BadSpec",
+        Refusal::ZeroCount => b"ZeroCount",
+        Refusal::NoUnits => b"NoUnits",
+        Refusal::TooMany => b"TooMany",
+        Refusal::NoMemory => b"NoMemory",
+        Refusal::TooLarge => b"TooLarge",
+        Refusal::Corrupt => b"Corrupt",
+        Refusal::Full => b"Full",
+        Refusal::OtherSpec => b"OtherSpec",
+    }
+}
+
+// The word for a fault of a spec.
+fn spec_fault_word(fault: SpecFault) -> &'static [u8]
+    ensures { result.now ≡ spec_fault_word_of fault }
+{
+    match fault {
+        SpecFault::BadMin => b"BadMin",
+        SpecFault::BadMax => b"BadMax",
+        SpecFault::TooFew => b"TooFew",
+        SpecFault::TooMany => b"TooMany",
+        SpecFault::BadRange => b"BadRange",
+        SpecFault::Empty => b"Empty",
+        SpecFault::NoMemory => b"NoMemory",
     }
 }

@@ -1,7 +1,6 @@
 //! A schedule as it is replayed.
 
-ghost use Rattle.std.specs.Prelude.{IfSome};
-ghost use Rattle.stepped.specs.Replay.{IsChange};
+ghost use Rattle.std.specs.Prelude.{◌≡◌};
 
 use crate::fault::ReplayFault;
 use crate::lines::{Change, Place, show_answer, show_begin, show_step};
@@ -19,11 +18,26 @@ pub struct Replay {
     before: Vec<u64>,
     // How many events are left.
     left: u64,
+    ghost in_step: { before.items ≡ world.board.words.items },
 }
+
+ghost use Rattle.std.specs.Prelude.{◌⊎◌, List, ℕ, MatchOption, OnOk, IfOk, IfErr, length, false, Err};
+ghost use Rattle.std.specs.Io.KnownBytes.{Appends};
+ghost use Rattle.hist_core.specs.declared.call.Move.TheVariants.{Begin, Step};
+ghost use Rattle.hist_core.specs.declared.fault.WorldFault.{WorldFault};
+ghost use Rattle.hist_core.specs.Board.{IsNewBoard};
+ghost use Rattle.hist_core.specs.Moves.{FaultsAt, IsStepped};
+ghost use Rattle.hist_core.specs.World.{world_checks};
+ghost use Rattle.segment_image.specs.Checks.{first_fault};
+ghost use Rattle.stepped.specs.Fault.{fault_of_world};
+ghost use Rattle.stepped.specs.Lines.{Deed, deed_line};
+ghost use Rattle.stepped.specs.Lines.Deed.{Ends};
+ghost use Rattle.stepped.specs.Replay.{Does, EndsCall, FailsAt, GoesOn, HasChanged, IsDifference, Replays, Shows, StopsWith, lines_of};
 
 // Where two lists of words differ first.
 fn change_of(old: &[u64], new: &[u64]) -> Option<Change>
-    ensures { IfSome result (IsChange old.now new.now) }
+    requires { length old.now ≡ length new.now }
+    ensures { MatchOption result (new.now ≡ old.now) (IsDifference old.now new.now) }
 {
     let at = old.iter().zip(new).position(|(old, new)| old != new)?;
     Some(Change {
@@ -33,14 +47,21 @@ fn change_of(old: &[u64], new: &[u64]) -> Option<Change>
     })
 }
 
-// The line of an answer.
-fn show<W: Write>(writer: &mut W, place: Place, answer: &Answer) -> Result<(), ReplayFault> {
+// Writes the line of an answer.
+fn show<W: Write>(writer: &mut W, place: Place, answer: &Answer) -> Result<(), ReplayFault>
+    ensures ok { OnOk result (Appends (W.contents writer.old) (W.contents writer.new) (deed_line place (Ends answer.now))) }
+    ensures err { IfErr result (λ fault. fault ≡ ReplayFault.Write) }
+{
     show_answer(writer, place, answer).map_err(|_| ReplayFault::Write)
 }
 
 impl Replay {
     /// A new world, in which so many events may happen. `World` of record 1 where it cannot be, `NoMemory` where there is none.
-    pub fn new(alloc: Global, opening: Opening, events: u64) -> Result<Replay, ReplayFault> {
+    pub fn new(alloc: Global, opening: Opening, events: u64) -> Result<Replay, ReplayFault>
+        ensures world { IfOk result (λ replay. IsNewBoard (record { size = opening.size; page = opening.page }) opening.version opening.id opening.actors replay.world.board) }
+        ensures left { IfOk result (λ replay. replay.left ≡ events) }
+        ensures faults { MatchOption (first_fault (world_checks opening.size opening.page opening.actors opening.version)) (IfErr result (λ fault. fault ≡ ReplayFault.NoMemory)) (λ why. result ≡ Err (fault_of_world 1 why)) }
+    {
         let Opening {
             size,
             page,
@@ -60,15 +81,10 @@ impl Replay {
     }
 
     /// The words of its segment.
-    pub fn words(&self) -> &[u64] {
+    pub fn words(&self) -> &[u64]
+        ensures { result.now ≡ self.now.world.board.words.items }
+    {
         self.world.words()
-    }
-
-    // The word that the last event changed, which is none where it loaded one.
-    fn last_change(&mut self) -> Option<Change> {
-        let change = change_of(&self.before, self.world.words())?;
-        self.before[change.at] = change.new;
-        Some(change)
     }
 
     // Begins a call. One that needs no event has ended, and is shown by its answer alone.
@@ -77,24 +93,47 @@ impl Replay {
         writer: &mut W,
         place: Place,
         call: &Call,
-    ) -> Result<(), ReplayFault> {
+    ) -> Result<(), ReplayFault>
+        ensures left { self.new.left ≡ self.old.left }
+        ensures ok { OnOk result ((deeds : List Deed) × Shows (Begin place.actor call.now) self.old.world.board self.new.world.board deeds × Appends (W.contents writer.old) (W.contents writer.new) (lines_of place.number place.actor deeds)) }
+        ensures err { IfErr result (λ fault. (fault ≡ ReplayFault.Write) ⊎ ((why : WorldFault) × FaultsAt (Begin place.actor call.now) self.old.world.board why × (fault ≡ fault_of_world place.number why) × (writer.new ≡ writer.old))) }
+    {
         let begun = self
             .world
             .begin(place.actor, call)
-            .map_err(|fault| ReplayFault::of_world(place.record, fault))?;
+            .map_err(|fault| ReplayFault::of_world(place.number, fault))?;
         match begun {
             Begun::Going => show_begin(writer, place).map_err(|_| ReplayFault::Write),
             Begun::Ended(answer) => show(writer, place, &answer),
         }
     }
 
-    // Goes on by one event. Whether the call goes on.
-    fn step<W: Write>(&mut self, writer: &mut W, place: Place) -> Result<bool, ReplayFault> {
+    // An event of an actor's call, and the word that it changed.
+    fn advance(&mut self, place: Place) -> Result<(Stepped, Option<Change>), ReplayFault>
+        ensures left { self.new.left ≡ self.old.left }
+        ensures ok { IfOk result (λ done. IsStepped place.actor self.old.world.board self.new.world.board done.0 × HasChanged self.old.world.board.words.items self.new.world.board.words.items done.1) }
+        ensures err { IfErr result (λ fault. (why : WorldFault) × FaultsAt (Step place.actor) self.old.world.board why × (fault ≡ fault_of_world place.number why)) }
+    {
         let said = self
             .world
             .step(place.actor)
-            .map_err(|fault| ReplayFault::of_world(place.record, fault))?;
-        let change = self.last_change();
+            .map_err(|fault| ReplayFault::of_world(place.number, fault))?;
+        match change_of(&self.before, self.world.words()) {
+            Some(change) => {
+                self.before[change.at] = change.new;
+                Ok((said, Some(change)))
+            }
+            None => Ok((said, None)),
+        }
+    }
+
+    // Goes on by one event. Whether the call goes on.
+    fn step<W: Write>(&mut self, writer: &mut W, place: Place) -> Result<bool, ReplayFault>
+        ensures left { self.new.left ≡ self.old.left }
+        ensures ok { IfOk result (λ more. (deeds : List Deed) × Shows (Step place.actor) self.old.world.board self.new.world.board deeds × Appends (W.contents writer.old) (W.contents writer.new) (lines_of place.number place.actor deeds) × (more ≡ false → EndsCall deeds)) }
+        ensures err { IfErr result (λ fault. (fault ≡ ReplayFault.Write) ⊎ ((why : WorldFault) × FaultsAt (Step place.actor) self.old.world.board why × (fault ≡ fault_of_world place.number why) × (writer.new ≡ writer.old))) }
+    {
+        let (said, change) = self.advance(place)?;
         show_step(writer, place, change).map_err(|_| ReplayFault::Write)?;
         match said {
             Stepped::More => Ok(true),
@@ -111,7 +150,10 @@ impl Replay {
         writer: &mut W,
         place: Place,
         times: u64,
-    ) -> Result<(), ReplayFault> {
+    ) -> Result<(), ReplayFault>
+        ensures ok { OnOk result ((deeds : List Deed) × GoesOn place.actor times self.old.left self.old.world.board self.new.world.board self.new.left deeds × Appends (W.contents writer.old) (W.contents writer.new) (lines_of place.number place.actor deeds)) }
+        ensures err { IfErr result (λ fault. (fault ≡ ReplayFault.Write) ⊎ ((why : WorldFault) × (deeds : List Deed) × FailsAt place.actor (OrderKind.Step times) self.old.world.board why deeds × (fault ≡ fault_of_world place.number why) × Appends (W.contents writer.old) (W.contents writer.new) (lines_of place.number place.actor deeds))) }
+    {
         for _ in 0..times {
             if self.left == 0 {
                 return Ok(());
@@ -128,11 +170,14 @@ impl Replay {
     fn obey<W: Write>(
         &mut self,
         writer: &mut W,
-        record: u64,
+        number: u64,
         order: &Order,
-    ) -> Result<(), ReplayFault> {
+    ) -> Result<(), ReplayFault>
+        ensures ok { OnOk result ((deeds : List Deed) × Does order.now.actor order.now.kind self.old.left self.old.world.board self.new.world.board self.new.left deeds × Appends (W.contents writer.old) (W.contents writer.new) (lines_of number order.now.actor deeds)) }
+        ensures err { IfErr result (λ fault. (fault ≡ ReplayFault.Write) ⊎ ((why : WorldFault) × (deeds : List Deed) × FailsAt order.now.actor order.now.kind self.old.world.board why deeds × (fault ≡ fault_of_world number why) × Appends (W.contents writer.old) (W.contents writer.new) (lines_of number order.now.actor deeds))) }
+    {
         let place = Place {
-            record,
+            number,
             actor: order.actor,
         };
         match &order.kind {
@@ -142,7 +187,13 @@ impl Replay {
     }
 
     /// Does what the records from 2 on say, in order, as long as events are left, and writes the lines of what it does.
-    pub fn run<W: Write>(&mut self, writer: &mut W, orders: &[Order]) -> Result<(), ReplayFault> {
+    ///
+    /// `Write` where a write failed; then `World` of the first record at which the world has a fault, or `NoMemory` where there was none
+    /// for a call. The lines of what was done before such a fault are written.
+    pub fn run<W: Write>(&mut self, writer: &mut W, orders: &[Order]) -> Result<(), ReplayFault>
+        ensures replays { OnOk result ((text : List ℕ) × Replays 2 orders.now self.old.left self.old.world.board self.new.world.board self.new.left text × Appends (W.contents writer.old) (W.contents writer.new) text) }
+        ensures stops { IfErr result (λ fault. StopsWith orders.now self.old.left self.old.world.board fault (λ text. Appends (W.contents writer.old) (W.contents writer.new) text)) }
+    {
         for (i, order) in orders.iter().enumerate() {
             if self.left == 0 {
                 return Ok(());

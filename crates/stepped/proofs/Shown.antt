@@ -1,0 +1,247 @@
+-- What a replay writes, and what its events change.
+use Rattle.std.proofs.Common.{◌≡◌, ℕ, zero, suc, ℤ, ◌+◌, ◌<◌, List, [], ◌∷◌, ◌++◌, length, take, drop, get_or, slice_index, refl, sym, ap, subst, ◌∙◌, append_assoc, add-one, arith}
+use Rattle.std.proofs.lemmas.List.{append-nil, drop_more, get_or-set_same, get_or-set_other, length-take-le, take-append-drop, take_more}
+use Rattle.std.proofs.lemmas.List.Concat.{flat_map-append}
+use Rattle.std.proofs.Math.Logic.{∥∥₁_elim}
+use Rattle.std.proofs.Props.{props}
+use Rattle.std.specs.Prelude.{Option, Some, None, Result, Ok, Err, MatchOption, MatchResult, OnOk, IfOk, IfErr, IsOk, slice_set}
+use Rattle.std.specs.Fmt.{decimal, signed_decimal}
+use Rattle.std.specs.Io.KnownBytes.{Appends}
+use mathlib.Core.Logic.{dite}
+use native.Mathlib.Decide.{ℕ_discrete}
+use Rattle.segment_image.specs.Checks.{first_fault}
+use Rattle.segment_machine.specs.State.{State}
+use Rattle.hist_core.specs.declared.board.Board.{Board}
+use Rattle.hist_core.specs.declared.call.Begun.{Begun}
+use Rattle.hist_core.specs.declared.call.Call.{Call}
+use Rattle.hist_core.specs.declared.call.Move.TheVariants.{Step}
+use Rattle.hist_core.specs.declared.call.Stepped.{Stepped}
+use Rattle.hist_core.specs.declared.fault.WorldFault.{WorldFault}
+use Rattle.hist_core.specs.declared.fault.WorldFault.TheVariants.{NoMemory}
+use Rattle.hist_core.specs.Board.{BeginsFrom, IsReachedAs, OthersStay, Says, StepsTo}
+use Rattle.hist_core.specs.Moves.{IsBegun, IsStepped}
+use Rattle.hist_core.specs.World.{BeginSays, ChangesOneWord, TakesMemory, begin_checks, step_checks}
+use Rattle.hist_core.proofs.Scheduling.{no_fault}
+use Rattle.schedule.specs.declared.order.Order.{Order}
+use Rattle.stepped.specs.declared.lines.Change.{Change}
+use Rattle.stepped.specs.declared.lines.Place.{Place}
+use Rattle.stepped.specs.Lines.{Deed, behind, deed_line, units_fields}
+use Rattle.stepped.specs.Lines.Deed.{Ends}
+use Rattle.stepped.specs.Replay.{Does, EndsCall, FailsAt, GoesBy, IsDifference, Replays, Shows, StopsAt, lines_of}
+
+-- ---- bytes
+
+-- bytes that are appended one after the other
+pub appends_both : (a b c : Option (List ℕ)) (xs ys : List ℕ) → Appends a b xs → Appends b c ys → Appends a c (xs ++ ys)
+appends_both None b c xs ys first second = tt
+appends_both (Some old) None c xs ys first second = absurd first
+appends_both (Some old) (Some mid) None xs ys first second = absurd second
+appends_both (Some old) (Some mid) (Some new) xs ys first second = second ∙ (ap (λ s. s ++ ys) first ∙ append_assoc old xs ys)
+
+-- none are
+pub appends_none : (a : Option (List ℕ)) → Appends a a []
+appends_none None = tt
+appends_none (Some old) = sym (append-nil old)
+
+-- what holds where a result is Ok leads to more there
+pub on_ok : {X E : Type 0} (made : Result X E) {A B : Type 0} → (A → B) → OnOk made A → OnOk made B
+on_ok (Ok x) f held = f held
+on_ok (Err e) f held = tt
+
+-- fields that are written one after the other
+pub fields_both : (a b c : Option (List ℕ)) (xs ys : List (List ℕ)) → Appends a b (behind xs) → Appends b c (behind ys) → Appends a c (behind (xs ++ ys))
+fields_both a b c xs ys first second =
+    subst (Appends a c) (sym (flat_map-append (λ (field : List ℕ). 44 ∷ field) xs ys)) (appends_both a b c (behind xs) (behind ys) first second)
+
+-- lines that are written one after the other
+pub lines_both : (number actor : ℕ) (a b c : Option (List ℕ)) (xs ys : List Deed) → Appends a b (lines_of number actor xs)
+    → Appends b c (lines_of number actor ys) → Appends a c (lines_of number actor (xs ++ ys))
+lines_both number actor a b c xs ys first second =
+    subst (Appends a c) (sym (flat_map-append (deed_line (record { number = number; actor = actor })) xs ys))
+    (appends_both a b c (lines_of number actor xs) (lines_of number actor ys) first second)
+
+-- one line is
+pub one_line : (place : Place) (a b : Option (List ℕ)) (deed : Deed) → Appends a b (deed_line place deed) → Appends a b (lines_of place.number place.actor (deed ∷ []))
+one_line place a b deed shown = subst (Appends a b) (sym (append-nil (deed_line place deed))) shown
+
+-- the fields of one key more
+pub units_more : (counts : List (ℤ × ℕ)) (i : ℕ) (one : ℤ × ℕ) → i < length counts → one ≡ get_or counts i one
+    → behind (units_fields (take (i + 1) counts))
+    ≡ behind (units_fields (take i counts)) ++ (behind (signed_decimal one.0 ∷ []) ++ behind (decimal one.1 ∷ []))
+units_more counts i one near is =
+    let fields : ℤ × ℕ → List (List ℕ) = λ count. signed_decimal count.0 ∷ decimal count.1 ∷ [] in
+    let sofar = units_fields (take i counts) in
+    ap (λ (l : List (ℤ × ℕ)). behind (units_fields l)) (take_more counts i one near ∙ ap (λ (x : ℤ × ℕ). take i counts ++ x ∷ []) (sym is))
+    ∙ (ap behind (flat_map-append fields (take i counts) (one ∷ []))
+    ∙ (flat_map-append (λ (field : List ℕ). 44 ∷ field) sofar (fields one)
+    ∙ ap (λ s. behind sofar ++ s) (flat_map-append (λ (field : List ℕ). 44 ∷ field) (signed_decimal one.0 ∷ []) (decimal one.1 ∷ []))))
+
+-- ---- words
+
+-- of words of which one is another now, at most, a word that differs is that one
+one_differs : (old new : List ℕ) (change : Change) → ChangesOneWord old new → IsDifference old new change → new ≡ slice_set old change.at change.new
+one_differs old new change (at, word, is) differs =
+    let found : slice_index (slice_set old at word) change.at ≡ change.new = ap (λ (l : List ℕ). slice_index l change.at) (sym is) ∙ differs.is in
+    dite (ℕ_discrete at change.at)
+    (λ same.
+    let here : word ≡ change.new = sym (get_or-set_same old change.at word 0 differs.near)
+    ∙ (ap (λ (n : ℕ). slice_index (slice_set old n word) change.at) (sym same) ∙ found) in
+    is ∙ (ap (λ (n : ℕ). slice_set old n word) same ∙ ap (slice_set old change.at) here))
+    (λ apart. absurd (differs.other (sym differs.was ∙ (sym (get_or-set_other old at change.at word 0 (λ e. apart (sym e))) ∙ found))))
+
+-- the lists may be others that are the same
+pub differs_in : (a b old new : List ℕ) (change : Change) → a ≡ old → b ≡ new → IsDifference a b change → IsDifference old new change
+differs_in a b old new change is_old is_new differs =
+    subst (λ (l : List ℕ). IsDifference old l change) is_new (subst (λ (l : List ℕ). IsDifference l b change) is_old differs)
+
+pub new_words : (old new : List ℕ) (change : Change) → ∥ ChangesOneWord old new ∥₁ → IsDifference old new change → new ≡ slice_set old change.at change.new
+new_words old new change changes differs = ∥∥₁_elim changes (hlevel props) (λ one. one_differs old new change one differs)
+
+-- ---- moves
+
+-- it is Ok, whatever the errors are
+abbrev pub ok_beside : {A : Type 0} (F : Type 0) → A → Result A F
+ok_beside F said = Ok said
+
+-- where one of two results with other errors is Ok, so is the other
+pub same_ok : {A E : Type 0} (F : Type 0) (made : Result A E) (said : A) → MatchResult made (λ x. ok_beside F said ≡ Ok x) (λ e. ⊥) → made ≡ Ok said
+same_ok {A} F (Ok x) said is = ap Ok (sym (ap value_or is))
+  where
+    value_or : Result A F → A
+    value_or (Ok a) = a
+    value_or (Err e) = said
+same_ok F (Err e) said is = absurd is
+
+-- what `World::step` promises of its answer
+abbrev pub StepPromises : ℕ → Board → Board → Result Stepped WorldFault → Type 0
+StepPromises actor old new made =
+    MatchOption (first_fault (step_checks old actor)) (IsOk made) (λ fault. made ≡ Err fault) × OnOk made (OthersStay actor old new)
+    × IfOk made (λ said. Says actor old new said) × IfOk made (λ said. (state : State) → IsReachedAs old state → StepsTo old actor state new said)
+
+pub is_stepped : (actor : ℕ) (old new : Board) (made : Result Stepped WorldFault) (said : Stepped) → made ≡ Ok said → StepPromises actor old new made
+    → IsStepped actor old new said
+is_stepped actor old new made said is promises =
+    let here : StepPromises actor old new (Ok said) = subst (StepPromises actor old new) is promises in record {
+      lawful = no_fault (first_fault (step_checks old actor)) said _ here.0;
+      others = here.1;
+      says = here.2;
+      leads = here.3;
+    }
+
+-- what `World::begin` promises of its answer
+abbrev pub BeginPromises : ℕ → Call → Board → Board → Result Begun WorldFault → Type 0
+BeginPromises actor call old new made =
+    MatchOption (first_fault (begin_checks old actor call)) (IfErr made (λ fault. (fault ≡ NoMemory) × TakesMemory call)) (λ fault. made ≡ Err fault)
+    × IfOk made (λ said. BeginSays actor call old new said)
+
+pub is_begun : (actor : ℕ) (call : Call) (old new : Board) (made : Result Begun WorldFault) (said : Begun) → made ≡ Ok said
+    → BeginPromises actor call old new made → OthersStay actor old new → ((state : State) → IsReachedAs old state → BeginsFrom state actor new)
+    → IsBegun actor call old new said
+is_begun actor call old new made said is promises others leads =
+    let here : BeginPromises actor call old new (Ok said) = subst (BeginPromises actor call old new) is promises in record {
+      lawful = no_fault (first_fault (begin_checks old actor call)) said _ here.0;
+      others = others;
+      says = here.1;
+      leads = leads;
+    }
+
+-- ---- events
+
+-- one event more
+pub goes_next : (actor events : ℕ) (old mid new : Board) (before last : List Deed) → GoesBy actor events old mid before → Shows (Step actor) mid new last
+    → GoesBy actor (events + 1) old new (before ++ last)
+goes_next actor events old mid new before last goes shows =
+    subst (λ (n : ℕ). GoesBy actor n old new (before ++ last)) (sym (add-one events)) (mid, before, last, goes, shows, refl)
+
+-- the answer that stands last stands last behind others
+pub ends_behind : (before last : List Deed) → EndsCall last → EndsCall (before ++ last)
+ends_behind before last (its, answer, is) =
+    (before ++ its, answer, ap (λ (l : List Deed). before ++ l) is ∙ sym (append_assoc before its (Ends answer ∷ [])))
+
+-- ---- records
+
+-- one record more
+pub replays_more : (number at : ℕ) (done : List Order) (order : Order) (left : ℕ) (old mid new : Board) (left_then then_left : ℕ) (text : List ℕ)
+    (deeds : List Deed) → at ≡ number + length done → Replays number done left old mid left_then text → 0 < left_then
+    → Does order.actor order.kind left_then mid new then_left deeds
+    → Replays number (done ++ order ∷ []) left old new then_left (text ++ lines_of at order.actor deeds)
+replays_more number at [] order left old mid new zero then_left text deeds here (same, all, none) some does = absurd (omega (arith, some))
+replays_more number at [] order left old mid new (suc n) then_left text deeds here (same, all, none) some does =
+    let number_is : at ≡ number = omega (arith, here) in
+    subst (λ (l : ℕ). Replays number (order ∷ []) l old new then_left (text ++ lines_of at order.actor deeds)) all (
+      new,
+      then_left,
+      deeds,
+      [],
+      subst (λ (b : Board). Does order.actor order.kind (suc n) b new then_left deeds) same does,
+      (refl, refl, refl),
+      ap (λ (s : List ℕ). s ++ lines_of at order.actor deeds) none
+          ∙ (ap (λ (k : ℕ). lines_of k order.actor deeds) number_is ∙ sym (append-nil (lines_of number order.actor deeds))),
+    )
+replays_more number at (first ∷ done) order zero old mid new left_then then_left text deeds here (same, none_left, none) some does =
+    absurd (omega (arith, some, none_left))
+replays_more number at (first ∷ done) order (suc left) old mid new left_then then_left text deeds here (b, n, its, later, did, rest, is) some does = (
+  b,
+  n,
+  its,
+  later ++ lines_of at order.actor deeds,
+  did,
+  replays_more (number + 1) at done order n b mid new left_then then_left later deeds (omega (arith, here)) rest some does,
+  ap (λ (s : List ℕ). s ++ lines_of at order.actor deeds) is ∙ append_assoc (lines_of number first.actor its) later (lines_of at order.actor deeds),
+)
+
+-- where no event is left, other records behind do nothing
+pub replays_no_more : (number : ℕ) (done rest : List Order) (left : ℕ) (old mid : Board) (text : List ℕ) → Replays number done left old mid 0 text
+    → Replays number (done ++ rest) left old mid 0 text
+replays_no_more number [] [] left old mid text replays = replays
+replays_no_more number [] (next ∷ rest) left old mid text (same, all, none) =
+    subst (λ (l : ℕ). Replays number (next ∷ rest) l old mid 0 text) all (same, refl, none)
+replays_no_more number (first ∷ done) rest zero old mid text replays = replays
+replays_no_more number (first ∷ done) rest (suc left) old mid text (b, n, its, later, did, replays, is) =
+    (b, n, its, later, did, replays_no_more (number + 1) done rest n b mid later replays, is)
+
+-- records are those before one, it, and those behind it
+split_at : (orders : List Order) (i : ℕ) (order : Order) → i < length orders → order ≡ get_or orders i order
+    → orders ≡ take i orders ++ order ∷ drop (i + 1) orders
+split_at orders i order near is = sym (take-append-drop i orders)
+    ∙ ap (λ (l : List Order). take i orders ++ l) (drop_more orders i order near ∙ ap (λ (o : Order). o ∷ drop (i + 1) orders) (sym is))
+
+-- the next record is done too
+pub replays_next : (orders : List Order) (i : ℕ) (order : Order) (left : ℕ) (old mid new : Board) (left_then then_left : ℕ) (text : List ℕ) (deeds : List Deed)
+    → i < length orders → order ≡ get_or orders i order → Replays 2 (take i orders) left old mid left_then text → 0 < left_then
+    → Does order.actor order.kind left_then mid new then_left deeds
+    → Replays 2 (take (i + 1) orders) left old new then_left (text ++ lines_of (i + 2) order.actor deeds)
+replays_next orders i order left old mid new left_then then_left text deeds near is replays some does =
+    subst (λ (l : List Order). Replays 2 l left old new then_left (text ++ lines_of (i + 2) order.actor deeds))
+    (sym (take_more orders i order near ∙ ap (λ (o : Order). take i orders ++ o ∷ []) (sym is)))
+    (replays_more 2 (i + 2) (take i orders) order left old mid new left_then then_left text deeds
+    (omega (arith, length-take-le i orders (omega (arith, near)))) replays some does)
+
+-- no event is left, so all is done
+pub replays_all : (orders : List Order) (i left : ℕ) (old mid : Board) (then_left : ℕ) (text : List ℕ) → then_left ≡ 0
+    → Replays 2 (take i orders) left old mid then_left text → Replays 2 orders left old mid then_left text
+replays_all orders i left old mid then_left text none replays =
+    subst (λ (n : ℕ). Replays 2 orders left old mid n text) (sym none)
+    (subst (λ (l : List Order). Replays 2 l left old mid 0 text) (take-append-drop i orders)
+    (replays_no_more 2 (take i orders) (drop i orders) left old mid text
+    (subst (λ (n : ℕ). Replays 2 (take i orders) left old mid n text) none replays)))
+
+-- the next record has a fault
+pub stops_next : (orders : List Order) (i : ℕ) (order : Order) (left : ℕ) (old mid : Board) (left_then : ℕ) (text : List ℕ) (why : WorldFault)
+    (deeds : List Deed) → i < length orders → order ≡ get_or orders i order → Replays 2 (take i orders) left old mid left_then text → 0 < left_then
+    → FailsAt order.actor order.kind mid why deeds → StopsAt orders left old (i + 2) why (text ++ lines_of (i + 2) order.actor deeds)
+stops_next orders i order left old mid left_then text why deeds near is replays some fails = record {
+  before = take i orders;
+  order = order;
+  rest = drop (i + 1) orders;
+  are = split_at orders i order near is;
+  number_is = omega (arith, length-take-le i orders (omega (arith, near)));
+  mid = mid;
+  left_then = left_then;
+  some = some;
+  done = text;
+  replays = replays;
+  deeds = deeds;
+  fails = fails;
+  text_is = refl;
+}

@@ -1,0 +1,12 @@
+use Rattle.std.proofs.Common.{◌≡◌, ◌+◌, List}
+use Rattle.std.specs.Io.KnownBytes.{Appends}
+use Rattle.stepped.specs.Lines.{Deed}
+use Rattle.stepped.specs.Replay.{GoesBy, lines_of}
+use Rattle.stepped.proofs.replay.Replay.steps.Given as goal
+
+-- there were as many events as rounds, each of which is shown
+abbrev pub invariant-loop : goal.invariant-loop
+invariant-loop g l = (deeds : List Deed)
+    × GoesBy l.place.actor l.counter l.initial.self.world.board l.self.world.board deeds
+    × (l.initial.self.left ≡ l.counter + l.self.left)
+    × Appends (g.W.Write.contents l.initial.writer) (g.W.Write.contents l.writer) (lines_of l.place.number l.place.actor deeds)

@@ -1,0 +1,86 @@
+-- The lines that show what was done.
+use Rattle.std.specs.Prelude.{ℕ, ℤ, List, [], ◌∷◌, ◌++◌, codes, Option, Some, None}
+use Rattle.std.specs.Fmt.{decimal, signed_decimal}
+use Rattle.std.specs.List.{flat_map}
+use Rattle.bucket_ranges.specs.declared.spec.SpecFault.{SpecFault}
+use Rattle.bucket_ranges.specs.declared.spec.SpecFault.TheVariants as spec
+use Rattle.segment_calls.specs.declared.refusal.Refusal.{Refusal}
+use Rattle.segment_calls.specs.declared.refusal.Refusal.TheVariants as refusal
+use Rattle.hist_core.specs.declared.call.Answer.{Answer}
+use Rattle.hist_core.specs.declared.call.Answer.TheVariants.{Hist, Added, Flagged, Delta, Snapshot, Refused, BatchRefused}
+use Rattle.stepped.specs.declared.lines.Change.{Change}
+use Rattle.stepped.specs.declared.lines.Place.{Place}
+
+-- ---- refusals
+
+-- the word for a fault of a spec
+abbrev pub spec_fault_word : SpecFault → List ℕ
+spec_fault_word spec.BadMin = codes "BadMin"
+spec_fault_word spec.BadMax = codes "BadMax"
+spec_fault_word spec.TooFew = codes "TooFew"
+spec_fault_word spec.TooMany = codes "TooMany"
+spec_fault_word spec.BadRange = codes "BadRange"
+spec_fault_word spec.Empty = codes "Empty"
+spec_fault_word spec.NoMemory = codes "NoMemory"
+
+-- the word for a refusal
+abbrev pub refusal_word : Refusal → List ℕ
+refusal_word refusal.BadName = codes "BadName"
+refusal_word (refusal.BadSpec fault) = codes "BadSpec"
+refusal_word refusal.ZeroCount = codes "ZeroCount"
+refusal_word refusal.NoUnits = codes "NoUnits"
+refusal_word refusal.TooMany = codes "TooMany"
+refusal_word refusal.NoMemory = codes "NoMemory"
+refusal_word refusal.TooLarge = codes "TooLarge"
+refusal_word refusal.Corrupt = codes "Corrupt"
+refusal_word refusal.Full = codes "Full"
+refusal_word refusal.OtherSpec = codes "OtherSpec"
+
+-- it, and the fault of a spec
+abbrev pub refusal_fields : Refusal → List (List ℕ)
+refusal_fields (refusal.BadSpec fault) = codes "BadSpec" ∷ spec_fault_word fault ∷ []
+refusal_fields why = refusal_word why ∷ []
+
+-- ---- what is shown of a call
+
+-- it begins; an event of it happens, which changes a word or none; or it ends, with an answer
+pub data Deed : Type 0 where
+  Begins : Deed
+  Steps : (change : Option Change) → Deed
+  Ends : (answer : Answer) → Deed
+
+-- each key with its units
+abbrev pub units_fields : List (ℤ × ℕ) → List (List ℕ)
+units_fields counts = flat_map (λ count. signed_decimal count.0 ∷ decimal count.1 ∷ []) counts
+
+-- the fields of an answer
+abbrev pub answer_fields : Answer → List (List ℕ)
+answer_fields (Hist reference) = codes "hist" ∷ decimal reference ∷ []
+answer_fields Added = codes "added" ∷ []
+answer_fields Flagged = codes "flagged" ∷ []
+answer_fields (Delta delta) = codes "delta" ∷ signed_decimal delta.sum ∷ units_fields delta.counts.items
+answer_fields (Snapshot snapshot) =
+    codes "snapshot" ∷ signed_decimal snapshot.sum ∷ decimal snapshot.redundant ∷ units_fields snapshot.counts.items
+answer_fields (Refused why) = codes "refused" ∷ refusal_fields why
+answer_fields (BatchRefused refused) = codes "batch_refused" ∷ decimal refused.added ∷ refusal_fields refused.why
+
+-- the fields behind those of the place
+abbrev pub deed_fields : Deed → List (List ℕ)
+deed_fields Begins = codes "begin" ∷ []
+deed_fields (Steps None) = codes "step" ∷ []
+deed_fields (Steps (Some change)) = codes "step" ∷ decimal change.at ∷ decimal change.old ∷ decimal change.new ∷ []
+deed_fields (Ends answer) = codes "answer" ∷ answer_fields answer
+
+-- ---- texts
+
+-- fields, each behind a comma
+abbrev pub behind : List (List ℕ) → List ℕ
+behind fields = flat_map (λ field. 44 ∷ field) fields
+
+-- the number of a record, and its actor
+abbrev pub place_text : Place → List ℕ
+place_text place = decimal place.number ++ behind (decimal place.actor ∷ [])
+
+-- the line of what is shown
+abbrev pub deed_line : Place → Deed → List ℕ
+deed_line place deed = place_text place ++ behind (deed_fields deed) ++ 10 ∷ []

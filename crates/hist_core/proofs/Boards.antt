@@ -24,6 +24,7 @@ use Rattle.alloc_core.proofs.Owners.{set_at}
 use Rattle.segment_invariant.specs.Body.{blank, layout_of}
 use Rattle.segment_invariant.specs.Keeps.{found_at}
 use Rattle.segment_invariant.proofs.Lists.Pairs.{element_at}
+use Rattle.segment_promises.proofs.Adopting.Headers.{header_is}
 use Rattle.segment_promises.proofs.Reached.{states_are_kept, states_are_consistent}
 use Rattle.segment_promises.proofs.Readings.Stopped.{stopped_reads}
 use Rattle.segment_promises.specs.Deltas.{IsEnough}
@@ -35,7 +36,7 @@ use Rattle.std.specs.List.{Contains}
 use Rattle.bucket_ranges.specs.Reading.{spec_of}
 use Rattle.bucket_ranges.specs.Spec.{SameSpec}
 use Rattle.list_core.specs.Chain.{IsChain}
-use Rattle.segment_image.specs.Head.{head_of}
+use Rattle.segment_image.specs.Head.{head_of, header_of}
 use Rattle.segment_machine.specs.declared.actor.Known.{Known as MachineKnown}
 use Rattle.segment_machine.specs.declared.place.Place.TheVariants.{Spent}
 use Rattle.segment_invariant.specs.Consistent.{IsHistogram}
@@ -53,7 +54,7 @@ use Rattle.hist_core.specs.Runner.{IsAnswer, IsTook, IsKnown, IsRun, IsSomeRun, 
 use Rattle.hist_core.specs.Board.{AreRun, IsReachedAs, IsReached, IsConsistentAs, IsReadAs, AreKnownFirst, HasSeen, HasTaken, IsPromised, StepsTo, BeginsFrom, IsDue}
 use Rattle.bucket_ranges.specs.Ranges.{boundaries_of}
 use Rattle.bucket_ranges.specs.Spec.{spec_fault}
-use Rattle.std.specs.Prelude.{None}
+use Rattle.std.specs.Prelude.{None, Ok}
 use Rattle.hist_core.specs.World.{of_actor}
 use Rattle.hist_core.proofs.Orders.{walks_in_order}
 use Rattle.hist_core.proofs.Free.{free_turns}
@@ -440,6 +441,13 @@ has_header board reached =
     let wide : 64 ≤ board.shape.size = ∥∥₁_elim reached (hlevel props) (λ (state, reach). let wide = reach.reached.0.wide in let one = reach.reached.0.one in omega (arith, wide, one)) in
     let long = is_long board reached in
     omega (arith, wide, long)
+
+-- their header has no fault
+pub has_sound_header : (board : Board) → ∥ IsReached board ∥₁ → header_of board.words.items ≡ Ok (head_of board.words.items)
+has_sound_header board reached = ∥∥₁_elim reached (hlevel props) (λ (state, reach).
+    let kept = states_are_kept board.shape board.version reach.id 0 state reach.reached in
+    subst (λ (l : List ℕ). header_of l ≡ Ok (head_of l)) reach.shows.words
+    (header_is board.shape (blank board.version reach.id board.shape.size) state kept))
 
 pub is_consistent_now : (board : Board) → ∥ IsReached board ∥₁ → ∥ IsConsistentAs board ∥₁
 is_consistent_now board reached = ∥∥₁_elim reached (hlevel props) (λ (state, reach).

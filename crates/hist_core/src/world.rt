@@ -26,6 +26,7 @@ impl World {
     ghost use Rattle.std.specs.List.{All};
     ghost use Rattle.hist_core.specs.Taker.{AreUnits};
     ghost use Rattle.segment_image.specs.Checks.{first_fault};
+    ghost use Rattle.segment_image.specs.Head.{head_of, header_of};
     ghost use Rattle.alloc_core.specs.Layout.{IsShape};
     ghost use Rattle.segment_machine.specs.State.{State};
     ghost use Rattle.hist_core.specs.Board.{IsReachedAs, IsNewBoard, BeginsFrom, StepsTo, IsAsBefore, OthersStay, Says, IsConsistentAs, IsReadAs, AreKnownFirst};
@@ -75,11 +76,12 @@ impl World {
         })
     }
 
-    /// The words of the segment. What they show is consistent; and whenever the world is looked at, they read back as exactly
+    /// The words of the segment. Their header has no fault, and what they show is consistent; and whenever the world is looked at, they read back as exactly
     /// the published histograms, each once, with no unit that was not begun and all ended ones but those in transit. What a `Hist`
     /// was answered with is the first histogram of its name, and has the same spec.
     pub fn words(&self) -> &[u64]
         ensures words { result.now ≡ self.now.board.words.items }
+        ensures header { header_of self.now.board.words.items ≡ Ok (head_of self.now.board.words.items) }
         ensures consistent { ∥ IsConsistentAs self.now.board ∥₁ }
         ensures reads { ∥ IsReadAs self.now.board ∥₁ }
         ensures names { AreKnownFirst self.now.board }

@@ -1,5 +1,5 @@
 -- What a replay writes, and what its events change.
-use Rattle.std.proofs.Common.{◌≡◌, ℕ, zero, suc, ℤ, ◌+◌, ◌<◌, List, [], ◌∷◌, ◌++◌, length, take, drop, get_or, slice_index, refl, sym, ap, subst, ◌∙◌, append_assoc, add-one, arith}
+use Rattle.std.proofs.Common.{◌≡◌, ℕ, zero, suc, ℤ, ◌+◌, ◌<◌, List, [], ◌∷◌, ◌++◌, length, take, drop, get_or, slice_index, refl, sym, ap, subst, ◌∙◌, append_assoc, add-one, arith, length-set}
 use Rattle.std.proofs.lemmas.List.{append-nil, drop_more, get_or-set_same, get_or-set_other, length-take-le, take-append-drop, take_more}
 use Rattle.std.proofs.lemmas.List.Concat.{flat_map-append}
 use Rattle.std.proofs.Math.Logic.{∥∥₁_elim}
@@ -96,6 +96,10 @@ differs_in a b old new change is_old is_new differs =
 
 pub new_words : (old new : List ℕ) (change : Change) → ∥ ChangesOneWord old new ∥₁ → IsDifference old new change → new ≡ slice_set old change.at change.new
 new_words old new change changes differs = ∥∥₁_elim changes (hlevel props) (λ one. one_differs old new change one differs)
+
+-- a list of words has as many as before
+pub same_length : (old new : List ℕ) → ∥ ChangesOneWord old new ∥₁ → length old ≡ length new
+same_length old new changes = ∥∥₁_elim changes (hlevel props) (λ (at, word, is). sym (ap length is ∙ length-set old at word))
 
 -- ---- moves
 

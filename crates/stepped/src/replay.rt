@@ -21,7 +21,7 @@ pub struct Replay {
     ghost in_step: { before.items ≡ world.board.words.items },
 }
 
-ghost use Rattle.std.specs.Prelude.{◌⊎◌, List, ℕ, MatchOption, OnOk, IfOk, IfErr, length, false, Err};
+ghost use Rattle.std.specs.Prelude.{◌⊎◌, List, ℕ, MatchOption, OnOk, IfOk, IfErr, length, false, Err, Ok};
 ghost use Rattle.std.specs.Io.KnownBytes.{Appends};
 ghost use Rattle.hist_core.specs.declared.call.Move.TheVariants.{Begin, Step};
 ghost use Rattle.hist_core.specs.declared.fault.WorldFault.{WorldFault};
@@ -29,6 +29,7 @@ ghost use Rattle.hist_core.specs.Board.{IsNewBoard};
 ghost use Rattle.hist_core.specs.Moves.{FaultsAt, IsStepped};
 ghost use Rattle.hist_core.specs.World.{world_checks};
 ghost use Rattle.segment_image.specs.Checks.{first_fault};
+ghost use Rattle.segment_image.specs.Head.{head_of, header_of};
 ghost use Rattle.stepped.specs.Fault.{fault_of_world};
 ghost use Rattle.stepped.specs.Lines.{Deed, deed_line};
 ghost use Rattle.stepped.specs.Lines.Deed.{Ends};
@@ -80,9 +81,10 @@ impl Replay {
         })
     }
 
-    /// The words of its segment.
+    /// The words of its segment, whose header has no fault.
     pub fn words(&self) -> &[u64]
-        ensures { result.now ≡ self.now.world.board.words.items }
+        ensures words { result.now ≡ self.now.world.board.words.items }
+        ensures header { header_of result.now ≡ Ok (head_of result.now) }
     {
         self.world.words()
     }

@@ -1,6 +1,7 @@
 //! Does what the command line asks for.
 
-ghost use Rattle.std.specs.Prelude.{IfErr};
+ghost use Rattle.std.specs.Prelude.{◌≡◌, IfErr, Ok};
+ghost use Rattle.segment_image.specs.Head.{head_of, header_of};
 ghost use Rattle.stepped.specs.Failure.{UsageIsMistake};
 
 use crate::failure::Failure;
@@ -9,7 +10,7 @@ use crate::replay::Replay;
 use crate::request::{Request, Show, not_text};
 use persist_report_core::text_of;
 use schedule::{Order, Schedule, read_schedule};
-use segment_image::{Watched, write_words};
+use segment_image::{ImageFault, Watched, write_words};
 use std::alloc::Global;
 use std::io::Write;
 use std::rt::{Env, Files};
@@ -81,14 +82,18 @@ fn write_lines<W: Write>(
     done
 }
 
-// Writes the report of the words of a world, which are an image without a fault.
+// Writes the report of the words of a world, whose header has no fault.
 fn write_report<W: Write>(
     alloc: Global,
     writer: &mut Watched<W>,
     words: &[u64],
-) -> Result<(), ReplayFault> {
-    let Ok(reading) = image_reader::read(alloc, words) else {
-        return Err(ReplayFault::NoMemory);
+) -> Result<(), ReplayFault>
+    requires { header_of words.now ≡ Ok (head_of words.now) }
+{
+    let reading = match image_reader::read(alloc, words) {
+        Ok(reading) => reading,
+        Err(ImageFault::NoMemory) => return Err(ReplayFault::NoMemory),
+        Err(_) => unreachable!(),
     };
     let text = text_of(alloc, &reading)?;
     writer.write_all(&text).map_err(|_| ReplayFault::Write)?;

@@ -1,12 +1,19 @@
-use Rattle.std.proofs.Common.{◌∙◌, List, ℕ, sym, ap, subst}
+use Rattle.std.proofs.Common.{◌∙◌, List, ℕ, sym, ap, subst, length}
 use Rattle.std.specs.Prelude.{OnOk, Result, slice_set}
 use Rattle.hist_core.specs.declared.call.Stepped.{Stepped}
 use Rattle.hist_core.specs.declared.fault.WorldFault.{WorldFault}
 use Rattle.hist_core.specs.World.{ChangesOneWord}
 use Rattle.stepped.specs.declared.fault.ReplayFault.{ReplayFault}
 use Rattle.stepped.specs.Replay.{IsDifference}
-use Rattle.stepped.proofs.Shown.{differs_in, is_stepped, new_words, same_ok}
+use Rattle.stepped.proofs.Shown.{differs_in, is_stepped, new_words, same_length, same_ok}
 use Rattle.stepped.proofs.replay.Replay.advance.Goals as goal
+
+pub change_of-requires : goal.change_of-requires
+change_of-requires c =
+    let old = c.args.self.now.world.board.words.items in let new = c.step.new.self.board.words.items in
+    let ok = same_ok ReplayFault c.step.result c.in_ok-said.said c.in_ok-said.ensures.cases in
+    let changes = subst (λ (made : Result Stepped WorldFault). OnOk made (∥ ChangesOneWord old new ∥₁)) ok c.step.ensures.word in
+    ap length (c.deref.ensures.value ∙ c.args.self.now.in_step) ∙ (same_length old new changes ∙ ap length (sym c.words.ensures.words))
 
 pub invariant_of-self-in-Some : goal.invariant_of-self-in-Some
 invariant_of-self-in-Some c =

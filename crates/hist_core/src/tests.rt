@@ -8,7 +8,6 @@ mod hists;
 mod memory;
 mod schedules;
 mod sparse_adds;
-mod sparse_deltas;
 
 use crate::{Answer, Begun, Call, Stepped, World, WorldFault};
 use bucket_ranges::Spec;

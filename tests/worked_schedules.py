@@ -1,8 +1,11 @@
 """Worked examples of the stepped world, as schedules of two actors: each is stopped at every event, in both versions."""
 
+import pathlib
+
 from seeded_schedules import Schedule
 
 ALL = 10**6
+STORED = pathlib.Path(__file__).resolve().parent.parent / "examples" / "pack_before_disabling.csv"
 MOUNTED = [("hist", 0, "A", "boolean"), ("step", 0, ALL), ("add", 0, "A", 1, 1), ("step", 0, ALL), ("add", 0, "A", 1, 1), ("step", 0, ALL)]
 KNOWN_TWICE = [*MOUNTED, ("hist", 1, "A", "boolean"), ("step", 1, ALL)]
 
@@ -10,6 +13,12 @@ KNOWN_TWICE = [*MOUNTED, ("hist", 1, "A", "boolean"), ("step", 1, ALL)]
 def ended(*records):
     """Calls of actor 0, each of which ends before the next begins."""
     return [part for record in records for part in (record, ("step", 0, ALL))]
+
+
+def stored(path):
+    """The records of a stored schedule, behind the first."""
+    lines = path.read_text().splitlines()[1:]
+    return [tuple(int(field) if field.isdigit() else field for field in line.split(",")) for line in lines]
 
 
 EXAMPLES = {
@@ -39,11 +48,14 @@ EXAMPLES = {
         *KNOWN_TWICE, *ended(("add", 0, "A", 0, 1)), ("delta", 0, "A"), ("step", 0, 5), ("delta", 1, "A"), ("step", 1, 5),
         ("step", 0, ALL), ("step", 1, ALL),
     ],
+    # Actor 1 has loaded the packed word, and is to disable it, when actor 0 packs another unit. So its exchange fails, and is tried again.
+    "a pack before a disabling": stored(STORED),
 }
 
 # Words at the end of some: where they stand, and what they are.
 WORDS = {
     "race for a value": {38: 0, 46: 3},
+    "a pack before a disabling": {24: 32, 29: 3, 36: 1},
     "sparse marks": {27: 2**64 - 3, 28: 2**64 - 3, 36: 16, 37: 2**64 - 5, 38: 2, 39: 2, 44: 16, 45: 7, 46: 1, 47: 1},
 }
 

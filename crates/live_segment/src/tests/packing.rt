@@ -30,8 +30,8 @@ fn image_of(alloc: Global, version: u64, samples: &[(i32, u32)]) -> Result<Image
     Ok(segment.close(opener))
 }
 
-// Whether samples give a record these words from its counts reference on, and the counts these.
-fn gives(
+// Whether samples give a record these words from its counts reference on, and a block of ten words with these counts.
+fn mounts(
     alloc: Global,
     version: u64,
     samples: &[(i32, u32)],
@@ -39,7 +39,21 @@ fn gives(
     counts: &[u64],
 ) -> Result<bool, Fail> {
     let image = image_of(alloc, version, samples)?;
-    Ok(stand(image.words(), 24, record) && stand(image.words(), 36, counts))
+    let words = image.words();
+    let block = stand(words, 7, &[42]) && stand(words, 32, &[10, 0xC879_9269, 2, 0]);
+    Ok(block && stand(words, 24, record) && stand(words, 36, counts))
+}
+
+// Whether samples give a record these words from its counts reference on, and claim no other block.
+fn packs(
+    alloc: Global,
+    version: u64,
+    samples: &[(i32, u32)],
+    record: &[u64],
+) -> Result<bool, Fail> {
+    let image = image_of(alloc, version, samples)?;
+    let words = image.words();
+    Ok(stand(words, 7, &[32]) && stand(words, 24, record) && stand(words, 32, &[0, 0]))
 }
 
 #[test]
@@ -47,10 +61,10 @@ fn packed_then_mounted(rt: HostRuntime) -> Result<(), Fail> {
     let alloc = rt.alloc();
     let two = [(1, 1), (1, 1)];
     let three = [(1, 1), (1, 1), (0, 1)];
-    assert!(rt; gives(alloc, 1, &two, &[0, 4_294_967_298, 0, 2, 0, 2], &[0, 0, 0])?);
-    assert!(rt; gives(alloc, 1, &three, &[32, off_with(1), 0, 2, 0, 3], &[1, 2, 0])?);
+    assert!(rt; packs(alloc, 1, &two, &[0, 4_294_967_298, 0, 2, 0, 2])?);
+    assert!(rt; mounts(alloc, 1, &three, &[32, off_with(1), 0, 2, 0, 3], &[1, 2, 0])?);
     assert!(rt;
-        gives(
+        mounts(
             alloc,
             2,
             &three,
@@ -67,14 +81,14 @@ fn packing_limit(rt: HostRuntime) -> Result<(), Fail> {
     let many = [(1, 70_000)];
     let most = [(1, 65_535)];
     let above = [(1, 65_535), (1, 1)];
-    assert!(rt; gives(alloc, 1, &many, &[32, off_with(65_535)], &[0, 70_000, 0])?);
-    assert!(rt; gives(alloc, 2, &many, &[32, off_with(0)], &[0, 70_000, 0])?);
+    assert!(rt; mounts(alloc, 1, &many, &[32, off_with(65_535)], &[0, 70_000, 0])?);
+    assert!(rt; mounts(alloc, 2, &many, &[32, off_with(0)], &[0, 70_000, 0])?);
     for version in [1, 2] {
-        assert!(rt; gives(alloc, version, &most, &[0, 4_295_032_831], &[0, 0, 0])?);
+        assert!(rt; packs(alloc, version, &most, &[0, 4_295_032_831])?);
     }
-    assert!(rt; gives(alloc, 1, &above, &[32, off_with(1)], &[0, 65_536, 0])?);
+    assert!(rt; mounts(alloc, 1, &above, &[32, off_with(1)], &[0, 65_536, 0])?);
     assert!(rt;
-        gives(
+        mounts(
             alloc,
             2,
             &above,

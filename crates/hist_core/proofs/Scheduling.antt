@@ -19,9 +19,10 @@ made_next moves i move old mid new near is all one =
     subst (λ (l : List Move). MakesAll l old new) (sym (take_more moves i move near ∙ ap (λ (m : Move). take i moves ++ m ∷ []) (sym is)))
     (makes_more (take i moves) move old mid new all one)
 
--- the moves that are left are the next one and the others
-pub left_is : (moves : List Move) (i : ℕ) (move : Move) → i < length moves → move ≡ get_or moves i move → drop i moves ≡ move ∷ drop (i + 1) moves
-left_is moves i move near is = drop_more moves i move near ∙ ap (λ (m : Move). m ∷ drop (i + 1) moves) (sym is)
+-- a list is what stands before an element, it, and what stands behind it
+pub split_there : {X : Type 0} (xs : List X) (i : ℕ) (x : X) → i < length xs → x ≡ get_or xs i x → xs ≡ take i xs ++ x ∷ drop (i + 1) xs
+split_there {X} xs i x near is = sym (take-append-drop i xs)
+    ∙ ap (λ (l : List X). take i xs ++ l) (drop_more xs i x near ∙ ap (λ (y : X). y ∷ drop (i + 1) xs) (sym is))
 
 -- the next one has a fault
 pub stops_next : (moves : List Move) (i : ℕ) (move : Move) (old mid : Board) (fault : WorldFault) → i < length moves → move ≡ get_or moves i move
@@ -30,7 +31,7 @@ stops_next moves i move old mid fault near is all faults = record {
   before = take i moves;
   move = move;
   rest = drop (i + 1) moves;
-  are = sym (take-append-drop i moves) ∙ ap (λ (l : List Move). take i moves ++ l) (left_is moves i move near is);
+  are = split_there moves i move near is;
   board = mid;
   leads = all;
   faults = faults;

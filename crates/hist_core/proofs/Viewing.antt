@@ -1,5 +1,5 @@
 -- A `snapshot` of an actor goes on, and what it is answered with.
-use Rattle.std.proofs.Common.{◌≡◌, ◌≤◌, ◌+◌, ◌-◌, ℕ, ℤ, pos, true, true≢false, arith, set, slice_index, List, [], ◌∷◌, ◌++◌, length, map, take, All, refl, sym, ap, subst, ◌∙◌}
+use Rattle.std.proofs.Common.{◌≡◌, ◌≤◌, ◌+◌, ◌-◌, ℕ, ℤ, pos, true, true≢false, arith, set, slice_index, List, [], length, map, take, All, refl, sym, ap, subst, ◌∙◌}
 use Rattle.std.specs.Prelude.{Option, Some, None}
 use Rattle.std.specs.List.{Contains}
 use Rattle.segment_image.specs.Shape.{Dimensions}
@@ -28,7 +28,7 @@ use Rattle.bucket_ranges.specs.Ranges.{boundaries_of}
 use Rattle.bucket_ranges.specs.Spec.{buckets_of, spec_fault}
 use Rattle.bucket_ranges.proofs.Ascent.{boundaries_of-split}
 use Rattle.segment_invariant.specs.Body.{blank}
-use Rattle.segment_invariant.proofs.Lists.Elements.{all_at, at_from, contains_at, split_at}
+use Rattle.segment_invariant.proofs.Lists.Elements.{all_at, contains_at}
 use Rattle.segment_invariant.proofs.Lists.Maps.{contains_map}
 use Rattle.segment_promises.proofs.Reached.{states_are_kept}
 use Rattle.segment_machine.specs.State.{State}

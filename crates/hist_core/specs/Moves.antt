@@ -1,5 +1,5 @@
 -- The moves of a schedule, one after the other.
-use Rattle.std.specs.Prelude.{◌≡◌, ◌⊎◌, ℕ, List, [], ◌∷◌, ◌++◌, Some, None, MatchOption, ⊤}
+use Rattle.std.specs.Prelude.{◌≡◌, ◌⊎◌, ℕ, List, [], ◌∷◌, ◌++◌, Some, None, MatchOption}
 use Rattle.segment_image.specs.Checks.{first_fault}
 use Rattle.segment_machine.specs.State.{State}
 use Rattle.hist_core.specs.declared.board.Board.{Board}

@@ -1,6 +1,6 @@
 -- What a replay writes, and what its events change.
 use Rattle.std.proofs.Common.{◌≡◌, ℕ, zero, suc, ℤ, ◌+◌, ◌<◌, List, [], ◌∷◌, ◌++◌, length, take, drop, get_or, slice_index, refl, sym, ap, subst, ◌∙◌, append_assoc, add-one, arith, length-set}
-use Rattle.std.proofs.lemmas.List.{append-nil, drop_more, get_or-set_same, get_or-set_other, length-take-le, take-append-drop, take_more}
+use Rattle.std.proofs.lemmas.List.{append-nil, get_or-set_same, get_or-set_other, length-take-le, take-append-drop, take_more}
 use Rattle.std.proofs.lemmas.List.Concat.{flat_map-append}
 use Rattle.std.proofs.Math.Logic.{∥∥₁_elim}
 use Rattle.std.proofs.Props.{props}
@@ -21,7 +21,7 @@ use Rattle.hist_core.specs.declared.fault.WorldFault.TheVariants.{NoMemory}
 use Rattle.hist_core.specs.Board.{BeginsFrom, IsReachedAs, OthersStay, Says, StepsTo}
 use Rattle.hist_core.specs.Moves.{IsBegun, IsStepped}
 use Rattle.hist_core.specs.World.{BeginSays, ChangesOneWord, TakesMemory, begin_checks, step_checks}
-use Rattle.hist_core.proofs.Scheduling.{no_fault}
+use Rattle.hist_core.proofs.Scheduling.{no_fault, split_there}
 use Rattle.schedule.specs.declared.order.Order.{Order}
 use Rattle.stepped.specs.declared.lines.Change.{Change}
 use Rattle.stepped.specs.declared.lines.Place.{Place}
@@ -204,12 +204,6 @@ replays_no_more number (first ∷ done) rest zero old mid text replays = replays
 replays_no_more number (first ∷ done) rest (suc left) old mid text (b, n, its, later, did, replays, is) =
     (b, n, its, later, did, replays_no_more (number + 1) done rest n b mid later replays, is)
 
--- records are those before one, it, and those behind it
-split_at : (orders : List Order) (i : ℕ) (order : Order) → i < length orders → order ≡ get_or orders i order
-    → orders ≡ take i orders ++ order ∷ drop (i + 1) orders
-split_at orders i order near is = sym (take-append-drop i orders)
-    ∙ ap (λ (l : List Order). take i orders ++ l) (drop_more orders i order near ∙ ap (λ (o : Order). o ∷ drop (i + 1) orders) (sym is))
-
 -- the next record is done too
 pub replays_next : (orders : List Order) (i : ℕ) (order : Order) (left : ℕ) (old mid new : Board) (left_then then_left : ℕ) (text : List ℕ) (deeds : List Deed)
     → i < length orders → order ≡ get_or orders i order → Replays 2 (take i orders) left old mid left_then text → 0 < left_then
@@ -238,7 +232,7 @@ stops_next orders i order left old mid left_then text why deeds near is replays 
   before = take i orders;
   order = order;
   rest = drop (i + 1) orders;
-  are = split_at orders i order near is;
+  are = split_there orders i order near is;
   number_is = omega (arith, length-take-le i orders (omega (arith, near)));
   mid = mid;
   left_then = left_then;

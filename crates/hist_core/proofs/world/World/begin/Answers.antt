@@ -1,11 +1,7 @@
 use Rattle.std.proofs.Common.{◌≡◌, ◌∙◌, true, false, ℤ, w32, w64, to_z, of_z, List, ℕ, refl, sym, ap, subst, vec_len, arith, rules}
 use Rattle.std.specs.Prelude.{Ok, IfErr}
-use Rattle.hist_core.specs.Board.{HistBegins, AddBegins, DeltaBegins, SnapshotBegins, BatchBegins, IsPlaceOf}
-use mathlib.Core.Option.{some, some-injective}
-use lib.ListN.{get_elem?}
-use Rattle.segment_invariant.proofs.Lists.Elements.{contains_at}
-use Rattle.hist_core.specs.declared.runner.Runner.{Runner}
-use Rattle.hist_core.specs.declared.hist.Known.{Known}
+use Rattle.hist_core.specs.Board.{HistBegins, AddBegins, DeltaBegins, SnapshotBegins, BatchBegins}
+use mathlib.Core.Option.{some}
 use Rattle.hist_core.specs.World.{TakesMemory, BeginSays, named_by}
 use Rattle.hist_core.specs.declared.call.Call.{Call}
 use Rattle.hist_core.specs.declared.fault.WorldFault.TheVariants.{NoMemory}

@@ -16,7 +16,7 @@ use Rattle.alloc_core.specs.declared.alloc.AllocStep.TheVariants as said
 use Rattle.list_core.specs.Walk.{IsPrefix}
 use Rattle.segment_machine.specs.declared.actor.Actor.{Actor}
 use Rattle.segment_machine.specs.declared.actor.Known.{Known}
-use Rattle.segment_machine.specs.declared.entry.Counting.{Counting as MachineCounting}
+use Rattle.segment_machine.specs.declared.entry.EntryProgress.{EntryProgress as MachineCounting}
 use Rattle.segment_machine.specs.declared.entry.Entry.{Entry}
 use Rattle.segment_machine.specs.declared.place.Look.{Look}
 use Rattle.segment_machine.specs.declared.actor.Own.{Own}
@@ -33,10 +33,10 @@ use Rattle.hist_core.specs.declared.add.Add.{Add}
 use Rattle.hist_core.specs.declared.add.AddStep.{AddStep}
 use Rattle.hist_core.specs.declared.add.AddStep.TheVariants.{More, Done, Refused}
 use Rattle.hist_core.specs.declared.add.Stage.{Stage}
-use Rattle.hist_core.specs.declared.add.Stage.TheVariants.{LoadingSingle, Packing, LoadingCounts, SeekingCounts, Allocating, Mounting, Purging, LoadingAgain, Disabling, Moving, Sampling, Counting, Summing, Noting}
+use Rattle.hist_core.specs.declared.add.Stage.TheVariants.{LoadingSingle, Packing, LoadingCounts, SeekingCounts, Allocating, Mounting, Purging, LoadingAgain, Disabling, Moving, Sampling, EntryProgress, Summing, Noting}
 use Rattle.segment_calls.specs.declared.refusal.Refusal.TheVariants as why
 use Rattle.hist_core.specs.Making.{IsCause}
-use Rattle.hist_core.specs.Goes.{Goes, IsFree}
+use Rattle.hist_core.specs.StepsBy.{StepsBy, IsFree}
 use Rattle.hist_core.specs.Sampling.{IsSampling, IsStarted as BeginsToSearch}
 use Rattle.hist_core.specs.declared.sampling.SamplingStep.{SamplingStep}
 use Rattle.hist_core.specs.declared.sampling.SamplingStep.TheVariants as found
@@ -161,7 +161,7 @@ StandsBefore shape known add a _ = ⊥
 
 -- Where its actor stands, and what has happened of its entry.
 abbrev pub StandsAtStage : Dimensions → Known → Amid → Add → Actor → Stage → Type 0
-StandsAtStage shape known amid add a (Counting at) = HasEntry known amid add a false false × IsCountOf known add a at × (at < shape.size)
+StandsAtStage shape known amid add a (EntryProgress at) = HasEntry known amid add a false false × IsCountOf known add a at × (at < shape.size)
 StandsAtStage shape known amid add a (Sampling sampling) =
     HasEntry known amid add a false false × (known.spec ≡ spec.Sparse) × (sampling.histogram ≡ known.reference) × (sampling.value ≡ add.value)
     × IsSampling shape sampling a
@@ -187,7 +187,7 @@ pub record IsAdd (shape : Dimensions) (known : Known) (amid : Amid) (add : Add) 
 
 -- What it leaves as it was: its role, its segment, its deltas, and the names that it was answered with. Of the chain and of the words of
 -- records it has seen no less.
-pub record Aside (a b : Actor) : Type 0 where
+pub record FrameOfAdd (a b : Actor) : Type 0 where
   pub role : b.role ≡ a.role
   pub segment : b.segment ≡ a.segment
   pub deltas : b.deltas ≡ a.deltas
@@ -202,14 +202,14 @@ StaysOpen a b = (b.units ≡ a.units) × (b.entries ≡ record a.entries { runni
 -- What a step says: it goes on; all of its entry has happened; or it is refused, and nothing has. Its actor may turn to another entry or
 -- another call then.
 abbrev pub AddGives : Dimensions → Known → Amid → Add → AddStep → Actor → Actor → Type 0
-AddGives shape known amid new More a b = Aside a b × StaysOpen a b × IsAdd shape known amid new b
-AddGives shape known amid new Done a b = Aside a b × StaysOpen a b × IsFree b × HasEnded known amid new b
-AddGives shape known amid new (Refused cause) a b = Aside a b × StaysOpen a b × IsFree b × IsCause cause b × HasEntry known amid new b false false
+AddGives shape known amid new More a b = FrameOfAdd a b × StaysOpen a b × IsAdd shape known amid new b
+AddGives shape known amid new Done a b = FrameOfAdd a b × StaysOpen a b × IsFree b × HasEnded known amid new b
+AddGives shape known amid new (Refused cause) a b = FrameOfAdd a b × StaysOpen a b × IsFree b × IsCause cause b × HasEntry known amid new b false false
 
 -- what a step makes of the words, and of whatever actor stands so
 abbrev pub AddSteps : Add → List ℕ → Add → List ℕ → AddStep → Type 0
 AddSteps old words new new_words said = (shape : Dimensions) (known : Known) (amid : Amid) (a : Actor) → length words ≡ shape.size
-    → IsAdd shape known amid old a → Goes shape.size old.version a words new_words (AddGives shape known amid new said a)
+    → IsAdd shape known amid old a → StepsBy shape.size old.version a words new_words (AddGives shape known amid new said a)
 
 -- an `add` that stands so somewhere, in so many words
 abbrev pub IsSomeAdd : ℕ → Add → Type 0
@@ -255,7 +255,7 @@ IsSearching _ = ⊥
 -- what becomes of it by what a step of its search said: it goes on, or counts in the sample, or is refused
 abbrev pub IsSampled : Add → SamplingStep → Add → AddStep → Type 0
 IsSampled old found.More new result = (new ≡ old) × (result ≡ More)
-IsSampled old (found.Found sample) new result = (new ≡ record old { stage = Counting ((sample + SAMPLE_COUNT) % 2 ^ 64) }) × (result ≡ More)
+IsSampled old (found.Found sample) new result = (new ≡ record old { stage = EntryProgress ((sample + SAMPLE_COUNT) % 2 ^ 64) }) × (result ≡ More)
 IsSampled old (found.Refused cause) new result = (new ≡ old) × (result ≡ Refused cause)
 
 -- where the count of its value stands among counts
@@ -265,4 +265,4 @@ count_in add counts = (counts + (BLOCK_HEADER + add.bucket)) % 2 ^ 64
 -- what it does behind the event that disables a word: in version 1 it moves the units that the word had
 abbrev pub behind_disabling : Add → ℕ → ℕ → Stage
 behind_disabling add counts old =
-    if (add.version == 1) && nat_lt 0 old then Moving counts (old / 2 ^ 32) (old % 2 ^ 32) else Counting (count_in add counts)
+    if (add.version == 1) && nat_lt 0 old then Moving counts (old / 2 ^ 32) (old % 2 ^ 32) else EntryProgress (count_in add counts)

@@ -19,9 +19,9 @@ use Rattle.hist_core.specs.declared.add.AddStep.TheVariants as said
 use Rattle.hist_core.specs.declared.batch.Batch.{Batch}
 use Rattle.hist_core.specs.declared.batch.BatchStep.{BatchStep}
 use Rattle.hist_core.specs.declared.batch.BatchStep.TheVariants.{More, Done, Refused}
-use Rattle.hist_core.specs.Add.{Amid, IsAdd, IsCounting, Aside, StaysOpen, counted_entry, ended_entry, OpensWith}
+use Rattle.hist_core.specs.Add.{Amid, IsAdd, IsCounting, FrameOfAdd, StaysOpen, counted_entry, ended_entry, OpensWith}
 use Rattle.hist_core.specs.Making.{IsCause}
-use Rattle.hist_core.specs.Goes.{Goes, IsFree}
+use Rattle.hist_core.specs.StepsBy.{StepsBy, IsFree}
 
 -- ---- what it counts
 
@@ -123,16 +123,16 @@ pub record IsCutAt (added : ℕ) (entries : List Entry) (a : Actor) : Type 0 whe
 
 -- What a step says: it goes on; all of it is counted; or its next item is refused. Its actor may turn to another call then.
 abbrev pub BatchGives : Dimensions → Known → Batch → BatchStep → Actor → Actor → Type 0
-BatchGives shape known new More a b = Aside a b × StaysOpen a b × IsBatch shape known new b
-BatchGives shape known new Done a b = Aside a b × StaysOpen a b × IsFree b × HaveEnded (counted_entries known new) b
+BatchGives shape known new More a b = FrameOfAdd a b × StaysOpen a b × IsBatch shape known new b
+BatchGives shape known new Done a b = FrameOfAdd a b × StaysOpen a b × IsFree b × HaveEnded (counted_entries known new) b
 BatchGives shape known new (Refused refusal) a b =
-    Aside a b × StaysOpen a b × IsFree b × IsCause refusal.why b × IsCutAt refusal.added (counted_entries known new) b
+    FrameOfAdd a b × StaysOpen a b × IsFree b × IsCause refusal.why b × IsCutAt refusal.added (counted_entries known new) b
     × (refusal.added ≤ length new.items.items) × (new.left + units_among (take refusal.added new.items.items) ≡ new.cost)
 
 -- what a step makes of the words, and of whatever actor stands so
 abbrev pub BatchSteps : Batch → List ℕ → Batch → List ℕ → BatchStep → Type 0
 BatchSteps old words new new_words said = (shape : Dimensions) (known : Known) (a : Actor) → length words ≡ shape.size
-    → IsBatch shape known old a → Goes shape.size a.segment.version a words new_words (BatchGives shape known new said a)
+    → IsBatch shape known old a → StepsBy shape.size a.segment.version a words new_words (BatchGives shape known new said a)
 
 -- a `batch` that stands so somewhere, in so many words
 abbrev pub IsSomeBatch : ℕ → Batch → Type 0

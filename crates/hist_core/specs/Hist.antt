@@ -25,7 +25,7 @@ use Rattle.segment_calls.specs.declared.asked.Asked.{Asked}
 use Rattle.hist_core.specs.declared.hist.Hist.{Hist}
 use Rattle.hist_core.specs.declared.hist.HistStep.{HistStep}
 use Rattle.hist_core.specs.declared.hist.HistStep.TheVariants.{More, Done, Refused}
-use Rattle.hist_core.specs.Goes.{Beside, Goes, IsFree}
+use Rattle.hist_core.specs.StepsBy.{FrameOfStep, StepsBy, IsFree}
 use Rattle.hist_core.specs.declared.hist.Stage.{Stage}
 use Rattle.hist_core.specs.declared.hist.Stage.TheVariants.{Walking, Comparing, Making}
 use Rattle.hist_core.specs.declared.making.MakingStep.{MakingStep}
@@ -142,15 +142,15 @@ IsCause name spec cause b = making.IsCause cause b ⊎ ((cause ≡ why.OtherSpec
 -- What a step says: it goes on; the record that was compared last, which lies in the segment, is the one that is asked for; or the call is
 -- refused, and its actor may turn to another.
 abbrev pub HistGives : Dimensions → Hist → HistStep → Actor → Actor → Type 0
-HistGives shape new More a b = Beside a b × IsHist shape new b
+HistGives shape new More a b = FrameOfStep a b × IsHist shape new b
 HistGives shape new Done a b =
-    Beside a b × IsFree b × MayNote b (knows (asked_of new)) × IsAsking shape new × (new.reference + HISTOGRAM_NAME ≤ shape.size)
-HistGives shape new (Refused cause) a b = Beside a b × IsFree b × IsCause new.asked.name.items new.asked.spec cause b
+    FrameOfStep a b × IsFree b × MayNote b (knows (asked_of new)) × IsAsking shape new × (new.reference + HISTOGRAM_NAME ≤ shape.size)
+HistGives shape new (Refused cause) a b = FrameOfStep a b × IsFree b × IsCause new.asked.name.items new.asked.spec cause b
 
 -- what a step makes of the words, and of whatever actor stands so
 abbrev pub HistSteps : Hist → List ℕ → Hist → List ℕ → HistStep → Type 0
 HistSteps old words new new_words said = (shape : Dimensions) (version : ℕ) (a : Actor) → length words ≡ shape.size → IsHist shape old a
-    → Goes shape.size version a words new_words (HistGives shape new said a)
+    → StepsBy shape.size version a words new_words (HistGives shape new said a)
 
 -- a `hist` that stands so somewhere, in so many words
 abbrev pub IsSomeHist : ℕ → Hist → Type 0

@@ -23,7 +23,7 @@ use Rattle.hist_core.specs.declared.making.MakingStep.{MakingStep}
 use Rattle.hist_core.specs.declared.making.MakingStep.TheVariants.{More, Done, Refused}
 use Rattle.hist_core.specs.declared.making.Stage.{Stage}
 use Rattle.hist_core.specs.declared.making.Stage.TheVariants.{Allocating, Filling, Publishing}
-use Rattle.hist_core.specs.Goes.{Beside, Goes, IsFree}
+use Rattle.hist_core.specs.StepsBy.{FrameOfStep, StepsBy, IsFree}
 
 -- ---- what it makes
 
@@ -98,14 +98,14 @@ IsCause cause b = ⊥
 
 -- what a step says: it goes on; the record is on the list; or it is refused. Its actor may turn to another call then
 abbrev pub MakingGives : Dimensions → Wanted → Making → MakingStep → Actor → Actor → Type 0
-MakingGives shape wanted new More a b = Beside a b × IsMaking shape wanted new b
-MakingGives shape wanted new Done a b = Beside a b × IsFree b
-MakingGives shape wanted new (Refused cause) a b = Beside a b × IsFree b × IsCause cause b
+MakingGives shape wanted new More a b = FrameOfStep a b × IsMaking shape wanted new b
+MakingGives shape wanted new Done a b = FrameOfStep a b × IsFree b
+MakingGives shape wanted new (Refused cause) a b = FrameOfStep a b × IsFree b × IsCause cause b
 
 -- what a step makes of the words, and of whatever actor stands so
 abbrev pub MakingSteps : List ℕ → Making → List ℕ → Making → List ℕ → MakingStep → Type 0
 MakingSteps payload old words new new_words said = (shape : Dimensions) (version : ℕ) (wanted : Wanted) (a : Actor) → length words ≡ shape.size
-    → wanted.payload ≡ payload → IsMaking shape wanted old a → Goes shape.size version a words new_words (MakingGives shape wanted new said a)
+    → wanted.payload ≡ payload → IsMaking shape wanted old a → StepsBy shape.size version a words new_words (MakingGives shape wanted new said a)
 
 -- a record that is being made somewhere, in so many words
 abbrev pub IsSomeMaking : ℕ → List ℕ → Making → Type 0

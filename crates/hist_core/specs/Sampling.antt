@@ -20,7 +20,7 @@ use Rattle.hist_core.specs.declared.sampling.SamplingStep.{SamplingStep}
 use Rattle.hist_core.specs.declared.sampling.SamplingStep.TheVariants.{More, Found, Refused}
 use Rattle.hist_core.specs.declared.sampling.Stage.{Stage}
 use Rattle.hist_core.specs.declared.sampling.Stage.TheVariants.{Walking, LoadingType, LoadingHistogram, LoadingValue, Making}
-use Rattle.hist_core.specs.Goes.{Beside, Goes, IsFree}
+use Rattle.hist_core.specs.StepsBy.{FrameOfStep, StepsBy, IsFree}
 use Rattle.hist_core.specs.Walk.{IsSample}
 use Rattle.hist_core.specs.Making.{IsCause, IsMaking, Wanted}
 
@@ -72,14 +72,14 @@ pub record IsSampling (shape : Dimensions) (s : Sampling) (a : Actor) : Type 0 w
 -- What a step says: it goes on; the first sample of the value stands there, within the segment; or it is refused. Its actor may turn to
 -- something else then.
 abbrev pub SamplingGives : Dimensions → Sampling → SamplingStep → Actor → Actor → Type 0
-SamplingGives shape new More a b = Beside a b × IsSampling shape new b
-SamplingGives shape new (Found at) a b = Beside a b × IsFree b × IsFirstSample b.seen new.histogram new.value at × (at + SAMPLE_LEAST ≤ shape.size)
-SamplingGives shape new (Refused cause) a b = Beside a b × IsFree b × IsCause cause b
+SamplingGives shape new More a b = FrameOfStep a b × IsSampling shape new b
+SamplingGives shape new (Found at) a b = FrameOfStep a b × IsFree b × IsFirstSample b.seen new.histogram new.value at × (at + SAMPLE_LEAST ≤ shape.size)
+SamplingGives shape new (Refused cause) a b = FrameOfStep a b × IsFree b × IsCause cause b
 
 -- what a step makes of the words, and of whatever actor stands so
 abbrev pub SamplingSteps : Sampling → List ℕ → Sampling → List ℕ → SamplingStep → Type 0
 SamplingSteps old words new new_words said = (shape : Dimensions) (version : ℕ) (a : Actor) → length words ≡ shape.size
-    → IsSampling shape old a → Goes shape.size version a words new_words (SamplingGives shape new said a)
+    → IsSampling shape old a → StepsBy shape.size version a words new_words (SamplingGives shape new said a)
 
 -- a search that stands so somewhere, in so many words
 abbrev pub IsSomeSampling : ℕ → Sampling → Type 0

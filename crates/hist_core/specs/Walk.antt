@@ -20,7 +20,7 @@ use Rattle.hist_core.specs.Mounted.{BeganBefore}
 -- ---- where it stands
 
 -- It has passed records behind that of a sparse histogram, and comes to one of them, or to the end of the list.
-pub record IsOnWay (known : Known) (passed : List ℕ) (at : ℕ) (a : Actor) : Type 0 where
+pub record IsWalkProgress (known : Known) (passed : List ℕ) (at : ℕ) (a : Actor) : Type 0 where
   pub sparse : known.spec ≡ Sparse
   pub apart : is_looking a.hand.place ≡ false
   pub began : BeganBefore a
@@ -33,7 +33,7 @@ OfPassed = List ℕ → Actor → Type 0
 -- It stands at a record behind that of a sparse histogram, and this holds of those that it saw.
 pub record StandsBehind (known : Known) (holds : OfPassed) (at : ℕ) (seen : List ℕ → List ℕ) (a : Actor) : Type 0 where
   pub passed : List ℕ
-  pub way : IsOnWay known passed at a
+  pub way : IsWalkProgress known passed at a
   pub record_there : at ≢ QUEUE
   pub lists : holds (seen passed) a
 
@@ -56,7 +56,7 @@ MetSample shape known holds at value a =
 -- it has come to the end of the list, and this holds of all records there
 pub record HasPassedAll (known : Known) (holds : OfPassed) (a : Actor) : Type 0 where
   pub passed : List ℕ
-  pub way : IsOnWay known passed QUEUE a
+  pub way : IsWalkProgress known passed QUEUE a
   pub lists : holds passed a
 
 -- it may begin: the histogram is sparse, and its record was met

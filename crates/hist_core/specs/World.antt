@@ -10,10 +10,10 @@ use Rattle.hist_core.specs.declared.entry.Entry.{Entry}
 use Rattle.hist_core.specs.declared.entry.Taken.{Taken}
 use Rattle.hist_core.specs.declared.fault.WorldFault.{WorldFault}
 use Rattle.hist_core.specs.declared.fault.WorldFault.TheVariants.{BadShape, NoActor, Busy, Idle, Unknown}
-use Rattle.hist_core.specs.declared.runner.Runner.{Runner}
-use Rattle.hist_core.specs.declared.board.Board.{Board}
-use Rattle.hist_core.specs.Runner.{ended_by, begun_by}
-use Rattle.hist_core.specs.Board.{HistBegins, AddBegins, DeltaBegins, SnapshotBegins, BatchBegins, IsBusy}
+use Rattle.hist_core.specs.declared.actor_run.ActorRun.{ActorRun}
+use Rattle.hist_core.specs.declared.world_state.WorldState.{WorldState}
+use Rattle.hist_core.specs.ActorRun.{ended_by, begun_by}
+use Rattle.hist_core.specs.WorldState.{HistBegins, AddBegins, DeltaBegins, SnapshotBegins, BatchBegins, IsBusy}
 use Rattle.hist_core.specs.declared.call.Begun.{Begun}
 use Rattle.hist_core.specs.declared.call.Begun.TheVariants.{Going, Ended}
 use Rattle.hist_core.specs.declared.call.Call.{Call}
@@ -21,18 +21,18 @@ use Rattle.hist_core.specs.declared.call.Call.TheVariants.{Hist, Add, Delta, Sna
 
 -- ---- what it shows of an actor, where that is there
 
-abbrev pub of_actor : {X : Type 0} → (Runner → List X) → Option Runner → List X
+abbrev pub of_actor : {X : Type 0} → (ActorRun → List X) → Option ActorRun → List X
 of_actor shown none = []
-of_actor shown (some runner) = shown runner
+of_actor shown (some actor_run) = shown actor_run
 
-abbrev pub ended_of : Board → ℕ → List Entry
-ended_of board actor = of_actor ended_by (get_elem? board.runners.items actor)
+abbrev pub ended_of : WorldState → ℕ → List Entry
+ended_of world_state actor = of_actor ended_by (get_elem? world_state.actor_runs.items actor)
 
-abbrev pub begun_of : Board → ℕ → List Entry
-begun_of board actor = of_actor begun_by (get_elem? board.runners.items actor)
+abbrev pub begun_of : WorldState → ℕ → List Entry
+begun_of world_state actor = of_actor begun_by (get_elem? world_state.actor_runs.items actor)
 
-abbrev pub taken_of : Board → ℕ → List Taken
-taken_of board actor = of_actor (λ runner. runner.taken.items) (get_elem? board.runners.items actor)
+abbrev pub taken_of : WorldState → ℕ → List Taken
+taken_of world_state actor = of_actor (λ actor_run. actor_run.taken.items) (get_elem? world_state.actor_runs.items actor)
 
 -- ---- what can be wrong
 
@@ -46,13 +46,13 @@ world_checks size page actors version =
     ∷ []
 
 -- a call of an actor is going on, or it rests
-abbrev pub runs : Option Runner → Bool
+abbrev pub runs : Option ActorRun → Bool
 runs none = false
-runs (some runner) = is_some runner.running
+runs (some actor_run) = is_some actor_run.running
 
-abbrev pub rests : Option Runner → Bool
+abbrev pub rests : Option ActorRun → Bool
 rests none = false
-rests (some runner) = not (is_some runner.running)
+rests (some actor_run) = not (is_some actor_run.running)
 
 -- the name of the histogram that a call is of, where its actor has to know that
 abbrev pub named_by : Call → Option (List ℕ)
@@ -68,21 +68,21 @@ abbrev pub lacks_name : List Known → Option (List ℕ) → Bool
 lacks_name list none = false
 lacks_name list (some name) = not (list_any (λ known. bytes_eq known.name.items name) list)
 
-abbrev pub lacks : Option Runner → Option (List ℕ) → Bool
+abbrev pub lacks : Option ActorRun → Option (List ℕ) → Bool
 lacks none name = false
-lacks (some runner) name = lacks_name runner.known.items name
+lacks (some actor_run) name = lacks_name actor_run.known.items name
 
 -- with the begin of a call: there is no such actor, a call of it is going on, or it does not know the histogram of the name
-abbrev pub begin_checks : Board → ℕ → Call → List (Bool × WorldFault)
-begin_checks board actor call =
-    (nat_le (vec_len board.runners) actor, NoActor)
-    ∷ (runs (get_elem? board.runners.items actor), Busy)
-    ∷ (lacks (get_elem? board.runners.items actor) (named_by call), Unknown)
+abbrev pub begin_checks : WorldState → ℕ → Call → List (Bool × WorldFault)
+begin_checks world_state actor call =
+    (nat_le (vec_len world_state.actor_runs) actor, NoActor)
+    ∷ (runs (get_elem? world_state.actor_runs.items actor), Busy)
+    ∷ (lacks (get_elem? world_state.actor_runs.items actor) (named_by call), Unknown)
     ∷ []
 
 -- with a step: there is no such actor, or it runs no call
-abbrev pub step_checks : Board → ℕ → List (Bool × WorldFault)
-step_checks board actor = (nat_le (vec_len board.runners) actor, NoActor) ∷ (rests (get_elem? board.runners.items actor), Idle) ∷ []
+abbrev pub step_checks : WorldState → ℕ → List (Bool × WorldFault)
+step_checks world_state actor = (nat_le (vec_len world_state.actor_runs) actor, NoActor) ∷ (rests (get_elem? world_state.actor_runs.items actor), Idle) ∷ []
 
 -- ---- the begin of a call
 
@@ -96,7 +96,7 @@ TakesMemory (Batch name items sum) = ⊤
 TakesMemory call = ⊥
 
 -- what the begin of a call says: it goes on, or it is answered at once
-abbrev pub BeginSays : ℕ → Call → Board → Board → Begun → Type 0
+abbrev pub BeginSays : ℕ → Call → WorldState → WorldState → Begun → Type 0
 BeginSays actor (Hist name spec) old new said = HistBegins actor name.items spec old new (Ok said)
 BeginSays actor (Add name value count) old new said = AddBegins actor name.items value count old new said
 BeginSays actor (Delta name) old new said = DeltaBegins actor name.items old new said

@@ -2,9 +2,9 @@
 
 ghost use Rattle.std.specs.Prelude.{◌≡◌, length};
 
-use crate::counting::fetch_add;
 use crate::hist::Known;
 use crate::sampling::{Sampling, SamplingStep};
+use crate::word_ops::fetch_add;
 use alloc_core::event::{exchange, store};
 use alloc_core::{Alloc, AllocStep};
 use segment_calls::Refusal;
@@ -102,7 +102,7 @@ impl Add {
     ghost use Rattle.std.specs.Prelude.{◌≤◌, ◌+◌, ◌*◌, ◌^◌, ◌<◌, true, None};
     ghost use Rattle.bucket_ranges.specs.Ranges.{boundaries_of};
     ghost use Rattle.bucket_ranges.specs.Spec.{spec_fault};
-    ghost use Rattle.hist_core.specs.Runner.{known_of};
+    ghost use Rattle.hist_core.specs.ActorRun.{known_of};
     ghost use Rattle.alloc_core.specs.Layout.{IsShape};
     ghost use Rattle.hist_core.specs.declared.add.Stage.TheVariants.{LoadingSingle, Packing, LoadingCounts, SeekingCounts, Mounting, Purging, LoadingAgain, Disabling, Moving, Counting, Summing, Noting};
     ghost use Rattle.hist_core.specs.Add.{IsSomeAdd, AddSteps, IsBehindSingle, BeginsToAllocate, IsAllocating, IsAllocated, IsSampled, IsSearching, IsStarted, behind_count, behind_disabling, count_in};
@@ -448,7 +448,7 @@ impl Add {
         AddStep::Done
     }
 
-    // Goes on by one event.
+    // StepsBy on by one event.
     pub(crate) fn step(&mut self, words: &mut [u64]) -> AddStep
         requires stands { ∥ IsSomeAdd (length words.old) self.old ∥₁ }
         ensures steps { AddSteps self.old words.old self.new words.new result }

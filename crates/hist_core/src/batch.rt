@@ -3,7 +3,7 @@
 ghost use Rattle.std.specs.Prelude.{◌≡◌, length};
 
 use crate::add::{Add, AddStep};
-use crate::counting::fetch_add;
+use crate::word_ops::fetch_add;
 use segment_calls::BatchRefusal;
 use segment_image::layout::HISTOGRAM_SUM;
 
@@ -89,7 +89,7 @@ impl Batch {
         BatchStep::Done
     }
 
-    // Goes on by one event.
+    // StepsBy on by one event.
     pub(crate) fn step(&mut self, words: &mut [u64]) -> BatchStep
         requires stands { ∥ IsSomeBatch (length words.old) self.old ∥₁ }
         ensures steps { BatchSteps self.old words.old self.new words.new result }

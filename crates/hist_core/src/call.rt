@@ -68,7 +68,7 @@ pub enum Stepped {
 
 impl Stepped {
     ghost use Rattle.std.specs.Prelude.{◌≡◌, ◌≤◌};
-    ghost use Rattle.hist_core.specs.Runner.{returned_by};
+    ghost use Rattle.hist_core.specs.ActorRun.{returned_by};
 
     // The units that come back of those that the call had: all of them where it is refused.
     pub(crate) fn returned(&self, held: u64) -> u64

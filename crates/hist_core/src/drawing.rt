@@ -2,8 +2,8 @@
 
 ghost use Rattle.std.specs.Prelude.{◌<◌, vec_len, vec_capacity};
 ghost use Rattle.hist_core.specs.declared.entry.Taken.{Taken};
-ghost use Rattle.hist_core.specs.declared.taker.TakerStep.TheVariants.{Took, Done};
-ghost use Rattle.hist_core.specs.Runner.{IsLast, LastBecomes};
+ghost use Rattle.hist_core.specs.declared.delta_call.DeltaCallStep.TheVariants.{Took, Done};
+ghost use Rattle.hist_core.specs.ActorRun.{IsLast, LastBecomes};
 
 use crate::entry::Taken;
 use crate::samples::list_by_key;

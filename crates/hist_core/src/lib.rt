@@ -2,27 +2,27 @@
 //! every crate that runs a segment.
 #![tactic(auto)]
 
+mod actor_run;
 mod add;
 mod batch;
-mod board;
 mod call;
-mod counting;
+mod delta_call;
 mod drawing;
 mod entry;
 mod fault;
+mod ghost_notes;
 mod hist;
-mod looker;
 mod making;
 mod mounted;
-mod runner;
 mod samples;
 mod sampling;
-mod taker;
-mod telling;
+mod snapshot_call;
 #[cfg(test)]
 mod tests;
 mod walk;
+mod word_ops;
 mod world;
+mod world_state;
 
 pub use call::{Answer, Begun, Call, Move, Stepped};
 pub use entry::{Entry, Taken};

@@ -6,7 +6,7 @@ ghost use Rattle.bucket_ranges.specs.Tally.{amount_of as amount_of_sample, count
 ghost use Rattle.bucket_ranges.specs.Ranges.{AreBoundaries};
 ghost use Rattle.segment_machine.specs.Entry.{key_of as key_of_value};
 ghost use Rattle.segment_promises.specs.Values.{AreSorted};
-ghost use Rattle.hist_core.specs.Taker.{insert_by_key, place_of as place_of_key};
+ghost use Rattle.hist_core.specs.DeltaCall.{insert_by_key, place_of as place_of_key};
 
 use bucket_ranges::Ranges;
 use bucket_ranges::limits::MAX_VALUE;

@@ -1,9 +1,9 @@
 //! A segment and the actors that call on it, as plain data: one event a step.
 
-use crate::board::Board;
 use crate::call::{Begun, Call, Move, Stepped};
 use crate::entry::{Entry, Taken};
 use crate::fault::WorldFault;
+use crate::world_state::WorldState;
 use segment_image::Shape;
 use segment_image::layout::{VERSION_FROZEN, VERSION_MOVING};
 use std::alloc::{AllocError, Global};
@@ -15,21 +15,21 @@ pub const MAX_ACTORS: usize = 64;
 /// looked at after any event of any interleaving: what it shows is a state that the machine reaches.
 #[derive(Debug, Drop)]
 pub struct World {
-    board: Board,
-    ghost reached: { ∥ IsReached board ∥₁ },
+    world_state: WorldState,
+    ghost reached: { ∥ IsReached world_state ∥₁ },
 }
 
-ghost use Rattle.hist_core.specs.Board.{IsReached};
+ghost use Rattle.hist_core.specs.WorldState.{IsReached};
 
 impl World {
     ghost use Rattle.std.specs.Prelude.{◌≡◌, ◌≢◌, ◌≤◌, ◌<◌, ◌⊎◌, ℕ, true, Ok, Err, OnOk, OnErr, IfOk, IfErr, IsOk, MatchOption, MatchResult, vec_len};
     ghost use Rattle.std.specs.List.{All};
-    ghost use Rattle.hist_core.specs.Taker.{AreUnits};
+    ghost use Rattle.hist_core.specs.DeltaCall.{AreUnits};
     ghost use Rattle.segment_image.specs.Checks.{first_fault};
     ghost use Rattle.segment_image.specs.Head.{head_of, header_of};
     ghost use Rattle.alloc_core.specs.Layout.{IsShape};
     ghost use Rattle.segment_machine.specs.State.{State};
-    ghost use Rattle.hist_core.specs.Board.{IsReachedAs, IsNewBoard, BeginsFrom, StepsTo, IsAsBefore, OthersStay, Says, IsConsistentAs, IsReadAs, AreKnownFirst};
+    ghost use Rattle.hist_core.specs.WorldState.{IsReachedAs, IsNewWorldState, BeginsFrom, StepsTo, IsAsBefore, OthersStay, Says, IsConsistentAs, IsReadAs, AreKnownFirst};
     ghost use Rattle.hist_core.specs.Moves.{Makes, FaultsAt};
     ghost use Rattle.hist_core.specs.World.{world_checks, begin_checks, TakesMemory, BeginSays, step_checks, ChangesOneWord, ended_of, begun_of, taken_of};
 
@@ -44,7 +44,7 @@ impl World {
         actors: usize,
         version: u64,
     ) -> Result<World, WorldFault>
-        ensures { MatchOption (first_fault (world_checks size page actors version)) (MatchResult result (λ world. IsNewBoard (record { size = size; page = page }) version id actors world.board) (λ fault. fault ≡ WorldFault.NoMemory)) (λ fault. result ≡ Err fault) }
+        ensures { MatchOption (first_fault (world_checks size page actors version)) (MatchResult result (λ world. IsNewWorldState (record { size = size; page = page }) version id actors world.world_state) (λ fault. fault ≡ WorldFault.NoMemory)) (λ fault. result ≡ Err fault) }
     {
         let Ok(shape) = Shape::of(size, page) else {
             return Err(WorldFault::BadShape);
@@ -69,10 +69,10 @@ impl World {
         requires shaped { IsShape shape }
         requires few { actors ≤ 64 }
         requires versioned { (version ≡ 1) ⊎ (version ≡ 2) }
-        ensures { IfOk result (λ world. IsNewBoard shape version id actors world.board) }
+        ensures { IfOk result (λ world. IsNewWorldState shape version id actors world.world_state) }
     {
         Ok(World {
-            board: Board::new(alloc, shape, version, id, actors)?,
+            world_state: WorldState::new(alloc, shape, version, id, actors)?,
         })
     }
 
@@ -80,36 +80,36 @@ impl World {
     /// the published histograms, each once, with no unit that was not begun and all ended ones but those in transit. What a `Hist`
     /// was answered with is the first histogram of its name, and has the same spec.
     pub fn words(&self) -> &[u64]
-        ensures words { result.now ≡ self.now.board.words.items }
-        ensures header { header_of self.now.board.words.items ≡ Ok (head_of self.now.board.words.items) }
-        ensures consistent { ∥ IsConsistentAs self.now.board ∥₁ }
-        ensures reads { ∥ IsReadAs self.now.board ∥₁ }
-        ensures names { AreKnownFirst self.now.board }
+        ensures words { result.now ≡ self.now.world_state.words.items }
+        ensures header { header_of self.now.world_state.words.items ≡ Ok (head_of self.now.world_state.words.items) }
+        ensures consistent { ∥ IsConsistentAs self.now.world_state ∥₁ }
+        ensures reads { ∥ IsReadAs self.now.world_state ∥₁ }
+        ensures names { AreKnownFirst self.now.world_state }
     {
-        self.board.words.as_slice()
+        self.world_state.words.as_slice()
     }
 
     /// The entries of an actor's ended calls and, from its first event on, those of its running call. An actor that is not there has
     /// none.
     pub fn begun(&self, actor: usize) -> &[Entry]
-        ensures { result.now ≡ begun_of self.now.board actor }
+        ensures { result.now ≡ begun_of self.now.world_state actor }
     {
-        if actor >= self.board.runners.len() {
+        if actor >= self.world_state.actor_runs.len() {
             return &[];
         }
-        let runner = &self.board.runners[actor];
-        &runner.entries[..runner.begun]
+        let actor_run = &self.world_state.actor_runs[actor];
+        &actor_run.entries[..actor_run.begun]
     }
 
     /// The entries of an actor's ended calls, in order. An actor that is not there has none.
     pub fn ended(&self, actor: usize) -> &[Entry]
-        ensures { result.now ≡ ended_of self.now.board actor }
+        ensures { result.now ≡ ended_of self.now.world_state actor }
     {
-        if actor >= self.board.runners.len() {
+        if actor >= self.world_state.actor_runs.len() {
             return &[];
         }
-        let runner = &self.board.runners[actor];
-        &runner.entries[..runner.ended]
+        let actor_run = &self.world_state.actor_runs[actor];
+        &actor_run.entries[..actor_run.ended]
     }
 
     /// An actor begins a call, which asks for a histogram, counts a value or a batch, takes of a histogram or looks at it, or marks the
@@ -123,48 +123,48 @@ impl World {
     /// takes its units with its begin, and gives them back where it is refused later. A `Batch` costs the units of its items, and
     /// no fewer than its sum has times 2^31 in size, rounded up. No word of the segment changes.
     pub fn begin(&mut self, actor: usize, call: &Call) -> Result<Begun, WorldFault>
-        ensures faults { MatchOption (first_fault (begin_checks self.old.board actor call.now)) (IfErr result (λ fault. (fault ≡ WorldFault.NoMemory) × TakesMemory call.now)) (λ fault. result ≡ Err fault) }
-        ensures fault { OnErr result (IsAsBefore self.old.board self.new.board) }
-        ensures words { self.new.board.words.items ≡ self.old.board.words.items }
-        ensures begins { (state : State) → IsReachedAs self.old.board state → BeginsFrom state actor self.new.board }
-        ensures others { OthersStay actor self.old.board self.new.board }
-        ensures says { IfOk result (λ said. BeginSays actor call.now self.old.board self.new.board said) }
+        ensures faults { MatchOption (first_fault (begin_checks self.old.world_state actor call.now)) (IfErr result (λ fault. (fault ≡ WorldFault.NoMemory) × TakesMemory call.now)) (λ fault. result ≡ Err fault) }
+        ensures fault { OnErr result (IsAsBefore self.old.world_state self.new.world_state) }
+        ensures words { self.new.world_state.words.items ≡ self.old.world_state.words.items }
+        ensures begins { (state : State) → IsReachedAs self.old.world_state state → BeginsFrom state actor self.new.world_state }
+        ensures others { OthersStay actor self.old.world_state self.new.world_state }
+        ensures says { IfOk result (λ said. BeginSays actor call.now self.old.world_state self.new.world_state said) }
     {
-        let board = &mut self.board;
-        if actor >= board.runners.len() {
+        let world_state = &mut self.world_state;
+        if actor >= world_state.actor_runs.len() {
             return Err(WorldFault::NoActor);
         }
-        if board.runners[actor].running.is_some() {
+        if world_state.actor_runs[actor].running.is_some() {
             return Err(WorldFault::Busy);
         }
         match call {
-            Call::Hist(name, spec) => Ok(board.begin_hist(actor, name, spec)?),
+            Call::Hist(name, spec) => Ok(world_state.begin_hist(actor, name, spec)?),
             Call::Add(name, value, count) => {
-                let Some(place) = board.place_of(actor, name) else {
+                let Some(place) = world_state.place_of(actor, name) else {
                     return Err(WorldFault::Unknown);
                 };
-                Ok(board.begin_add(actor, place, *value, *count)?)
+                Ok(world_state.begin_add(actor, place, *value, *count)?)
             }
             Call::Snapshot(name) => {
-                let Some(place) = board.place_of(actor, name) else {
+                let Some(place) = world_state.place_of(actor, name) else {
                     return Err(WorldFault::Unknown);
                 };
-                Ok(board.begin_snapshot(actor, place)?)
+                Ok(world_state.begin_snapshot(actor, place)?)
             }
             Call::Delta(name) => {
-                let Some(place) = board.place_of(actor, name) else {
+                let Some(place) = world_state.place_of(actor, name) else {
                     return Err(WorldFault::Unknown);
                 };
-                Ok(board.begin_delta(actor, place)?)
+                Ok(world_state.begin_delta(actor, place)?)
             }
             Call::Batch(name, items, sum) => {
-                let Some(place) = board.place_of(actor, name) else {
+                let Some(place) = world_state.place_of(actor, name) else {
                     return Err(WorldFault::Unknown);
                 };
-                Ok(board.begin_batch(actor, place, items, *sum)?)
+                Ok(world_state.begin_batch(actor, place, items, *sum)?)
             }
             Call::SetCorrupt => {
-                board.begin_set_corrupt(actor);
+                world_state.begin_set_corrupt(actor);
                 Ok(Begun::Going)
             }
         }
@@ -179,27 +179,27 @@ impl World {
     ///
     /// `NoActor` where there is no such actor, then `Idle` where no call of it is going on. It takes no memory.
     pub fn step(&mut self, actor: usize) -> Result<Stepped, WorldFault>
-        ensures faults { MatchOption (first_fault (step_checks self.old.board actor)) (IsOk result) (λ fault. result ≡ Err fault) }
-        ensures fault { OnErr result (self.new.board ≡ self.old.board) }
-        ensures steps { IfOk result (λ said. (state : State) → IsReachedAs self.old.board state → StepsTo self.old.board actor state self.new.board said) }
-        ensures others { OnOk result (OthersStay actor self.old.board self.new.board) }
-        ensures word { OnOk result (∥ ChangesOneWord self.old.board.words.items self.new.board.words.items ∥₁) }
-        ensures says { IfOk result (λ said. Says actor self.old.board self.new.board said) }
+        ensures faults { MatchOption (first_fault (step_checks self.old.world_state actor)) (IsOk result) (λ fault. result ≡ Err fault) }
+        ensures fault { OnErr result (self.new.world_state ≡ self.old.world_state) }
+        ensures steps { IfOk result (λ said. (state : State) → IsReachedAs self.old.world_state state → StepsTo self.old.world_state actor state self.new.world_state said) }
+        ensures others { OnOk result (OthersStay actor self.old.world_state self.new.world_state) }
+        ensures word { OnOk result (∥ ChangesOneWord self.old.world_state.words.items self.new.world_state.words.items ∥₁) }
+        ensures says { IfOk result (λ said. Says actor self.old.world_state self.new.world_state said) }
     {
-        let board = &mut self.board;
-        if actor >= board.runners.len() {
+        let world_state = &mut self.world_state;
+        if actor >= world_state.actor_runs.len() {
             return Err(WorldFault::NoActor);
         }
-        if board.runners[actor].running.is_none() {
+        if world_state.actor_runs[actor].running.is_none() {
             return Err(WorldFault::Idle);
         }
-        Ok(board.step(actor))
+        Ok(world_state.step(actor))
     }
 
     // Makes a move: an actor begins a call, or goes on with it by one event.
     fn make(&mut self, step: &Move) -> Result<(), WorldFault>
-        ensures makes { OnOk result (Makes step.now self.old.board self.new.board) }
-        ensures faults { IfErr result (FaultsAt step.now self.old.board) }
+        ensures makes { OnOk result (Makes step.now self.old.world_state self.new.world_state) }
+        ensures faults { IfErr result (FaultsAt step.now self.old.world_state) }
     {
         match step {
             Move::Begin(actor, call) => {
@@ -215,13 +215,13 @@ impl World {
     /// What an actor's deltas took, in order. A running one stands last from its first event on, so far as it went. The keys of
     /// each ascend, at every moment. An actor that is not there took nothing.
     pub fn taken(&self, actor: usize) -> &[Taken]
-        ensures items { result.now ≡ taken_of self.now.board actor }
+        ensures items { result.now ≡ taken_of self.now.world_state actor }
         ensures ascending { ∥ All (λ taken. AreUnits taken.counts.items) result.now ∥₁ }
     {
-        if actor >= self.board.runners.len() {
+        if actor >= self.world_state.actor_runs.len() {
             return &[];
         }
-        self.board.runners[actor].taken.as_slice()
+        self.world_state.actor_runs[actor].taken.as_slice()
     }
 }
 
@@ -238,7 +238,7 @@ pub fn run_schedule(
     version: u64,
     moves: &[Move],
 ) -> Result<World, WorldFault>
-    ensures world { IfOk result (λ world. LeadsTo size page id actors version moves.now world.board) }
+    ensures world { IfOk result (λ world. LeadsTo size page id actors version moves.now world.world_state) }
     ensures fault { IfErr result (StopsWith size page id actors version moves.now) }
 {
     let mut world = World::new(alloc, size, page, id, actors, version)?;

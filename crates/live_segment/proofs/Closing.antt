@@ -1,2 +1,4 @@
+-- A segment is closed.
+pub mod Copies
 pub mod Joined
 pub mod Stopped

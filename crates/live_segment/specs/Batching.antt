@@ -12,7 +12,7 @@ use Rattle.segment_machine.specs.declared.actor.Actor.{Actor}
 use Rattle.segment_machine.specs.declared.actor.Entries.{Entries}
 use Rattle.segment_machine.specs.declared.actor.Known.{Known}
 use Rattle.segment_machine.specs.declared.actor.Units.{Units}
-use Rattle.segment_machine.specs.declared.entry.Counting.{Counting}
+use Rattle.segment_machine.specs.declared.entry.EntryProgress.{EntryProgress}
 use Rattle.segment_machine.specs.declared.entry.Entry.{Entry}
 use Rattle.segment_machine.specs.Actor.{log_of}
 use Rattle.segment_machine.specs.Counting.{note_next}
@@ -21,8 +21,8 @@ use Rattle.live_segment.specs.Adding.{Pays, LacksBlock}
 use Rattle.segment_promises.specs.Follows.{noted_by}
 use Rattle.segment_promises.specs.Onward.{GoesOn}
 use Rattle.live_segment.specs.Steps.{IsAtRest}
-use Rattle.live_segment.specs.Telling.{entry_notes}
-use Rattle.live_segment.specs.Working.{Proceeds, counted_next}
+use Rattle.live_segment.specs.GhostNotes.{entry_notes}
+use Rattle.live_segment.specs.Working.{FrameOfCall, counted_next}
 
 -- An accepted batch: an entry of amount 0 for each item, and behind them one of no units for the sum, where that is not 0, stand at the
 -- end of the log, and its cost is taken from the share.
@@ -58,13 +58,13 @@ noted_next e = record e { running = note_next e.running }
 
 -- the units of an entry are counted and noted, by a call that goes on
 pub record HasNoted (entry : Entry) (old new : Actor) : Type 0 where
-  pub proceeds : Proceeds old new
+  pub proceeds : FrameOfCall old new
   pub units_are : new.units ≡ (noted_by old (entry_notes old entry)).units
   pub entries_are : new.entries ≡ noted_next (counted_next (noted_by old (entry_notes old entry)).entries)
   pub filled : new.done.filled ≡ old.done.filled
 
 -- the entry of an item that is counted and noted
-abbrev pub ended_item : Known → ℤ × ℕ → Counting
+abbrev pub ended_item : Known → ℤ × ℕ → EntryProgress
 ended_item known item = record { entry = item_entry known.name (boundaries_of known.spec) item; counted = true; summed = false; noted = true }
 
 -- what a call has taken from the share of its recorder, and holds, for these items
@@ -75,7 +75,7 @@ holding name (item ∷ rest) units =
 
 -- These items are counted and noted, in order, by a call that goes on.
 pub record HasItems (known : Known) (items : List (ℤ × ℕ)) (old new : Actor) : Type 0 where
-  pub proceeds : Proceeds old new
+  pub proceeds : FrameOfCall old new
   pub units_are : new.units ≡ holding known.name items old.units
   pub entries_are : new.entries ≡ record old.entries { running = map (ended_item known) items }
   pub filled : new.done.filled ≡ old.done.filled

@@ -24,7 +24,7 @@ use Rattle.live_segment.specs.Looking.{StandsAt}
 use Rattle.segment_promises.specs.Onward.{SeesOn}
 use Rattle.live_segment.specs.Rule.{IsOf}
 use Rattle.live_segment.specs.Steps.{Pass}
-use Rattle.live_segment.specs.Telling.{KnowsAlone}
+use Rattle.live_segment.specs.GhostNotes.{KnowsAlone}
 use Rattle.live_segment.specs.Working.{CountsWithin, LooksAt}
 
 -- ---- what is taken

@@ -3,7 +3,7 @@ use Rattle.std.specs.Prelude.{◌≡◌, Bool, true, false, ◌||◌, ℕ, ◌�
 use Rattle.std.specs.List.{All}
 use Rattle.std.specs.Ordering.{int_eq}
 use Rattle.bucket_ranges.specs.Ranges.{boundaries_of}
-use Rattle.segment_machine.specs.declared.entry.Counting.{Counting}
+use Rattle.segment_machine.specs.declared.entry.EntryProgress.{EntryProgress}
 use Rattle.segment_machine.specs.declared.entry.Entry.{Entry}
 use Rattle.segment_machine.specs.declared.actor.Actor.{Actor}
 use Rattle.segment_machine.specs.declared.actor.Known.{Known}
@@ -11,10 +11,10 @@ use Rattle.segment_machine.specs.declared.place.Place.TheVariants.{Idle}
 use Rattle.segment_machine.specs.Actor.{is_bound, is_opener}
 use Rattle.segment_machine.specs.Entry.{has_ended, item_entry, sample_entry}
 use Rattle.segment_promises.specs.Onward.{Grows}
-use Rattle.live_segment.specs.Telling.{KnowsAlone}
+use Rattle.live_segment.specs.GhostNotes.{KnowsAlone}
 
 -- an entry that is counted and not noted; whether its amount is added to the sum
-abbrev pub counted_entry : Entry → Bool → Counting
+abbrev pub counted_entry : Entry → Bool → EntryProgress
 counted_entry entry summed = record { entry = entry; counted = true; summed = summed; noted = false }
 
 -- units of a value, before their amount is known; and a sample, whose amount is known
@@ -25,7 +25,7 @@ abbrev pub sample_of : Known → ℤ → ℕ → Entry
 sample_of known value units = sample_entry known.name (boundaries_of known.spec) (value, units)
 
 -- The running entries of a recorder have ended but for the last one, which is of units of a value, and these are counted.
-pub record IsCounted (known : Known) (value : ℤ) (units : ℕ) (before : List Counting) (a : Actor) : Type 0 where
+pub record IsCounted (known : Known) (value : ℤ) (units : ℕ) (before : List EntryProgress) (a : Actor) : Type 0 where
   pub recorder : is_opener a.role ≡ false
   pub free : is_bound a.hand.place ≡ false
   pub alone : KnowsAlone a known
@@ -39,7 +39,7 @@ pub record HasSample (known : Known) (value : ℤ) (units : ℕ) (a : Actor) : T
   pub holds : a.units.held ≡ record { name = known.name; units = units } ∷ []
 
 -- The last of the running entries is this one now, and its amount is in the sum; one of 0 is left out. Otherwise it is as it was.
-pub record IsSummed (entry : Entry) (before : List Counting) (old new : Actor) : Type 0 where
+pub record IsSummed (entry : Entry) (before : List EntryProgress) (old new : Actor) : Type 0 where
   pub summed : Bool
   pub left_out : (summed || int_eq entry.amount (pos 0)) ≡ true
   pub view : new ≡ record old {

@@ -8,7 +8,7 @@ pub mod Closing
 pub mod Allocation
 pub mod Adding
 pub mod Batching
-pub mod Telling
+pub mod GhostNotes
 pub mod Working
 pub mod Listing
 pub mod Publishing

@@ -16,7 +16,7 @@ use Rattle.segment_machine.specs.Actor.{AreApart}
 use Rattle.live_segment.specs.declared.rule.Announcement.{Announcement}
 use Rattle.live_segment.specs.declared.rule.Announcement.TheVariants.{Answer, Histogram, Sample, Units}
 use Rattle.live_segment.specs.Steps.{Does, Pass, Sat}
-use Rattle.live_segment.specs.Telling.{TellsOf, MayDoOf, NotedOf}
+use Rattle.live_segment.specs.GhostNotes.{TellsOf, MayDoOf, NotedOf}
 
 -- ---- one of several words
 

@@ -17,7 +17,7 @@ use Rattle.segment_machine.specs.Packing.{CountsIn, IsBlankCounts}
 use Rattle.live_segment.specs.Adding.{HasNoRoom, block_words}
 use Rattle.live_segment.specs.Refusing.{given_up}
 use Rattle.live_segment.specs.Steps.{Does, Sat}
-use Rattle.live_segment.specs.Telling.{KnowsAlone}
+use Rattle.live_segment.specs.GhostNotes.{KnowsAlone}
 use Rattle.live_segment.specs.Working.{CountsWithin, LooksAt, LooksOn}
 
 -- ---- the counts reference

@@ -10,7 +10,7 @@ use Rattle.segment_machine.specs.Actor.{is_bound}
 use Rattle.segment_machine.specs.Event.{walking_event}
 use Rattle.segment_machine.specs.Walking.{load_next, records_met}
 use Rattle.segment_promises.specs.Onward.{Grows, StaysApart}
-use Rattle.segment_promises.specs.Values.{StandOnce}
+use Rattle.segment_promises.specs.Values.{NoRepeats}
 use Rattle.live_segment.specs.Steps.{DoesAt, Sat}
 
 -- no record that it published for a name did it see to have another one
@@ -27,7 +27,7 @@ KnowsOwnSamples a = (histogram : ℕ) (value : ℤ) (at : ℕ) → Contains a.do
 -- a next is loaded, by a recorder that has met no block twice, and no record of its own as another one
 abbrev pub LoadsNext : ℕ → Sat → ℕ → Sat → Type 0
 LoadsNext word me found me' =
-    DoesAt (λ at. walking_event (load_next at)) word me found me' × StandOnce me.0.seen.chain × KnowsOwnNames me.0
+    DoesAt (λ at. walking_event (load_next at)) word me found me' × NoRepeats me.0.seen.chain × KnowsOwnNames me.0
     × KnowsOwnSamples me.0
 
 -- The records of the list are these, in its order, each once and within the segment: first those that the recorder had seen there, and
@@ -37,6 +37,6 @@ pub record HasWalked (old : Actor) (given : List ℕ) (new : Actor) : Type 0 whe
   pub free : is_bound new.hand.place ≡ false
   pub apart : StaysApart old new
   pub chain : Grows old.seen.chain given
-  pub once : StandOnce given
+  pub once : NoRepeats given
   pub within : All (λ at. (HEADER_WORDS ≤ at) × (at + BLOCK_LEAST ≤ old.segment.shape.size)) given
   pub met : All (Contains given) (records_met old)

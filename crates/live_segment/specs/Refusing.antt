@@ -3,7 +3,7 @@ use Rattle.std.specs.Prelude.{◌≡◌, true, false, ◌==◌, ℕ, ◌+◌, �
 use Rattle.std.specs.List.{All, filter}
 use Rattle.segment_image.specs.declared.layout.TheConstants.{FLAG_CORRUPT, FLAG_FULL, HISTOGRAM_COUNTS}
 use Rattle.segment_calls.specs.declared.refusal.Refusal.{Refusal}
-use Rattle.segment_machine.specs.declared.entry.Counting.{Counting}
+use Rattle.segment_machine.specs.declared.entry.EntryProgress.{EntryProgress}
 use Rattle.segment_machine.specs.declared.actor.Actor.{Actor}
 use Rattle.segment_machine.specs.declared.actor.Known.{Known}
 use Rattle.segment_machine.specs.declared.place.Place.TheVariants.{Idle}
@@ -12,21 +12,21 @@ use Rattle.segment_machine.specs.Allocating.{load_flags, set_flag}
 use Rattle.segment_machine.specs.Entry.{has_ended}
 use Rattle.segment_machine.specs.Event.{allocating_event}
 use Rattle.segment_machine.specs.Note.{Note, refused, is_untouched}
-use Rattle.segment_promises.specs.Follows.{noted_by, Told}
+use Rattle.segment_promises.specs.Follows.{noted_by, GhostNoted}
 use Rattle.live_segment.specs.Adding.{HasNoRoom, LacksBlock, block_words}
 use Rattle.live_segment.specs.Finishing.{item_of}
 use Rattle.live_segment.specs.Steps.{Sat}
-use Rattle.live_segment.specs.Telling.{bucket_entry}
+use Rattle.live_segment.specs.GhostNotes.{bucket_entry}
 use Rattle.live_segment.specs.Working.{CannotPack, LooksFor}
 
 -- ---- how it ends
 
 -- how many entries of a call have ended
-abbrev pub how_many_ended : List Counting → ℕ
+abbrev pub how_many_ended : List EntryProgress → ℕ
 how_many_ended running = length (filter has_ended running)
 
 -- a call that has begun ends with the entries that have ended, and takes back the others; one that has not begun notes nothing
-abbrev pub refusing_notes : List Counting → List Note
+abbrev pub refusing_notes : List EntryProgress → List Note
 refusing_notes [] = []
 refusing_notes (c ∷ rest) = refused (how_many_ended (c ∷ rest)) ∷ []
 
@@ -35,7 +35,7 @@ abbrev pub given_up : Actor → Actor
 given_up a = noted_by a (refusing_notes a.entries.running)
 
 -- it may end so: its first entries have ended and added no amount, and nothing has happened of the others
-pub record MayEnd (running : List Counting) : Type 0 where
+pub record MayEnd (running : List EntryProgress) : Type 0 where
   pub ended : All (λ c. has_ended c ≡ true) (take (how_many_ended running) running)
   pub unsummed : All (λ c. c.summed ≡ false) (take (how_many_ended running) running)
   pub untouched : All (λ c. is_untouched c ≡ true) (drop (how_many_ended running) running)
@@ -46,15 +46,15 @@ MayGiveUp a = MayEnd a.entries.running
 -- ---- the steps that refuse
 
 -- flags with the corrupt one refuse
-abbrev pub flags_notes : List Counting → ℕ → List Note
+abbrev pub flags_notes : List EntryProgress → ℕ → List Note
 flags_notes running found = if bit_and found FLAG_CORRUPT == 0 then [] else refusing_notes running
 
 abbrev pub LoadsFlags : Sat → ℕ → Sat → Type 0
-LoadsFlags me found me' = Told [] (allocating_event load_flags) (flags_notes me.0.entries.running) me found me'
+LoadsFlags me found me' = GhostNoted [] (allocating_event load_flags) (flags_notes me.0.entries.running) me found me'
 
 -- the full flag is set, and refuses
 abbrev pub SetsFull : Sat → ℕ → Sat → Type 0
-SetsFull me found me' = Told [] (allocating_event (set_flag FLAG_FULL)) (λ found. refusing_notes me.0.entries.running) me found me'
+SetsFull me found me' = GhostNoted [] (allocating_event (set_flag FLAG_FULL)) (λ found. refusing_notes me.0.entries.running) me found me'
 
 -- ---- a call that is turned away
 

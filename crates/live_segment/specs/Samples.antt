@@ -10,7 +10,7 @@ use Rattle.segment_machine.specs.Made.{SawSample, SawOther}
 use Rattle.segment_machine.specs.Actor.{SawCount, is_bound}
 use Rattle.segment_machine.specs.Taking.{IsLaterSample, is_looking, load_count, load_sum}
 use Rattle.segment_promises.specs.Onward.{Grows}
-use Rattle.segment_promises.specs.Values.{StandOnce}
+use Rattle.segment_promises.specs.Values.{NoRepeats}
 use Rattle.live_segment.specs.Steps.{DoesAt, Sat}
 
 -- it saw that a record is a sample of this value of a histogram, and lies within the segment; or that it is a sample of no value of it
@@ -40,7 +40,7 @@ LoadsCountOfSample word me found me' = DoesAt (λ at. taking_event (load_count a
 -- The sum of a histogram is loaded: of what its recorder met, each sample stands behind the record of its histogram, and no block twice.
 abbrev pub LoadsSum : ℕ → Sat → ℕ → Sat → Type 0
 LoadsSum word me found me' = DoesAt (λ histogram. taking_event (load_sum histogram)) word me found me' × SamplesStandBehind me.0
-    × StandOnce me.0.seen.chain
+    × NoRepeats me.0.seen.chain
 
 -- It has seen more words of published records and more counts, and looks at no histogram with buckets; otherwise it is as it was.
 pub record SeesSample (old new : Actor) : Type 0 where

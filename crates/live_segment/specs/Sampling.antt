@@ -14,7 +14,7 @@ use Rattle.live_segment.specs.declared.sampling.SampleSearch.{SampleSearch}
 use Rattle.live_segment.specs.declared.sampling.SampleSearch.TheVariants.{Met, End}
 use Rattle.live_segment.specs.Adding.{HasNoRoom}
 use Rattle.live_segment.specs.Refusing.{given_up}
-use Rattle.live_segment.specs.Walks.{IsOnWay}
+use Rattle.live_segment.specs.Walks.{IsWalkProgress}
 use Rattle.live_segment.specs.Working.{LooksOn}
 
 -- ---- one that is found
@@ -28,7 +28,7 @@ ShowsValue histogram value at false a = SawOther a.seen histogram value at
 pub record WalksBehind (histogram : ℕ) (value : ℤ) (at : ℕ) (a : Actor) : Type 0 where
   pub front : List ℕ
   pub given : List ℕ
-  pub way : IsOnWay (front ++ histogram ∷ given) at a
+  pub way : IsWalkProgress (front ++ histogram ∷ given) at a
   pub others : All (SawOther a.seen histogram value) given
 
 -- it saw that no record behind the histogram's is a sample of the value, up to the end of the list

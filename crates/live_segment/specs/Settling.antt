@@ -72,6 +72,6 @@ pub record IsKnownAs (asked : Asked) (known : KnownHistogram) : Type 0 where
   pub ranges : known.ranges ≡ asked.ranges
 
 -- and has what it knows then
-abbrev pub IsToldOf : Asked → Actor → Result KnownHistogram Refusal → Actor → Type 0
-IsToldOf asked old (Ok known) new = IsKnownAs asked known × Settles asked old (Ok known.reference) new
-IsToldOf asked old (Err why) new = Settles asked old (Err why) new
+abbrev pub IsAnnouncedOf : Asked → Actor → Result KnownHistogram Refusal → Actor → Type 0
+IsAnnouncedOf asked old (Ok known) new = IsKnownAs asked known × Settles asked old (Ok known.reference) new
+IsAnnouncedOf asked old (Err why) new = Settles asked old (Err why) new

@@ -11,7 +11,7 @@ use Rattle.segment_machine.specs.Actor.{is_bound, is_opener, outstanding_of}
 use Rattle.segment_machine.specs.Event.{Event, spot, next, Learned}
 use Rattle.segment_machine.specs.Seats.{offering}
 use Rattle.segment_machine.specs.Taking.{is_looking}
-use Rattle.segment_promises.specs.Follows.{Told}
+use Rattle.segment_promises.specs.Follows.{GhostNoted}
 use Rattle.live_segment.specs.declared.rule.Announcement.{Announcement}
 use Rattle.live_segment.specs.declared.rule.Announcement.TheVariants.{Units}
 
@@ -31,7 +31,7 @@ IsSame old new = (new.table_id ≡ old.table_id) × (new.id ≡ old.id) × (new.
 
 -- an event has happened, and its actor has learned of the number that was found
 abbrev pub Does : Event → Sat → ℕ → Sat → Type 0
-Does event me found me' = Told [] event (λ found. []) me found me'
+Does event me found me' = GhostNoted [] event (λ found. []) me found me'
 
 -- the same, where the step's word says where the event happens
 abbrev pub DoesAt : (ℕ → Event) → ℕ → Sat → ℕ → Sat → Type 0

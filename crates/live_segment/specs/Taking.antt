@@ -15,7 +15,7 @@ use Rattle.segment_machine.specs.Note.{takes, has_taken, looks, answers, noted, 
 use Rattle.live_segment.specs.declared.rule.Announcement.{Announcement}
 use Rattle.live_segment.specs.declared.rule.Announcement.TheVariants.{Answer}
 use Rattle.live_segment.specs.Steps.{IsSame, Pass, Sat}
-use Rattle.live_segment.specs.Telling.{KnowsAlone, TellsOf, MayDoOf, NotedOf}
+use Rattle.live_segment.specs.GhostNotes.{KnowsAlone, TellsOf, MayDoOf, NotedOf}
 
 -- ---- a delta begins
 

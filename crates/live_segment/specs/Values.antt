@@ -19,7 +19,7 @@ use Rattle.segment_promises.specs.Values.{ComesTo, Passes, ListsValues, ListsOf,
 use Rattle.live_segment.specs.Rule.{IsOf}
 use Rattle.live_segment.specs.Snapshots.{blank_totals}
 use Rattle.live_segment.specs.Steps.{IsSame, Pass}
-use Rattle.live_segment.specs.Telling.{KnowsAlone}
+use Rattle.live_segment.specs.GhostNotes.{KnowsAlone}
 
 -- ---- along the list
 

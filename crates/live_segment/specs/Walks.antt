@@ -24,7 +24,7 @@ pub record WalksOn (size : ℕ) (old : Actor) (from : WalkPlace) (records : List
   pub given : to.given ≡ length list
 
 -- A walk has given the front of the chain that its recorder has seen, and stands at the last of these records, or at the queue block.
-pub record IsOnWay (given : List ℕ) (at : ℕ) (a : Actor) : Type 0 where
+pub record IsWalkProgress (given : List ℕ) (at : ℕ) (a : Actor) : Type 0 where
   pub free : MayTurn a
   pub front : IsPrefix given a.seen.chain
   pub stands : at ≡ stands_behind given

@@ -6,7 +6,7 @@ use Rattle.bucket_ranges.specs.Spec.{buckets_of}
 use Rattle.segment_machine.specs.declared.actor.Actor.{Actor}
 use Rattle.segment_machine.specs.declared.actor.Known.{Known}
 use Rattle.segment_machine.specs.declared.actor.Entries.{Entries}
-use Rattle.segment_machine.specs.declared.entry.Counting.{Counting}
+use Rattle.segment_machine.specs.declared.entry.EntryProgress.{EntryProgress}
 use Rattle.segment_machine.specs.declared.entry.Entry.{Entry}
 use Rattle.segment_machine.specs.declared.place.Place.TheVariants.{Looking}
 use Rattle.segment_machine.specs.Actor.{has_buckets, is_bound, is_opener}
@@ -14,13 +14,13 @@ use Rattle.segment_machine.specs.Calls.{count_next}
 use Rattle.segment_machine.specs.Entry.{AreWithin, fresh, has_ended}
 use Rattle.segment_machine.specs.Form.{is_off, IsPacking}
 use Rattle.segment_promises.specs.Follows.{noted_by}
-use Rattle.live_segment.specs.declared.counting.Packing.{Packing}
-use Rattle.live_segment.specs.declared.counting.Packing.TheVariants.{Packed, Off, Passed}
+use Rattle.live_segment.specs.declared.bucket_counting.PackAttempt.{PackAttempt}
+use Rattle.live_segment.specs.declared.bucket_counting.PackAttempt.TheVariants.{Packed, Off, Passed}
 use Rattle.segment_promises.specs.Onward.{DoesOn, SeesOn}
-use Rattle.live_segment.specs.Telling.{KnowsAlone, bucket_entry, entry_notes}
+use Rattle.live_segment.specs.GhostNotes.{KnowsAlone, bucket_entry, entry_notes}
 
 -- A call of a recorder goes on: what only an ended call changes is as it was, and it has seen and done no less.
-pub record Proceeds (old new : Actor) : Type 0 where
+pub record FrameOfCall (old new : Actor) : Type 0 where
   pub same : new ≡ record old { units = new.units; entries = new.entries; hand = new.hand; done = new.done; seen = new.seen }
   pub free : is_bound new.hand.place ≡ false
   pub done : DoesOn old.done new.done
@@ -28,7 +28,7 @@ pub record Proceeds (old new : Actor) : Type 0 where
 
 -- it has looked, and may have claimed a block or set the full flag: its units and entries are as they were
 pub record LooksOn (old new : Actor) : Type 0 where
-  pub proceeds : Proceeds old new
+  pub proceeds : FrameOfCall old new
   pub units : new.units ≡ old.units
   pub entries : new.entries ≡ old.entries
 
@@ -37,7 +37,7 @@ abbrev pub HasNotBegun : Actor → ℕ → Type 0
 HasNotBegun a units = (a.entries.running ≡ []) × (a.units.held ≡ []) × (units ≤ a.units.share)
 
 -- entries have ended that had no amounts to add, or whose amounts are left out
-pub record HaveEnded (entries : List Counting) : Type 0 where
+pub record HaveEnded (entries : List EntryProgress) : Type 0 where
   pub ended : All (λ c. has_ended c ≡ true) entries
   pub unsummed : All (λ c. c.summed ≡ false) entries
 
@@ -52,7 +52,7 @@ pub record MayGoOn (a : Actor) (entry : Entry) : Type 0 where
 
 -- this entry runs, alone or behind some that have ended, and nothing has happened of it
 pub record Waits (a : Actor) (entry : Entry) : Type 0 where
-  pub before : List Counting
+  pub before : List EntryProgress
   pub ended : HaveEnded before
   pub runs : a.entries.running ≡ before ++ fresh entry ∷ []
 
@@ -82,7 +82,7 @@ HasBegun entry old new = let begun = noted_by old (entry_notes old entry) in (ne
 
 -- It has looked, and may have begun meanwhile: an exchange that comes too late has begun the call none the less.
 pub record LooksFor (entry : Entry) (old new : Actor) : Type 0 where
-  pub proceeds : Proceeds old new
+  pub proceeds : FrameOfCall old new
   pub begun : ((new.units ≡ old.units) × (new.entries ≡ old.entries)) ⊎ HasBegun entry old new
 
 -- it looks at a histogram: the single word that it loaded, where that stands, and the counts
@@ -99,7 +99,7 @@ counted_next e = record e { running = count_next e.running }
 
 -- the units of an entry were counted, by a call that began with it or went on
 pub record HasCounted (entry : Entry) (old new : Actor) : Type 0 where
-  pub proceeds : Proceeds old new
+  pub proceeds : FrameOfCall old new
   pub units_are : new.units ≡ (noted_by old (entry_notes old entry)).units
   pub entries_are : new.entries ≡ counted_next (noted_by old (entry_notes old entry)).entries
   pub filled : new.done.filled ≡ old.done.filled
@@ -111,7 +111,7 @@ CannotPack known bucket units old new =
     × (is_off word ≡ false) × ((packed : ℕ) → ¬ (IsPacking bucket units word packed))
 
 -- How an attempt to pack units ended. They are packed; or they are not counted, and the single word that it loaded last is off or cannot take them.
-abbrev pub Tries : Known → ℕ → ℕ → Actor → Packing → Actor → Type 0
+abbrev pub Tries : Known → ℕ → ℕ → Actor → PackAttempt → Actor → Type 0
 Tries known bucket units old Packed new = HasCounted (bucket_entry known bucket units) old new
 Tries known bucket units old Off new =
     LooksFor (bucket_entry known bucket units) old new × (new.done ≡ old.done) × (new.seen.counts ≡ old.seen.counts)

@@ -9,9 +9,9 @@
 mod adding;
 mod allocation;
 mod batching;
+mod bucket_counting;
 mod comparing;
 mod costs;
-mod counting;
 mod deltas;
 mod fault;
 mod finding;

@@ -8,7 +8,7 @@ ghost use Rattle.live_segment.specs.Finding.{Meets, SeesWords};
 ghost use Rattle.live_segment.specs.Known.{known_view};
 ghost use Rattle.live_segment.specs.Rule.{IsOf};
 ghost use Rattle.live_segment.specs.Samples.{CountsSample, SamplesAreFew, SeesSample, ShowsSample};
-ghost use Rattle.live_segment.specs.Telling.{KnowsAlone};
+ghost use Rattle.live_segment.specs.GhostNotes.{KnowsAlone};
 ghost use Rattle.segment_promises.specs.Values.{AreSorted};
 
 use crate::recorder::KnownHistogram;

@@ -6,7 +6,7 @@ ghost use Rattle.segment_machine.specs.Calls.{MayTurn};
 ghost use Rattle.live_segment.specs.Rule.{IsOf};
 ghost use Rattle.live_segment.specs.Finding.{IsAsked};
 ghost use Rattle.live_segment.specs.Making.{SaysAsked};
-ghost use Rattle.live_segment.specs.Settling.{IsToldOf, LooksUp, Settles};
+ghost use Rattle.live_segment.specs.Settling.{IsAnnouncedOf, LooksUp, Settles};
 
 use crate::finding::Search;
 use crate::recorder::KnownHistogram;
@@ -86,7 +86,7 @@ impl Segment {
         requires rests { MayTurn seat.old.me.0 × (seat.old.me.0.entries.running ≡ []) × (seat.old.me.0.answers.owed ≡ []) }
         requires asked { IsAsked self.now.setting.shape asked }
         ensures same { IsSame seat.old seat.new }
-        ensures outcome { IsToldOf asked seat.old.me.0 result seat.new.me.0 }
+        ensures outcome { IsAnnouncedOf asked seat.old.me.0 result seat.new.me.0 }
     {
         let said = Announcement::Histogram(asked);
         let Announcement::Histogram(asked) = &said else {

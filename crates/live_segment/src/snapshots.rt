@@ -59,7 +59,7 @@ impl Segment {
     ghost use Rattle.std.specs.Prelude.{◌+◌, ◌-◌, ◌/◌, List, [], map, true, false, vec_capacity};
     ghost use Rattle.segment_image.specs.declared.layout.TheConstants.{QUEUE};
     ghost use Rattle.bucket_ranges.specs.declared.spec.Spec.TheVariants.{Sparse};
-    ghost use Rattle.segment_promises.specs.Values.{StandOnce, ComesTo};
+    ghost use Rattle.segment_promises.specs.Values.{NoRepeats, ComesTo};
     ghost use Rattle.live_segment.specs.Samples.{SamplesStandBehind};
     ghost use Rattle.segment_machine.specs.declared.actor.Actor.{Actor};
     ghost use Rattle.live_segment.specs.declared.rule.Setting.{Setting};
@@ -76,7 +76,7 @@ impl Segment {
     ghost use Rattle.live_segment.specs.Steps.{IsAtRest, IsSame};
     ghost use Rattle.live_segment.specs.Snapshots.{HasSeenBuckets, HasSnapshot, saw_sum};
     ghost use Rattle.live_segment.specs.Taking.{answered_as};
-    ghost use Rattle.live_segment.specs.Telling.{KnowsAlone};
+    ghost use Rattle.live_segment.specs.GhostNotes.{KnowsAlone};
 
     // The units of all buckets of a histogram stand beside their keys.
     fn look_at_buckets(
@@ -111,7 +111,7 @@ impl Segment {
         ensures same { IsSame seat.old seat.new }
         ensures view { seat.new.me.0 ≡ saw_sum seat.old.me.0 histogram result.0 result.1 }
         ensures behind { SamplesStandBehind seat.old.me.0 }
-        ensures once { StandOnce seat.old.me.0.seen.chain }
+        ensures once { NoRepeats seat.old.me.0.seen.chain }
     {
         let sum = self.load_sum(seat, histogram).cast_signed();
         let redundant = self.load_redundant(seat, histogram);

@@ -20,7 +20,7 @@ use Rattle.live_segment.specs.Adding.{AnswersSample}
 use Rattle.live_segment.specs.Hist.{IsAnsweredWith, IsNamed, KnowsOn}
 use Rattle.live_segment.specs.Holders.{IsSameRecorder, Means, view_of_recorder}
 use Rattle.segment_promises.specs.Onward.{Grows}
-use Rattle.live_segment.proofs.Callers.{knows_on, knows_same, same_names}
+use Rattle.live_segment.proofs.Seating.Callers.{knows_on, knows_same, same_names}
 use Rattle.persist_report_core.specs.declared.script.CallKind.TheVariants as kind
 use Rattle.persist_report_core.specs.declared.script.ScriptHist.{ScriptHist}
 use Rattle.persist_report_core.specs.Script.{HistRecord, hist_view}

@@ -8,7 +8,7 @@ use Rattle.atomic_table.specs.Seated.{TableId}
 use Rattle.bucket_ranges.specs.Spec.{SameSpec}
 use Rattle.segment_machine.specs.declared.actor.Actor.{Actor}
 use Rattle.segment_machine.specs.declared.actor.Known.{Known}
-use Rattle.segment_machine.specs.declared.entry.Counting.{Counting}
+use Rattle.segment_machine.specs.declared.entry.EntryProgress.{EntryProgress}
 use Rattle.segment_machine.specs.declared.entry.Entry.{Entry}
 use Rattle.segment_machine.specs.Actor.{log_of, outstanding_of}
 use Rattle.segment_machine.specs.Seats.{joined}
@@ -128,8 +128,8 @@ is_image_of_run script workers setting opened ran words some shape version id op
     let all : List Entry = entries_of_all script workers in
     let log : log_of ran ≡ all = went.logged in
     let none : ran.entries.first ≡ [] = went.first in
-    let counted : map (λ (c : Counting). c.entry) ran.entries.log ≡ all =
-    sym (ap (λ (l : List Entry). l ++ map (λ (c : Counting). c.entry) ran.entries.log) none) ∙ log in
+    let counted : map (λ (c : EntryProgress). c.entry) ran.entries.log ≡ all =
+    sym (ap (λ (l : List Entry). l ++ map (λ (c : EntryProgress). c.entry) ran.entries.log) none) ∙ log in
     let asked : All (IsAskedIn script.hists) ran.answers.names = went.names (λ k d below. absurd (omega (arith, below))) in
     let knows : All (KnowsOf ran) script.hists = runs.knows opens.knows in record {
       header = image.header;

@@ -7,7 +7,7 @@ use Rattle.bucket_ranges.specs.Spec.{SameSpec}
 use Rattle.bucket_ranges.specs.declared.spec.Spec.{Spec}
 use Rattle.segment_machine.specs.declared.actor.Actor.{Actor}
 use Rattle.segment_machine.specs.declared.actor.Known.{Known}
-use Rattle.segment_machine.specs.declared.entry.Counting.{Counting}
+use Rattle.segment_machine.specs.declared.entry.EntryProgress.{EntryProgress}
 use Rattle.segment_machine.specs.declared.entry.Entry.{Entry}
 use Rattle.segment_machine.specs.Actor.{log_of, outstanding_of}
 use Rattle.segment_machine.specs.Entry.{sample_entry}
@@ -44,7 +44,7 @@ went_twice hists xs ys a b c one two = record {
 pub went_handing : (hists : List HistRecord) (n : ℕ) (old new : Actor) → HandsOut n old new → WentOn hists [] old new
 went_handing hists n old new hands = record {
   first = ap (λ e. e.first) hands.entries;
-  logged = ap (λ e. e.first ++ map (λ (c : Counting). c.entry) e.log) hands.entries ∙ sym (append-nil (log_of old));
+  logged = ap (λ e. e.first ++ map (λ (c : EntryProgress). c.entry) e.log) hands.entries ∙ sym (append-nil (log_of old));
   names = subst (λ a. All (IsAskedIn hists) old.answers.names → All (IsAskedIn hists) a.names) (sym hands.answers) (λ all. all);
   spoiled = ap (λ d. d.spoiled) hands.done;
 }
@@ -65,7 +65,7 @@ went_asking hists hist histogram old new has (inr comes_to) =
     let mine : IsAskedIn hists (record { name = asked.name.items; spec = asked.spec; reference = reference }) =
     (hist, has, is_asked.named, subst (λ (s : Spec). SameSpec s hist.spec) (sym is_asked.specified) (refl, refl)) in record {
       first = ap (λ e. e.first) entries;
-      logged = ap (λ e. e.first ++ map (λ (c : Counting). c.entry) e.log) entries ∙ sym (append-nil (log_of old));
+      logged = ap (λ e. e.first ++ map (λ (c : EntryProgress). c.entry) e.log) entries ∙ sym (append-nil (log_of old));
       names = λ all. subst (All (IsAskedIn hists)) (sym names)
           (All-append (IsAskedIn hists) old.answers.names (record { name = asked.name.items; spec = asked.spec; reference = reference } ∷ []) all
           (All-cons (IsAskedIn hists) (record { name = asked.name.items; spec = asked.spec; reference = reference }) [] mine (λ k d below. absurd (omega (arith, below)))));
@@ -104,13 +104,13 @@ unspoiled false c none = none
 pub went_joining : (hists : List HistRecord) (entries : List Entry) (opener fresh recorder : Actor) → IsFresh fresh → WentOn hists entries fresh recorder
     → WentOn hists entries opener (joined opener recorder)
 went_joining hists entries opener fresh recorder is went =
-    let entries_of : List Counting → List Entry = map (λ (c : Counting). c.entry) in
+    let entries_of : List EntryProgress → List Entry = map (λ (c : EntryProgress). c.entry) in
     let none : recorder.entries.first ≡ [] = went.first ∙ is.first in
     let begun : log_of fresh ≡ [] = λ i. is.first i ++ entries_of (is.log i) in
     let its : entries_of recorder.entries.log ≡ entries =
     sym (ap (λ (l : List Entry). l ++ entries_of recorder.entries.log) none) ∙ (went.logged ∙ ap (λ (l : List Entry). l ++ entries) begun) in record {
       first = refl;
-      logged = ap (λ (l : List Entry). opener.entries.first ++ l) (map-append (λ (c : Counting). c.entry) opener.entries.log recorder.entries.log)
+      logged = ap (λ (l : List Entry). opener.entries.first ++ l) (map-append (λ (c : EntryProgress). c.entry) opener.entries.log recorder.entries.log)
           ∙ (sym (append_assoc opener.entries.first (entries_of opener.entries.log) (entries_of recorder.entries.log))
           ∙ ap (λ (l : List Entry). (opener.entries.first ++ entries_of opener.entries.log) ++ l) its);
       names = λ all. All-append (IsAskedIn hists) opener.answers.names recorder.answers.names all

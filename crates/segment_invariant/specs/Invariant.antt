@@ -17,7 +17,7 @@ use Rattle.bucket_ranges.specs.Single.{single_of, packed_bucket, is_packed_bucke
 use Rattle.list_core.specs.Chain.{stops, IsLinked}
 use Rattle.list_core.specs.Laws.{IsStop, AreNeighbours}
 use Rattle.segment_machine.specs.declared.entry.Entry.{Entry}
-use Rattle.segment_machine.specs.declared.entry.Counting.{Counting}
+use Rattle.segment_machine.specs.declared.entry.EntryProgress.{EntryProgress}
 use Rattle.segment_machine.specs.declared.place.Look.{Look}
 use Rattle.segment_machine.specs.declared.place.Place.{Place}
 use Rattle.segment_machine.specs.declared.place.Place.TheVariants.{Spent, Idle, FlagsLoaded, FreeLoaded, Raised, Sized, Marked, TailLoaded, Beaten, Linked, Looking, Losing, Moving, CountLoaded, SampleLoaded, SumLoaded, CursorLoaded, BehindCursor}
@@ -246,8 +246,8 @@ pub record HoldsOwn (shape : Dimensions) (pieces : List Piece) (id : ℕ) (own :
 
 -- the entries of a running call: those before the one that goes on have ended, nothing has happened of those behind it, and of
 -- that one the units are counted before the amount is added, and this before the units are noted; what was added is not 0
-pub record AreInOrder (running : List Counting) : Type 0 where
-  pub one_by_one : (i j : ℕ) (x y : Counting) → i < j → get_elem? running i ≡ some x → get_elem? running j ≡ some y
+pub record AreInOrder (running : List EntryProgress) : Type 0 where
+  pub one_by_one : (i j : ℕ) (x y : EntryProgress) → i < j → get_elem? running i ≡ some x → get_elem? running j ≡ some y
       → (has_ended x ≡ true) ⊎ (is_untouched y ≡ true)
   pub counted_first : All (λ c. c.summed ≡ true → is_counted c ≡ true) running
   pub summed_next : All (λ c. c.noted ≡ true → is_summed c ≡ true) running

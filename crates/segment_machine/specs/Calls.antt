@@ -4,7 +4,7 @@ use Rattle.std.specs.List.{filter, Contains}
 use Rattle.bucket_ranges.specs.Spec.{buckets_of}
 use Rattle.segment_image.specs.declared.layout.TheConstants.{BLOCK_HEADER, HISTOGRAM_COUNTS, HISTOGRAM_SINGLE}
 use Rattle.bucket_ranges.specs.Single.{single_of}
-use Rattle.segment_machine.specs.declared.entry.Counting.{Counting}
+use Rattle.segment_machine.specs.declared.entry.EntryProgress.{EntryProgress}
 use Rattle.segment_machine.specs.declared.place.Look.{Look}
 use Rattle.segment_machine.specs.declared.place.Place.{Place}
 use Rattle.segment_machine.specs.declared.place.Place.TheVariants.{Looking, Losing, Moving, CountLoaded, Idle}
@@ -36,10 +36,10 @@ change_last change (x ∷ y ∷ rest) = x ∷ change_last change (y ∷ rest)
 
 -- the running entry that is next, which is the first that has not ended: its units are counted, its amount is added, its units
 -- are noted
-abbrev pub change_next : (Counting → Counting) → List Counting → List Counting
+abbrev pub change_next : (EntryProgress → EntryProgress) → List EntryProgress → List EntryProgress
 change_next change list = change_first (λ c. not (has_ended c)) change list
 
-abbrev pub count_next : List Counting → List Counting
+abbrev pub count_next : List EntryProgress → List EntryProgress
 count_next list = change_next (λ c. record c { counted = true }) list
 
 -- ---- blocks of its own
@@ -95,11 +95,11 @@ abbrev pub MayTurn : Actor → Type 0
 MayTurn a = is_bound a.hand.place ≡ false
 
 -- the running entry that is next: the first that has not ended. So of a batch each item ends before the next one begins
-abbrev pub IsNext : Actor → Counting → Type 0
-IsNext a c = (rest : List Counting) × (filter (λ c. not (has_ended c)) a.entries.running ≡ c ∷ rest)
+abbrev pub IsNext : Actor → EntryProgress → Type 0
+IsNext a c = (rest : List EntryProgress) × (filter (λ c. not (has_ended c)) a.entries.running ≡ c ∷ rest)
 
 -- its units are counted next, its amount is added next, its units are noted next
-abbrev pub CountsNext : Actor → Counting → Type 0
+abbrev pub CountsNext : Actor → EntryProgress → Type 0
 CountsNext a c = IsNext a c × (is_counted c ≡ false)
 
 -- a block of its own whose next is not stored yet

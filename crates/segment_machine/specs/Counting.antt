@@ -1,9 +1,9 @@
--- Counting: the counts reference of a histogram, a count that stands at a word, the sum, and the redundant count.
+-- EntryProgress: the counts reference of a histogram, a count that stands at a word, the sum, and the redundant count.
 -- An event is read here in one place: what it acts on, when it is ready, what becomes of its actor, and what this learns.
 use Rattle.std.specs.Prelude.{◌≡◌, ◌⊎◌, true, false, ℕ, ◌+◌, ℤ, List, ◌++◌, ⊤}
 use Rattle.std.specs.List.{Contains}
 use Rattle.segment_image.specs.declared.layout.TheConstants.{BLOCK_HEADER, HISTOGRAM_COUNTS, SAMPLE_COUNT, HISTOGRAM_REDUNDANT, HISTOGRAM_SUM}
-use Rattle.segment_machine.specs.declared.entry.Counting.{Counting}
+use Rattle.segment_machine.specs.declared.entry.EntryProgress.{EntryProgress}
 use Rattle.segment_machine.specs.declared.place.Look.{Look}
 use Rattle.segment_machine.specs.declared.place.Place.TheVariants.{Looking, Idle}
 use Rattle.segment_machine.specs.declared.actor.Actor.{Actor}
@@ -32,17 +32,17 @@ operation size version (add_redundant histogram units) = add (histogram + HISTOG
 
 -- ---- when they are ready
 
-abbrev pub SumsNext : Actor → Counting → Type 0
+abbrev pub SumsNext : Actor → EntryProgress → Type 0
 SumsNext a c = IsNext a c × (is_counted c ≡ true) × (is_summed c ≡ false)
 
-abbrev pub NotesNext : Actor → Counting → Type 0
+abbrev pub NotesNext : Actor → EntryProgress → Type 0
 NotesNext a c = IsNext a c × (is_counted c ≡ true) × (is_summed c ≡ true)
 
 -- the units of the entry that is next are added to a count: of its bucket, where the single word is off, or of the first
 -- sample of its value
 abbrev pub MayCount : Actor → ℕ → ℕ → Type 0
 MayCount a at units =
-    (c : Counting) × (known : Known) × CountsNext a c × (c.entry.name ≡ known.name) × (c.entry.units ≡ units)
+    (c : EntryProgress) × (known : Known) × CountsNext a c × (c.entry.name ≡ known.name) × (c.entry.units ≡ units)
     × (((look : Look) × (bucket : ℕ) × LooksOff a look known × IsKeyOfBucket known bucket c.entry.key
     × (at ≡ look.counts + BLOCK_HEADER + bucket))
     ⊎ ((sample : ℕ) × MayTurn a × Sparse a known.reference known × IsFirstSample a.seen known.reference c.entry.key sample × (at ≡ sample + SAMPLE_COUNT)))
@@ -51,18 +51,18 @@ abbrev pub Ready : Actor → CountingEvent → Type 0
 Ready a (load_counts histogram) = MayTurn a × ((known : Known) × Buckets a histogram known)
 Ready a (add_count at units) = MayCount a at units
 Ready a (add_sum histogram amount) =
-    MayTurn a × (c : Counting) × (known : Known) × SumsNext a c × (c.entry.amount ≡ amount)
+    MayTurn a × (c : EntryProgress) × (known : Known) × SumsNext a c × (c.entry.amount ≡ amount)
     × Contains a.answers.names known × (known.reference ≡ histogram) × (known.name ≡ c.entry.name)
 Ready a (add_redundant histogram units) =
-    MayTurn a × (c : Counting) × (known : Known) × NotesNext a c × (c.entry.units ≡ units)
+    MayTurn a × (c : EntryProgress) × (known : Known) × NotesNext a c × (c.entry.units ≡ units)
     × Contains a.answers.names known × (known.reference ≡ histogram) × (known.name ≡ c.entry.name)
 
 -- ---- what becomes of the actor
 
-abbrev pub sum_next : List Counting → List Counting
+abbrev pub sum_next : List EntryProgress → List EntryProgress
 sum_next list = change_next (λ c. record c { summed = true }) list
 
-abbrev pub note_next : List Counting → List Counting
+abbrev pub note_next : List EntryProgress → List EntryProgress
 note_next list = change_next (λ c. record c { noted = true }) list
 
 abbrev pub next : Actor → CountingEvent → ℕ → Actor

@@ -6,7 +6,7 @@ use Rattle.std.specs.Ordering.{int_eq}
 use Rattle.bucket_ranges.specs.Ranges.{clamped}
 use Rattle.bucket_ranges.specs.Tally.{amount_of, units_of}
 use Rattle.segment_machine.specs.declared.entry.Entry.{Entry}
-use Rattle.segment_machine.specs.declared.entry.Counting.{Counting}
+use Rattle.segment_machine.specs.declared.entry.EntryProgress.{EntryProgress}
 
 -- ---- what a call counts
 
@@ -47,31 +47,31 @@ batch_cost items sum = max (units_of items) ((unsigned_abs sum + 2147483647) / 2
 -- ---- its three events
 
 -- an event of an entry that is left out, since its number is 0, counts as happened
-abbrev pub is_counted : Counting → Bool
+abbrev pub is_counted : EntryProgress → Bool
 is_counted c = c.counted || (c.entry.units == 0)
 
-abbrev pub is_summed : Counting → Bool
+abbrev pub is_summed : EntryProgress → Bool
 is_summed c = c.summed || int_eq c.entry.amount (pos 0)
 
-abbrev pub is_noted : Counting → Bool
+abbrev pub is_noted : EntryProgress → Bool
 is_noted c = c.noted || (c.entry.units == 0)
 
 -- all three have happened
-abbrev pub has_ended : Counting → Bool
+abbrev pub has_ended : EntryProgress → Bool
 has_ended c = is_counted c && is_summed c && is_noted c
 
 -- an entry of which nothing has happened
-abbrev pub fresh : Entry → Counting
+abbrev pub fresh : Entry → EntryProgress
 fresh entry = record { entry = entry; counted = false; summed = false; noted = false }
 
 -- the entries that are counted, those whose amounts are in the sum, and those whose units are in the redundant count
-abbrev pub counted_among : List Counting → List Entry
+abbrev pub counted_among : List EntryProgress → List Entry
 counted_among list = map (λ c. c.entry) (filter is_counted list)
 
-abbrev pub summed_among : List Counting → List Entry
+abbrev pub summed_among : List EntryProgress → List Entry
 summed_among list = map (λ c. c.entry) (filter is_summed list)
 
-abbrev pub noted_among : List Counting → List Entry
+abbrev pub noted_among : List EntryProgress → List Entry
 noted_among list = map (λ c. c.entry) (filter is_noted list)
 
 -- ---- what entries add up to

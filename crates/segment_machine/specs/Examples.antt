@@ -4,7 +4,7 @@ use Rattle.std.specs.Prelude.{not, ◌≡◌, true, ℕ, ◌+◌, ◌-◌, ◌*�
 use Rattle.segment_image.specs.Shape.{Dimensions}
 use Rattle.bucket_ranges.specs.declared.spec.Spec.TheVariants as spec
 use Rattle.segment_machine.specs.declared.entry.Entry.{Entry}
-use Rattle.segment_machine.specs.declared.entry.Counting.{Counting}
+use Rattle.segment_machine.specs.declared.entry.EntryProgress.{EntryProgress}
 use Rattle.segment_machine.specs.declared.place.Place.TheVariants.{Moving}
 use Rattle.segment_machine.specs.declared.actor.Actor.{Actor}
 use Rattle.segment_machine.specs.declared.actor.Made.TheVariants as made
@@ -74,11 +74,11 @@ abbrev pub one : ℕ → Entry
 one value = sample_entry letter_a boolean (pos value, 1)
 
 -- an entry of which all has happened; an amount of 0 is not added
-abbrev pub whole : Entry → Counting
+abbrev pub whole : Entry → EntryProgress
 whole entry = record { entry = entry; counted = true; summed = not (int_eq entry.amount (pos 0)); noted = true }
 
 -- an actor with another log, with other deltas, and at another place
-abbrev pub with_log : Actor → List Counting → Actor
+abbrev pub with_log : Actor → List EntryProgress → Actor
 with_log a log = record a { entries = record a.entries { log = log } }
 
 abbrev pub with_taken : Actor → List Taken → Actor

@@ -7,7 +7,7 @@ use Rattle.std.specs.List.{range_with_len, Contains, All, filter}
 use Rattle.std.specs.Str.{bytes_eq}
 use Rattle.segment_image.specs.declared.layout.TheConstants.{BLOCK_HEADER, HISTOGRAM_COUNTS, HISTOGRAM_REDUNDANT, HISTOGRAM_SINGLE, HISTOGRAM_SINGLE_MARK, SAMPLE_COUNT, SAMPLE_MARK}
 use Rattle.segment_machine.specs.declared.entry.Entry.{Entry}
-use Rattle.segment_machine.specs.declared.entry.Counting.{Counting}
+use Rattle.segment_machine.specs.declared.entry.EntryProgress.{EntryProgress}
 use Rattle.segment_machine.specs.declared.place.Place.TheVariants.{Spent, SumLoaded}
 use Rattle.segment_machine.specs.declared.actor.Actor.{Actor}
 use Rattle.segment_machine.specs.declared.actor.Answered.{Answered}
@@ -61,11 +61,11 @@ abbrev pub nothing_taken : Actor → List ℕ → Taken
 nothing_taken a name = record { name = name; counts = []; sum = pos 0; swapped = false; moment = moment_of a }
 
 -- of an entry nothing has happened
-abbrev pub is_untouched : Counting → Bool
+abbrev pub is_untouched : EntryProgress → Bool
 is_untouched c = not c.counted && not c.summed && not c.noted
 
 -- the units of a name of these entries
-abbrev pub units_running : List Counting → List ℕ → ℕ
+abbrev pub units_running : List EntryProgress → List ℕ → ℕ
 units_running list name = tally_noted (map (λ c. c.entry) list) name
 
 -- what a refused call has spent: the units of its first entries
@@ -172,7 +172,7 @@ MayNote a (goes_on entry cost) =
     × ((name : List ℕ) × (units : ℕ) × (a.units.held ≡ record { name = name; units = units } ∷ [])
     × AreWithin name (units + cost) (map (λ c. c.entry) a.entries.running ++ entry ∷ []))
 MayNote a (amounts amount) =
-    ((before : List Counting) × (last : Counting) × (a.entries.running ≡ before ++ last ∷ []) × (last.summed ≡ false) × (last.noted ≡ false))
+    ((before : List EntryProgress) × (last : EntryProgress) × (a.entries.running ≡ before ++ last ∷ []) × (last.summed ≡ false) × (last.noted ≡ false))
     × All (λ c. c.entry.amount ≡ pos 0) a.entries.running
     × (unsigned_abs amount ≤ 2147483648 * cost_total a.units.held)
 MayNote a (asks at made) = (own : Own) × Contains a.hand.own own × (own.at ≡ at) × (own.made ≡ None)

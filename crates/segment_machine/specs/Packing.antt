@@ -5,7 +5,7 @@ use Rattle.std.specs.List.{Contains}
 use Rattle.bucket_ranges.specs.Spec.{buckets_of}
 use Rattle.segment_image.specs.declared.layout.TheConstants.{BLOCK_HEADER, BLOCK_TYPE, HISTOGRAM_COUNTS, HISTOGRAM_SINGLE, TYPE_COUNTS, TYPE_PURGED}
 use Rattle.bucket_ranges.specs.Single.{packed_bucket, single_of}
-use Rattle.segment_machine.specs.declared.entry.Counting.{Counting}
+use Rattle.segment_machine.specs.declared.entry.EntryProgress.{EntryProgress}
 use Rattle.segment_machine.specs.declared.place.Look.{Look}
 use Rattle.segment_machine.specs.declared.place.Place.{Place}
 use Rattle.segment_machine.specs.declared.place.Place.TheVariants.{Looking, Losing, Moving, Idle}
@@ -47,12 +47,12 @@ IsBlankCounts own n = (own.tag ≡ TYPE_COUNTS) × (own.next ≡ 0) × (own.payl
 -- a call that counts in a histogram may make room there: no delta is going on, and where an entry is next, it is of this histogram and
 -- not counted yet
 abbrev pub CountsIn : Actor → Known → Type 0
-CountsIn a known = (a.deltas.taking ≡ false) × ((c : Counting) → IsNext a c → (is_counted c ≡ false) × (c.entry.name ≡ known.name))
+CountsIn a known = (a.deltas.taking ≡ false) × ((c : EntryProgress) → IsNext a c → (is_counted c ≡ false) × (c.entry.name ≡ known.name))
 
 abbrev pub Ready : Actor → PackingEvent → Type 0
 Ready a (load_single histogram) = MayTurn a × ((known : Known) × Buckets a histogram known)
 Ready a (pack histogram old new) =
-    (c : Counting) × (look : Look) × (known : Known) × (bucket : ℕ) × CountsNext a c × LooksOpen a histogram old look known
+    (c : EntryProgress) × (look : Look) × (known : Known) × (bucket : ℕ) × CountsNext a c × LooksOpen a histogram old look known
     × (c.entry.name ≡ known.name) × IsKeyOfBucket known bucket c.entry.key × IsPacking bucket c.entry.units old new
 Ready a (mount_counts histogram at) =
     (own : Own) × (known : Known) × MayTurn a × Contains a.hand.own own × (own.at ≡ at) × Buckets a histogram known

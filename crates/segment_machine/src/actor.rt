@@ -1,6 +1,6 @@
 //! What an actor has done and seen.
 
-use crate::entry::{Counting, Entry};
+use crate::entry::{Entry, EntryProgress};
 use crate::place::Place;
 use crate::seen::Seen;
 use bucket_ranges::Spec;
@@ -132,9 +132,9 @@ pub struct Entries {
     /// The entries that its opener's log had when it was made: what had been accepted before it. A recorder's alone.
     pub inherited: LinkedList<Entry>,
     /// The entries of ended calls, in order: its log.
-    pub log: LinkedList<Counting>,
+    pub log: LinkedList<EntryProgress>,
     /// The entries of the running call.
-    pub running: LinkedList<Counting>,
+    pub running: LinkedList<EntryProgress>,
 }
 
 /// What an actor has in hand: where its running call stands, and its own blocks.

@@ -16,7 +16,7 @@ pub struct Entry {
 }
 
 /// An entry, and which of its three events have happened.
-pub struct Counting {
+pub struct EntryProgress {
     /// The entry.
     pub entry: Entry,
     /// Its units were packed into the single word, or added to a count.

@@ -24,6 +24,6 @@ pub use actor::{
     Actor, Answered, Answers, Claim, Cost, Deltas, Done, Entries, Given, Hand, Known, Made, Moment,
     Own, Portion, Published, Role, Segment, Since, Taken, Units,
 };
-pub use entry::{Counting, Entry};
+pub use entry::{Entry, EntryProgress};
 pub use place::{Look, Place};
 pub use seen::{Seen, Sighting};

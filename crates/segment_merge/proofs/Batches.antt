@@ -15,7 +15,7 @@ use Rattle.live_segment.specs.declared.recorder.Recorder.{Recorder}
 use Rattle.live_segment.specs.Batching.{IsBatched, IsCutShort, batch_checks}
 use Rattle.live_segment.specs.Hist.{KnowsOn}
 use Rattle.live_segment.specs.Holders.{IsSameRecorder, Means, view_of_recorder}
-use Rattle.live_segment.proofs.Callers.{same_names}
+use Rattle.live_segment.proofs.Seating.Callers.{same_names}
 use Rattle.segment_promises.proofs.Growing.{grows_on, grows_same}
 use Rattle.segment_merge.specs.Merge.{HasFound, IsMerged, StopsAt, cost_left, items_left, sum_left}
 use Rattle.segment_merge.specs.Remainder.{left_of}

@@ -12,7 +12,7 @@ use Rattle.segment_machine.specs.declared.actor.Actor.{Actor}
 use Rattle.segment_machine.specs.declared.actor.Known.{Known}
 use Rattle.segment_machine.specs.declared.actor.Entries.{Entries}
 use Rattle.segment_machine.specs.declared.actor.Units.{Units}
-use Rattle.segment_machine.specs.declared.entry.Counting.{Counting}
+use Rattle.segment_machine.specs.declared.entry.EntryProgress.{EntryProgress}
 use Rattle.segment_machine.specs.declared.entry.Entry.{Entry}
 use Rattle.segment_machine.specs.Actor.{cost_of, log_of}
 use Rattle.segment_machine.specs.Entry.{batch_entries, item_entry}
@@ -27,7 +27,7 @@ use Rattle.live_segment.specs.Hist.{IsAnsweredWith, IsRefusedWith}
 use Rattle.segment_promises.specs.Onward.{DoesOn, GoesOn, SeesOn}
 use Rattle.live_segment.specs.Searching.{asked_at}
 use Rattle.live_segment.specs.Settling.{ComesToKnow, LooksAround}
-use Rattle.live_segment.proofs.Proceeding.{does_not, does_on, sees_not, sees_on}
+use Rattle.live_segment.proofs.Seating.Proceeding.{does_not, does_on, sees_not, sees_on}
 use Rattle.segment_merge.specs.Merge.{GoesOnWith, HasFound, IsMerged, IsOneOf, KnowsAs, StopsAt, cost_left, entries_left, items_left, sum_left}
 
 -- ---- going on
@@ -96,7 +96,7 @@ all_but a b segment entries deltas role = λ i. record {
 
 -- entries that are the same are so but for the log
 entries_but : (old new : Entries) → new ≡ old → new ≡ record old { log = new.log }
-entries_but old new same = same ∙ ap (λ (log : List Counting). record old { log = log }) (sym (ap (λ (e : Entries). e.log) same))
+entries_but old new same = same ∙ ap (λ (log : List EntryProgress). record old { log = log }) (sym (ap (λ (e : Entries). e.log) same))
 
 -- a call that counts goes on with none
 counts_on : (a b : Actor) → GoesOn a b → GoesOnWith [] a b

@@ -8,7 +8,7 @@ use Rattle.bucket_ranges.specs.declared.spec.Spec.{Spec}
 use Rattle.bucket_ranges.specs.Reading.{Histogram, Reading}
 use Rattle.segment_machine.specs.declared.actor.Actor.{Actor}
 use Rattle.segment_machine.specs.declared.actor.Known.{Known}
-use Rattle.segment_machine.specs.declared.entry.Counting.{Counting}
+use Rattle.segment_machine.specs.declared.entry.EntryProgress.{EntryProgress}
 use Rattle.segment_machine.specs.declared.entry.Entry.{Entry}
 use Rattle.segment_machine.specs.Entry.{tally_noted, tally_sum, tally_units}
 use Rattle.segment_machine.specs.Seats.{joined, newcomer, offering, parent}
@@ -29,9 +29,9 @@ module _ (setting : Setting) (hists : List Histogram) (last : Actor)
   abbrev pub closing : Actor
   closing = joined (parent (offering (first_view setting) 4294967295)) last
 
-  logged : map (λ (c : Counting). c.entry) last.entries.log ≡ flat_map entries_left hists
+  logged : map (λ (c : EntryProgress). c.entry) last.entries.log ≡ flat_map entries_left hists
   logged =
-      ap (λ (front : List Entry). front ++ map (λ (c : Counting). c.entry) last.entries.log) (sym (ap (λ (m : Actor). m.entries.first) merged.onward.same))
+      ap (λ (front : List Entry). front ++ map (λ (c : EntryProgress). c.entry) last.entries.log) (sym (ap (λ (m : Actor). m.entries.first) merged.onward.same))
       ∙ merged.logged
 
   -- it reads as the merge

@@ -14,7 +14,7 @@ use Rattle.bucket_ranges.specs.declared.spec.Spec.{Spec}
 use Rattle.bucket_ranges.specs.declared.spec.Spec.TheVariants as spec
 use Rattle.bucket_ranges.specs.Spec.{buckets_of, SameSpec}
 use Rattle.segment_machine.specs.declared.entry.Entry.{Entry}
-use Rattle.segment_machine.specs.declared.entry.Counting.{Counting}
+use Rattle.segment_machine.specs.declared.entry.EntryProgress.{EntryProgress}
 use Rattle.segment_machine.specs.declared.place.Place.TheVariants.{Spent}
 use Rattle.segment_machine.specs.declared.actor.Actor.{Actor}
 use Rattle.segment_machine.specs.declared.actor.Known.{Known}
@@ -60,11 +60,11 @@ module _ (shape : Dimensions) (opened : Anatomy) (state : State) (kept : Invaria
       (λ own. Contains-append_right a.entries.inherited (counted_of a) entry (⊎_elim
       (λ first. Contains-append_left a.entries.first _ entry first)
       (λ logged.
-      let (c, there, is) = contains_mapped (λ (c : Counting). c.entry) a.entries.log entry logged in
-      let ended = All-contains (λ (c : Counting). has_ended c ≡ true) a.entries.log c fits.calls.ended there in
+      let (c, there, is) = contains_mapped (λ (c : EntryProgress). c.entry) a.entries.log entry logged in
+      let ended = All-contains (λ (c : EntryProgress). has_ended c ≡ true) a.entries.log c fits.calls.ended there in
       let counts : is_counted c ≡ true = (and_parts (is_counted c) _ (and_parts _ _ ended).0).0 in
       Contains-append_right a.entries.first _ entry (subst (Contains _) is
-      (contains_map (λ (c : Counting). c.entry) (filter is_counted (a.entries.log ++ a.entries.running)) c
+      (contains_map (λ (c : EntryProgress). c.entry) (filter is_counted (a.entries.log ++ a.entries.running)) c
       (contains_filter is_counted (a.entries.log ++ a.entries.running) c (Contains-append_left a.entries.log a.entries.running c there) counts))))
       (Contains-append_cases a.entries.first _ entry own)))
       (Contains-append_cases a.entries.inherited _ entry among)

@@ -7,7 +7,7 @@ use native.Mathlib.Decide.{ℕ_discrete}
 use Rattle.list_core.specs.Chain.{stops}
 use Rattle.list_core.specs.Walk.{stands_behind}
 use Rattle.list_core.proofs.Walks.{place_of}
-use Rattle.segment_promises.specs.Values.{StandOnce}
+use Rattle.segment_promises.specs.Values.{NoRepeats}
 
 -- how many elements stand before the last one that is this, and with it; 0 where none is
 abbrev pub last_of : List ℕ → ℕ → ℕ
@@ -63,7 +63,7 @@ below_or m n = by (nat_lt m n) refl
     by false e = inr (ltb-false m n e)
 
 -- where no block stands twice, a walk has come as far as the block where it stands
-pub last_stands : (given rest chain : List ℕ) → chain ≡ given ++ rest → StandOnce chain → last_of chain (stands_behind given) ≤ length given
+pub last_stands : (given rest chain : List ℕ) → chain ≡ given ++ rest → NoRepeats chain → last_of chain (stands_behind given) ≤ length given
 last_stands given rest chain is once = by (last_of chain (stands_behind given)) refl
   where
     long : length chain ≡ length given + length rest

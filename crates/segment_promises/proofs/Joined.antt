@@ -8,7 +8,7 @@ use Rattle.std.proofs.lemmas.Bool.{and_parts}
 use Rattle.std.proofs.lemmas.List.Elements.{All-contains, All-nil}
 use Rattle.segment_image.specs.Shape.{Dimensions}
 use Rattle.segment_machine.specs.declared.entry.Entry.{Entry}
-use Rattle.segment_machine.specs.declared.entry.Counting.{Counting}
+use Rattle.segment_machine.specs.declared.entry.EntryProgress.{EntryProgress}
 use Rattle.segment_machine.specs.declared.actor.Actor.{Actor}
 use Rattle.segment_machine.specs.Entry.{is_counted, is_summed, is_noted, has_ended, is_of, tally_units, tally_sum, tally_noted}
 use Rattle.segment_machine.specs.Actor.{log_of, counted_of, summed_of, noted_of, all_counted, all_summed, all_noted, all_taken, taken_of, taken_units, taken_sum, made_of, outstanding_of}
@@ -29,18 +29,18 @@ use Rattle.segment_promises.specs.Deltas.{FinalDeltasTakeAll, FinalSnapshotsAreE
 -- ---- entries that have ended
 
 -- those that pass a test which ended entries pass are all of a list of ended entries
-pub all_pass : (test : Counting → Bool) → ((c : Counting) → has_ended c ≡ true → test c ≡ true) → (list : List Counting)
-    → ((c : Counting) → Contains list c → has_ended c ≡ true) → filter test list ≡ list
+pub all_pass : (test : EntryProgress → Bool) → ((c : EntryProgress) → has_ended c ≡ true → test c ≡ true) → (list : List EntryProgress)
+    → ((c : EntryProgress) → Contains list c → has_ended c ≡ true) → filter test list ≡ list
 all_pass test passes list ended = all_kept test list (all_of (λ c. test c ≡ true) list (λ c among. passes c (ended c among)))
 
 module _ (a : Actor) (ended : All (λ c. has_ended c ≡ true) a.entries.log) (rests : a.entries.running ≡ []) where
   -- of an actor that runs nothing, the entries that pass are those of its log
-  passed : (test : Counting → Bool) → ((c : Counting) → has_ended c ≡ true → test c ≡ true)
+  passed : (test : EntryProgress → Bool) → ((c : EntryProgress) → has_ended c ≡ true → test c ≡ true)
       → map (λ c. c.entry) (filter test (a.entries.log ++ a.entries.running)) ≡ map (λ c. c.entry) a.entries.log
   passed test passes =
-      ap (λ (running : List Counting). map (λ (c : Counting). c.entry) (filter test (a.entries.log ++ running))) rests
-      ∙ ap (λ (list : List Counting). map (λ (c : Counting). c.entry) (filter test list)) (append-nil a.entries.log)
-      ∙ ap (map (λ (c : Counting). c.entry)) (all_pass test passes a.entries.log (λ c among. All-contains (λ (c : Counting). has_ended c ≡ true) a.entries.log c ended among))
+      ap (λ (running : List EntryProgress). map (λ (c : EntryProgress). c.entry) (filter test (a.entries.log ++ running))) rests
+      ∙ ap (λ (list : List EntryProgress). map (λ (c : EntryProgress). c.entry) (filter test list)) (append-nil a.entries.log)
+      ∙ ap (map (λ (c : EntryProgress). c.entry)) (all_pass test passes a.entries.log (λ c among. All-contains (λ (c : EntryProgress). has_ended c ≡ true) a.entries.log c ended among))
 
   pub counted_is_log : counted_of a ≡ log_of a
   counted_is_log = ap (λ (list : List Entry). a.entries.first ++ list) (passed is_counted (λ c e. (and_parts (is_counted c) _ (and_parts _ _ e).0).0))
@@ -120,8 +120,8 @@ module _ (shape : Dimensions) (opened : Anatomy) (state : State) (a : Actor) (ke
   quiet : (name : List ℕ) (n : ℕ) → All (λ entry. is_of name entry ≡ false) (drop n (log_of a)) → IsQuiet a name n
   quiet name n behind = (
     behind,
-    subst (All (λ (c : Counting). (is_of name c.entry ≡ false) ⊎ (is_untouched c ≡ true))) (sym at_rest.0)
-        (All-nil (λ (c : Counting). (is_of name c.entry ≡ false) ⊎ (is_untouched c ≡ true))),
+    subst (All (λ (c : EntryProgress). (is_of name c.entry ≡ false) ⊎ (is_untouched c ≡ true))) (sym at_rest.0)
+        (All-nil (λ (c : EntryProgress). (is_of name c.entry ≡ false) ⊎ (is_untouched c ≡ true))),
   )
 
 -- ---- final deltas and snapshots
@@ -146,7 +146,7 @@ final_snapshots_are_exact shape opened state a s kept joins among final =
     let did = fit.finals.snapshots s among final.alone (final.youngest ∙ ap (λ (a : Actor). made_of a.role) (sym (opener_is shape opened state a kept joins.0)))
     (quiet shape opened state a kept joins s.name s.moment.log final.quiet) in
     let opening = kept.first_noted s.name in
-    let noted : tally_noted (all_noted state.actors) s.name ≡ tally_noted (map (λ (c : Counting). c.entry) a.entries.log) s.name =
+    let noted : tally_noted (all_noted state.actors) s.name ≡ tally_noted (map (λ (c : EntryProgress). c.entry) a.entries.log) s.name =
     ap (λ list. tally_noted list s.name) log.2 in
     let redundant = did.2 in (
       λ key. did.0 key ∙ ap (λ list. tally_units list s.name key) log.0,

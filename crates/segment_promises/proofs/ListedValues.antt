@@ -12,7 +12,7 @@ use Rattle.segment_machine.specs.declared.seen.Seen.{Seen}
 use Rattle.segment_machine.specs.Firsts.{ComesFirst}
 use Rattle.segment_machine.specs.Made.{SawOther, SawSample}
 use Rattle.segment_promises.specs.Onward.{Grows}
-use Rattle.segment_promises.specs.Values.{KeysStandOnce, ListsValues, Passes}
+use Rattle.segment_promises.specs.Values.{NoKeyRepeats, ListsValues, Passes}
 use Rattle.segment_promises.proofs.Growing.{all_push, other_still, others_still, still}
 use Rattle.segment_promises.proofs.FirstValues.{other_value}
 
@@ -121,7 +121,7 @@ module _ (Does : ℤ → ℕ → Type 0) (Has : ℕ → ℕ → Type 0) (histogr
           let one : sum_by (test value) (c ∷ []) ≡ 0 = λ i. 0 + head i in
           sum_by-append (test value) (c ∷ []) rest ∙ (λ i. one i + tail i)
 
-      once_then : KeysStandOnce (listed ++ (value, units) ∷ [])
+      once_then : NoKeyRepeats (listed ++ (value, units) ∷ [])
       once_then key =
           let all = sum_by_push (test key) listed (value, units) in
           let was = lists.once key in

@@ -7,7 +7,7 @@ use Rattle.std.proofs.lemmas.Bool.Decides.{Decides-int_eq}
 use Rattle.std.proofs.lemmas.List.{map-append, take-append-drop}
 use Rattle.std.proofs.lemmas.List.Elements.{All-contains, All-append}
 use Rattle.segment_machine.specs.declared.entry.Entry.{Entry}
-use Rattle.segment_machine.specs.declared.entry.Counting.{Counting}
+use Rattle.segment_machine.specs.declared.entry.EntryProgress.{EntryProgress}
 use Rattle.segment_machine.specs.declared.place.Place.{Place}
 use Rattle.segment_machine.specs.declared.place.Place.TheVariants.{Spent, Moving}
 use Rattle.segment_machine.specs.declared.actor.Actor.{Actor}
@@ -29,37 +29,37 @@ lives a free is = cc (free, ap is_bound is)
 
 module _ (a : Actor) (added : ℕ) (logged : All (λ c. has_ended c ≡ true) a.entries.log) (ended : All (λ c. has_ended c ≡ true) (take added a.entries.running))
     (untouched : All (λ c. is_untouched c ≡ true) (drop added a.entries.running)) (unsummed : All (λ c. c.summed ≡ false) (take added a.entries.running)) where
-  abbrev done : List Counting
+  abbrev done : List EntryProgress
   done = take added a.entries.running
 
-  abbrev left : List Counting
+  abbrev left : List EntryProgress
   left = drop added a.entries.running
 
-  abbrev entries : List Counting → List Entry
-  entries list = map (λ (c : Counting). c.entry) list
+  abbrev entries : List EntryProgress → List Entry
+  entries list = map (λ (c : EntryProgress). c.entry) list
 
   ran : a.entries.log ++ a.entries.running ≡ (a.entries.log ++ done) ++ left
-  ran = ap (λ (list : List Counting). a.entries.log ++ list) (sym (take-append-drop added a.entries.running)) ∙ sym (append_assoc a.entries.log done left)
+  ran = ap (λ (list : List EntryProgress). a.entries.log ++ list) (sym (take-append-drop added a.entries.running)) ∙ sym (append_assoc a.entries.log done left)
 
-  each_left : (c : Counting) → Contains left c → is_untouched c ≡ true
-  each_left c has = All-contains (λ (c : Counting). is_untouched c ≡ true) left c untouched has
+  each_left : (c : EntryProgress) → Contains left c → is_untouched c ≡ true
+  each_left c has = All-contains (λ (c : EntryProgress). is_untouched c ≡ true) left c untouched has
 
   -- of ended entries those that pass are all
-  among : (test : Counting → Bool) → ((c : Counting) → has_ended c ≡ true → test c ≡ true) → (list : List Counting) → All (λ c. has_ended c ≡ true) list
+  among : (test : EntryProgress → Bool) → ((c : EntryProgress) → has_ended c ≡ true → test c ≡ true) → (list : List EntryProgress) → All (λ c. has_ended c ≡ true) list
       → entries (filter test (list ++ [])) ≡ entries list
   among test passes list all =
-      ap (λ (list : List Counting). entries (filter test list)) (append-nil list)
-      ∙ ap entries (all_pass test passes list (λ c has. All-contains (λ (c : Counting). has_ended c ≡ true) list c all has))
+      ap (λ (list : List EntryProgress). entries (filter test list)) (append-nil list)
+      ∙ ap entries (all_pass test passes list (λ c has. All-contains (λ (c : EntryProgress). has_ended c ≡ true) list c all has))
 
   both : All (λ c. has_ended c ≡ true) (a.entries.log ++ done)
-  both = All-append (λ (c : Counting). has_ended c ≡ true) a.entries.log done logged ended
+  both = All-append (λ (c : EntryProgress). has_ended c ≡ true) a.entries.log done logged ended
 
   counts : (name : List ℕ) (key : ℤ) → tally_units (counted_of a) name key ≡ tally_units (log_of a ++ entries done) name key
   counts name key =
       ap (λ list. tally_units (a.entries.first ++ counted_among list) name key) ran
       ∙ untouched_counts a.entries.first (a.entries.log ++ done) left each_left name key
       ∙ ap (λ list. tally_units list name key)
-      (ap (λ list. a.entries.first ++ list) (among is_counted (λ c e. (and_parts (is_counted c) _ (and_parts _ _ e).0).0) (a.entries.log ++ done) both ∙ map-append (λ (c : Counting). c.entry) a.entries.log done)
+      (ap (λ list. a.entries.first ++ list) (among is_counted (λ c e. (and_parts (is_counted c) _ (and_parts _ _ e).0).0) (a.entries.log ++ done) both ∙ map-append (λ (c : EntryProgress). c.entry) a.entries.log done)
       ∙ sym (append_assoc a.entries.first (entries a.entries.log) (entries done)))
 
   notes : (name : List ℕ) → tally_noted (noted_of a) name ≡ tally_noted (entries a.entries.log ++ entries done) name
@@ -67,14 +67,14 @@ module _ (a : Actor) (added : ℕ) (logged : All (λ c. has_ended c ≡ true) a.
       ap (λ list. tally_noted (noted_among list) name) ran
       ∙ untouched_notes [] (a.entries.log ++ done) left each_left name
       ∙ ap (λ list. tally_noted list name)
-      (among is_noted (λ c e. (and_parts _ (is_noted c) e).1) (a.entries.log ++ done) both ∙ map-append (λ (c : Counting). c.entry) a.entries.log done)
+      (among is_noted (λ c e. (and_parts _ (is_noted c) e).1) (a.entries.log ++ done) both ∙ map-append (λ (c : EntryProgress). c.entry) a.entries.log done)
 
   -- the first entries have no amount
   no_amounts : (name : List ℕ) → tally_sum (summed_among done) name ≡ tally_sum [] name
   no_amounts name = nothing_among ◌+ℤ◌ (λ list. tally_sum list name) (sum_total name) is_summed done
       (λ c has passes. no_amount name c.entry
       ((Decides-int_eq c.entry.amount (pos 0)).0
-      (or_false c.summed (int_eq c.entry.amount (pos 0)) (All-contains (λ (c : Counting). c.summed ≡ false) done c unsummed has) passes)))
+      (or_false c.summed (int_eq c.entry.amount (pos 0)) (All-contains (λ (c : EntryProgress). c.summed ≡ false) done c unsummed has) passes)))
 
   sums : (name : List ℕ) → tally_sum (summed_of a) name ≡ tally_sum (log_of a) name
   sums name =

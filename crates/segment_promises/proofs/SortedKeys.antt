@@ -13,7 +13,7 @@ use mathlib.Core.Option.{some, some-injective, some-ne-none}
 use lib.ListN.{get_elem?}
 use Rattle.segment_invariant.proofs.Lists.Elements.{below_length, sum_at_least}
 use Rattle.segment_invariant.proofs.Lists.Pairs.{element_at}
-use Rattle.segment_promises.specs.Values.{KeysStandOnce}
+use Rattle.segment_promises.specs.Values.{NoKeyRepeats}
 
 -- whether a count stands before another
 abbrev sooner : ℤ × ℕ → ℤ × ℕ → Bool
@@ -48,11 +48,11 @@ parts_of x xs key = sum_by-append (times key) (x ∷ []) xs
 one_more : (n : ℕ) → 0 + n ≡ n
 one_more n = omega arith
 
-tail_once : (x : ℤ × ℕ) (xs : List (ℤ × ℕ)) → KeysStandOnce (x ∷ xs) → KeysStandOnce xs
+tail_once : (x : ℤ × ℕ) (xs : List (ℤ × ℕ)) → NoKeyRepeats (x ∷ xs) → NoKeyRepeats xs
 tail_once x xs once key = let all = parts_of x xs key in let most = once key in omega (arith, all, most)
 
 -- no key behind the first is that of the first
-behind_differs : (x : ℤ × ℕ) (xs : List (ℤ × ℕ)) → KeysStandOnce (x ∷ xs) → (k : ℕ) (d : ℤ × ℕ) → k < length xs → x.0 ≢ (get_or xs k d).0
+behind_differs : (x : ℤ × ℕ) (xs : List (ℤ × ℕ)) → NoKeyRepeats (x ∷ xs) → (k : ℕ) (d : ℤ × ℕ) → k < length xs → x.0 ≢ (get_or xs k d).0
 behind_differs x xs once k d low same =
     let all = parts_of x xs x.0 in
     let most = once x.0 in
@@ -61,7 +61,7 @@ behind_differs x xs once k d low same =
     let one = times_once x (get_or xs k d) (sym same) in
     omega (arith, all, most, head, least, one)
 
-pub strictly_sorted : (xs : List (ℤ × ℕ)) → IsSortedBy sooner xs → KeysStandOnce xs → IsStrictlySortedBy int_cmp (map (λ (c : ℤ × ℕ). c.0) xs)
+pub strictly_sorted : (xs : List (ℤ × ℕ)) → IsSortedBy sooner xs → NoKeyRepeats xs → IsStrictlySortedBy int_cmp (map (λ (c : ℤ × ℕ). c.0) xs)
 unfolding IsStrictlySortedBy
 strictly_sorted [] sorted once = tt
 strictly_sorted (x ∷ xs) sorted once = (
@@ -76,11 +76,11 @@ strictly_sorted (x ∷ xs) sorted once = (
 )
 
 -- to move them about changes nothing of that
-pub once_still : (xs ys : List (ℤ × ℕ)) → IsPermutation xs ys → KeysStandOnce xs → KeysStandOnce ys
+pub once_still : (xs ys : List (ℤ × ℕ)) → IsPermutation xs ys → NoKeyRepeats xs → NoKeyRepeats ys
 once_still xs ys moved once key = let same = sum_by-IsPermutation (times key) xs ys moved in let most = once key in omega (arith, same, most)
 
 -- a key has one place
-pub one_place : (xs : List (ℤ × ℕ)) → KeysStandOnce xs → (i j : ℕ) (x y : ℤ × ℕ) → get_elem? xs i ≡ some x → get_elem? xs j ≡ some y → x.0 ≡ y.0 → i ≡ j
+pub one_place : (xs : List (ℤ × ℕ)) → NoKeyRepeats xs → (i j : ℕ) (x y : ℤ × ℕ) → get_elem? xs i ≡ some x → get_elem? xs j ≡ some y → x.0 ≡ y.0 → i ≡ j
 one_place [] once i j x y here there same = absurd (some-ne-none x (sym here))
 one_place (z ∷ xs) once zero zero x y here there same = refl
 one_place (z ∷ xs) once zero (suc j) x y here there same =

@@ -17,7 +17,7 @@ use Rattle.segment_invariant.specs.Keeps.{found_at}
 use Rattle.segment_invariant.proofs.Recorders.Lends.{offers_keep}
 use Rattle.segment_invariant.proofs.Recorders.Splits.{splits_keep}
 use Rattle.segment_invariant.proofs.Recorders.Joins.{joins_keep}
-use Rattle.segment_promises.specs.Follows.{Told, TablesOpen, TablesClose, TablesFollow, TablesAnnounce, TablesOffer, TablesSplit, TablesJoin, Running, noted_by}
+use Rattle.segment_promises.specs.Follows.{GhostNoted, TablesOpen, TablesClose, TablesFollow, TablesAnnounce, TablesOffer, TablesSplit, TablesJoin, Running, noted_by}
 use Rattle.segment_invariant.proofs.Notes.Announcements.{with_actor, notes_follow}
 use Rattle.segment_promises.proofs.Steps.{happens}
 
@@ -57,7 +57,7 @@ tables_follow S shape opened before event behind slots id me word word_is record
         views = ap (λ list. set list id last) run.views;
         kept = did.0;
       },
-      subst (λ (x : ℕ). Told before event behind me x (last, me.1)) (sym found) (refl, refl, did.1),
+      subst (λ (x : ℕ). GhostNoted before event behind me x (last, me.1)) (sym found) (refl, refl, did.1),
     )
 
 -- A step on the word that never changes changes the view of its seat alone, where what holds is kept.

@@ -11,7 +11,7 @@ use Rattle.list_core.specs.Walk.{stands_behind}
 use Rattle.list_core.proofs.Walks.{place_of}
 use Rattle.segment_machine.specs.declared.actor.Actor.{Actor}
 use Rattle.segment_machine.specs.Walking.{IsNextOf, extended}
-use Rattle.segment_promises.specs.Values.{StandOnce, ComesTo, first_of}
+use Rattle.segment_promises.specs.Values.{NoRepeats, ComesTo, first_of}
 use Rattle.segment_promises.proofs.Furthest.{last_of, last_least, last_most, last_stands}
 use Rattle.segment_promises.proofs.Growing.{extended_end, extended_grows, reference_behind}
 
@@ -138,7 +138,7 @@ module _ (a b : Actor) (histogram found : ℕ) (shape : b.segment.shape ≡ a.se
       }
 
       -- it has come further, and what is left is less
-      pub comes_further : StandOnce a.seen.chain → at ≢ 12 → left_of b.segment.shape.size b.seen.chain found < left_of a.segment.shape.size a.seen.chain at
+      pub comes_further : NoRepeats a.seen.chain → at ≢ 12 → left_of b.segment.shape.size b.seen.chain found < left_of a.segment.shape.size a.seen.chain at
       comes_further once miss =
           let given = before ++ at ∷ [] in
           let long : length given ≡ length before + 1 = length_push before at in

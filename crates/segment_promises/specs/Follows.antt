@@ -54,14 +54,14 @@ noted_by a (note ∷ rest) = noted_by (noted a note) rest
 
 -- What a step tells its seat: notes, then the event at a word that was `found`, then notes that may depend on that number; and what
 -- its actor learns. The slots that the seat has taken stay with it.
-abbrev pub Told : {S : Type 0} → List Note → Event → (ℕ → List Note) → table.Me S Actor → ℕ → table.Me S Actor → Type 0
-Told before event behind me found me' =
+abbrev pub GhostNoted : {S : Type 0} → List Note → Event → (ℕ → List Note) → table.Me S Actor → ℕ → table.Me S Actor → Type 0
+GhostNoted before event behind me found me' =
     (me'.0 ≡ noted_by (next (noted_by me.0 before) event found) (behind found)) × (me'.1 ≡ me.1)
     × Learned (noted_by me.0 before) event found
 
 -- an actor may make some notes, one after the other
-abbrev pub MayTell : Actor → List Note → Type 0
-MayTell a notes = Notes a notes (noted_by a notes)
+abbrev pub MayNote : Actor → List Note → Type 0
+MayNote a notes = Notes a notes (noted_by a notes)
 
 -- A table whose slots have values of a type may do a step on a segment that is an event of a recorder, with notes before and behind it: the
 -- step's word is the event's, behind the one that never changes, and what becomes of it is what the event makes of it. What was learned of
@@ -69,14 +69,14 @@ MayTell a notes = Notes a notes (noted_by a notes)
 abbrev pub TablesFollow : Type 0 → Type 0
 TablesFollow S = (shape : Dimensions) (opened : Anatomy) (before : List Note) (event : Event) (behind : ℕ → List Note) (slots id : ℕ)
     (me : table.Me S Actor) (word : ℕ)
-    → word ≡ spot shape.size event + 1 → is_opener me.0.role ≡ false → MayTell me.0 before → Ready (noted_by me.0 before) event
-    → ((found : ℕ) → Learned (noted_by me.0 before) event found → MayTell (next (noted_by me.0 before) event found) (behind found))
-    → table.Allows (Running S shape opened) slots id me word (change opened.version event) (Told before event behind me)
+    → word ≡ spot shape.size event + 1 → is_opener me.0.role ≡ false → MayNote me.0 before → Ready (noted_by me.0 before) event
+    → ((found : ℕ) → Learned (noted_by me.0 before) event found → MayNote (next (noted_by me.0 before) event found) (behind found))
+    → table.Allows (Running S shape opened) slots id me word (change opened.version event) (GhostNoted before event behind me)
 
 -- an announcement: notes at a step on the word that never changes
 abbrev pub TablesAnnounce : Type 0 → Type 0
 TablesAnnounce S = (shape : Dimensions) (opened : Anatomy) (notes : List Note) (slots id : ℕ) (me : table.Me S Actor) (becomes : ℕ → ℕ)
-    → ((n : ℕ) → becomes n ≡ n) → is_opener me.0.role ≡ false → MayTell me.0 notes
+    → ((n : ℕ) → becomes n ≡ n) → is_opener me.0.role ≡ false → MayNote me.0 notes
     → table.Allows (Running S shape opened) slots id me 0 becomes (λ found me'. (me'.0 ≡ noted_by me.0 notes) × (me'.1 ≡ me.1))
 
 -- an opener says so how many units its next recorder is to have

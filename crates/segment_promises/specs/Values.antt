@@ -15,8 +15,8 @@ use Rattle.segment_machine.specs.Taking.{IsLaterSample}
 -- ---- along the list
 
 -- along these nexts no block stands twice, and none is the queue block
-abbrev pub StandOnce : List ℕ → Type 0
-StandOnce chain = (i j : ℕ) → i < j → j ≤ length chain → slice_index (stops chain) i ≢ slice_index (stops chain) j
+abbrev pub NoRepeats : List ℕ → Type 0
+NoRepeats chain = (i j : ℕ) → i < j → j ≤ length chain → slice_index (stops chain) i ≢ slice_index (stops chain) j
 
 -- the first of these records, or the queue block where there is none
 abbrev pub first_of : List ℕ → ℕ
@@ -40,21 +40,21 @@ Passes Does seen histogram at =
     ((value : ℤ) × SawSample seen histogram value at × Does value at) ⊎ ((value : ℤ) → is_i32 value ≡ true → SawOther seen histogram value at)
 
 -- no key stands twice
-abbrev pub KeysStandOnce : List (ℤ × ℕ) → Type 0
-KeysStandOnce counts = (key : ℤ) → sum_by (λ count. if int_eq count.0 key then 1 else 0) counts ≤ 1
+abbrev pub NoKeyRepeats : List (ℤ × ℕ) → Type 0
+NoKeyRepeats counts = (key : ℤ) → sum_by (λ count. if int_eq count.0 key then 1 else 0) counts ≤ 1
 
 -- Of each record that it passed it saw which sample it is, and did something with each sample. What it listed are values, each once, with units
 -- that the first sample of the value has.
 pub record ListsValues (Does : ℤ → ℕ → Type 0) (Has : ℕ → ℕ → Type 0) (histogram : ℕ) (passed : List ℕ) (listed : List (ℤ × ℕ)) (seen : Seen) : Type 0 where
   pub passes : AllByRecursion (Passes Does seen histogram) passed
   pub firsts : All (λ count. (sample : ℕ) × ComesFirst (SawOther seen histogram count.0) (SawSample seen histogram count.0) passed sample × Has sample count.1) listed
-  pub once : KeysStandOnce listed
+  pub once : NoKeyRepeats listed
   pub few : length listed ≤ length passed
 
 -- these keys with units in ascending order
 pub record AreSorted (old new : List (ℤ × ℕ)) : Type 0 where
   pub moved : IsPermutation old new
-  pub ascending : KeysStandOnce old → IsStrictlySortedBy int_cmp (map (λ count. count.0) new)
+  pub ascending : NoKeyRepeats old → IsStrictlySortedBy int_cmp (map (λ count. count.0) new)
 
 -- What it listed of a record that is a sample, which is not a later one of its value; or it listed nothing of it.
 abbrev pub ListsOf : (ℤ → ℕ → Type 0) → (ℕ → ℕ → Type 0) → ℕ → ℕ → Option (ℤ × ℕ) → Actor → Type 0

@@ -11,17 +11,17 @@ use mathlib.Core.Logic.{dite}
 use native.Mathlib.Decide.{ℕ_discrete}
 use Rattle.segment_image.specs.Checks.{first_fault}
 use Rattle.segment_machine.specs.State.{State}
-use Rattle.hist_core.specs.declared.board.Board.{Board}
+use Rattle.hist_core.specs.declared.world_state.WorldState.{WorldState}
 use Rattle.hist_core.specs.declared.call.Begun.{Begun}
 use Rattle.hist_core.specs.declared.call.Call.{Call}
 use Rattle.hist_core.specs.declared.call.Move.TheVariants.{Step}
 use Rattle.hist_core.specs.declared.call.Stepped.{Stepped}
 use Rattle.hist_core.specs.declared.fault.WorldFault.{WorldFault}
 use Rattle.hist_core.specs.declared.fault.WorldFault.TheVariants.{NoMemory}
-use Rattle.hist_core.specs.Board.{BeginsFrom, IsReachedAs, OthersStay, Says, StepsTo}
+use Rattle.hist_core.specs.WorldState.{BeginsFrom, IsReachedAs, OthersStay, Says, StepsTo}
 use Rattle.hist_core.specs.Moves.{IsBegun, IsStepped}
 use Rattle.hist_core.specs.World.{BeginSays, ChangesOneWord, TakesMemory, begin_checks, step_checks}
-use Rattle.hist_core.proofs.Scheduling.{no_fault, split_there}
+use Rattle.hist_core.proofs.Worlds.Scheduling.{no_fault, split_there}
 use Rattle.schedule.specs.declared.order.Order.{Order}
 use Rattle.stepped.specs.declared.lines.Change.{Change}
 use Rattle.stepped.specs.declared.lines.Place.{Place}
@@ -117,12 +117,12 @@ same_ok {A} F (Ok x) said is = ap Ok (sym (ap value_or is))
 same_ok F (Err e) said is = absurd is
 
 -- what `World::step` promises of its answer
-abbrev pub StepPromises : ℕ → Board → Board → Result Stepped WorldFault → Type 0
+abbrev pub StepPromises : ℕ → WorldState → WorldState → Result Stepped WorldFault → Type 0
 StepPromises actor old new made =
     MatchOption (first_fault (step_checks old actor)) (IsOk made) (λ fault. made ≡ Err fault) × OnOk made (OthersStay actor old new)
     × IfOk made (λ said. Says actor old new said) × IfOk made (λ said. (state : State) → IsReachedAs old state → StepsTo old actor state new said)
 
-pub is_stepped : (actor : ℕ) (old new : Board) (made : Result Stepped WorldFault) (said : Stepped) → made ≡ Ok said → StepPromises actor old new made
+pub is_stepped : (actor : ℕ) (old new : WorldState) (made : Result Stepped WorldFault) (said : Stepped) → made ≡ Ok said → StepPromises actor old new made
     → IsStepped actor old new said
 is_stepped actor old new made said is promises =
     let here : StepPromises actor old new (Ok said) = subst (StepPromises actor old new) is promises in record {
@@ -133,12 +133,12 @@ is_stepped actor old new made said is promises =
     }
 
 -- what `World::begin` promises of its answer
-abbrev pub BeginPromises : ℕ → Call → Board → Board → Result Begun WorldFault → Type 0
+abbrev pub BeginPromises : ℕ → Call → WorldState → WorldState → Result Begun WorldFault → Type 0
 BeginPromises actor call old new made =
     MatchOption (first_fault (begin_checks old actor call)) (IfErr made (λ fault. (fault ≡ NoMemory) × TakesMemory call)) (λ fault. made ≡ Err fault)
     × IfOk made (λ said. BeginSays actor call old new said)
 
-pub is_begun : (actor : ℕ) (call : Call) (old new : Board) (made : Result Begun WorldFault) (said : Begun) → made ≡ Ok said
+pub is_begun : (actor : ℕ) (call : Call) (old new : WorldState) (made : Result Begun WorldFault) (said : Begun) → made ≡ Ok said
     → BeginPromises actor call old new made → OthersStay actor old new → ((state : State) → IsReachedAs old state → BeginsFrom state actor new)
     → IsBegun actor call old new said
 is_begun actor call old new made said is promises others leads =
@@ -152,7 +152,7 @@ is_begun actor call old new made said is promises others leads =
 -- ---- events
 
 -- one event more
-pub goes_next : (actor events : ℕ) (old mid new : Board) (before last : List Deed) → GoesBy actor events old mid before → Shows (Step actor) mid new last
+pub goes_next : (actor events : ℕ) (old mid new : WorldState) (before last : List Deed) → GoesBy actor events old mid before → Shows (Step actor) mid new last
     → GoesBy actor (events + 1) old new (before ++ last)
 goes_next actor events old mid new before last goes shows =
     subst (λ (n : ℕ). GoesBy actor n old new (before ++ last)) (sym (add-one events)) (mid, before, last, goes, shows, refl)
@@ -165,7 +165,7 @@ ends_behind before last (its, answer, is) =
 -- ---- records
 
 -- one record more
-pub replays_more : (number at : ℕ) (done : List Order) (order : Order) (left : ℕ) (old mid new : Board) (left_then then_left : ℕ) (text : List ℕ)
+pub replays_more : (number at : ℕ) (done : List Order) (order : Order) (left : ℕ) (old mid new : WorldState) (left_then then_left : ℕ) (text : List ℕ)
     (deeds : List Deed) → at ≡ number + length done → Replays number done left old mid left_then text → 0 < left_then
     → Does order.actor order.kind left_then mid new then_left deeds
     → Replays number (done ++ order ∷ []) left old new then_left (text ++ lines_of at order.actor deeds)
@@ -177,7 +177,7 @@ replays_more number at [] order left old mid new (suc n) then_left text deeds he
       then_left,
       deeds,
       [],
-      subst (λ (b : Board). Does order.actor order.kind (suc n) b new then_left deeds) same does,
+      subst (λ (b : WorldState). Does order.actor order.kind (suc n) b new then_left deeds) same does,
       (refl, refl, refl),
       ap (λ (s : List ℕ). s ++ lines_of at order.actor deeds) none
           ∙ (ap (λ (k : ℕ). lines_of k order.actor deeds) number_is ∙ sym (append-nil (lines_of number order.actor deeds))),
@@ -195,7 +195,7 @@ replays_more number at (first ∷ done) order (suc left) old mid new left_then t
 )
 
 -- where no event is left, other records behind do nothing
-pub replays_no_more : (number : ℕ) (done rest : List Order) (left : ℕ) (old mid : Board) (text : List ℕ) → Replays number done left old mid 0 text
+pub replays_no_more : (number : ℕ) (done rest : List Order) (left : ℕ) (old mid : WorldState) (text : List ℕ) → Replays number done left old mid 0 text
     → Replays number (done ++ rest) left old mid 0 text
 replays_no_more number [] [] left old mid text replays = replays
 replays_no_more number [] (next ∷ rest) left old mid text (same, all, none) =
@@ -205,7 +205,7 @@ replays_no_more number (first ∷ done) rest (suc left) old mid text (b, n, its,
     (b, n, its, later, did, replays_no_more (number + 1) done rest n b mid later replays, is)
 
 -- the next record is done too
-pub replays_next : (orders : List Order) (i : ℕ) (order : Order) (left : ℕ) (old mid new : Board) (left_then then_left : ℕ) (text : List ℕ) (deeds : List Deed)
+pub replays_next : (orders : List Order) (i : ℕ) (order : Order) (left : ℕ) (old mid new : WorldState) (left_then then_left : ℕ) (text : List ℕ) (deeds : List Deed)
     → i < length orders → order ≡ get_or orders i order → Replays 2 (take i orders) left old mid left_then text → 0 < left_then
     → Does order.actor order.kind left_then mid new then_left deeds
     → Replays 2 (take (i + 1) orders) left old new then_left (text ++ lines_of (i + 2) order.actor deeds)
@@ -216,7 +216,7 @@ replays_next orders i order left old mid new left_then then_left text deeds near
     (omega (arith, length-take-le i orders (omega (arith, near)))) replays some does)
 
 -- no event is left, so all is done
-pub replays_all : (orders : List Order) (i left : ℕ) (old mid : Board) (then_left : ℕ) (text : List ℕ) → then_left ≡ 0
+pub replays_all : (orders : List Order) (i left : ℕ) (old mid : WorldState) (then_left : ℕ) (text : List ℕ) → then_left ≡ 0
     → Replays 2 (take i orders) left old mid then_left text → Replays 2 orders left old mid then_left text
 replays_all orders i left old mid then_left text none replays =
     subst (λ (n : ℕ). Replays 2 orders left old mid n text) (sym none)
@@ -225,7 +225,7 @@ replays_all orders i left old mid then_left text none replays =
     (subst (λ (n : ℕ). Replays 2 (take i orders) left old mid n text) none replays)))
 
 -- the next record has a fault
-pub stops_next : (orders : List Order) (i : ℕ) (order : Order) (left : ℕ) (old mid : Board) (left_then : ℕ) (text : List ℕ) (why : WorldFault)
+pub stops_next : (orders : List Order) (i : ℕ) (order : Order) (left : ℕ) (old mid : WorldState) (left_then : ℕ) (text : List ℕ) (why : WorldFault)
     (deeds : List Deed) → i < length orders → order ≡ get_or orders i order → Replays 2 (take i orders) left old mid left_then text → 0 < left_then
     → FailsAt order.actor order.kind mid why deeds → StopsAt orders left old (i + 2) why (text ++ lines_of (i + 2) order.actor deeds)
 stops_next orders i order left old mid left_then text why deeds near is replays some fails = record {

@@ -1,7 +1,7 @@
 -- A schedule as it is replayed: the moves that its records make, and the lines that show them.
 use Rattle.std.specs.Prelude.{◌≡◌, ◌≢◌, ◌⊎◌, ◌<◌, ◌≤◌, ◌+◌, ℕ, zero, suc, List, [], ◌∷◌, ◌++◌, length, slice_index, slice_set, Option, Some, None}
 use Rattle.std.specs.List.{flat_map}
-use Rattle.hist_core.specs.declared.board.Board.{Board}
+use Rattle.hist_core.specs.declared.world_state.WorldState.{WorldState}
 use Rattle.hist_core.specs.declared.call.Answer.{Answer}
 use Rattle.hist_core.specs.declared.call.Begun.{Begun}
 use Rattle.hist_core.specs.declared.call.Begun.TheVariants.{Going, Ended}
@@ -53,17 +53,17 @@ step_deeds change More = Steps change ∷ []
 step_deeds change (Done answer) = Steps change ∷ Ends answer ∷ []
 
 -- a move leads from a world to another, and is shown so
-abbrev pub Shows : Move → Board → Board → List Deed → Type 0
+abbrev pub Shows : Move → WorldState → WorldState → List Deed → Type 0
 Shows (Begin actor call) old new deeds = (said : Begun) × IsBegun actor call old new said × (deeds ≡ begin_deeds said)
 Shows (Step actor) old new deeds =
     (said : Stepped) × IsStepped actor old new said
     × ((change : Option Change) × HasChanged old.words.items new.words.items change × (deeds ≡ step_deeds change said))
 
 -- so do the events of an actor's call, one after the other
-abbrev pub GoesBy : ℕ → ℕ → Board → Board → List Deed → Type 0
+abbrev pub GoesBy : ℕ → ℕ → WorldState → WorldState → List Deed → Type 0
 GoesBy actor zero old new deeds = (new ≡ old) × (deeds ≡ [])
 GoesBy actor (suc events) old new deeds =
-    (mid : Board) × (before last : List Deed) × GoesBy actor events old mid before × Shows (Step actor) mid new last × (deeds ≡ before ++ last)
+    (mid : WorldState) × (before last : List Deed) × GoesBy actor events old mid before × Shows (Step actor) mid new last × (deeds ≡ before ++ last)
 
 -- ---- records
 
@@ -72,7 +72,7 @@ abbrev pub EndsCall : List Deed → Type 0
 EndsCall deeds = (before : List Deed) × (answer : Answer) × (deeds ≡ before ++ Ends answer ∷ [])
 
 -- A call goes on by events. They are as many as the record says, fewer only where the call ends or where no event is left.
-pub record GoesOn (actor times left : ℕ) (old new : Board) (then_left : ℕ) (deeds : List Deed) : Type 0 where
+pub record GoesOn (actor times left : ℕ) (old new : WorldState) (then_left : ℕ) (deeds : List Deed) : Type 0 where
   pub events : ℕ
   pub goes : GoesBy actor events old new deeds
   pub spent : left ≡ events + then_left
@@ -80,7 +80,7 @@ pub record GoesOn (actor times left : ℕ) (old new : Board) (then_left : ℕ) (
   pub whole : (events ≡ times) ⊎ (then_left ≡ 0) ⊎ EndsCall deeds
 
 -- what a record leads to, how many events it leaves, and what is shown of it
-abbrev pub Does : ℕ → OrderKind → ℕ → Board → Board → ℕ → List Deed → Type 0
+abbrev pub Does : ℕ → OrderKind → ℕ → WorldState → WorldState → ℕ → List Deed → Type 0
 Does actor (kind.Begin call) left old new then_left deeds = Shows (Begin actor call) old new deeds × (then_left ≡ left)
 Does actor (kind.Step times) left old new then_left deeds = GoesOn actor times left old new then_left deeds
 
@@ -90,29 +90,29 @@ lines_of number actor deeds = flat_map (deed_line (record { number = number; act
 
 -- What records from a number on lead to, one after the other, how many events they leave, and the lines that show them. Where no event is
 -- left nothing more is done.
-abbrev pub Replays : ℕ → List Order → ℕ → Board → Board → ℕ → List ℕ → Type 0
+abbrev pub Replays : ℕ → List Order → ℕ → WorldState → WorldState → ℕ → List ℕ → Type 0
 Replays number [] left old new then_left text = (new ≡ old) × (then_left ≡ left) × (text ≡ [])
 Replays number (order ∷ rest) zero old new then_left text = (new ≡ old) × (then_left ≡ 0) × (text ≡ [])
 Replays number (order ∷ rest) (suc left) old new then_left text =
-    (mid : Board) × (left_then : ℕ) × (deeds : List Deed) × (later : List ℕ) × Does order.actor order.kind (suc left) old mid left_then deeds
+    (mid : WorldState) × (left_then : ℕ) × (deeds : List Deed) × (later : List ℕ) × Does order.actor order.kind (suc left) old mid left_then deeds
     × Replays (number + 1) rest left_then mid new then_left later × (text ≡ lines_of number order.actor deeds ++ later)
 
 -- ---- faults
 
 -- What a record does before the world has a fault at it, and the fault: none before a call begins; else fewer events than it says.
-abbrev pub FailsAt : ℕ → OrderKind → Board → WorldFault → List Deed → Type 0
+abbrev pub FailsAt : ℕ → OrderKind → WorldState → WorldFault → List Deed → Type 0
 FailsAt actor (kind.Begin call) old fault deeds = FaultsAt (Begin actor call) old fault × (deeds ≡ [])
 FailsAt actor (kind.Step times) old fault deeds =
-    (events : ℕ) × (at : Board) × (events < times) × GoesBy actor events old at deeds × FaultsAt (Step actor) at fault
+    (events : ℕ) × (at : WorldState) × (events < times) × GoesBy actor events old at deeds × FaultsAt (Step actor) at fault
 
 -- the first fault of the world, at a record from number 2 on, and the lines of what was done before it
-pub record StopsAt (orders : List Order) (left : ℕ) (old : Board) (number : ℕ) (fault : WorldFault) (text : List ℕ) : Type 0 where
+pub record StopsAt (orders : List Order) (left : ℕ) (old : WorldState) (number : ℕ) (fault : WorldFault) (text : List ℕ) : Type 0 where
   pub before : List Order
   pub order : Order
   pub rest : List Order
   pub are : orders ≡ before ++ order ∷ rest
   pub number_is : number ≡ length before + 2
-  pub mid : Board
+  pub mid : WorldState
   pub left_then : ℕ
   pub some : 0 < left_then
   pub done : List ℕ
@@ -122,7 +122,7 @@ pub record StopsAt (orders : List Order) (left : ℕ) (old : Board) (number : �
   pub text_is : text ≡ done ++ lines_of number order.actor deeds
 
 -- why a replay ends with a fault: a write failed, or the world has a fault; then the lines before it are shown
-abbrev pub StopsWith : List Order → ℕ → Board → ReplayFault → (List ℕ → Type 0) → Type 0
+abbrev pub StopsWith : List Order → ℕ → WorldState → ReplayFault → (List ℕ → Type 0) → Type 0
 StopsWith orders left old fault IsShown =
     (fault ≡ Write)
     ⊎ ((number : ℕ) × (why : WorldFault) × (text : List ℕ) × StopsAt orders left old number why text × (fault ≡ fault_of_world number why) × IsShown text)

@@ -18,14 +18,14 @@ pub struct Replay {
     before: Vec<u64>,
     // How many events are left.
     left: u64,
-    ghost in_step: { before.items ≡ world.board.words.items },
+    ghost in_step: { before.items ≡ world.world_state.words.items },
 }
 
 ghost use Rattle.std.specs.Prelude.{◌⊎◌, List, ℕ, MatchOption, OnOk, IfOk, IfErr, length, false, Err, Ok};
 ghost use Rattle.std.specs.Io.KnownBytes.{Appends};
 ghost use Rattle.hist_core.specs.declared.call.Move.TheVariants.{Begin, Step};
 ghost use Rattle.hist_core.specs.declared.fault.WorldFault.{WorldFault};
-ghost use Rattle.hist_core.specs.Board.{IsNewBoard};
+ghost use Rattle.hist_core.specs.WorldState.{IsNewWorldState};
 ghost use Rattle.hist_core.specs.Moves.{FaultsAt, IsStepped};
 ghost use Rattle.hist_core.specs.World.{world_checks};
 ghost use Rattle.segment_image.specs.Checks.{first_fault};
@@ -59,7 +59,7 @@ fn show<W: Write>(writer: &mut W, place: Place, answer: &Answer) -> Result<(), R
 impl Replay {
     /// A new world, in which so many events may happen. `World` of record 1 where it cannot be, `NoMemory` where there is none.
     pub fn new(alloc: Global, opening: Opening, events: u64) -> Result<Replay, ReplayFault>
-        ensures world { IfOk result (λ replay. IsNewBoard (record { size = opening.size; page = opening.page }) opening.version opening.id opening.actors replay.world.board) }
+        ensures world { IfOk result (λ replay. IsNewWorldState (record { size = opening.size; page = opening.page }) opening.version opening.id opening.actors replay.world.world_state) }
         ensures left { IfOk result (λ replay. replay.left ≡ events) }
         ensures faults { MatchOption (first_fault (world_checks opening.size opening.page opening.actors opening.version)) (IfErr result (λ fault. fault ≡ ReplayFault.NoMemory)) (λ why. result ≡ Err (fault_of_world 1 why)) }
     {
@@ -83,7 +83,7 @@ impl Replay {
 
     /// The words of its segment, whose header has no fault.
     pub fn words(&self) -> &[u64]
-        ensures words { result.now ≡ self.now.world.board.words.items }
+        ensures words { result.now ≡ self.now.world.world_state.words.items }
         ensures header { header_of result.now ≡ Ok (head_of result.now) }
     {
         self.world.words()
@@ -97,8 +97,8 @@ impl Replay {
         call: &Call,
     ) -> Result<(), ReplayFault>
         ensures left { self.new.left ≡ self.old.left }
-        ensures ok { OnOk result ((deeds : List Deed) × Shows (Begin place.actor call.now) self.old.world.board self.new.world.board deeds × Appends (W.contents writer.old) (W.contents writer.new) (lines_of place.number place.actor deeds)) }
-        ensures err { IfErr result (λ fault. (fault ≡ ReplayFault.Write) ⊎ ((why : WorldFault) × FaultsAt (Begin place.actor call.now) self.old.world.board why × (fault ≡ fault_of_world place.number why) × (writer.new ≡ writer.old))) }
+        ensures ok { OnOk result ((deeds : List Deed) × Shows (Begin place.actor call.now) self.old.world.world_state self.new.world.world_state deeds × Appends (W.contents writer.old) (W.contents writer.new) (lines_of place.number place.actor deeds)) }
+        ensures err { IfErr result (λ fault. (fault ≡ ReplayFault.Write) ⊎ ((why : WorldFault) × FaultsAt (Begin place.actor call.now) self.old.world.world_state why × (fault ≡ fault_of_world place.number why) × (writer.new ≡ writer.old))) }
     {
         let begun = self
             .world
@@ -113,8 +113,8 @@ impl Replay {
     // An event of an actor's call, and the word that it changed.
     fn advance(&mut self, place: Place) -> Result<(Stepped, Option<Change>), ReplayFault>
         ensures left { self.new.left ≡ self.old.left }
-        ensures ok { IfOk result (λ done. IsStepped place.actor self.old.world.board self.new.world.board done.0 × HasChanged self.old.world.board.words.items self.new.world.board.words.items done.1) }
-        ensures err { IfErr result (λ fault. (why : WorldFault) × FaultsAt (Step place.actor) self.old.world.board why × (fault ≡ fault_of_world place.number why)) }
+        ensures ok { IfOk result (λ done. IsStepped place.actor self.old.world.world_state self.new.world.world_state done.0 × HasChanged self.old.world.world_state.words.items self.new.world.world_state.words.items done.1) }
+        ensures err { IfErr result (λ fault. (why : WorldFault) × FaultsAt (Step place.actor) self.old.world.world_state why × (fault ≡ fault_of_world place.number why)) }
     {
         let said = self
             .world
@@ -132,8 +132,8 @@ impl Replay {
     // Goes on by one event. Whether the call goes on.
     fn step<W: Write>(&mut self, writer: &mut W, place: Place) -> Result<bool, ReplayFault>
         ensures left { self.new.left ≡ self.old.left }
-        ensures ok { IfOk result (λ more. (deeds : List Deed) × Shows (Step place.actor) self.old.world.board self.new.world.board deeds × Appends (W.contents writer.old) (W.contents writer.new) (lines_of place.number place.actor deeds) × (more ≡ false → EndsCall deeds)) }
-        ensures err { IfErr result (λ fault. (fault ≡ ReplayFault.Write) ⊎ ((why : WorldFault) × FaultsAt (Step place.actor) self.old.world.board why × (fault ≡ fault_of_world place.number why) × (writer.new ≡ writer.old))) }
+        ensures ok { IfOk result (λ more. (deeds : List Deed) × Shows (Step place.actor) self.old.world.world_state self.new.world.world_state deeds × Appends (W.contents writer.old) (W.contents writer.new) (lines_of place.number place.actor deeds) × (more ≡ false → EndsCall deeds)) }
+        ensures err { IfErr result (λ fault. (fault ≡ ReplayFault.Write) ⊎ ((why : WorldFault) × FaultsAt (Step place.actor) self.old.world.world_state why × (fault ≡ fault_of_world place.number why) × (writer.new ≡ writer.old))) }
     {
         let (said, change) = self.advance(place)?;
         show_step(writer, place, change).map_err(|_| ReplayFault::Write)?;
@@ -153,8 +153,8 @@ impl Replay {
         place: Place,
         times: u64,
     ) -> Result<(), ReplayFault>
-        ensures ok { OnOk result ((deeds : List Deed) × GoesOn place.actor times self.old.left self.old.world.board self.new.world.board self.new.left deeds × Appends (W.contents writer.old) (W.contents writer.new) (lines_of place.number place.actor deeds)) }
-        ensures err { IfErr result (λ fault. (fault ≡ ReplayFault.Write) ⊎ ((why : WorldFault) × (deeds : List Deed) × FailsAt place.actor (OrderKind.Step times) self.old.world.board why deeds × (fault ≡ fault_of_world place.number why) × Appends (W.contents writer.old) (W.contents writer.new) (lines_of place.number place.actor deeds))) }
+        ensures ok { OnOk result ((deeds : List Deed) × GoesOn place.actor times self.old.left self.old.world.world_state self.new.world.world_state self.new.left deeds × Appends (W.contents writer.old) (W.contents writer.new) (lines_of place.number place.actor deeds)) }
+        ensures err { IfErr result (λ fault. (fault ≡ ReplayFault.Write) ⊎ ((why : WorldFault) × (deeds : List Deed) × FailsAt place.actor (OrderKind.Step times) self.old.world.world_state why deeds × (fault ≡ fault_of_world place.number why) × Appends (W.contents writer.old) (W.contents writer.new) (lines_of place.number place.actor deeds))) }
     {
         for _ in 0..times {
             if self.left == 0 {
@@ -175,8 +175,8 @@ impl Replay {
         number: u64,
         order: &Order,
     ) -> Result<(), ReplayFault>
-        ensures ok { OnOk result ((deeds : List Deed) × Does order.now.actor order.now.kind self.old.left self.old.world.board self.new.world.board self.new.left deeds × Appends (W.contents writer.old) (W.contents writer.new) (lines_of number order.now.actor deeds)) }
-        ensures err { IfErr result (λ fault. (fault ≡ ReplayFault.Write) ⊎ ((why : WorldFault) × (deeds : List Deed) × FailsAt order.now.actor order.now.kind self.old.world.board why deeds × (fault ≡ fault_of_world number why) × Appends (W.contents writer.old) (W.contents writer.new) (lines_of number order.now.actor deeds))) }
+        ensures ok { OnOk result ((deeds : List Deed) × Does order.now.actor order.now.kind self.old.left self.old.world.world_state self.new.world.world_state self.new.left deeds × Appends (W.contents writer.old) (W.contents writer.new) (lines_of number order.now.actor deeds)) }
+        ensures err { IfErr result (λ fault. (fault ≡ ReplayFault.Write) ⊎ ((why : WorldFault) × (deeds : List Deed) × FailsAt order.now.actor order.now.kind self.old.world.world_state why deeds × (fault ≡ fault_of_world number why) × Appends (W.contents writer.old) (W.contents writer.new) (lines_of number order.now.actor deeds))) }
     {
         let place = Place {
             number,
@@ -193,8 +193,8 @@ impl Replay {
     /// `Write` where a write failed; then `World` of the first record at which the world has a fault, or `NoMemory` where there was none
     /// for a call. The lines of what was done before such a fault are written.
     pub fn run<W: Write>(&mut self, writer: &mut W, orders: &[Order]) -> Result<(), ReplayFault>
-        ensures replays { OnOk result ((text : List ℕ) × Replays 2 orders.now self.old.left self.old.world.board self.new.world.board self.new.left text × Appends (W.contents writer.old) (W.contents writer.new) text) }
-        ensures stops { IfErr result (λ fault. StopsWith orders.now self.old.left self.old.world.board fault (λ text. Appends (W.contents writer.old) (W.contents writer.new) text)) }
+        ensures replays { OnOk result ((text : List ℕ) × Replays 2 orders.now self.old.left self.old.world.world_state self.new.world.world_state self.new.left text × Appends (W.contents writer.old) (W.contents writer.new) text) }
+        ensures stops { IfErr result (λ fault. StopsWith orders.now self.old.left self.old.world.world_state fault (λ text. Appends (W.contents writer.old) (W.contents writer.new) text)) }
     {
         for (i, order) in orders.iter().enumerate() {
             if self.left == 0 {

@@ -24,7 +24,7 @@ use Rattle.hist_core.specs.declared.making.Making.{Making}
 use Rattle.hist_core.specs.declared.making.MakingStep.{MakingStep}
 use Rattle.hist_core.specs.declared.making.MakingStep.TheVariants.{More, Refused}
 use Rattle.hist_core.specs.declared.making.Stage.TheVariants.{Allocating, Filling}
-use Rattle.hist_core.specs.Goes.{Beside, Goes, is_tied}
+use Rattle.hist_core.specs.StepsBy.{FrameOfStep, StepsBy, is_tied}
 use Rattle.hist_core.specs.Making.{Wanted, IsMaking, StandsAtStage, MakingGives, IsAllocated, IsCause}
 use Rattle.hist_core.proofs.Makes.Drafts.{may_still}
 use Rattle.hist_core.proofs.Parts.Allocations.{allocates_on, goes_with}
@@ -36,14 +36,14 @@ module _ (shape : Dimensions) (version : ℕ) (wanted : Wanted) (m : Making) (a 
   stands = subst (StandsAtStage shape wanted a) allocates is.stands
 
   module _ (y : Allocation) (new_words : List ℕ) (says : AllocStep) (step : alloc.IsStep x words y new_words says) where
-    claims : Goes shape.size version a words new_words (λ b. Beside a b × AreApart b × Allocates b y)
+    claims : StepsBy shape.size version a words new_words (λ b. FrameOfStep a b × AreApart b × Allocates b y)
     claims =
         let size = ap (λ (d : Dimensions). d.size) is.segment in
-        subst (λ (n : ℕ). Goes n version a words new_words (λ b. Beside a b × AreApart b × Allocates b y)) size
+        subst (λ (n : ℕ). StepsBy n version a words new_words (λ b. FrameOfStep a b × AreApart b × Allocates b y)) size
         (allocates_on version a x y words new_words says stands.0 (long ∙ sym size) step)
 
     -- it goes on
-    still_claims : is_some (alloc.next_event y) ≡ true → Goes shape.size version a words new_words (MakingGives shape wanted (record { stage = Allocating y }) More a)
+    still_claims : is_some (alloc.next_event y) ≡ true → StepsBy shape.size version a words new_words (MakingGives shape wanted (record { stage = Allocating y }) More a)
     still_claims more = goes_with claims (λ b (beside, apart, goes). (
       beside,
       record {
@@ -61,14 +61,14 @@ module _ (shape : Dimensions) (version : ℕ) (wanted : Wanted) (m : Making) (a 
 
     -- it is refused
     is_refused : (why : Refusal) (new : Making) → ((b : Actor) → Allocates b y → b.hand.place ≡ Idle) → ((b : Actor) → Allocates b y → IsCause why b)
-        → Goes shape.size version a words new_words (MakingGives shape wanted new (Refused why) a)
+        → StepsBy shape.size version a words new_words (MakingGives shape wanted new (Refused why) a)
     is_refused why new idle cause = goes_with claims (λ b (beside, apart, goes). (beside, ap is_tied (idle b goes), cause b goes))
 
     -- it has a block, which is to be the record: it stores the payload there
-    has_claimed : (at : ℕ) → says ≡ said.Done at → Goes shape.size version a words new_words (MakingGives shape wanted (record { stage = Filling at 0 }) More a)
+    has_claimed : (at : ℕ) → says ≡ said.Done at → StepsBy shape.size version a words new_words (MakingGives shape wanted (record { stage = Filling at 0 }) More a)
     has_claimed at done = goes_noting claims (λ b (beside, apart, goes). claimed b beside apart goes (claimed_of y.stage at (sym done ∙ step.answers)))
       where
-        claimed : (b : Actor) → Beside a b → AreApart b → Allocates b y → (size : ℕ) × (y.stage ≡ Claimed at size)
+        claimed : (b : Actor) → FrameOfStep a b → AreApart b → Allocates b y → (size : ℕ) × (y.stage ≡ Claimed at size)
             → (notes : List Note) × (c : Actor) × Notes b notes c × MakingGives shape wanted (record { stage = Filling at 0 }) More a c
         claimed b beside apart goes (size, ends) =
             let has = subst (StandsAt b y) ends goes.stands in
@@ -81,7 +81,7 @@ module _ (shape : Dimensions) (version : ℕ) (wanted : Wanted) (m : Making) (a 
             let c : Actor = noted b (asks at wanted.made) in
             let enough = stands.3 in
             let ends_within = subst (λ (d : Dimensions). at + size ≤ d.size) (goes.shape ∙ ap (λ s. s.shape) beside.segment ∙ is.segment) place.within in
-            let then_beside : Beside a c = record {
+            let then_beside : FrameOfStep a c = record {
               role = beside.role;
               segment = beside.segment;
               units = beside.units;
@@ -124,19 +124,19 @@ module _ (shape : Dimensions) (version : ℕ) (wanted : Wanted) (m : Making) (a 
   -- whatever the allocation says
   pub allocates_so : (y : Allocation) (new_words : List ℕ) (says : AllocStep) (new : Making) (result : MakingStep) → alloc.IsStep x words y new_words says
       → (says ≡ said.More → is_some (alloc.next_event y) ≡ true) → IsAllocated (record { stage = Allocating y }) says new result
-      → Goes shape.size version a words new_words (MakingGives shape wanted new result a)
+      → StepsBy shape.size version a words new_words (MakingGives shape wanted new result a)
   allocates_so y new_words said.More new result step more (new_is, result_is) =
-      subst (λ (p : Making × MakingStep). Goes shape.size version a words new_words (MakingGives shape wanted p.0 p.1 a)) (λ i. (sym new_is i, sym result_is i))
+      subst (λ (p : Making × MakingStep). StepsBy shape.size version a words new_words (MakingGives shape wanted p.0 p.1 a)) (λ i. (sym new_is i, sym result_is i))
       (still_claims y new_words said.More step (more refl))
   allocates_so y new_words (said.Done at) new result step more (new_is, result_is) =
-      subst (λ (p : Making × MakingStep). Goes shape.size version a words new_words (MakingGives shape wanted p.0 p.1 a)) (λ i. (sym new_is i, sym result_is i))
+      subst (λ (p : Making × MakingStep). StepsBy shape.size version a words new_words (MakingGives shape wanted p.0 p.1 a)) (λ i. (sym new_is i, sym result_is i))
       (has_claimed y new_words (said.Done at) step at refl)
   allocates_so y new_words said.Full new result step more result_is =
-      subst (λ (r : MakingStep). Goes shape.size version a words new_words (MakingGives shape wanted new r a)) (sym result_is)
+      subst (λ (r : MakingStep). StepsBy shape.size version a words new_words (MakingGives shape wanted new r a)) (sym result_is)
       (is_refused y new_words said.Full step why.Full new (λ b goes. rests_at b y y.stage (λ e. cc (step.answers ∙ e)) goes.stands)
       (λ b goes. ended_so b y said.Full step.answers goes.stands))
   allocates_so y new_words said.Corrupt new result step more result_is =
-      subst (λ (r : MakingStep). Goes shape.size version a words new_words (MakingGives shape wanted new r a)) (sym result_is)
+      subst (λ (r : MakingStep). StepsBy shape.size version a words new_words (MakingGives shape wanted new r a)) (sym result_is)
       (is_refused y new_words said.Corrupt step why.Corrupt new (λ b goes. rests_at b y y.stage (λ e. cc (step.answers ∙ e)) goes.stands) (λ b goes. ended_so b y said.Corrupt step.answers goes.stands))
 
   -- what the step of its allocation asks for

@@ -12,7 +12,7 @@ use Rattle.segment_machine.specs.declared.actor.Own.{Own}
 use Rattle.segment_machine.specs.Calls.{MayTurn}
 use Rattle.segment_machine.specs.Publishing.{MayPublish}
 use Rattle.hist_core.specs.declared.making.Making.{Making}
-use Rattle.hist_core.specs.Goes.{Beside}
+use Rattle.hist_core.specs.StepsBy.{FrameOfStep}
 use Rattle.hist_core.specs.Making.{Wanted, MayMake, IsMaking, IsStarted, StandsAtStage, tag_of}
 
 -- a lawful shape has 64 words at least
@@ -21,13 +21,13 @@ is_wide shape lawful = let from = lawful.wide in let to = lawful.one in omega (a
 
 -- ---- what an actor may make, it may still
 
-may_publish : (a b : Actor) → Beside a b → (own : Own) (made : Made) → MayPublish a own made → MayPublish b own made
+may_publish : (a b : Actor) → FrameOfStep a b → (own : Own) (made : Made) → MayPublish a own made → MayPublish b own made
 may_publish a b beside own (Histogram name spec) (tag, named, lawful, fits) =
     (tag, named, lawful, subst (λ (d : Dimensions). 4 + 2 * buckets_of spec ≤ d.page) (sym (ap (λ s. s.shape) beside.segment)) fits)
 may_publish a b beside own (Sample histogram value) (tag, enough, fits, (known, (knows, here, sparse))) =
     (tag, enough, fits, (known, (subst (λ (l : List Known). Contains l known) (sym beside.names) knows, here, sparse)))
 
-pub may_still : (shape : Dimensions) (wanted : Wanted) (a b : Actor) → Beside a b → MayMake shape wanted a → MayMake shape wanted b
+pub may_still : (shape : Dimensions) (wanted : Wanted) (a b : Actor) → FrameOfStep a b → MayMake shape wanted a → MayMake shape wanted b
 may_still shape wanted a b beside may = record {
   some = may.some;
   first = may.first;

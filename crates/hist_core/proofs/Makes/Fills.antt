@@ -18,9 +18,9 @@ use Rattle.segment_machine.specs.Publishing.{own_at}
 use Rattle.hist_core.specs.declared.making.Making.{Making}
 use Rattle.hist_core.specs.declared.making.MakingStep.TheVariants.{More}
 use Rattle.hist_core.specs.declared.making.Stage.TheVariants.{Filling, Publishing}
-use Rattle.hist_core.specs.Goes.{Beside, Goes}
+use Rattle.hist_core.specs.StepsBy.{FrameOfStep, StepsBy}
 use Rattle.hist_core.specs.Making.{Wanted, IsMaking, IsFilledTo, IsNextFilled, IsFilled, StandsAtStage, MakingGives}
-use Rattle.hist_core.proofs.Free.{free_turns}
+use Rattle.hist_core.proofs.Worlds.Free.{free_turns}
 use Rattle.hist_core.proofs.Makes.Drafts.{is_wide, may_still}
 use Rattle.hist_core.proofs.Parts.Alone.{makes_so, allocating_beside}
 use Rattle.hist_core.proofs.Parts.Claims.{changed_at}
@@ -105,7 +105,7 @@ module _ (shape : Dimensions) (version : ℕ) (wanted : Wanted) (m : Making) (a 
 
   -- the next word, or the publish
   pub fills_so : (new_words : List ℕ) (new : Making) → new_words ≡ atomic.after (atomic.store_payload at index value) words → IsFilled all at (index + 1) new
-      → Goes shape.size version a words new_words (MakingGives shape wanted new More a)
+      → StepsBy shape.size version a words new_words (MakingGives shape wanted new More a)
   fills_so new_words new are (then_at, goes, new_is) = record {
     before = [];
     at = a;
@@ -135,7 +135,7 @@ module _ (shape : Dimensions) (version : ℕ) (wanted : Wanted) (m : Making) (a 
     );
   }
     where
-      beside : Beside a acted
+      beside : FrameOfStep a acted
       beside = allocating_beside a (store_payload at index value) 0
 
       stood : (more : Bool) → nat_lt then_at (length all) ≡ more

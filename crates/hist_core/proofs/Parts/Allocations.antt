@@ -26,13 +26,13 @@ use Rattle.segment_machine.proofs.Stages.Publishes.{publishes_agree}
 use Rattle.segment_machine.proofs.Stages.Walks.{walks_agree}
 use Rattle.hist_core.proofs.Parts.Alone.{acts_there, makes_so, allocating_beside, publishing_beside}
 use Rattle.segment_promises.specs.Onward.{StaysApart}
-use Rattle.hist_core.specs.Goes.{Beside, Goes, IsFree}
-use Rattle.hist_core.proofs.Free.{free_apart, free_of_both, free_turns, still_apart}
+use Rattle.hist_core.specs.StepsBy.{FrameOfStep, StepsBy, IsFree}
+use Rattle.hist_core.proofs.Worlds.Free.{free_apart, free_of_both, free_turns, still_apart}
 use Rattle.segment_machine.specs.Actor.{AreApart}
 
 -- what holds then may be more than is asked
-pub goes_with : {size version : ℕ} {a : Actor} {words new_words : List ℕ} {holds then_holds : Actor → Type 0} → Goes size version a words new_words holds
-    → ((b : Actor) → holds b → then_holds b) → Goes size version a words new_words then_holds
+pub goes_with : {size version : ℕ} {a : Actor} {words new_words : List ℕ} {holds then_holds : Actor → Type 0} → StepsBy size version a words new_words holds
+    → ((b : Actor) → holds b → then_holds b) → StepsBy size version a words new_words then_holds
 goes_with {then_holds = then_holds} go weaker = record {
   before = go.before;
   at = go.at;
@@ -66,7 +66,7 @@ allocating_alike (set_flag flag) size version = refl
 
 pub allocates_on : (version : ℕ) (a : Actor) (old new : Allocation) (words new_words : List ℕ) (said : AllocStep) → Allocates a old
     → length words ≡ a.segment.shape.size → alloc.IsStep old words new new_words said
-    → Goes a.segment.shape.size version a words new_words (λ b. Beside a b × AreApart b × Allocates b new)
+    → StepsBy a.segment.shape.size version a words new_words (λ b. FrameOfStep a b × AreApart b × Allocates b new)
 allocates_on version a old new words new_words said goes long step =
     let size : ℕ = a.segment.shape.size in
     let agrees = allocations_agree size 1 a old step.event goes step.next in
@@ -105,7 +105,7 @@ publishing_alike (move_tail old new) size version = refl
 
 pub publishes_on : (version : ℕ) (a : Actor) (made : Made) (old new : Publishing) (words new_words : List ℕ) (said : PubStep)
     → PublishesAt a old.reference made old.stage → length words ≡ a.segment.shape.size → publish.IsStep old words new new_words said
-    → Goes a.segment.shape.size version a words new_words (λ b. Beside a b × PublishesAt b new.reference made new.stage)
+    → StepsBy a.segment.shape.size version a words new_words (λ b. FrameOfStep a b × PublishesAt b new.reference made new.stage)
 publishes_on version a made old new words new_words said stands long step =
     let size : ℕ = a.segment.shape.size in
     let agrees = publishes_agree size 1 a made old step.event stands step.next in
@@ -137,8 +137,8 @@ publishes_on version a made old new words new_words said stands long step =
 
 -- the next of the record where a walk stands
 pub walks_on : (version : ℕ) (a : Actor) (given words : List ℕ) → Walks a given → length words ≡ a.segment.shape.size
-    → Goes a.segment.shape.size version a words words
-    (λ b. Beside a b × StaysApart a b × Walks b (given_after given (said_of (length words) (word_at words (stands_behind given + 3)))))
+    → StepsBy a.segment.shape.size version a words words
+    (λ b. FrameOfStep a b × StaysApart a b × Walks b (given_after given (said_of (length words) (word_at words (stands_behind given + 3)))))
 walks_on version a given words walks long =
     let size : ℕ = a.segment.shape.size in
     let agrees = walks_agree size 1 a given walks in
@@ -175,11 +175,11 @@ walks_on version a given words walks long =
 -- whatever a walk says that stands behind these records
 pub walks_saying : (shape : Dimensions) (version : ℕ) (a : Actor) (given words : List ℕ) (walk : ℕ) → a.segment.shape ≡ shape → length words ≡ shape.size
     → walk ≡ stands_behind given → IsFree a → IsPrefix given a.seen.chain → (said : WalkStep) → said ≡ said_of (length words) (word_at words (walk + 3))
-    → Goes shape.size version a words words (λ b. Beside a b × IsFree b × IsPrefix (given_after given said) b.seen.chain)
+    → StepsBy shape.size version a words words (λ b. FrameOfStep a b × IsFree b × IsPrefix (given_after given said) b.seen.chain)
 walks_saying shape version a given words walk segment long stands free front said says =
     let size = ap (λ (d : Dimensions). d.size) segment in
     let same : said_of (length words) (word_at words (stands_behind given + 3)) ≡ said =
     ap (λ (w : ℕ). said_of (length words) (word_at words (w + 3))) (sym stands) ∙ sym says in
-    goes_with (subst (λ (p : ℕ × WalkStep). Goes p.0 version a words words (λ b. Beside a b × StaysApart a b × Walks b (given_after given p.1))) (λ i. (size i, same i))
+    goes_with (subst (λ (p : ℕ × WalkStep). StepsBy p.0 version a words words (λ b. FrameOfStep a b × StaysApart a b × Walks b (given_after given p.1))) (λ i. (size i, same i))
     (walks_on version a given words (free_turns a.hand.place free, front) (long ∙ sym size)))
     (λ b (beside, apart, walks). (beside, free_of_both b.hand.place walks.0 (apart (free_apart a.hand.place free)), walks.1))

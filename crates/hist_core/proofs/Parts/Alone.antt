@@ -7,7 +7,7 @@ use Rattle.alloc_core.specs.Event as atomic
 use Rattle.segment_machine.specs.declared.actor.Actor.{Actor}
 use Rattle.segment_machine.specs.declared.place.Place.TheVariants.{Idle}
 use Rattle.segment_machine.specs.Operation.{single, spot_of, change_of}
-use Rattle.hist_core.specs.Goes.{Beside}
+use Rattle.hist_core.specs.StepsBy.{FrameOfStep}
 use Rattle.segment_machine.specs.Event.{Event, operation, spot, after, next, allocating_event, publishing_event}
 use Rattle.segment_machine.specs.Allocating.{AllocatingEvent, load_flags, load_free, exchange_free, store_size, store_cookie, store_type, store_payload, set_flag, after_free}
 use Rattle.segment_machine.specs.Publishing.{PublishingEvent, store_own_next, load_tail, link, move_tail, after_link}
@@ -26,7 +26,7 @@ module _ (size version : ℕ) (event : Event) (does : atomic.Event) (acts : oper
 
 -- it has seen the same of both
 seen_alike : (a b : Actor) → b.role ≡ a.role → b.segment ≡ a.segment → b.units ≡ a.units → b.entries ≡ a.entries → b.deltas ≡ a.deltas
-    → b.answers.names ≡ a.answers.names → b.seen.chain ≡ a.seen.chain → b.seen.words ≡ a.seen.words → Beside a b
+    → b.answers.names ≡ a.answers.names → b.seen.chain ≡ a.seen.chain → b.seen.words ≡ a.seen.words → FrameOfStep a b
 seen_alike a b role segment units entries deltas names chain words = record {
   role = role;
   segment = segment;
@@ -39,15 +39,15 @@ seen_alike a b role segment units entries deltas names chain words = record {
 }
 
 -- one of two actors, beside both of which the rest is as it was
-pub either_way : (b : Bool) (a x y : Actor) → Beside a x → Beside a y → Beside a (if b then x else y)
+pub either_way : (b : Bool) (a x y : Actor) → FrameOfStep a x → FrameOfStep a y → FrameOfStep a (if b then x else y)
 either_way true a x y one other = one
 either_way false a x y one other = other
 
-freed : (b : Bool) (a : Actor) (old new found : ℕ) → Beside a (after_free b a old new found)
+freed : (b : Bool) (a : Actor) (old new found : ℕ) → FrameOfStep a (after_free b a old new found)
 freed true a old new found = seen_alike a (after_free true a old new found) refl refl refl refl refl refl refl refl
 freed false a old new found = seen_alike a (after_free false a old new found) refl refl refl refl refl refl refl refl
 
-pub allocating_beside : (a : Actor) (act : AllocatingEvent) (found : ℕ) → Beside a (next a (allocating_event act) found)
+pub allocating_beside : (a : Actor) (act : AllocatingEvent) (found : ℕ) → FrameOfStep a (next a (allocating_event act) found)
 allocating_beside a load_flags found = seen_alike a (next a (allocating_event load_flags) found) refl refl refl refl refl refl refl refl
 allocating_beside a load_free found = seen_alike a (next a (allocating_event load_free) found) refl refl refl refl refl refl refl refl
 allocating_beside a (exchange_free old new) found = freed (found == old) a old new found
@@ -61,11 +61,11 @@ allocating_beside a (set_flag flag) found =
     (seen_alike a (record a { hand = record a.hand { place = Idle }; done = record a.done { spoiled = true } }) refl refl refl refl refl refl refl refl)
     (seen_alike a (record a { hand = record a.hand { place = Idle }; done = record a.done { filled = true } }) refl refl refl refl refl refl refl refl)
 
-linked : (b : Bool) (a : Actor) (tail at found : ℕ) → Beside a (after_link b a tail at found)
+linked : (b : Bool) (a : Actor) (tail at found : ℕ) → FrameOfStep a (after_link b a tail at found)
 linked true a tail at found = seen_alike a (after_link true a tail at found) refl refl refl refl refl refl refl refl
 linked false a tail at found = seen_alike a (after_link false a tail at found) refl refl refl refl refl refl refl refl
 
-pub publishing_beside : (a : Actor) (act : PublishingEvent) (found : ℕ) → Beside a (next a (publishing_event act) found)
+pub publishing_beside : (a : Actor) (act : PublishingEvent) (found : ℕ) → FrameOfStep a (next a (publishing_event act) found)
 publishing_beside a (store_own_next at) found = seen_alike a (next a (publishing_event (store_own_next at)) found) refl refl refl refl refl refl refl refl
 publishing_beside a load_tail found = seen_alike a (next a (publishing_event load_tail) found) refl refl refl refl refl refl refl refl
 publishing_beside a (link tail at) found = linked (found == 12) a tail at found

@@ -18,7 +18,7 @@ use Rattle.segment_machine.specs.Calls.{change_own}
 use Rattle.segment_machine.specs.Note.{Note, Notes, noted}
 use Rattle.segment_machine.specs.Publishing.{own_at}
 use Rattle.segment_machine.specs.Stages.{StandsAt}
-use Rattle.hist_core.specs.Goes.{Goes}
+use Rattle.hist_core.specs.StepsBy.{StepsBy}
 
 -- ---- a block that is claimed
 
@@ -79,8 +79,8 @@ notes_append a b c [] second is goes = subst (λ (x : Actor). Notes x second c) 
 notes_append a b c (note ∷ first) second (may, rest) goes = (may, notes_append (noted a note) b c first second rest goes)
 
 -- an actor goes on, and notes what it knows then
-pub goes_noting : {size version : ℕ} {a : Actor} {words new_words : List ℕ} {holds then_holds : Actor → Type 0} → Goes size version a words new_words holds
-    → ((b : Actor) → holds b → (notes : List Note) × (c : Actor) × Notes b notes c × then_holds c) → Goes size version a words new_words then_holds
+pub goes_noting : {size version : ℕ} {a : Actor} {words new_words : List ℕ} {holds then_holds : Actor → Type 0} → StepsBy size version a words new_words holds
+    → ((b : Actor) → holds b → (notes : List Note) × (c : Actor) × Notes b notes c × then_holds c) → StepsBy size version a words new_words then_holds
 goes_noting go then_notes = record {
   before = go.before;
   at = go.at;

@@ -24,8 +24,8 @@ use Rattle.hist_core.specs.declared.hist.HistStep.{HistStep}
 use Rattle.hist_core.specs.declared.hist.HistStep.TheVariants.{More, Done, Refused}
 use Rattle.hist_core.specs.declared.hist.Stage.TheVariants.{Walking, Comparing}
 use Rattle.segment_calls.specs.declared.refusal.Refusal.{Refusal}
-use Rattle.hist_core.specs.Goes.{Beside, Goes}
-use Rattle.hist_core.proofs.Free.{free_turns}
+use Rattle.hist_core.specs.StepsBy.{FrameOfStep, StepsBy}
+use Rattle.hist_core.proofs.Worlds.Free.{free_turns}
 use Rattle.hist_core.specs.Hist.{IsHist, StandsAtStage, HaveOtherNames, AreSame, Reaches, HistGives, IsMatched, IsDifferent, IsCause, HasOtherSpec, asked_of, compared_place, compared_index, compared_word}
 use Rattle.segment_invariant.proofs.Walking.Words.{letters_long}
 use Rattle.hist_core.proofs.Parts.Comparisons.{Part, part_of, index_of_rest, then_length, letter_word, field_word, range_word, ranges_if_custom, payload_long, compared_all}
@@ -106,7 +106,7 @@ module _ (shape : Dimensions) (h : Hist) (a : Actor) (is : IsHist shape h a) (k 
       )
 
   -- what was the same stays so, and with the word that is found one more is
-  one_more : (b : Actor) → Beside a b → (found : ℕ) → word_seen b.seen.words (h.reference + compared_index h.letters k) ≡ Some found
+  one_more : (b : Actor) → FrameOfStep a b → (found : ℕ) → word_seen b.seen.words (h.reference + compared_index h.letters k) ≡ Some found
       → found ≡ compared_word h k → AreSame b.seen h (k + 1)
   one_more b beside found seen same j below = dite (ℕ_discrete j k)
       (λ here. subst (λ (n : ℕ). word_seen b.seen.words (h.reference + compared_index h.letters n) ≡ Some (compared_word h n)) (sym here) (seen ∙ ap Some same))
@@ -237,7 +237,7 @@ module _ (shape : Dimensions) (h : Hist) (a : Actor) (is : IsHist shape h a) (k 
     abbrev acted : Actor
     acted = next a event found
 
-    beside : Beside a acted
+    beside : FrameOfStep a acted
     beside = record {
       role = refl;
       segment = refl;
@@ -256,7 +256,7 @@ module _ (shape : Dimensions) (h : Hist) (a : Actor) (is : IsHist shape h a) (k 
     saw_found : Learns → word_seen acted.seen.words (h.reference + compared_index h.letters k) ≡ Some found
     saw_found learned = seen_now a.seen.words (h.reference + compared_index h.letters k) found learned.1
 
-    does : (new : Hist) (said : HistStep) → (Learns → HistGives shape new said a acted) → Goes shape.size version a words words (HistGives shape new said a)
+    does : (new : Hist) (said : HistStep) → (Learns → HistGives shape new said a acted) → StepsBy shape.size version a words words (HistGives shape new said a)
     does new said gives = record {
       before = [];
       at = a;
@@ -268,7 +268,7 @@ module _ (shape : Dimensions) (h : Hist) (a : Actor) (is : IsHist shape h a) (k 
     }
 
     -- it was the same: the next is compared, or all were the same
-    pub matches_so : (new : Hist) (said : HistStep) → found ≡ compared_word h k → IsMatched h k new said → Goes shape.size version a words words (HistGives shape new said a)
+    pub matches_so : (new : Hist) (said : HistStep) → found ≡ compared_word h k → IsMatched h k new said → StepsBy shape.size version a words words (HistGives shape new said a)
     matches_so new More same (more, new_is) = does new More (λ learned. (beside, subst (λ (n : Hist). IsHist shape n acted) (sym new_is) (goes_on learned)))
       where
         goes_on : Learns → IsHist shape (record h { stage = Comparing (k + 1) }) acted
@@ -307,7 +307,7 @@ module _ (shape : Dimensions) (h : Hist) (a : Actor) (is : IsHist shape h a) (k 
 
     -- it was another: the record has another name, or it is the first of the name and has another spec
     pub differs_so : (new : Hist) (said : HistStep) → found ≢ compared_word h k → found < 2 ^ 64 → compared_word h k < 2 ^ 64 → IsDifferent h k new said
-        → Goes shape.size version a words words (HistGives shape new said a)
+        → StepsBy shape.size version a words words (HistGives shape new said a)
     differs_so new More other small small_own (early, new_is) = does new More (λ learned. (beside, subst (λ (n : Hist). IsHist shape n acted) (sym new_is) (walks_on learned)))
       where
         walks_on : Learns → IsHist shape (record h { stage = Walking }) acted

@@ -10,7 +10,7 @@ use Rattle.hist_core.specs.declared.hist.Stage.TheVariants.{Making, Walking}
 use Rattle.hist_core.specs.declared.making.Making.{Making as MakingOf}
 use Rattle.hist_core.specs.declared.making.MakingStep.{MakingStep}
 use Rattle.hist_core.specs.declared.making.MakingStep.TheVariants as made
-use Rattle.hist_core.specs.Goes.{Beside, Goes}
+use Rattle.hist_core.specs.StepsBy.{FrameOfStep, StepsBy}
 use Rattle.hist_core.specs.Hist.{wanted_of, IsHist, StandsAtStage, HistGives, IsMade}
 use Rattle.hist_core.specs.Making.{MakingGives}
 use Rattle.hist_core.proofs.Parts.Allocations.{goes_with}
@@ -21,7 +21,7 @@ module _ (shape : Dimensions) (version : ℕ) (h : Hist) (a : Actor) (words : Li
   stood_making = subst (StandsAtStage shape h a is.given) makes is.stands
 
   -- it goes on from another stage
-  on : (stage : Stage) (b : Actor) → Beside a b → StandsAtStage shape (record h { stage = stage }) b is.given stage → IsHist shape (record h { stage = stage }) b
+  on : (stage : Stage) (b : Actor) → FrameOfStep a b → StandsAtStage shape (record h { stage = stage }) b is.given stage → IsHist shape (record h { stage = stage }) b
   on stage b beside stands = record {
     asking = asks_on shape h is.asking h.reference h.walk stage;
     segment = ap (λ s. s.shape) beside.segment ∙ is.segment;
@@ -35,14 +35,14 @@ module _ (shape : Dimensions) (version : ℕ) (h : Hist) (a : Actor) (words : Li
 
   -- whatever the step of the making says
   pub makes_so : (x : MakingOf) (new_words : List ℕ) (says : MakingStep) (new : Hist) (result : HistStep)
-      → Goes shape.size version a words new_words (MakingGives shape (wanted_of h) x says a) → IsMade (record h { stage = Making x }) says new result
-      → Goes shape.size version a words new_words (HistGives shape new result a)
+      → StepsBy shape.size version a words new_words (MakingGives shape (wanted_of h) x says a) → IsMade (record h { stage = Making x }) says new result
+      → StepsBy shape.size version a words new_words (HistGives shape new result a)
   makes_so x new_words made.More new result goes (new_is, result_is) =
-      subst (λ (p : Hist × HistStep). Goes shape.size version a words new_words (HistGives shape p.0 p.1 a)) (λ i. (sym new_is i, sym result_is i))
+      subst (λ (p : Hist × HistStep). StepsBy shape.size version a words new_words (HistGives shape p.0 p.1 a)) (λ i. (sym new_is i, sym result_is i))
       (goes_with goes (λ b (beside, makes_on). (beside, on (Making x) b beside (others_still a b beside h is.given stood_making.0, makes_on))))
   makes_so x new_words made.Done new result goes (new_is, result_is) =
-      subst (λ (p : Hist × HistStep). Goes shape.size version a words new_words (HistGives shape p.0 p.1 a)) (λ i. (sym new_is i, sym result_is i))
+      subst (λ (p : Hist × HistStep). StepsBy shape.size version a words new_words (HistGives shape p.0 p.1 a)) (λ i. (sym new_is i, sym result_is i))
       (goes_with goes (λ b (beside, turns). (beside, on Walking b beside (turns, others_still a b beside h is.given stood_making.0))))
   makes_so x new_words (made.Refused cause) new result goes (new_is, result_is) =
-      subst (λ (r : HistStep). Goes shape.size version a words new_words (HistGives shape new r a)) (sym result_is)
+      subst (λ (r : HistStep). StepsBy shape.size version a words new_words (HistGives shape new r a)) (sym result_is)
       (goes_with goes (λ b (beside, turns, is_cause). (beside, turns, inl is_cause)))

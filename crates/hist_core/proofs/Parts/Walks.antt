@@ -21,15 +21,15 @@ use Rattle.hist_core.specs.declared.making.Making.{Making as MakingOf}
 use Rattle.hist_core.specs.Making.{IsStarted}
 use Rattle.hist_core.proofs.Makes.Drafts.{begins, is_wide}
 use Rattle.hist_core.proofs.Parts.Records.{may_make, some_to_compare_is}
-use Rattle.hist_core.specs.Goes.{Beside, Goes, IsFree}
-use Rattle.hist_core.proofs.Free.{free_turns}
+use Rattle.hist_core.specs.StepsBy.{FrameOfStep, StepsBy, IsFree}
+use Rattle.hist_core.proofs.Worlds.Free.{free_turns}
 use Rattle.list_core.specs.Walk.{IsPrefix}
 use Rattle.hist_core.specs.Hist.{IsAsking, IsHist, HaveOtherNames, StandsAtStage, HistGives, comparisons, wanted_of}
 use Rattle.hist_core.proofs.Parts.Allocations.{goes_with, walks_saying}
 
 -- ---- what is seen stays
 
-module _ (a b : Actor) (beside : Beside a b) where
+module _ (a b : Actor) (beside : FrameOfStep a b) where
   pub still : (at word : ℕ) → word_seen a.seen.words at ≡ Some word → word_seen b.seen.words at ≡ Some word
   still at word seen = ap (λ (l : List Sighting). word_seen l at) beside.words.1 ∙ word_still a.seen.words at word beside.words.0 seen
 
@@ -82,15 +82,15 @@ module _ (shape : Dimensions) (version : ℕ) (h : Hist) (a : Actor) (words : Li
 
   -- the event, and what it makes of the walk
   abbrev Walked : WalkStep → Actor → Type 0
-  Walked said b = Beside a b × IsFree b × IsPrefix (given_after is.given said) b.seen.chain
+  Walked said b = FrameOfStep a b × IsFree b × IsPrefix (given_after is.given said) b.seen.chain
 
-  loads : (said : WalkStep) → said ≡ said_of (length words) (word_at words (h.walk + 3)) → Goes shape.size version a words words (Walked said)
+  loads : (said : WalkStep) → said ≡ said_of (length words) (word_at words (h.walk + 3)) → StepsBy shape.size version a words words (Walked said)
   loads = walks_saying shape version a is.given words h.walk is.segment long is.walk stands.0 is.front
 
   -- it met a record, which it compares next
   pub meets : (reference walk : ℕ) → Record reference ≡ said_of (length words) (word_at words (h.walk + 3))
       → walk ≡ stands_behind (is.given ++ reference ∷ []) → is_reference (length words) walk ≡ true → walk ≡ reference
-      → Goes shape.size version a words words (HistGives shape (record h { reference = reference; walk = walk; stage = Comparing 0 }) More a)
+      → StepsBy shape.size version a words words (HistGives shape (record h { reference = reference; walk = walk; stage = Comparing 0 }) More a)
   meets reference walk says walked reach here =
       let within = reference_within shape.size reference (is_wide shape is.lawful_shape) (subst (λ (p : ℕ × ℕ). is_reference p.0 p.1 ≡ true) (λ i. (long i, here i)) reach) in
       goes_with (loads (Record reference) says) (λ b (beside, free, front). (
@@ -120,7 +120,7 @@ module _ (shape : Dimensions) (version : ℕ) (h : Hist) (a : Actor) (words : Li
 
   -- a word that no list has: it stands where it stood
   pub strays : (walk : ℕ) → Stray ≡ said_of (length words) (word_at words (h.walk + 3)) → walk ≡ h.walk
-      → Goes shape.size version a words words (HistGives shape (record h { walk = walk }) More a)
+      → StepsBy shape.size version a words words (HistGives shape (record h { walk = walk }) More a)
   strays walk says here =
       goes_with (loads Stray says) (λ b (beside, free, front). (
         beside,
@@ -139,7 +139,7 @@ module _ (shape : Dimensions) (version : ℕ) (h : Hist) (a : Actor) (words : Li
   -- at the end of the list it begins to make its record
   pub ends : (walk : ℕ) (making : MakingOf) → End ≡ said_of (length words) (word_at words (h.walk + 3)) → walk ≡ h.walk
       → IsStarted h.shape (vec_len h.payload) 1 making
-      → Goes shape.size version a words words (HistGives shape (record h { walk = walk; stage = Making making }) More a)
+      → StepsBy shape.size version a words words (HistGives shape (record h { walk = walk; stage = Making making }) More a)
   ends walk making says here starts = goes_with (loads End says) (λ b (beside, free, front). (
     beside,
     record {

@@ -68,7 +68,7 @@ impl Segment {
     ghost use Rattle.std.specs.Prelude.{[]};
     ghost use Rattle.live_segment.specs.Steps.{Stepped};
     ghost use Rattle.live_segment.specs.Refusing.{MayGiveUp, flags_notes, refusing_notes};
-    ghost use Rattle.live_segment.specs.Telling.{Noted};
+    ghost use Rattle.live_segment.specs.GhostNotes.{Noted};
 
     // A call that counts is refused where the corrupt flag is among them.
     pub(crate) fn load_flags(&self, seat: &mut Pass) -> u64

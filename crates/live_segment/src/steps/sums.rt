@@ -4,7 +4,7 @@ ghost use Rattle.std.specs.Prelude.{◌+◌, ◌<◌, ◌≤◌};
 ghost use Rattle.segment_machine.specs.Event.{taking_event};
 ghost use Rattle.segment_machine.specs.Taking.{load_count, load_sum};
 ghost use Rattle.live_segment.specs.Samples.{LoadsCountOfSample, LoadsSum, SamplesAreFew, SamplesStandBehind};
-ghost use Rattle.segment_promises.specs.Values.{StandOnce};
+ghost use Rattle.segment_promises.specs.Values.{NoRepeats};
 
 use crate::rule::{Announcement, Pass};
 use crate::segment::Segment;
@@ -47,7 +47,7 @@ impl Segment {
         requires room { histogram + 15 ≤ self.now.setting.shape.size }
         ensures step { Stepped seat.old (taking_event (load_sum histogram)) result seat.new }
         ensures behind { SamplesStandBehind seat.old.me.0 }
-        ensures once { StandOnce seat.old.me.0.seen.chain }
+        ensures once { NoRepeats seat.old.me.0.seen.chain }
     {
         self.table
             .shared

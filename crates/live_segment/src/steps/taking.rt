@@ -84,7 +84,7 @@ impl Segment {
     ghost use Rattle.live_segment.specs.Holders.{MayStep, table_of};
     ghost use Rattle.live_segment.specs.Steps.{Stepped};
     ghost use Rattle.live_segment.specs.Taking.{MayAnswer, HasAnswered, MayBeginDelta, HasBegunDelta};
-    ghost use Rattle.live_segment.specs.Telling.{MayDo, Noted};
+    ghost use Rattle.live_segment.specs.GhostNotes.{MayDo, Noted};
 
     // A delta of a histogram with buckets begins: its single word is loaded.
     pub(crate) fn take_single(&self, seat: &mut Pass, histogram: u64) -> u64

@@ -27,7 +27,7 @@ impl Play<Announcement, Actor> for LoadPublished {
 
 impl Segment {
     ghost use Rattle.live_segment.specs.Holders.{MayStep};
-    ghost use Rattle.segment_promises.specs.Values.{StandOnce};
+    ghost use Rattle.segment_promises.specs.Values.{NoRepeats};
     ghost use Rattle.live_segment.specs.Records.{KnowsOwnNames, KnowsOwnSamples};
     ghost use Rattle.live_segment.specs.Steps.{Stepped};
 
@@ -35,7 +35,7 @@ impl Segment {
         requires may { MayStep self.now seat.old (walking_event (load_next at)) }
         requires room { at + 5 ≤ self.now.setting.shape.size }
         ensures step { Stepped seat.old (walking_event (load_next at)) result seat.new }
-        ensures once { StandOnce seat.old.me.0.seen.chain }
+        ensures once { NoRepeats seat.old.me.0.seen.chain }
         ensures own { KnowsOwnNames seat.old.me.0 }
         ensures samples { KnowsOwnSamples seat.old.me.0 }
     {

@@ -13,7 +13,7 @@ use Rattle.alloc_core.specs.Layout.{IsShown}
 use Rattle.bucket_ranges.specs.declared.single.SingleWord.{SingleWord}
 use Rattle.bucket_ranges.specs.Spec.{buckets_of}
 use Rattle.bucket_ranges.specs.Single.{packed_bucket, units_packed, single_of}
-use Rattle.segment_machine.specs.declared.entry.Counting.{Counting}
+use Rattle.segment_machine.specs.declared.entry.EntryProgress.{EntryProgress}
 use Rattle.segment_machine.specs.declared.place.Place.{Place}
 use Rattle.segment_machine.specs.declared.place.Place.TheVariants.{Spent, SumLoaded}
 use Rattle.segment_machine.specs.declared.actor.Actor.{Actor}
@@ -43,7 +43,7 @@ use Rattle.segment_invariant.proofs.Frames.Together.{IsLater, moment, ended_bega
 
 pub record Deed : Type 0 where
   pub place : Place
-  pub running : List Counting
+  pub running : List EntryProgress
   pub own : List Own
   pub taken : List Taken
   pub seen : Seen

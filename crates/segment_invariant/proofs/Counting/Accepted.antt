@@ -8,7 +8,7 @@ use lib.ListN.{get_elem?}
 use Rattle.atomic_table.proofs.Lists.{set_else}
 use Rattle.segment_image.specs.Shape.{Dimensions}
 use Rattle.segment_machine.specs.declared.entry.Entry.{Entry}
-use Rattle.segment_machine.specs.declared.entry.Counting.{Counting}
+use Rattle.segment_machine.specs.declared.entry.EntryProgress.{EntryProgress}
 use Rattle.segment_machine.specs.declared.place.Place.TheVariants.{Spent}
 use Rattle.segment_machine.specs.declared.actor.Actor.{Actor}
 use Rattle.segment_machine.specs.Entry.{is_counted, is_noted, has_ended, counted_among, noted_among, tally_units, tally_noted}
@@ -38,7 +38,7 @@ rest_most total sums zero xs ys = let both = sums xs ys in omega (arith, both)
 rest_most total sums (suc n) [] ys = let nothing = sums [] [] in omega (arith, nothing)
 rest_most total sums (suc n) (x ∷ xs) ys = rest_most total sums n xs ys
 
-pub ended_noted : (c : Counting) → has_ended c ≡ true → is_noted c ≡ true
+pub ended_noted : (c : EntryProgress) → has_ended c ≡ true → is_noted c ≡ true
 ended_noted c ended = (and_parts _ (is_noted c) ended).1
 
 module _ (shape : Dimensions) (opened : Anatomy) (state : State) (kept : Invariant shape opened state) (id : ℕ) (a : Actor)

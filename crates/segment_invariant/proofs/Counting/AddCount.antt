@@ -14,7 +14,7 @@ use Rattle.bucket_ranges.specs.declared.spec.Spec.TheVariants as spec
 use Rattle.bucket_ranges.specs.Spec.{buckets_of}
 use Rattle.segment_image.specs.Shape.{Dimensions}
 use Rattle.segment_image.specs.Words.{word_at}
-use Rattle.segment_machine.specs.declared.entry.Counting.{Counting}
+use Rattle.segment_machine.specs.declared.entry.EntryProgress.{EntryProgress}
 use Rattle.segment_machine.specs.declared.actor.Actor.{Actor}
 use Rattle.segment_machine.specs.declared.actor.Known.{Known}
 use Rattle.segment_machine.specs.declared.place.Look.{Look}
@@ -49,7 +49,7 @@ use Rattle.segment_invariant.proofs.Counting.Seen.{off_was}
 use Rattle.segment_invariant.proofs.Counting.Sights.{word_within}
 
 module _ (shape : Dimensions) (opened : Anatomy) (state : State) (kept : Invariant shape opened state) (id : ℕ) (a : Actor)
-    (mine : get_elem? state.actors id ≡ some a) (recorder : is_opener a.role ≡ false) (entry : Counting) (next : Next a.entries.running entry) (uncounted : is_counted entry ≡ false)
+    (mine : get_elem? state.actors id ≡ some a) (recorder : is_opener a.role ≡ false) (entry : EntryProgress) (next : Next a.entries.running entry) (uncounted : is_counted entry ≡ false)
     (look : Look) (known : Known) (off : LooksOff a look known) (named : entry.entry.name ≡ known.name)
     (bucket : ℕ) (is_key : IsKeyOfBucket known bucket entry.entry.key) where
   unbound : is_bound a.hand.place ≡ false
@@ -247,7 +247,7 @@ module _ (shape : Dimensions) (opened : Anatomy) (state : State) (kept : Invaria
   -- the units are those of the next entry, and the word is the count of its bucket
   abbrev pub CountsBucket : ℕ → ℕ → Type 0
   CountsBucket at units =
-      (c : Counting) × (known : Known) × CountsNext a c × (c.entry.name ≡ known.name) × (c.entry.units ≡ units)
+      (c : EntryProgress) × (known : Known) × CountsNext a c × (c.entry.name ≡ known.name) × (c.entry.units ≡ units)
       × ((look : Look) × (bucket : ℕ) × LooksOff a look known × IsKeyOfBucket known bucket c.entry.key × (at ≡ look.counts + 4 + bucket))
 
   -- adding them keeps what holds

@@ -12,7 +12,7 @@ use Rattle.alloc_core.proofs.Layouts.{length_shown}
 use Rattle.segment_image.specs.Shape.{Dimensions}
 use Rattle.segment_image.specs.Words.{word_at}
 use Rattle.bucket_ranges.specs.Spec.{buckets_of}
-use Rattle.segment_machine.specs.declared.entry.Counting.{Counting}
+use Rattle.segment_machine.specs.declared.entry.EntryProgress.{EntryProgress}
 use Rattle.segment_machine.specs.declared.entry.Entry.{Entry}
 use Rattle.segment_machine.specs.declared.actor.Actor.{Actor}
 use Rattle.segment_machine.specs.declared.actor.Known.{Known}
@@ -51,9 +51,9 @@ use Rattle.segment_invariant.proofs.Changes.Words.{Turns, behind, came_from, sta
 
 module _ (shape : Dimensions) (opened : Anatomy) (state : State) (kept : Invariant shape opened state) (id : ℕ) (a : Actor)
     (mine : get_elem? state.actors id ≡ some a) (recorder : is_opener a.role ≡ false) (unbound : is_bound a.hand.place ≡ false)
-    (c : Counting) (next : Next a.entries.running c) (known : Known) (has : Contains a.answers.names known) (named : known.name ≡ c.entry.name)
+    (c : EntryProgress) (next : Next a.entries.running c) (known : Known) (has : Contains a.answers.names known) (named : known.name ≡ c.entry.name)
     (counted : is_counted c ≡ true) (summed : is_summed c ≡ true) (unnoted : is_noted c ≡ false) where
-  abbrev d : Counting
+  abbrev d : EntryProgress
   d = record c { noted = true }
 
   abbrev units : ℕ
@@ -106,16 +106,16 @@ module _ (shape : Dimensions) (opened : Anatomy) (state : State) (kept : Invaria
   -- ---- its entries
 
   summed_same : summed_of b ≡ summed_of a
-  summed_same = passes_same is_summed next.behind c d refl refl a.entries.first a.entries.log next.front ∙ ap (λ (l : List Counting). a.entries.first ++ summed_among (a.entries.log ++ l)) (sym next.is)
+  summed_same = passes_same is_summed next.behind c d refl refl a.entries.first a.entries.log next.front ∙ ap (λ (l : List EntryProgress). a.entries.first ++ summed_among (a.entries.log ++ l)) (sym next.is)
 
   -- they come to so many units more
   noted_more : (name : List ℕ) → tally_noted (noted_of b) name ≡ tally_noted (noted_of a) name + of_name r.name name units
   noted_more name =
       let beside = passes_beside is_noted [] a.entries.log next.front next.behind c d (λ entries. tally_noted entries name) (noted_total name) in
-      let off : tally_noted (map (λ (c : Counting). c.entry) (cond (is_noted c) (c ∷ []) [])) name ≡ 0 =
-      ap (λ (t : Bool). tally_noted (map (λ (c : Counting). c.entry) (cond t (c ∷ []) [])) name) unnoted in
+      let off : tally_noted (map (λ (c : EntryProgress). c.entry) (cond (is_noted c) (c ∷ []) [])) name ≡ 0 =
+      ap (λ (t : Bool). tally_noted (map (λ (c : EntryProgress). c.entry) (cond t (c ∷ []) [])) name) unnoted in
       let on : tally_noted (c.entry ∷ []) name ≡ 0 + of_name r.name name units = ap (λ (n : List ℕ). 0 + (if bytes_eq n name then units else 0)) (sym called) in
-      let was = ap (λ (l : List Counting). tally_noted (noted_among (a.entries.log ++ l)) name) next.is in
+      let was = ap (λ (l : List EntryProgress). tally_noted (noted_among (a.entries.log ++ l)) name) next.is in
       omega (arith, beside, off, on, was)
 
   held_more : (name : List ℕ) → of_name r.name name v ≡ of_name r.name name r.noted + of_name r.name name units
@@ -231,8 +231,8 @@ module _ (shape : Dimensions) (opened : Anatomy) (state : State) (kept : Invaria
       deed_is = deed shape opened state kept id a mine recorder unbound c d next refl known has r.sum v 13 v turns narrow (a.seen.counts ++ s ∷ []) refl
 
       amounts : d.summed ≡ true → d.entry.amount ≢ pos 0
-      amounts is = All-contains (λ (c : Counting). c.summed ≡ true → c.entry.amount ≢ pos 0) a.entries.running c (kept.each id a mine lived).calls.ordered.amounted
-          (subst (λ (l : List Counting). Contains l c) (sym next.is) (Contains-append_right next.front (c ∷ next.behind) c (0, omega arith, refl))) is
+      amounts is = All-contains (λ (c : EntryProgress). c.summed ≡ true → c.entry.amount ≢ pos 0) a.entries.running c (kept.each id a mine lived).calls.ordered.amounted
+          (subst (λ (l : List EntryProgress). Contains l c) (sym next.is) (Contains-append_right next.front (c ∷ next.behind) c (0, omega arith, refl))) is
 
       stands_now : HasRecord new.pieces known.reference (with_amount r r.sum v)
       stands_now = stands_then shape opened state kept known.reference (histogram r) (histogram (with_amount r r.sum v)) 13 v stands turns
@@ -260,11 +260,11 @@ module _ (shape : Dimensions) (opened : Anatomy) (state : State) (kept : Invaria
 
       cost_same : (name : List ℕ) → summed_cost name b ≡ summed_cost name a
       cost_same name =
-          let long : length (filter (λ (c : Counting). c.summed) (next.front ++ d ∷ next.behind)) ≡ length (filter (λ (c : Counting). c.summed) a.entries.running) =
-          sym (length-map (filter (λ (c : Counting). c.summed) (next.front ++ d ∷ next.behind)) (λ (c : Counting). c.entry))
-          ∙ (ap length (passes_same (λ (c : Counting). c.summed) next.behind c d refl refl [] [] next.front)
-          ∙ (length-map (filter (λ (c : Counting). c.summed) (next.front ++ c ∷ next.behind)) (λ (c : Counting). c.entry)
-          ∙ ap (λ (l : List Counting). length (filter (λ (c : Counting). c.summed) l)) (sym next.is))) in
+          let long : length (filter (λ (c : EntryProgress). c.summed) (next.front ++ d ∷ next.behind)) ≡ length (filter (λ (c : EntryProgress). c.summed) a.entries.running) =
+          sym (length-map (filter (λ (c : EntryProgress). c.summed) (next.front ++ d ∷ next.behind)) (λ (c : EntryProgress). c.entry))
+          ∙ (ap length (passes_same (λ (c : EntryProgress). c.summed) next.behind c d refl refl [] [] next.front)
+          ∙ (length-map (filter (λ (c : EntryProgress). c.summed) (next.front ++ c ∷ next.behind)) (λ (c : EntryProgress). c.entry)
+          ∙ ap (λ (l : List EntryProgress). length (filter (λ (c : EntryProgress). c.summed) l)) (sym next.is))) in
           ap (λ (n : ℕ). cost_of a.units.costs name + (if n == 0 then 0 else cost_of a.units.held name)) long
 
   -- ---- its units are few
@@ -273,9 +273,9 @@ module _ (shape : Dimensions) (opened : Anatomy) (state : State) (kept : Invaria
   units_few =
       let fits = kept.each id a mine lived in
       let (name, cost, held, within, knows) = fits.calls.within (λ none_runs. not_empty next.front next.behind c (sym next.is ∙ none_runs)) in
-      let entries = map (λ (c : Counting). c.entry) a.entries.running in
-      let there : Contains entries c.entry = contains_map (λ (c : Counting). c.entry) a.entries.running c
-      (subst (λ (l : List Counting). Contains l c) (sym next.is) (Contains-append_right next.front (c ∷ next.behind) c (0, omega arith, refl))) in
+      let entries = map (λ (c : EntryProgress). c.entry) a.entries.running in
+      let there : Contains entries c.entry = contains_map (λ (c : EntryProgress). c.entry) a.entries.running c
+      (subst (λ (l : List EntryProgress). Contains l c) (sym next.is) (Contains-append_right next.front (c ∷ next.behind) c (0, omega arith, refl))) in
       let its : c.entry.name ≡ name = All-contains (λ (e : Entry). e.name ≡ name) entries c.entry within.of_name there in
       let (i, at) = at_from entries c.entry there in
       let least = sum_at_least (λ (e : Entry). if is_of name e then e.units else 0) entries i c.entry at in
@@ -304,7 +304,7 @@ module _ (shape : Dimensions) (opened : Anatomy) (state : State) (kept : Invaria
 pub add_redundant_kept : (at units : ℕ) → EventKeeps (counting_event (add_redundant at units))
 add_redundant_kept at amount shape opened state id a kept mine recorder (unbound, c, known, ((rest, is_next), counted, summed), units_are, has, refers, named) =
     let next = next_of a.entries.running c rest is_next in
-    let d : Counting = record c { noted = true } in
+    let d : EntryProgress = record c { noted = true } in
     let unnoted = last_open c counted summed next.goes in
     let (r, (k, there), called) = the_record shape opened state kept id a mine recorder unbound c d next refl known has in
     let found : word_at state.words (at + 13) ≡ r.noted =
@@ -315,7 +315,7 @@ add_redundant_kept at amount shape opened state id a kept mine recorder (unbound
     let small = noted_small shape opened state kept id a mine recorder unbound c next known has named counted summed unnoted in
     let carry = no_carry shape opened state kept id a mine recorder unbound c next known has named counted summed unnoted in
     happens opened.version state id a (counting_event (add_redundant at amount)) (omega (arith, within, size, refers)) shape opened (
-      subst (λ (p : ℕ × ℕ × ℕ × ℕ × List Counting). Invariant shape opened (record {
+      subst (λ (p : ℕ × ℕ × ℕ × ℕ × List EntryProgress). Invariant shape opened (record {
         words = set state.words (p.0 + 13) p.1;
         cursors = state.cursors;
         actors = set state.actors id (record a {
@@ -327,5 +327,5 @@ add_redundant_kept at amount shape opened state id a kept mine recorder (unbound
       omega (arith, found, units_are, small),
     )
   where
-    last_open : (c : Counting) → is_counted c ≡ true → is_summed c ≡ true → has_ended c ≡ false → is_noted c ≡ false
+    last_open : (c : EntryProgress) → is_counted c ≡ true → is_summed c ≡ true → has_ended c ≡ false → is_noted c ≡ false
     last_open c counted summed goes = sym ((λ i. counted i && summed i && is_noted c)) ∙ goes

@@ -11,7 +11,7 @@ use Rattle.alloc_core.proofs.Owners.{set_at}
 use Rattle.bucket_ranges.specs.declared.spec.Spec.TheVariants as spec
 use Rattle.segment_image.specs.Shape.{Dimensions}
 use Rattle.segment_image.specs.Words.{word_at}
-use Rattle.segment_machine.specs.declared.entry.Counting.{Counting}
+use Rattle.segment_machine.specs.declared.entry.EntryProgress.{EntryProgress}
 use Rattle.segment_machine.specs.declared.actor.Actor.{Actor}
 use Rattle.segment_machine.specs.declared.actor.Known.{Known}
 use Rattle.segment_machine.specs.declared.place.Place.TheVariants.{Spent, Idle}
@@ -51,7 +51,7 @@ one_sample records of value at place first second = ap (λ (l : Listed). l.refer
 
 module _ (shape : Dimensions) (opened : Anatomy) (state : State) (kept : Invariant shape opened state) (id : ℕ) (a : Actor)
     (mine : get_elem? state.actors id ≡ some a) (recorder : is_opener a.role ≡ false) (unbound : is_bound a.hand.place ≡ false)
-    (entry : Counting) (next : Next a.entries.running entry) (uncounted : is_counted entry ≡ false)
+    (entry : EntryProgress) (next : Next a.entries.running entry) (uncounted : is_counted entry ≡ false)
     (known : Known) (has : Contains a.answers.names known) (named : entry.entry.name ≡ known.name)
     (at : ℕ) (saw : IsFirstSample a.seen known.reference entry.entry.key at) where
   lives : a.hand.place ≢ Spent
@@ -214,7 +214,7 @@ module _ (shape : Dimensions) (opened : Anatomy) (state : State) (kept : Invaria
   -- the units are those of the next entry, and the word is the count of the first sample of their value
   abbrev pub CountsSample : ℕ → ℕ → Type 0
   CountsSample at units =
-      (c : Counting) × (known : Known) × CountsNext a c × (c.entry.name ≡ known.name) × (c.entry.units ≡ units)
+      (c : EntryProgress) × (known : Known) × CountsNext a c × (c.entry.name ≡ known.name) × (c.entry.units ≡ units)
       × ((sample : ℕ) × MayTurn a × Sparse a known.reference known × IsFirstSample a.seen known.reference c.entry.key sample × (at ≡ sample + 6))
 
   -- adding them keeps what holds

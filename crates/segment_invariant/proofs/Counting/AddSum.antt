@@ -15,7 +15,7 @@ use mathlib.Core.Option.{some, none}
 use lib.ListN.{get_elem?}
 use Rattle.bucket_ranges.proofs.Sums.{sum-small}
 use Rattle.segment_image.specs.Shape.{Dimensions}
-use Rattle.segment_machine.specs.declared.entry.Counting.{Counting}
+use Rattle.segment_machine.specs.declared.entry.EntryProgress.{EntryProgress}
 use Rattle.segment_machine.specs.declared.entry.Entry.{Entry}
 use Rattle.segment_machine.specs.declared.actor.Actor.{Actor}
 use Rattle.segment_machine.specs.Entry.{is_counted, is_summed, is_noted, is_of, tally_sum, tally_noted, summed_among, noted_among}
@@ -119,9 +119,9 @@ or_off true c e = absurd (cc e)
 
 module _ (shape : Dimensions) (opened : Anatomy) (state : State) (kept : Invariant shape opened state) (id : ℕ) (a : Actor)
     (mine : get_elem? state.actors id ≡ some a) (recorder : is_opener a.role ≡ false) (unbound : is_bound a.hand.place ≡ false)
-    (c : Counting) (next : Next a.entries.running c) (known : Known) (has : Contains a.answers.names known) (named : known.name ≡ c.entry.name)
+    (c : EntryProgress) (next : Next a.entries.running c) (known : Known) (has : Contains a.answers.names known) (named : known.name ≡ c.entry.name)
     (counted : is_counted c ≡ true) (unsummed : is_summed c ≡ false) where
-  abbrev d : Counting
+  abbrev d : EntryProgress
   d = record c { summed = true }
 
   abbrev amount : ℤ
@@ -182,8 +182,8 @@ module _ (shape : Dimensions) (opened : Anatomy) (state : State) (kept : Invaria
   abbrev behind_it : List Entry
   behind_it = map (λ c. c.entry) next.behind
 
-  all_entries : map (λ (c : Counting). c.entry) a.entries.running ≡ before_it ++ c.entry ∷ behind_it
-  all_entries = ap (map (λ (c : Counting). c.entry)) next.is ∙ map-append (λ (c : Counting). c.entry) next.front (c ∷ next.behind)
+  all_entries : map (λ (c : EntryProgress). c.entry) a.entries.running ≡ before_it ++ c.entry ∷ behind_it
+  all_entries = ap (map (λ (c : EntryProgress). c.entry)) next.is ∙ map-append (λ (c : EntryProgress). c.entry) next.front (c ∷ next.behind)
 
   -- the call holds as much as its amount asks for
   holds : (cost : ℕ) × (cost_of a.units.held r.name ≡ cost) × (unsigned_abs amount ≤ 2147483648 * cost)
@@ -196,7 +196,7 @@ module _ (shape : Dimensions) (opened : Anatomy) (state : State) (kept : Invaria
       let its : c.entry.name ≡ name = All-contains (λ (e : Entry). e.name ≡ name) (before_it ++ c.entry ∷ behind_it) c.entry
       (subst (All (λ (e : Entry). e.name ≡ name)) all_entries within.of_name) (Contains-append_right before_it (c.entry ∷ behind_it) c.entry (0, omega arith, refl)) in
       let test : bytes_eq name r.name ≡ true = (bytes_eq-Decides name r.name).1 (sym (called ∙ its)) in
-      let total : tally_sum (map (λ (c : Counting). c.entry) a.entries.running) name ≡ amount =
+      let total : tally_sum (map (λ (c : EntryProgress). c.entry) a.entries.running) name ≡ amount =
       ap (λ (l : List Entry). tally_sum l name) all_entries
       ∙ (sum_total name before_it (c.entry ∷ behind_it)
       ∙ (ap (λ z. z +ℤ tally_sum (c.entry ∷ behind_it) name) (zeros name before_it (λ e there. All-contains (λ (x : Entry). x.amount ≡ pos 0) before_it e zero.0 there))
@@ -214,36 +214,36 @@ module _ (shape : Dimensions) (opened : Anatomy) (state : State) (kept : Invaria
       )
 
   -- no amount of the call was added before
-  none_summed : filter (λ (c : Counting). c.summed) a.entries.running ≡ []
-  none_summed = filter_nothing (λ (c : Counting). c.summed) a.entries.running (λ x there. off x there (x.summed) refl)
+  none_summed : filter (λ (c : EntryProgress). c.summed) a.entries.running ≡ []
+  none_summed = filter_nothing (λ (c : EntryProgress). c.summed) a.entries.running (λ x there. off x there (x.summed) refl)
     where
-      zero_of : (x : Counting) → Contains a.entries.running x → (x ≡ c) ⊎ (x.entry.amount ≡ pos 0)
+      zero_of : (x : EntryProgress) → Contains a.entries.running x → (x ≡ c) ⊎ (x.entry.amount ≡ pos 0)
       zero_of x there = ⊎_elim
-          (λ first. inr (All-contains (λ (x : Entry). x.amount ≡ pos 0) before_it x.entry holds.3 (contains_map (λ (c : Counting). c.entry) next.front x first)))
+          (λ first. inr (All-contains (λ (x : Entry). x.amount ≡ pos 0) before_it x.entry holds.3 (contains_map (λ (c : EntryProgress). c.entry) next.front x first)))
           (λ rest. ⊎_elim
           (λ one. inl (sym (one_in c x one)))
-          (λ last. inr (All-contains (λ (x : Entry). x.amount ≡ pos 0) behind_it x.entry holds.4 (contains_map (λ (c : Counting). c.entry) next.behind x last)))
+          (λ last. inr (All-contains (λ (x : Entry). x.amount ≡ pos 0) behind_it x.entry holds.4 (contains_map (λ (c : EntryProgress). c.entry) next.behind x last)))
           (Contains-append_cases (c ∷ []) next.behind x rest))
-          (Contains-append_cases next.front (c ∷ next.behind) x (subst (λ (l : List Counting). Contains l x) next.is there))
+          (Contains-append_cases next.front (c ∷ next.behind) x (subst (λ (l : List EntryProgress). Contains l x) next.is there))
 
-      off : (x : Counting) → Contains a.entries.running x → (t : Bool) → x.summed ≡ t → t ≡ false
+      off : (x : EntryProgress) → Contains a.entries.running x → (t : Bool) → x.summed ≡ t → t ≡ false
       off x there false is = refl
       off x there true is = absurd (⊎_elim
-          (λ same. cc (sym is ∙ (ap (λ (z : Counting). z.summed) same ∙ flags_off.0)))
-          (λ nothing. All-contains (λ (c : Counting). c.summed ≡ true → c.entry.amount ≢ pos 0) a.entries.running x (kept.each id a mine lived).calls.ordered.amounted there is nothing)
+          (λ same. cc (sym is ∙ (ap (λ (z : EntryProgress). z.summed) same ∙ flags_off.0)))
+          (λ nothing. All-contains (λ (c : EntryProgress). c.summed ≡ true → c.entry.amount ≢ pos 0) a.entries.running x (kept.each id a mine lived).calls.ordered.amounted there is nothing)
           (zero_of x there))
 
   -- ---- costs
 
   cost_was : (name : List ℕ) → summed_cost name a ≡ cost_of a.units.costs name + 0
-  cost_was name = ap (λ (l : List Counting). cost_of a.units.costs name + (if length l == 0 then 0 else cost_of a.units.held name)) none_summed
+  cost_was name = ap (λ (l : List EntryProgress). cost_of a.units.costs name + (if length l == 0 then 0 else cost_of a.units.held name)) none_summed
 
   cost_is : (name : List ℕ) → summed_cost name b ≡ cost_of a.units.costs name + cost_of a.units.held name
   cost_is name =
-      let parts = ap length (filter-append (λ (c : Counting). c.summed) next.front (d ∷ next.behind))
-      ∙ length-append (filter (λ (c : Counting). c.summed) next.front) (filter (λ (c : Counting). c.summed) (d ∷ next.behind)) in
+      let parts = ap length (filter-append (λ (c : EntryProgress). c.summed) next.front (d ∷ next.behind))
+      ∙ length-append (filter (λ (c : EntryProgress). c.summed) next.front) (filter (λ (c : EntryProgress). c.summed) (d ∷ next.behind)) in
       ap (λ (t : Bool). cost_of a.units.costs name + (if t then 0 else cost_of a.units.held name))
-      (ne_eqb (length (filter (λ (c : Counting). c.summed) (next.front ++ d ∷ next.behind))) 0 (λ none. omega (arith, none, parts)))
+      (ne_eqb (length (filter (λ (c : EntryProgress). c.summed) (next.front ++ d ∷ next.behind))) 0 (λ none. omega (arith, none, parts)))
 
   costs_more : (name : List ℕ) → summed_costs name actors ≡ summed_costs name state.actors + cost_of a.units.held name
   costs_more name =
@@ -334,8 +334,8 @@ module _ (shape : Dimensions) (opened : Anatomy) (state : State) (kept : Invaria
   sums_more name =
       passes_moved is_summed a.entries.first a.entries.log next.front next.behind c d (λ entries. tally_sum entries name) (sum_total name) (amount_of_name r.name name amount)
       (ap (λ (n : List ℕ). pos 0 +ℤ (if bytes_eq n name then amount else pos 0)) (sym called)
-      ∙ sym (ap (λ (t : Bool). tally_sum (map (λ (c : Counting). c.entry) (cond t (c ∷ []) [])) name +ℤ amount_of_name r.name name amount) unsummed))
-      ∙ ap (λ (l : List Counting). tally_sum (a.entries.first ++ summed_among (a.entries.log ++ l)) name +ℤ amount_of_name r.name name amount) (sym next.is)
+      ∙ sym (ap (λ (t : Bool). tally_sum (map (λ (c : EntryProgress). c.entry) (cond t (c ∷ []) [])) name +ℤ amount_of_name r.name name amount) unsummed))
+      ∙ ap (λ (l : List EntryProgress). tally_sum (a.entries.first ++ summed_among (a.entries.log ++ l)) name +ℤ amount_of_name r.name name amount) (sym next.is)
 
   sum_held_more : (name : List ℕ) → amount_of_name r.name name (cast_signed w64 sum) ≡ amount_of_name r.name name s0 +ℤ amount_of_name r.name name amount
   sum_held_more name = by_test (bytes_eq r.name name)
@@ -345,7 +345,7 @@ module _ (shape : Dimensions) (opened : Anatomy) (state : State) (kept : Invaria
       by_test false = refl
 
   noted_same : noted_of b ≡ noted_of a
-  noted_same = passes_same is_noted next.behind c d refl refl [] a.entries.log next.front ∙ ap (λ (l : List Counting). noted_among (a.entries.log ++ l)) (sym next.is)
+  noted_same = passes_same is_noted next.behind c d refl refl [] a.entries.log next.front ∙ ap (λ (l : List EntryProgress). noted_among (a.entries.log ++ l)) (sym next.is)
 
   apart_nothing : (name : List ℕ) → is_of name c.entry ≡ false → tally_sum (summed_of b) name ≡ tally_sum (summed_of a) name
   apart_nothing name other =
@@ -370,7 +370,7 @@ module _ (shape : Dimensions) (opened : Anatomy) (state : State) (kept : Invaria
 pub add_sum_kept : (histogram_at : ℕ) (amount : ℤ) → EventKeeps (counting_event (add_sum histogram_at amount))
 add_sum_kept at amount shape opened state id a kept mine recorder (unbound, c, known, ((rest, is_next), counted, unsummed), amount_is, has, refers, named) =
     let next = next_of a.entries.running c rest is_next in
-    let d : Counting = record c { summed = true } in
+    let d : EntryProgress = record c { summed = true } in
     let lived = turner_lives shape opened state kept id a mine recorder unbound c d next refl known has in
     let (r, (k, there), called) = the_record shape opened state kept id a mine recorder unbound c d next refl known has in
     let found : word_at state.words (at + 11) ≡ r.sum =
@@ -378,7 +378,7 @@ add_sum_kept at amount shape opened state id a kept mine recorder (unbound, c, k
     let (from, five, within) = block_within shape opened state kept known.reference (histogram r) (k, there) refl in
     let size = length_shown shape state.words (layout_of kept.anatomy) kept.shown in
     happens opened.version state id a (counting_event (add_sum at amount)) (omega (arith, within, size, refers)) shape opened (
-      subst (λ (p : ℕ × ℕ × ℤ × List Counting). Invariant shape opened (record {
+      subst (λ (p : ℕ × ℕ × ℤ × List EntryProgress). Invariant shape opened (record {
         words = set state.words (p.0 + 11) ((p.1 + cast_unsigned w64 p.2) % 2 ^ 64);
         cursors = state.cursors;
         actors = set state.actors id (record a { hand = record a.hand { place = Idle }; entries = record a.entries { running = p.3 } });

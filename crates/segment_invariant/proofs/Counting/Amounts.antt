@@ -7,7 +7,7 @@ use mathlib.Core.Option.{some}
 use lib.ListN.{get_elem?}
 use Rattle.atomic_table.proofs.Lists.{set_else}
 use Rattle.segment_image.specs.Shape.{Dimensions}
-use Rattle.segment_machine.specs.declared.entry.Counting.{Counting}
+use Rattle.segment_machine.specs.declared.entry.EntryProgress.{EntryProgress}
 use Rattle.segment_machine.specs.declared.entry.Entry.{Entry}
 use Rattle.segment_machine.specs.declared.place.Place.TheVariants.{Spent, Idle}
 use Rattle.segment_machine.specs.declared.actor.Actor.{Actor}
@@ -49,7 +49,7 @@ lawful_amount version page r sum noted narrow is = lawful_anew version page r r.
 
 module _ (shape : Dimensions) (opened : Anatomy) (state : State) (kept : Invariant shape opened state) (id : ℕ) (a : Actor)
     (mine : get_elem? state.actors id ≡ some a) (recorder : is_opener a.role ≡ false) (unbound : is_bound a.hand.place ≡ false)
-    (c d : Counting) (next : Next a.entries.running c) (entry : d.entry ≡ c.entry) (known : Known) (has : Contains a.answers.names known) where
+    (c d : EntryProgress) (next : Next a.entries.running c) (entry : d.entry ≡ c.entry) (known : Known) (has : Contains a.answers.names known) where
   -- who may turn lives, and has nothing on its way
   pub turner_lives : a.hand.place ≢ Spent
   turner_lives spent = cc (unbound, ap is_bound spent)
@@ -93,7 +93,7 @@ module _ (shape : Dimensions) (opened : Anatomy) (state : State) (kept : Invaria
     pub counted_same : counted_of b ≡ counted_of a
     counted_same =
         passes_same is_counted next.behind c d entry counted a.entries.first a.entries.log next.front
-        ∙ ap (λ (l : List Counting). a.entries.first ++ counted_among (a.entries.log ++ l)) (sym next.is)
+        ∙ ap (λ (l : List EntryProgress). a.entries.first ++ counted_among (a.entries.log ++ l)) (sym next.is)
 
     role : SameRole b a
     role = record {

@@ -10,7 +10,7 @@ use lib.ListN.{get_elem?}
 use Rattle.atomic_table.proofs.Lists.{set_else}
 use Rattle.bucket_ranges.specs.declared.spec.Spec.TheVariants as spec
 use Rattle.segment_image.specs.Shape.{Dimensions}
-use Rattle.segment_machine.specs.declared.entry.Counting.{Counting}
+use Rattle.segment_machine.specs.declared.entry.EntryProgress.{EntryProgress}
 use Rattle.segment_machine.specs.declared.entry.Entry.{Entry}
 use Rattle.segment_machine.specs.declared.place.Place.TheVariants.{Spent, Idle}
 use Rattle.segment_machine.specs.declared.actor.Actor.{Actor}
@@ -40,15 +40,15 @@ use Rattle.segment_invariant.proofs.Changes.Words.{Turns, behind, turned_onward,
 -- ---- the entry
 
 -- what it comes to, of a name and a key
-abbrev pub its_units : Counting → List ℕ → ℤ → ℕ
+abbrev pub its_units : EntryProgress → List ℕ → ℤ → ℕ
 its_units c name key = if is_of name c.entry && int_eq c.entry.key key then c.entry.units else 0
 
 -- with its units counted
-abbrev pub as_counted : Counting → Counting
+abbrev pub as_counted : EntryProgress → EntryProgress
 as_counted c = record c { counted = true }
 
 -- one that is not counted has units
-pub has_units : (c : Counting) → is_counted c ≡ false → 1 ≤ c.entry.units
+pub has_units : (c : EntryProgress) → is_counted c ≡ false → 1 ≤ c.entry.units
 has_units c uncounted = by_test c.counted c.entry.units uncounted
   where
     by_test : (t : Bool) (n : ℕ) → (t || (n == 0)) ≡ false → 1 ≤ n
@@ -60,11 +60,11 @@ has_units c uncounted = by_test c.counted c.entry.units uncounted
 
 module _ (shape : Dimensions) (opened : Anatomy) (state : State) (kept : Invariant shape opened state) (id : ℕ) (a : Actor)
     (mine : get_elem? state.actors id ≡ some a) (recorder : is_opener a.role ≡ false) (unbound : is_bound a.hand.place ≡ false)
-    (c : Counting) (next : Next a.entries.running c) (uncounted : is_counted c ≡ false) where
+    (c : EntryProgress) (next : Next a.entries.running c) (uncounted : is_counted c ≡ false) where
   lived : a.hand.place ≢ Spent
   lived spent = cc (unbound, ap is_bound spent)
 
-  abbrev d : Counting
+  abbrev d : EntryProgress
   d = as_counted c
 
   abbrev deed : Deed
@@ -103,19 +103,19 @@ module _ (shape : Dimensions) (opened : Anatomy) (state : State) (kept : Invaria
 
   summed_same : summed_of b ≡ summed_of a
   summed_same = passes_same is_summed next.behind c d refl refl a.entries.first a.entries.log next.front
-      ∙ ap (λ (l : List Counting). a.entries.first ++ map (λ (c : Counting). c.entry) (filter is_summed (a.entries.log ++ l))) (sym next.is)
+      ∙ ap (λ (l : List EntryProgress). a.entries.first ++ map (λ (c : EntryProgress). c.entry) (filter is_summed (a.entries.log ++ l))) (sym next.is)
 
   noted_same : noted_of b ≡ noted_of a
   noted_same = passes_same is_noted next.behind c d refl refl [] a.entries.log next.front
-      ∙ ap (λ (l : List Counting). map (λ (c : Counting). c.entry) (filter is_noted (a.entries.log ++ l))) (sym next.is)
+      ∙ ap (λ (l : List EntryProgress). map (λ (c : EntryProgress). c.entry) (filter is_noted (a.entries.log ++ l))) (sym next.is)
 
   counted_more : (name : List ℕ) (key : ℤ) → tally_units (counted_of b) name key ≡ tally_units (counted_of a) name key + its_units c name key
   counted_more name key =
       let beside = passes_beside is_counted a.entries.first a.entries.log next.front next.behind c d (λ entries. tally_units entries name key) (units_total name key) in
-      let off : tally_units (map (λ (c : Counting). c.entry) (cond (is_counted c) (c ∷ []) [])) name key ≡ 0 =
-      ap (λ (t : Bool). tally_units (map (λ (c : Counting). c.entry) (cond t (c ∷ []) [])) name key) uncounted in
+      let off : tally_units (map (λ (c : EntryProgress). c.entry) (cond (is_counted c) (c ∷ []) [])) name key ≡ 0 =
+      ap (λ (t : Bool). tally_units (map (λ (c : EntryProgress). c.entry) (cond t (c ∷ []) [])) name key) uncounted in
       let on : tally_units (c.entry ∷ []) name key ≡ 0 + its_units c name key = refl in
-      let was = ap (λ (l : List Counting). tally_units (a.entries.first ++ map (λ (c : Counting). c.entry) (filter is_counted (a.entries.log ++ l))) name key) next.is in
+      let was = ap (λ (l : List EntryProgress). tally_units (a.entries.first ++ map (λ (c : EntryProgress). c.entry) (filter is_counted (a.entries.log ++ l))) name key) next.is in
       omega (arith, beside, off, on, was)
 
   -- of another name it comes to nothing
@@ -125,7 +125,7 @@ module _ (shape : Dimensions) (opened : Anatomy) (state : State) (kept : Invaria
   -- what is counted was counted before, or is its entry
   counted_from : (entry : Entry) → Contains (counted_of b) entry → Contains (counted_of a) entry ⊎ (c.entry ≡ entry)
   counted_from entry there = ⊎_elim
-      (λ was. inl (subst (λ (l : List Counting). Contains (a.entries.first ++ map (λ (c : Counting). c.entry) (filter is_counted (a.entries.log ++ l))) entry) (sym next.is) was))
+      (λ was. inl (subst (λ (l : List EntryProgress). Contains (a.entries.first ++ map (λ (c : EntryProgress). c.entry) (filter is_counted (a.entries.log ++ l))) entry) (sym next.is) was))
       inr
       (passes_from is_counted next.behind c d entry a.entries.first a.entries.log next.front there)
 
@@ -137,17 +137,17 @@ module _ (shape : Dimensions) (opened : Anatomy) (state : State) (kept : Invaria
 
   cost_same : (name : List ℕ) → summed_cost name b ≡ summed_cost name a
   cost_same name =
-      let long : length (filter (λ (c : Counting). c.summed) (next.front ++ d ∷ next.behind)) ≡ length (filter (λ (c : Counting). c.summed) a.entries.running) =
-      sym (length-map (filter (λ (c : Counting). c.summed) (next.front ++ d ∷ next.behind)) (λ (c : Counting). c.entry))
-      ∙ (ap length (passes_same (λ (c : Counting). c.summed) next.behind c d refl refl [] [] next.front)
-      ∙ (length-map (filter (λ (c : Counting). c.summed) (next.front ++ c ∷ next.behind)) (λ (c : Counting). c.entry)
-      ∙ ap (λ (l : List Counting). length (filter (λ (c : Counting). c.summed) l)) (sym next.is))) in
+      let long : length (filter (λ (c : EntryProgress). c.summed) (next.front ++ d ∷ next.behind)) ≡ length (filter (λ (c : EntryProgress). c.summed) a.entries.running) =
+      sym (length-map (filter (λ (c : EntryProgress). c.summed) (next.front ++ d ∷ next.behind)) (λ (c : EntryProgress). c.entry))
+      ∙ (ap length (passes_same (λ (c : EntryProgress). c.summed) next.behind c d refl refl [] [] next.front)
+      ∙ (length-map (filter (λ (c : EntryProgress). c.summed) (next.front ++ c ∷ next.behind)) (λ (c : EntryProgress). c.entry)
+      ∙ ap (λ (l : List EntryProgress). length (filter (λ (c : EntryProgress). c.summed) l)) (sym next.is))) in
       ap (λ (n : ℕ). cost_of a.units.costs name + (if n == 0 then 0 else cost_of a.units.held name)) long
 
   -- ---- what it is in its call
 
   next_there : Contains a.entries.running c
-  next_there = subst (λ (l : List Counting). Contains l c) (sym next.is) (Contains-append_right next.front (c ∷ next.behind) c (0, omega arith, refl))
+  next_there = subst (λ (l : List EntryProgress). Contains l c) (sym next.is) (Contains-append_right next.front (c ∷ next.behind) c (0, omega arith, refl))
 
   -- ---- the state that is left
 
@@ -205,8 +205,8 @@ module _ (shape : Dimensions) (opened : Anatomy) (state : State) (kept : Invaria
           up = λ free. unbound_unbeaten a.hand.place unbound;
           own = refl;
           calls = calls_next a c d next refl kept.anatomy new (record (deed_of a) { place = Idle }) (λ summed. refl)
-              (All-contains (λ (c : Counting). c.noted ≡ true → is_summed c ≡ true) a.entries.running c fits.calls.ordered.summed_next next_there)
-              (All-contains (λ (c : Counting). c.summed ≡ true → c.entry.amount ≢ pos 0) a.entries.running c fits.calls.ordered.amounted next_there)
+              (All-contains (λ (c : EntryProgress). c.noted ≡ true → is_summed c ≡ true) a.entries.running c fits.calls.ordered.summed_next next_there)
+              (All-contains (λ (c : EntryProgress). c.summed ≡ true → c.entry.amount ≢ pos 0) a.entries.running c fits.calls.ordered.amounted next_there)
               (λ entry of there units. ⊎_elim
               (λ before. fits.calls.met entry of (Contains-append_left a.entries.inherited (counted_of a) entry before) units)
               (λ own. ⊎_elim

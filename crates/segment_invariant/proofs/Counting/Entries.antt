@@ -5,7 +5,7 @@ use Rattle.std.proofs.lemmas.List.Elements.{All-contains, Contains-append_right}
 use lib.ListN.{get_elem?}
 use Rattle.bucket_ranges.specs.declared.spec.Spec.TheVariants as spec
 use Rattle.segment_machine.specs.declared.entry.Entry.{Entry}
-use Rattle.segment_machine.specs.declared.entry.Counting.{Counting}
+use Rattle.segment_machine.specs.declared.entry.EntryProgress.{EntryProgress}
 use Rattle.segment_machine.specs.declared.actor.Actor.{Actor}
 use Rattle.segment_machine.specs.Entry.{is_counted, is_summed, AreWithin, is_of, tally_units, tally_sum, tally_noted}
 use Rattle.segment_machine.specs.Actor.{counted_of, all_counted, all_summed, all_noted, all_taken, taken_units, taken_sum}
@@ -20,19 +20,19 @@ use Rattle.segment_invariant.proofs.Frames.Together.{moment}
 use Rattle.segment_invariant.proofs.Changes.Others.{Deed, changed, is_later}
 use Rattle.segment_invariant.proofs.Counting.Running.{Next, ordered_next, all_replaced}
 
-module _ (a : Actor) (c d : Counting) (next : Next a.entries.running c) (entry : d.entry ≡ c.entry) where
-  abbrev pub after : List Counting
+module _ (a : Actor) (c d : EntryProgress) (next : Next a.entries.running c) (entry : d.entry ≡ c.entry) where
+  abbrev pub after : List EntryProgress
   after = next.front ++ d ∷ next.behind
 
   -- it goes on so
   abbrev pub going : Deed → Deed
   going deed = record deed { running = after; own = a.hand.own; taken = a.deltas.taken }
 
-  same_entries : map (λ (c : Counting). c.entry) after ≡ map (λ (c : Counting). c.entry) a.entries.running
+  same_entries : map (λ (c : EntryProgress). c.entry) after ≡ map (λ (c : EntryProgress). c.entry) a.entries.running
   same_entries =
-      map-append (λ (c : Counting). c.entry) next.front (d ∷ next.behind)
-      ∙ (ap (λ (e : Entry). map (λ (c : Counting). c.entry) next.front ++ e ∷ map (λ (c : Counting). c.entry) next.behind) entry
-      ∙ (sym (map-append (λ (c : Counting). c.entry) next.front (c ∷ next.behind)) ∙ ap (map (λ (c : Counting). c.entry)) (sym next.is)))
+      map-append (λ (c : EntryProgress). c.entry) next.front (d ∷ next.behind)
+      ∙ (ap (λ (e : Entry). map (λ (c : EntryProgress). c.entry) next.front ++ e ∷ map (λ (c : EntryProgress). c.entry) next.behind) entry
+      ∙ (sym (map-append (λ (c : EntryProgress). c.entry) next.front (c ∷ next.behind)) ∙ ap (map (λ (c : EntryProgress). c.entry)) (sym next.is)))
 
   runs : a.entries.running ≢ []
   runs none_runs = not_empty next.front next.behind c (sym next.is ∙ none_runs)
@@ -58,7 +58,7 @@ module _ (a : Actor) (c d : Counting) (next : Next a.entries.running c) (entry :
   -- it is quiet of a name where it was, and then the entry is of another
   quiet_next : (deed : Deed) (name : List ℕ) (k : ℕ) → is_untouched d ≡ false → IsQuiet (changed a (going deed)) name k → IsQuiet a name k × (is_of name c.entry ≡ false)
   quiet_next deed name k touched quiet =
-      let holds : Counting → Type 0 = λ c. (is_of name c.entry ≡ false) ⊎ (is_untouched c ≡ true) in
+      let holds : EntryProgress → Type 0 = λ c. (is_of name c.entry ≡ false) ⊎ (is_untouched c ≡ true) in
       let one : holds d = All-contains holds after d quiet.1 (Contains-append_right next.front (d ∷ next.behind) d (0, omega arith, refl)) in
       let apart : is_of name c.entry ≡ false =
       ap (is_of name) (sym entry) ∙ ⊎_elim (λ other. other) (λ untouched. absurd (cc (untouched, touched))) one in

@@ -5,7 +5,7 @@ use Rattle.std.proofs.lemmas.List.Elements.{All-nil, All-cons, All-head, All-tai
 use mathlib.Core.Option.{some, some-injective}
 use lib.ListN.{get_elem?}
 use Rattle.segment_machine.specs.declared.entry.Entry.{Entry}
-use Rattle.segment_machine.specs.declared.entry.Counting.{Counting}
+use Rattle.segment_machine.specs.declared.entry.EntryProgress.{EntryProgress}
 use Rattle.segment_machine.specs.Entry.{is_counted, is_summed, has_ended}
 use Rattle.segment_machine.specs.Calls.{change_next}
 use Rattle.segment_machine.specs.Note.{is_untouched}
@@ -17,15 +17,15 @@ use Rattle.segment_invariant.proofs.Lists.Elements.{one_in}
 -- ---- the entry that is next
 
 -- those before it have ended; where it is changed, the others stay
-pub record Next (list : List Counting) (c : Counting) : Type 0 where
-  pub front : List Counting
-  pub behind : List Counting
+pub record Next (list : List EntryProgress) (c : EntryProgress) : Type 0 where
+  pub front : List EntryProgress
+  pub behind : List EntryProgress
   pub is : list ≡ front ++ c ∷ behind
   pub ended : All (λ x. has_ended x ≡ true) front
   pub goes : has_ended c ≡ false
-  pub changed : (f : Counting → Counting) → change_next f list ≡ front ++ f c ∷ behind
+  pub changed : (f : EntryProgress → EntryProgress) → change_next f list ≡ front ++ f c ∷ behind
 
-pub next_of : (list : List Counting) (c : Counting) (rest : List Counting) → filter (λ x. not (has_ended x)) list ≡ c ∷ rest → Next list c
+pub next_of : (list : List EntryProgress) (c : EntryProgress) (rest : List EntryProgress) → filter (λ x. not (has_ended x)) list ≡ c ∷ rest → Next list c
 next_of [] c rest e = absurd (cc e)
 next_of (x ∷ xs) c rest e = by_test (has_ended x) refl (λ e. next_of xs c rest e) e
   where
@@ -35,36 +35,36 @@ next_of (x ∷ xs) c rest e = by_test (has_ended x) refl (λ e. next_of xs c res
         let further = rest_of e in record {
           front = x ∷ further.front;
           behind = further.behind;
-          is = ap (λ (l : List Counting). x ∷ l) further.is;
+          is = ap (λ (l : List EntryProgress). x ∷ l) further.is;
           ended = All-cons (λ x. has_ended x ≡ true) x further.front is further.ended;
           goes = further.goes;
-          changed = λ f. ap (λ (b : Bool). cond (not b) (f x ∷ xs) (x ∷ change_next f xs)) is ∙ ap (λ (l : List Counting). x ∷ l) (further.changed f);
+          changed = λ f. ap (λ (b : Bool). cond (not b) (f x ∷ xs) (x ∷ change_next f xs)) is ∙ ap (λ (l : List EntryProgress). x ∷ l) (further.changed f);
         }
     by_test false is rest_of e =
         let same : x ≡ c = cc e in record {
           front = [];
           behind = xs;
-          is = ap (λ (z : Counting). z ∷ xs) same;
+          is = ap (λ (z : EntryProgress). z ∷ xs) same;
           ended = All-nil (λ x. has_ended x ≡ true);
           goes = sym (ap has_ended same) ∙ is;
-          changed = λ f. ap (λ (b : Bool). cond (not b) (f x ∷ xs) (x ∷ change_next f xs)) is ∙ ap (λ (z : Counting). f z ∷ xs) same;
+          changed = λ f. ap (λ (b : Bool). cond (not b) (f x ∷ xs) (x ∷ change_next f xs)) is ∙ ap (λ (z : EntryProgress). f z ∷ xs) same;
         }
 
 -- ---- the order of the entries
 
-abbrev OneByOne : List Counting → Type 0
-OneByOne list = (i j : ℕ) (x y : Counting) → i < j → get_elem? list i ≡ some x → get_elem? list j ≡ some y → (has_ended x ≡ true) ⊎ (is_untouched y ≡ true)
+abbrev OneByOne : List EntryProgress → Type 0
+OneByOne list = (i j : ℕ) (x y : EntryProgress) → i < j → get_elem? list i ≡ some x → get_elem? list j ≡ some y → (has_ended x ≡ true) ⊎ (is_untouched y ≡ true)
 
 -- nothing has happened of those behind one that goes on
-untouched_of : (front behind : List Counting) (c : Counting) → OneByOne (front ++ c ∷ behind) → has_ended c ≡ false
-    → (k : ℕ) (y : Counting) → get_elem? behind k ≡ some y → is_untouched y ≡ true
+untouched_of : (front behind : List EntryProgress) (c : EntryProgress) → OneByOne (front ++ c ∷ behind) → has_ended c ≡ false
+    → (k : ℕ) (y : EntryProgress) → get_elem? behind k ≡ some y → is_untouched y ≡ true
 untouched_of [] behind c one goes k y there = ⊎_elim (λ ended. absurd (cc (ended, goes))) (λ untouched. untouched) (one 0 (suc k) c y (omega arith) refl there)
 untouched_of (x ∷ xs) behind c one goes k y there =
     untouched_of xs behind c (λ i j x y lt first last. one (suc i) (suc j) x y (omega (arith, lt)) first last) goes k y there
 
 -- so another may stand in its place
-in_order_of : (front behind : List Counting) (d : Counting) → All (λ x. has_ended x ≡ true) front
-    → ((k : ℕ) (y : Counting) → get_elem? behind k ≡ some y → is_untouched y ≡ true) → OneByOne (front ++ d ∷ behind)
+in_order_of : (front behind : List EntryProgress) (d : EntryProgress) → All (λ x. has_ended x ≡ true) front
+    → ((k : ℕ) (y : EntryProgress) → get_elem? behind k ≡ some y → is_untouched y ≡ true) → OneByOne (front ++ d ∷ behind)
 in_order_of [] behind d ended untouched i zero x y lt first last = absurd (omega (arith, lt))
 in_order_of [] behind d ended untouched i (suc j) x y lt first last = inr (untouched j y last)
 in_order_of (z ∷ zs) behind d ended untouched zero j x y lt first last =
@@ -74,12 +74,12 @@ in_order_of (z ∷ zs) behind d ended untouched (suc i) (suc j) x y lt first las
     in_order_of zs behind d (All-tail (λ x. has_ended x ≡ true) z zs ended) untouched i j x y (omega (arith, lt)) first last
 
 -- what holds of all holds of all with another in the place of one
-pub all_replaced : (P : Counting → Type 0) (front behind : List Counting) (c d : Counting) → All P (front ++ c ∷ behind) → P d → All P (front ++ d ∷ behind)
+pub all_replaced : (P : EntryProgress → Type 0) (front behind : List EntryProgress) (c d : EntryProgress) → All P (front ++ c ∷ behind) → P d → All P (front ++ d ∷ behind)
 all_replaced P [] behind c d all mine = All-cons P d behind mine (All-tail P c behind all)
 all_replaced P (x ∷ xs) behind c d all mine =
     All-cons P x (xs ++ d ∷ behind) (All-head P x (xs ++ c ∷ behind) all) (all_replaced P xs behind c d (All-tail P x (xs ++ c ∷ behind) all) mine)
 
-pub ordered_next : (list : List Counting) (c d : Counting) (next : Next list c) → AreInOrder list → (d.summed ≡ true → is_counted d ≡ true)
+pub ordered_next : (list : List EntryProgress) (c d : EntryProgress) (next : Next list c) → AreInOrder list → (d.summed ≡ true → is_counted d ≡ true)
     → (d.noted ≡ true → is_summed d ≡ true) → (d.summed ≡ true → d.entry.amount ≢ pos 0) → AreInOrder (next.front ++ d ∷ next.behind)
 ordered_next list c d next ordered counted summed amounted =
     let was = subst AreInOrder next.is ordered in record {
@@ -91,8 +91,8 @@ ordered_next list c d next ordered counted summed amounted =
 
 -- ---- what they come to
 
-module _ (test : Counting → Bool) (behind : List Counting) (c d : Counting) (entry : d.entry ≡ c.entry) (same : test d ≡ test c) where
-  same_among : (xs : List Counting) → map (λ c. c.entry) (filter test (xs ++ d ∷ behind)) ≡ map (λ c. c.entry) (filter test (xs ++ c ∷ behind))
+module _ (test : EntryProgress → Bool) (behind : List EntryProgress) (c d : EntryProgress) (entry : d.entry ≡ c.entry) (same : test d ≡ test c) where
+  same_among : (xs : List EntryProgress) → map (λ c. c.entry) (filter test (xs ++ d ∷ behind)) ≡ map (λ c. c.entry) (filter test (xs ++ c ∷ behind))
   same_among [] =
       ap (λ (b : Bool). map (λ c. c.entry) (cond b (d ∷ filter test behind) (filter test behind))) same ∙ by_test (test c)
     where
@@ -108,23 +108,23 @@ module _ (test : Counting → Bool) (behind : List Counting) (c d : Counting) (e
       by_test false rest = rest
 
   -- where the test tells the same of another, those that pass are the same entries
-  pub passes_same : (first : List Entry) (log front : List Counting)
+  pub passes_same : (first : List Entry) (log front : List EntryProgress)
       → first ++ map (λ c. c.entry) (filter test (log ++ (front ++ d ∷ behind))) ≡ first ++ map (λ c. c.entry) (filter test (log ++ (front ++ c ∷ behind)))
   passes_same first log front =
       ap (λ (l : List Entry). first ++ l)
-      (ap (λ (l : List Counting). map (λ c. c.entry) (filter test l)) (sym (append_assoc log front (d ∷ behind)))
-      ∙ (same_among (log ++ front) ∙ ap (λ (l : List Counting). map (λ c. c.entry) (filter test l)) (append_assoc log front (c ∷ behind))))
+      (ap (λ (l : List EntryProgress). map (λ c. c.entry) (filter test l)) (sym (append_assoc log front (d ∷ behind)))
+      ∙ (same_among (log ++ front) ∙ ap (λ (l : List EntryProgress). map (λ c. c.entry) (filter test l)) (append_assoc log front (c ∷ behind))))
 
-module _ (test : Counting → Bool) (first : List Entry) (log front behind : List Counting) (c d : Counting) where
+module _ (test : EntryProgress → Bool) (first : List Entry) (log front behind : List EntryProgress) (c d : EntryProgress) where
   -- the entries that pass, with one that goes on
-  abbrev pub passing : Counting → List Entry
+  abbrev pub passing : EntryProgress → List Entry
   passing x = first ++ map (λ c. c.entry) (filter test (log ++ (front ++ x ∷ behind)))
 
-  abbrev alone : Counting → List Entry
+  abbrev alone : EntryProgress → List Entry
   alone x = map (λ c. c.entry) (filter test (x ∷ []))
 
-  sorted : (x : Counting) → passing x ≡ first ++ map (λ c. c.entry) (filter test ((log ++ front) ++ x ∷ behind))
-  sorted x = ap (λ (l : List Counting). first ++ map (λ c. c.entry) (filter test l)) (sym (append_assoc log front (x ∷ behind)))
+  sorted : (x : EntryProgress) → passing x ≡ first ++ map (λ c. c.entry) (filter test ((log ++ front) ++ x ∷ behind))
+  sorted x = ap (λ (l : List EntryProgress). first ++ map (λ c. c.entry) (filter test l)) (sym (append_assoc log front (x ∷ behind)))
 
   -- come to as much more as this one does
   pub passes_beside : (total : List Entry → ℕ) → IsTotal ◌+◌ total → total (passing d) + total (alone c) ≡ total (passing c) + total (alone d)
@@ -150,11 +150,11 @@ module _ (test : Counting → Bool) (first : List Entry) (log front behind : Lis
       ∙ ap (λ z. z +ℤ more) (sym (ap total (sorted c) ∙ one_of ◌+ℤ◌ total sums test first (log ++ front) behind c)))))))
 
 -- an entry that passes then passed before, or is the one that goes on
-module _ (test : Counting → Bool) (behind : List Counting) (c d : Counting) (entry : Entry) where
-  abbrev listed : List Counting → List Entry
+module _ (test : EntryProgress → Bool) (behind : List EntryProgress) (c d : EntryProgress) (entry : Entry) where
+  abbrev listed : List EntryProgress → List Entry
   listed list = map (λ c. c.entry) (filter test list)
 
-  among_from : (xs : List Counting) → Contains (listed (xs ++ d ∷ behind)) entry → Contains (listed (xs ++ c ∷ behind)) entry ⊎ (d.entry ≡ entry)
+  among_from : (xs : List EntryProgress) → Contains (listed (xs ++ d ∷ behind)) entry → Contains (listed (xs ++ c ∷ behind)) entry ⊎ (d.entry ≡ entry)
   among_from [] there = ⊎_elim (λ rest. inl (in_tail (test c) rest)) inr (from_head (test d) there)
     where
       in_tail : (t : Bool) → Contains (listed behind) entry → Contains (map (λ c. c.entry) (cond t (c ∷ filter test behind) (filter test behind))) entry
@@ -175,13 +175,13 @@ module _ (test : Counting → Bool) (behind : List Counting) (c d : Counting) (e
           (Contains-append_cases (x.entry ∷ []) (listed (xs ++ d ∷ behind)) entry has)
       by_test false rest has = rest has
 
-  pub passes_from : (first : List Entry) (log front : List Counting) → Contains (first ++ listed (log ++ (front ++ d ∷ behind))) entry
+  pub passes_from : (first : List Entry) (log front : List EntryProgress) → Contains (first ++ listed (log ++ (front ++ d ∷ behind))) entry
       → Contains (first ++ listed (log ++ (front ++ c ∷ behind))) entry ⊎ (d.entry ≡ entry)
   passes_from first log front there = ⊎_elim
       (λ before. inl (Contains-append_left first (listed (log ++ (front ++ c ∷ behind))) entry before))
       (λ own. ⊎_elim
       (λ was. inl (Contains-append_right first (listed (log ++ (front ++ c ∷ behind))) entry
-      (subst (λ (l : List Counting). Contains (listed l) entry) (append_assoc log front (c ∷ behind)) was)))
+      (subst (λ (l : List EntryProgress). Contains (listed l) entry) (append_assoc log front (c ∷ behind)) was)))
       inr
-      (among_from (log ++ front) (subst (λ (l : List Counting). Contains (listed l) entry) (sym (append_assoc log front (d ∷ behind))) own)))
+      (among_from (log ++ front) (subst (λ (l : List EntryProgress). Contains (listed l) entry) (sym (append_assoc log front (d ∷ behind))) own)))
       (Contains-append_cases first (listed (log ++ (front ++ d ∷ behind))) entry there)

@@ -14,7 +14,7 @@ use Rattle.alloc_core.specs.Laws.{Apart}
 use Rattle.list_core.specs.Chain.{stops, IsChain}
 use Rattle.bucket_ranges.specs.Reading.{is_sparse, record_buckets, sum_of, sum_mark_of, name_of, total_of, mark_of}
 use Rattle.segment_machine.specs.declared.entry.Entry.{Entry}
-use Rattle.segment_machine.specs.declared.entry.Counting.{Counting}
+use Rattle.segment_machine.specs.declared.entry.EntryProgress.{EntryProgress}
 use Rattle.segment_machine.specs.declared.seen.Sighting.{Sighting}
 use Rattle.segment_machine.specs.declared.actor.Answered.{Answered}
 use Rattle.segment_machine.specs.Form.{Leads}
@@ -211,8 +211,8 @@ placed k d below = all_of_three (λ (e : Entry). HasPlace mounted chain e.name e
     at_zero : HasPlace mounted chain letter_a (pos 0)
     at_zero = (16, the_one mounted letter_a refl refl, inl (0, refl, omega arith, refl))
 
-ended : All (λ (c : Counting). has_ended c ≡ true) who.entries.log
-ended = all_of_three (λ (c : Counting). has_ended c ≡ true) (whole (one 1)) (whole (one 1)) (whole (one 0)) refl refl refl
+ended : All (λ (c : EntryProgress). has_ended c ≡ true) who.entries.log
+ended = all_of_three (λ (c : EntryProgress). has_ended c ≡ true) (whole (one 1)) (whole (one 1)) (whole (one 0)) refl refl refl
 
 totals : TotalsAreCounted 1 mounted all chain
 totals = record {
@@ -224,7 +224,7 @@ totals = record {
       name at is;
   values = λ name at sample value is sparse. absurd (no_sparse name at is sparse);
   placed = λ entry there units. subst (λ (e : Entry). HasPlace mounted chain e.name e.key) there.2 (placed there.0 entry there.1);
-  ended = each_one who (λ (a : Actor). All (λ (c : Counting). has_ended c ≡ true) a.entries.log) ended;
+  ended = each_one who (λ (a : Actor). All (λ (c : EntryProgress). has_ended c ≡ true) a.entries.log) ended;
 }
 
 abbrev Answers : Actor → Type 0

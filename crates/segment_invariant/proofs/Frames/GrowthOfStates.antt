@@ -10,7 +10,7 @@ use native.Mathlib.Decide.{ℕ_discrete}
 use lib.ListN.{get_elem?}
 use Rattle.segment_image.specs.Shape.{Dimensions}
 use Rattle.segment_machine.specs.declared.entry.Entry.{Entry}
-use Rattle.segment_machine.specs.declared.entry.Counting.{Counting}
+use Rattle.segment_machine.specs.declared.entry.EntryProgress.{EntryProgress}
 use Rattle.segment_machine.specs.declared.actor.Actor.{Actor}
 use Rattle.segment_machine.specs.declared.actor.Known.{Known}
 use Rattle.segment_machine.specs.declared.actor.Own.{Own}
@@ -29,18 +29,18 @@ use Rattle.segment_invariant.proofs.Frames.GrowthOfActors.{SawMore, fits_grow}
 
 -- ---- entries that were accepted are counted
 
-pub ended_counted : (c : Counting) → has_ended c ≡ true → is_counted c ≡ true
+pub ended_counted : (c : EntryProgress) → has_ended c ≡ true → is_counted c ≡ true
 ended_counted c ended = (and_parts (is_counted c) _ (and_parts _ _ ended).0).0
 
-pub among_all : (test : Counting → Bool) → ((c : Counting) → has_ended c ≡ true → test c ≡ true) → (list : List Counting) → All (λ c. has_ended c ≡ true) list
-    → (more : List Counting) → map (λ c. c.entry) (filter test (list ++ more)) ≡ map (λ c. c.entry) list ++ map (λ c. c.entry) (filter test more)
+pub among_all : (test : EntryProgress → Bool) → ((c : EntryProgress) → has_ended c ≡ true → test c ≡ true) → (list : List EntryProgress) → All (λ c. has_ended c ≡ true) list
+    → (more : List EntryProgress) → map (λ c. c.entry) (filter test (list ++ more)) ≡ map (λ c. c.entry) list ++ map (λ c. c.entry) (filter test more)
 among_all test passes [] ended more = refl
 among_all test passes (c ∷ rest) ended more =
-    ap (λ (b : Bool). map (λ (d : Counting). d.entry) (std.cond b (c ∷ filter test (rest ++ more)) (filter test (rest ++ more))))
+    ap (λ (b : Bool). map (λ (d : EntryProgress). d.entry) (std.cond b (c ∷ filter test (rest ++ more)) (filter test (rest ++ more))))
     (passes c (ended 0 c (omega arith)))
     ∙ ap (λ (entries : List Entry). c.entry ∷ entries) (among_all test passes rest (λ k d lt. ended (suc k) d (omega (arith, lt))) more)
 
-counted_all : (list : List Counting) → All (λ c. has_ended c ≡ true) list → (more : List Counting)
+counted_all : (list : List EntryProgress) → All (λ c. has_ended c ≡ true) list → (more : List EntryProgress)
     → counted_among (list ++ more) ≡ map (λ c. c.entry) list ++ counted_among more
 counted_all = among_all is_counted ended_counted
 

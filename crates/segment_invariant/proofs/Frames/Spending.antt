@@ -8,7 +8,7 @@ use Rattle.std.proofs.lemmas.List.{map-append}
 use Rattle.std.proofs.lemmas.List.Elements.{All-contains, Contains-append_right}
 use Rattle.std.proofs.lemmas.List.Sums.{sum_by-cons}
 use Rattle.segment_machine.specs.declared.entry.Entry.{Entry}
-use Rattle.segment_machine.specs.declared.entry.Counting.{Counting}
+use Rattle.segment_machine.specs.declared.entry.EntryProgress.{EntryProgress}
 use Rattle.segment_machine.specs.declared.place.Place.{Place}
 use Rattle.segment_machine.specs.declared.place.Place.TheVariants.{Spent}
 use Rattle.segment_machine.specs.declared.actor.Actor.{Actor}
@@ -19,7 +19,7 @@ use Rattle.segment_invariant.specs.Body.{Anatomy}
 use Rattle.segment_invariant.specs.Invariant.{CallsRight}
 use Rattle.segment_invariant.proofs.Lists.Countings.{noted_total}
 
-abbrev entry_of : Counting → Entry
+abbrev entry_of : EntryProgress → Entry
 entry_of c = c.entry
 
 -- ---- entries of one name
@@ -51,7 +51,7 @@ by_name other name entries cost all most = by_test (bytes_eq other name) refl
 
 -- ---- those that are counted are not more than all
 
-some_of : (test : Counting → Bool) (name : List ℕ) (list : List Counting) → tally_noted (map entry_of (filter test list)) name ≤ tally_noted (map entry_of list) name
+some_of : (test : EntryProgress → Bool) (name : List ℕ) (list : List EntryProgress) → tally_noted (map entry_of (filter test list)) name ≤ tally_noted (map entry_of list) name
 some_of test name [] = omega arith
 some_of test name (c ∷ cs) =
     let rest = some_of test name cs in
@@ -71,15 +71,15 @@ module _ (anatomy : Anatomy) (a : Actor) (calls : CallsRight anatomy a) where
   pub held_covers : (name : List ℕ) → tally_noted (map entry_of a.entries.running) name ≤ cost_of a.units.held name
   held_covers name = by_running a.entries.running refl
     where
-      by_running : (r : List Counting) → a.entries.running ≡ r → tally_noted (map entry_of a.entries.running) name ≤ cost_of a.units.held name
-      by_running [] runs = let none = ap (λ (list : List Counting). tally_noted (map entry_of list) name) runs in omega (arith, none)
+      by_running : (r : List EntryProgress) → a.entries.running ≡ r → tally_noted (map entry_of a.entries.running) name ≤ cost_of a.units.held name
+      by_running [] runs = let none = ap (λ (list : List EntryProgress). tally_noted (map entry_of list) name) runs in omega (arith, none)
       by_running (c ∷ cs) runs =
           let (other, cost, holds, within, known) = calls.within (λ none. cc (sym runs ∙ none)) in
           subst (λ (held : List Cost). tally_noted (map entry_of a.entries.running) name ≤ cost_of held name) (sym holds)
           (by_name other name (map entry_of a.entries.running) cost within.of_name within.units)
 
   -- so what passes a test, behind its first entries, it has spent, or holds
-  pub among_spent : (test : Counting → Bool) (name : List ℕ)
+  pub among_spent : (test : EntryProgress → Bool) (name : List ℕ)
       → tally_noted (a.entries.first ++ map entry_of (filter test (a.entries.log ++ a.entries.running))) name ≤ cost_of a.units.costs name + cost_of a.units.held name
   among_spent test name =
       let logged = calls.spent name in

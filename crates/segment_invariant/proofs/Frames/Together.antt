@@ -9,7 +9,7 @@ use Rattle.std.proofs.lemmas.List.Sorted.{Contains-permutation}
 use Rattle.atomic_table.proofs.Lists.{at_set}
 use Rattle.segment_image.specs.Shape.{Dimensions}
 use Rattle.segment_machine.specs.declared.entry.Entry.{Entry}
-use Rattle.segment_machine.specs.declared.entry.Counting.{Counting}
+use Rattle.segment_machine.specs.declared.entry.EntryProgress.{EntryProgress}
 use Rattle.segment_machine.specs.declared.place.Place.TheVariants.{SumLoaded}
 use Rattle.segment_machine.specs.declared.actor.Actor.{Actor}
 use Rattle.segment_machine.specs.declared.actor.Portion.{Portion}
@@ -117,7 +117,7 @@ looks_back anatomy old new opener later a same since alone looks = record {
   begun = looks.begun;
   noted = λ known count has saw.
       let was = looks.noted known count has saw in
-      let first = ap (λ (list : List Entry). tally_noted (drop (length list) a.entries.inherited ++ map (λ (c : Counting). c.entry) a.entries.log) known.name) since.first.0 in
+      let first = ap (λ (list : List Entry). tally_noted (drop (length list) a.entries.inherited ++ map (λ (c : EntryProgress). c.entry) a.entries.log) known.name) since.first.0 in
       let noted = ap (λ (list : List Cost). cost_of list known.name) since.first.1 in
       omega (arith, was, first, noted);
   sum = λ reference sum r stands only there. looks.sum reference sum r stands (alone only) there;

@@ -8,18 +8,18 @@ use Rattle.std.proofs.lemmas.List.{map-append}
 use Rattle.std.proofs.lemmas.List.Elements.{filter-append, Contains-append_right}
 use Rattle.std.proofs.lemmas.List.Sums.{sum_by-append}
 use Rattle.segment_machine.specs.declared.entry.Entry.{Entry}
-use Rattle.segment_machine.specs.declared.entry.Counting.{Counting}
+use Rattle.segment_machine.specs.declared.entry.EntryProgress.{EntryProgress}
 use Rattle.segment_machine.specs.Entry.{is_counted, is_summed, is_noted, is_of, tally_units, tally_sum, tally_noted, counted_among, summed_among, noted_among}
 use Rattle.segment_machine.specs.Note.{is_untouched}
 use Rattle.segment_invariant.proofs.Lists.FewTerms.{if_nothing}
 use Rattle.segment_invariant.proofs.Lists.Sums.{IsTotal, amounts_total}
 
-module _ {M : Type 0} (add : M → M → M) (total : List Entry → M) (sums : IsTotal add total) (test : Counting → Bool) where
-  abbrev pub among : List Counting → List Entry
+module _ {M : Type 0} (add : M → M → M) (total : List Entry → M) (sums : IsTotal add total) (test : EntryProgress → Bool) where
+  abbrev pub among : List EntryProgress → List Entry
   among list = map (λ c. c.entry) (filter test list)
 
   -- they come to nothing where each of them does
-  pub nothing_among : (list : List Counting) → ((c : Counting) → Contains list c → test c ≡ true → total (c.entry ∷ []) ≡ total []) → total (among list) ≡ total []
+  pub nothing_among : (list : List EntryProgress) → ((c : EntryProgress) → Contains list c → test c ≡ true → total (c.entry ∷ []) ≡ total []) → total (among list) ≡ total []
   nothing_among [] each = refl
   nothing_among (c ∷ cs) each =
       by_test (test c) refl (nothing_among cs (λ d has. each d (Contains-append_right (c ∷ []) cs d has)))
@@ -29,7 +29,7 @@ module _ {M : Type 0} (add : M → M → M) (total : List Entry → M) (sums : I
           sums (c.entry ∷ []) (among cs) ∙ (ap (λ m. add m (total (among cs))) (each c (0, omega arith, refl) passes) ∙ (ap (add (total [])) rest ∙ sym (sums [] [])))
       by_test false fails rest = rest
 
-  parts : (front : List Entry) (xs ys : List Counting) → total (front ++ among (xs ++ ys)) ≡ add (total front) (add (total (among xs)) (total (among ys)))
+  parts : (front : List Entry) (xs ys : List EntryProgress) → total (front ++ among (xs ++ ys)) ≡ add (total front) (add (total (among xs)) (total (among ys)))
   parts front xs ys =
       sums front (among (xs ++ ys))
       ∙ ap (add (total front))
@@ -37,7 +37,7 @@ module _ {M : Type 0} (add : M → M → M) (total : List Entry → M) (sums : I
       ∙ sums (among xs) (among ys))
 
   -- one among others, behind some
-  pub one_of : (front : List Entry) (xs behind : List Counting) (c : Counting)
+  pub one_of : (front : List Entry) (xs behind : List EntryProgress) (c : EntryProgress)
       → total (front ++ among (xs ++ c ∷ behind)) ≡ add (total front) (add (total (among xs)) (add (total (among (c ∷ []))) (total (among behind))))
   one_of front xs behind c =
       parts front xs (c ∷ behind)
@@ -46,7 +46,7 @@ module _ {M : Type 0} (add : M → M → M) (total : List Entry → M) (sums : I
       ∙ sums (among (c ∷ [])) (among behind))
 
   -- behind others, those that come to the same may stand in one another's place
-  pub beside_same : (front : List Entry) (xs ys zs : List Counting) → total (among ys) ≡ total (among zs)
+  pub beside_same : (front : List Entry) (xs ys zs : List EntryProgress) → total (among ys) ≡ total (among zs)
       → total (front ++ among (xs ++ ys)) ≡ total (front ++ among (xs ++ zs))
   beside_same front xs ys zs same =
       parts front xs ys ∙ (ap (λ m. add (total front) (add (total (among xs)) m)) same ∙ sym (parts front xs zs))
@@ -83,7 +83,7 @@ untouched_flags true y z e = cc e
 untouched_flags false true z e = cc e
 untouched_flags false false true e = cc e
 
-module _ (c : Counting) (is : is_untouched c ≡ true) where
+module _ (c : EntryProgress) (is : is_untouched c ≡ true) where
   flags : (c.counted ≡ false) × (c.summed ≡ false) × (c.noted ≡ false)
   flags = untouched_flags c.counted c.summed c.noted is
 
@@ -100,7 +100,7 @@ module _ (c : Counting) (is : is_untouched c ≡ true) where
   noted_none e = eqb-true c.entry.units 0 (or_false c.noted (c.entry.units == 0) flags.2 e)
 
 -- behind others they come to nothing
-module _ (front : List Entry) (xs ys : List Counting) (untouched : (c : Counting) → Contains ys c → is_untouched c ≡ true) where
+module _ (front : List Entry) (xs ys : List EntryProgress) (untouched : (c : EntryProgress) → Contains ys c → is_untouched c ≡ true) where
   pub untouched_counts : (name : List ℕ) (key : ℤ) → tally_units (front ++ counted_among (xs ++ ys)) name key ≡ tally_units (front ++ counted_among (xs ++ [])) name key
   untouched_counts name key = beside_same ◌+◌ (λ entries. tally_units entries name key) (units_total name key) is_counted front xs ys []
       (nothing_among ◌+◌ (λ entries. tally_units entries name key) (units_total name key) is_counted ys

@@ -12,7 +12,7 @@ use lib.ListN.{get_elem?}
 use Rattle.atomic_table.proofs.Lists.{at_longer, at_last}
 use Rattle.segment_invariant.proofs.Frames.Answers.{answered_set}
 use Rattle.segment_machine.specs.declared.entry.Entry.{Entry}
-use Rattle.segment_machine.specs.declared.entry.Counting.{Counting}
+use Rattle.segment_machine.specs.declared.entry.EntryProgress.{EntryProgress}
 use Rattle.segment_machine.specs.declared.place.Place.TheVariants.{Spent}
 use Rattle.segment_machine.specs.declared.actor.Actor.{Actor}
 use Rattle.segment_machine.specs.Entry.{is_counted, is_summed, is_noted, has_ended, AreWithin, is_of, tally_units, tally_sum, tally_noted}
@@ -56,19 +56,19 @@ one_at_most true x = omega arith
 one_at_most false x = omega arith
 
 -- The last of the running entries gets its amount.
-module _ (a : Actor) (amount : ℤ) (before : List Counting) (last : Counting) (runs : a.entries.running ≡ before ++ last ∷ [])
+module _ (a : Actor) (amount : ℤ) (before : List EntryProgress) (last : EntryProgress) (runs : a.entries.running ≡ before ++ last ∷ [])
     (unsummed : last.summed ≡ false) (unnoted : last.noted ≡ false) (nothing : All (λ c. c.entry.amount ≡ pos 0) a.entries.running) where
-  abbrev told : Counting
+  abbrev told : EntryProgress
   told = record last { entry = record last.entry { amount = amount } }
 
-  abbrev behind : List Counting
+  abbrev behind : List EntryProgress
   behind = before ++ told ∷ []
 
   abbrev teller : Noting
   teller = record (noting_of a) { running = behind }
 
-  zero_in : (c : Counting) → Contains (before ++ last ∷ []) c → c.entry.amount ≡ pos 0
-  zero_in c has = All-contains (λ (c : Counting). c.entry.amount ≡ pos 0) a.entries.running c nothing (subst (λ (list : List Counting). Contains list c) (sym runs) has)
+  zero_in : (c : EntryProgress) → Contains (before ++ last ∷ []) c → c.entry.amount ≡ pos 0
+  zero_in c has = All-contains (λ (c : EntryProgress). c.entry.amount ≡ pos 0) a.entries.running c nothing (subst (λ (list : List EntryProgress). Contains list c) (sym runs) has)
 
   last_zero : last.entry.amount ≡ pos 0
   last_zero = zero_in last (Contains-append_right before (last ∷ []) last (0, omega arith, refl))
@@ -85,20 +85,20 @@ module _ (a : Actor) (amount : ℤ) (before : List Counting) (last : Counting) (
   noted_one name true = refl
   noted_one name false = refl
 
-  summed_none : (name : List ℕ) (c : Counting) → c.summed ≡ false → tally_sum (among ◌+ℤ◌ (λ entries. tally_sum entries name) (sum_total name) is_summed (c ∷ [])) name ≡ pos 0
+  summed_none : (name : List ℕ) (c : EntryProgress) → c.summed ≡ false → tally_sum (among ◌+ℤ◌ (λ entries. tally_sum entries name) (sum_total name) is_summed (c ∷ [])) name ≡ pos 0
   summed_none name c off = nothing_among ◌+ℤ◌ (λ entries. tally_sum entries name) (sum_total name) is_summed (c ∷ [])
       (λ d has passes.
       let same = one_in c d has in
       no_amount name d.entry
-      ((Decides-int_eq d.entry.amount (pos 0)).0 (or_false d.summed (int_eq d.entry.amount (pos 0)) (sym (ap (λ (c : Counting). c.summed) same) ∙ off) passes)))
+      ((Decides-int_eq d.entry.amount (pos 0)).0 (or_false d.summed (int_eq d.entry.amount (pos 0)) (sym (ap (λ (c : EntryProgress). c.summed) same) ∙ off) passes)))
 
-  summed_long : length (filter (λ (c : Counting). c.summed) behind) ≡ length (filter (λ (c : Counting). c.summed) (before ++ last ∷ []))
+  summed_long : length (filter (λ (c : EntryProgress). c.summed) behind) ≡ length (filter (λ (c : EntryProgress). c.summed) (before ++ last ∷ []))
   summed_long =
-      let now = filter-append (λ (c : Counting). c.summed) before (told ∷ []) in
-      let was = filter-append (λ (c : Counting). c.summed) before (last ∷ []) in
-      let one : (b : Bool) → length (filter (λ (c : Counting). c.summed) before ++ cond b (told ∷ []) []) ≡ length (filter (λ (c : Counting). c.summed) before ++ cond b (last ∷ []) []) =
-      λ b. length-append (filter (λ (c : Counting). c.summed) before) (cond b (told ∷ []) [])
-      ∙ (ap (λ n. length (filter (λ (c : Counting). c.summed) before) + n) (as_long b) ∙ sym (length-append (filter (λ (c : Counting). c.summed) before) (cond b (last ∷ []) []))) in
+      let now = filter-append (λ (c : EntryProgress). c.summed) before (told ∷ []) in
+      let was = filter-append (λ (c : EntryProgress). c.summed) before (last ∷ []) in
+      let one : (b : Bool) → length (filter (λ (c : EntryProgress). c.summed) before ++ cond b (told ∷ []) []) ≡ length (filter (λ (c : EntryProgress). c.summed) before ++ cond b (last ∷ []) []) =
+      λ b. length-append (filter (λ (c : EntryProgress). c.summed) before) (cond b (told ∷ []) [])
+      ∙ (ap (λ n. length (filter (λ (c : EntryProgress). c.summed) before) + n) (as_long b) ∙ sym (length-append (filter (λ (c : EntryProgress). c.summed) before) (cond b (last ∷ []) []))) in
       ap length now ∙ (one last.summed ∙ sym (ap length was))
     where
       as_long : (b : Bool) → length (cond b (told ∷ []) []) ≡ length (cond b (last ∷ []) [])
@@ -125,24 +125,24 @@ module _ (a : Actor) (amount : ℤ) (before : List Counting) (last : Counting) (
     costs = λ name.
         let same : summed_cost name (noting a teller) ≡ summed_cost name a =
         ap (λ (n : ℕ). cost_of a.units.costs name + (if n == 0 then 0 else cost_of a.units.held name))
-        (summed_long ∙ ap (λ (list : List Counting). length (filter (λ (c : Counting). c.summed) list)) (sym runs)) in
+        (summed_long ∙ ap (λ (list : List EntryProgress). length (filter (λ (c : EntryProgress). c.summed) list)) (sym runs)) in
         omega (arith, same);
     units = refl;
   }
 
   -- ---- its entries are in order
 
-  abbrev old : List Counting
+  abbrev old : List EntryProgress
   old = before ++ last ∷ []
 
   -- each but the last ran before, and the last has the flags that it had
-  ran : (i : ℕ) (x : Counting) → get_elem? behind i ≡ some x → (get_elem? old i ≡ some x) ⊎ ((i ≡ length before) × (told ≡ x))
+  ran : (i : ℕ) (x : EntryProgress) → get_elem? behind i ≡ some x → (get_elem? old i ≡ some x) ⊎ ((i ≡ length before) × (told ≡ x))
   ran i x there = ⊎_elim (λ was. inl (at_longer before (last ∷ []) i x was)) (λ new. inr new) (at_snoc_index before told x i there)
 
   old_ordered : AreInOrder a.entries.running → AreInOrder old
   old_ordered ordered = subst AreInOrder runs ordered
 
-  each_still : (P : Counting → Type 0) → All P old → P told → All P behind
+  each_still : (P : EntryProgress → Type 0) → All P old → P told → All P behind
   each_still P all new = All-push P before told (all_left P before (last ∷ []) all) new
 
   amounts_ordered : AreInOrder old → AreInOrder behind
@@ -150,7 +150,7 @@ module _ (a : Actor) (amount : ℤ) (before : List Counting) (last : Counting) (
     one_by_one = λ i j x y below first second. ⊎_elim
         (λ f. ⊎_elim
         (λ s. ordered.one_by_one i j x y below f s)
-        (λ s. subst (λ (c : Counting). (has_ended x ≡ true) ⊎ (is_untouched c ≡ true)) s.1
+        (λ s. subst (λ (c : EntryProgress). (has_ended x ≡ true) ⊎ (is_untouched c ≡ true)) s.1
         (ordered.one_by_one i j x last below f (at_last before last j (sym s.0))))
         (ran j y second))
         (λ f.
@@ -171,14 +171,14 @@ module _ (a : Actor) (amount : ℤ) (before : List Counting) (last : Counting) (
 
   entry_zero : (e : Entry) → Contains entries e → e.amount ≡ pos 0
   entry_zero e has =
-      let (c, there, is) = contains_mapped (λ (c : Counting). c.entry) before e has in
+      let (c, there, is) = contains_mapped (λ (c : EntryProgress). c.entry) before e has in
       sym (ap (λ (e : Entry). e.amount) is) ∙ zero_in c (Contains-append_left before (last ∷ []) c there)
 
-  entries_behind : map (λ (c : Counting). c.entry) behind ≡ entries ++ told.entry ∷ []
-  entries_behind = map-append (λ (c : Counting). c.entry) before (told ∷ [])
+  entries_behind : map (λ (c : EntryProgress). c.entry) behind ≡ entries ++ told.entry ∷ []
+  entries_behind = map-append (λ (c : EntryProgress). c.entry) before (told ∷ [])
 
-  entries_old : map (λ (c : Counting). c.entry) old ≡ entries ++ last.entry ∷ []
-  entries_old = map-append (λ (c : Counting). c.entry) before (last ∷ [])
+  entries_old : map (λ (c : EntryProgress). c.entry) old ≡ entries ++ last.entry ∷ []
+  entries_old = map-append (λ (c : EntryProgress). c.entry) before (last ∷ [])
 
   told_within : (name : List ℕ) (cost : ℕ) → AreWithin name cost (entries ++ last.entry ∷ []) → unsigned_abs amount ≤ 2147483648 * cost
       → AreWithin name cost (entries ++ told.entry ∷ [])
@@ -208,7 +208,7 @@ module _ (a : Actor) (amount : ℤ) (before : List Counting) (last : Counting) (
 
   amounts_quiet : (name : List ℕ) (k : ℕ) → IsQuiet (noting a teller) name k → IsQuiet a name k
   amounts_quiet name k quiet =
-      let holds : Counting → Type 0 = λ c. (is_of name c.entry ≡ false) ⊎ (is_untouched c ≡ true) in (
+      let holds : EntryProgress → Type 0 = λ c. (is_of name c.entry ≡ false) ⊎ (is_untouched c ≡ true) in (
         quiet.0,
         subst (All holds) (sym runs)
             (All-push holds before last (all_left holds before (told ∷ []) quiet.1) (All-contains holds behind told quiet.1 (Contains-push before told))),
@@ -218,11 +218,11 @@ pub amounts_kept : (amount : ℤ) → NoteKeeps (amounts amount)
 amounts_kept amount shape opened state id a kept mine records ((before, last, runs, unsummed, unnoted), nothing, bound) =
     let n : Noting = teller a amount before last runs unsummed unnoted nothing in
     let counts = amounts_counts a amount before last runs unsummed unnoted nothing in
-    let f : Counting → Counting = λ c. let entry = c.entry in record c { entry = record entry { amount = amount } } in
+    let f : EntryProgress → EntryProgress = λ c. let entry = c.entry in record c { entry = record entry { amount = amount } } in
     let changed : change_last f a.entries.running ≡ n.running = ap (change_last f) runs ∙ last_changed f before last in
     let lived : a.hand.place ≢ Spent = λ is_spent.
     not_empty before [] last (sym runs ∙ ap (λ (a : Actor). a.entries.running) (subst (StandsRight shape kept.anatomy id a) is_spent (kept.standing id a mine))) in
-    subst (λ (running : List Counting). Invariant shape opened (record state { actors = set state.actors id (record a { entries = record a.entries { running = running } }) })) (sym changed)
+    subst (λ (running : List EntryProgress). Invariant shape opened (record state { actors = set state.actors id (record a { entries = record a.entries { running = running } }) })) (sym changed)
     (notes_on shape opened state kept id a mine records n lived counts (takes_nothing a n) (λ name key. refl) (λ known has. has)
     (answered_set kept.anatomy.records state.actors id a (noting a n) mine refl refl)
     (λ fit.
@@ -237,7 +237,7 @@ amounts_kept amount shape opened state id a kept mine records ((before, last, ru
       holds,
       subst (AreWithin name cost) (sym (entries_behind a amount before last runs unsummed unnoted nothing))
           (told_within a amount before last runs unsummed unnoted nothing name cost
-          (subst (AreWithin name cost) (ap (map (λ (c : Counting). c.entry)) runs ∙ entries_old a amount before last runs unsummed unnoted nothing) within)
+          (subst (AreWithin name cost) (ap (map (λ (c : EntryProgress). c.entry)) runs ∙ entries_old a amount before last runs unsummed unnoted nothing) within)
           (omega (arith, bound, held_is))),
       known,
     ))

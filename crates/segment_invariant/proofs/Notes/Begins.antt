@@ -7,7 +7,7 @@ use mathlib.Core.Option.{some}
 use lib.ListN.{get_elem?}
 use Rattle.segment_invariant.proofs.Frames.Answers.{answered_set}
 use Rattle.segment_machine.specs.declared.entry.Entry.{Entry}
-use Rattle.segment_machine.specs.declared.entry.Counting.{Counting}
+use Rattle.segment_machine.specs.declared.entry.EntryProgress.{EntryProgress}
 use Rattle.segment_machine.specs.declared.actor.Actor.{Actor}
 use Rattle.segment_machine.specs.Entry.{is_counted, is_summed, fresh, AreWithin, is_of, tally_units, tally_sum, tally_noted, counted_among, summed_among, noted_among}
 use Rattle.segment_machine.specs.Actor.{cost_of, cost_total}
@@ -43,28 +43,28 @@ looks_kept shape opened state id a kept mine records (lived, recorder, runs, tak
 -- ---- a call that counts begins
 
 -- entries of which nothing has happened are in order
-fresh_at : (entries : List Entry) (i : ℕ) (c : Counting) → get_elem? (map fresh entries) i ≡ some c → (e : Entry) × (fresh e ≡ c)
+fresh_at : (entries : List Entry) (i : ℕ) (c : EntryProgress) → get_elem? (map fresh entries) i ≡ some c → (e : Entry) × (fresh e ≡ c)
 fresh_at entries i c there = let (e, at, is) = from_map fresh entries i c there in (e, is)
 
-fresh_untouched : (entries : List Entry) (c : Counting) → Contains (map fresh entries) c → is_untouched c ≡ true
+fresh_untouched : (entries : List Entry) (c : EntryProgress) → Contains (map fresh entries) c → is_untouched c ≡ true
 fresh_untouched entries c has = let (e, there, is) = contains_mapped fresh entries c has in ap is_untouched (sym is)
 
 fresh_ordered : (entries : List Entry) → AreInOrder (map fresh entries)
 fresh_ordered entries = record {
   one_by_one = λ i j x y below first second. let (e, is) = fresh_at entries j y second in inr (ap is_untouched (sym is));
   counted_first = all_of (λ c. c.summed ≡ true → is_counted c ≡ true) (map fresh entries)
-      (λ c has summed. let (e, there, is) = contains_mapped fresh entries c has in absurd (true≢false (sym summed ∙ ap (λ (c : Counting). c.summed) (sym is))));
+      (λ c has summed. let (e, there, is) = contains_mapped fresh entries c has in absurd (true≢false (sym summed ∙ ap (λ (c : EntryProgress). c.summed) (sym is))));
   summed_next = all_of (λ c. c.noted ≡ true → is_summed c ≡ true) (map fresh entries)
-      (λ c has noted. let (e, there, is) = contains_mapped fresh entries c has in absurd (true≢false (sym noted ∙ ap (λ (c : Counting). c.noted) (sym is))));
+      (λ c has noted. let (e, there, is) = contains_mapped fresh entries c has in absurd (true≢false (sym noted ∙ ap (λ (c : EntryProgress). c.noted) (sym is))));
   amounted = all_of (λ c. c.summed ≡ true → c.entry.amount ≢ pos 0) (map fresh entries)
-      (λ c has summed. let (e, there, is) = contains_mapped fresh entries c has in absurd (true≢false (sym summed ∙ ap (λ (c : Counting). c.summed) (sym is))));
+      (λ c has summed. let (e, there, is) = contains_mapped fresh entries c has in absurd (true≢false (sym summed ∙ ap (λ (c : EntryProgress). c.summed) (sym is))));
 }
 
-fresh_entries : (entries : List Entry) → map (λ (c : Counting). c.entry) (map fresh entries) ≡ entries
+fresh_entries : (entries : List Entry) → map (λ (c : EntryProgress). c.entry) (map fresh entries) ≡ entries
 fresh_entries [] = refl
 fresh_entries (e ∷ es) = ap (λ rest. e ∷ rest) (fresh_entries es)
 
-fresh_unsummed : (entries : List Entry) → filter (λ (c : Counting). c.summed) (map fresh entries) ≡ []
+fresh_unsummed : (entries : List Entry) → filter (λ (c : EntryProgress). c.summed) (map fresh entries) ≡ []
 fresh_unsummed [] = refl
 fresh_unsummed (e ∷ es) = fresh_unsummed es
 
@@ -72,7 +72,7 @@ module _ (a : Actor) (name : List ℕ) (cost : ℕ) (entries : List Entry) (runs
   abbrev begun : Actor
   begun = noted a (begins name cost entries)
 
-  untouched : (c : Counting) → Contains (map fresh entries) c → is_untouched c ≡ true
+  untouched : (c : EntryProgress) → Contains (map fresh entries) c → is_untouched c ≡ true
   untouched = fresh_untouched entries
 
   begins_counts : SameCounts a begun
@@ -85,9 +85,9 @@ module _ (a : Actor) (name : List ℕ) (cost : ℕ) (entries : List Entry) (runs
         ∙ ap (λ running. tally_noted (noted_among (a.entries.log ++ running)) name) (sym runs);
     costs = λ of.
         let now : summed_cost of begun ≡ cost_of a.units.costs of + 0 =
-        ap (λ (list : List Counting). cost_of a.units.costs of + (if length list == 0 then 0 else cost_of begun.units.held of)) (fresh_unsummed entries) in
+        ap (λ (list : List EntryProgress). cost_of a.units.costs of + (if length list == 0 then 0 else cost_of begun.units.held of)) (fresh_unsummed entries) in
         let before : summed_cost of a ≡ cost_of a.units.costs of + 0 =
-        ap (λ (list : List Counting). cost_of a.units.costs of + (if length (filter (λ (c : Counting). c.summed) list) == 0 then 0 else cost_of a.units.held of)) runs in
+        ap (λ (list : List EntryProgress). cost_of a.units.costs of + (if length (filter (λ (c : EntryProgress). c.summed) list) == 0 then 0 else cost_of a.units.held of)) runs in
         omega (arith, now, before);
     units =
         let none : cost_total a.units.held ≡ 0 = ap cost_total holds in

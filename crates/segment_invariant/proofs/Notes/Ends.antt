@@ -12,7 +12,7 @@ use lib.ListN.{get_elem?}
 use Rattle.segment_image.specs.Shape.{Dimensions}
 use Rattle.segment_invariant.proofs.Frames.Answers.{answered_set}
 use Rattle.segment_machine.specs.declared.entry.Entry.{Entry}
-use Rattle.segment_machine.specs.declared.entry.Counting.{Counting}
+use Rattle.segment_machine.specs.declared.entry.EntryProgress.{EntryProgress}
 use Rattle.segment_machine.specs.declared.place.Place.TheVariants.{Spent}
 use Rattle.segment_machine.specs.declared.actor.Actor.{Actor}
 use Rattle.segment_machine.specs.declared.actor.Cost.{Cost}
@@ -34,24 +34,24 @@ use Rattle.segment_invariant.proofs.Frames.Spending.{by_name, held_covers}
 
 -- ---- its log is longer
 
-log_more : (a : Actor) (ended : List Counting) → a.entries.first ++ map (λ (c : Counting). c.entry) (a.entries.log ++ ended) ≡ log_of a ++ map (λ (c : Counting). c.entry) ended
+log_more : (a : Actor) (ended : List EntryProgress) → a.entries.first ++ map (λ (c : EntryProgress). c.entry) (a.entries.log ++ ended) ≡ log_of a ++ map (λ (c : EntryProgress). c.entry) ended
 log_more a ended =
-    ap (λ (list : List Entry). a.entries.first ++ list) (map-append (λ (c : Counting). c.entry) a.entries.log ended)
-    ∙ sym (append_assoc a.entries.first (map (λ (c : Counting). c.entry) a.entries.log) (map (λ (c : Counting). c.entry) ended))
+    ap (λ (list : List Entry). a.entries.first ++ list) (map-append (λ (c : EntryProgress). c.entry) a.entries.log ended)
+    ∙ sym (append_assoc a.entries.first (map (λ (c : EntryProgress). c.entry) a.entries.log) (map (λ (c : EntryProgress). c.entry) ended))
 
 -- it was quiet where nothing was counted since, neither before nor by the call that ended
-quiet_before : (a : Actor) (ended : List Counting) (name : List ℕ) (k : ℕ) → ((c : Counting) → Contains a.entries.running c → Contains ended c ⊎ (is_untouched c ≡ true))
-    → k ≤ length (log_of a) → All (λ entry. is_of name entry ≡ false) (drop k (a.entries.first ++ map (λ (c : Counting). c.entry) (a.entries.log ++ ended))) → IsQuiet a name k
+quiet_before : (a : Actor) (ended : List EntryProgress) (name : List ℕ) (k : ℕ) → ((c : EntryProgress) → Contains a.entries.running c → Contains ended c ⊎ (is_untouched c ≡ true))
+    → k ≤ length (log_of a) → All (λ entry. is_of name entry ≡ false) (drop k (a.entries.first ++ map (λ (c : EntryProgress). c.entry) (a.entries.log ++ ended))) → IsQuiet a name k
 quiet_before a ended name k running low quiet =
     let rests : Entry → Type 0 = λ entry. is_of name entry ≡ false in
-    let entries = map (λ (c : Counting). c.entry) ended in
+    let entries = map (λ (c : EntryProgress). c.entry) ended in
     let all : All rests (drop k (log_of a) ++ entries) =
     subst (All rests) (ap (drop k) (log_more a ended) ∙ drop-append-le k (log_of a) entries low) quiet in
-    let holds : Counting → Type 0 = λ c. (is_of name c.entry ≡ false) ⊎ (is_untouched c ≡ true) in (
+    let holds : EntryProgress → Type 0 = λ c. (is_of name c.entry ≡ false) ⊎ (is_untouched c ≡ true) in (
       all_left rests (drop k (log_of a)) entries all,
       all_of holds a.entries.running (λ c has. ⊎_elim
           (λ done. inl (All-contains rests (drop k (log_of a) ++ entries) c.entry all
-          (Contains-append_right (drop k (log_of a)) entries c.entry (contains_map (λ (c : Counting). c.entry) ended c done))))
+          (Contains-append_right (drop k (log_of a)) entries c.entry (contains_map (λ (c : EntryProgress). c.entry) ended c done))))
           (λ nothing. inr nothing)
           (running c has)),
     )
@@ -60,16 +60,16 @@ quiet_before a ended name k running low quiet =
 none_ordered : AreInOrder []
 none_ordered = record {
   one_by_one = λ i j x y below first. absurd (none_at i x first);
-  counted_first = All-nil (λ (c : Counting). c.summed ≡ true → is_counted c ≡ true);
-  summed_next = All-nil (λ (c : Counting). c.noted ≡ true → is_summed c ≡ true);
-  amounted = All-nil (λ (c : Counting). c.summed ≡ true → c.entry.amount ≢ pos 0);
+  counted_first = All-nil (λ (c : EntryProgress). c.summed ≡ true → is_counted c ≡ true);
+  summed_next = All-nil (λ (c : EntryProgress). c.noted ≡ true → is_summed c ≡ true);
+  amounted = All-nil (λ (c : EntryProgress). c.summed ≡ true → c.entry.amount ≢ pos 0);
 }
 
 unbound_lives : (a : Actor) → is_bound a.hand.place ≡ false → a.hand.place ≢ Spent
 unbound_lives a unbound spent = cc (unbound, ap is_bound spent)
 
 -- A call that has ended so many of its entries, and spent so much, is gone: what holds is kept.
-module _ (a : Actor) (share : ℕ) (spent : List Cost) (ended : List Counting) where
+module _ (a : Actor) (share : ℕ) (spent : List Cost) (ended : List EntryProgress) where
   abbrev gone : Noting
   gone = record (noting_of a) {
     since_singles = length a.seen.singles;
@@ -82,21 +82,21 @@ module _ (a : Actor) (share : ℕ) (spent : List Cost) (ended : List Counting) w
   }
 
   module _ (counts : SameCounts a (noting a gone)) (done : All (λ c. has_ended c ≡ true) ended)
-      (running : (c : Counting) → Contains a.entries.running c → Contains ended c ⊎ (is_untouched c ≡ true))
-      (pays : (anatomy : Anatomy) → CallsRight anatomy a → (name : List ℕ) → tally_noted (map (λ (c : Counting). c.entry) ended) name ≤ cost_of spent name) where
+      (running : (c : EntryProgress) → Contains a.entries.running c → Contains ended c ⊎ (is_untouched c ≡ true))
+      (pays : (anatomy : Anatomy) → CallsRight anatomy a → (name : List ℕ) → tally_noted (map (λ (c : EntryProgress). c.entry) ended) name ≤ cost_of spent name) where
     ends_with : (shape : Dimensions) (opened : Anatomy) (state : State) (id : ℕ) (kept : Invariant shape opened state) (mine : get_elem? state.actors id ≡ some a)
         → is_opener a.role ≡ false → a.hand.place ≢ Spent → Invariant shape opened (record state { actors = set state.actors id (noting a gone) })
     ends_with shape opened state id kept mine records lived =
         let longer = ap length (log_more a ended) in
-        let long = length-append (log_of a) (map (λ (c : Counting). c.entry) ended) in
+        let long = length-append (log_of a) (map (λ (c : EntryProgress). c.entry) ended) in
         notes_on shape opened state kept id a mine records gone lived counts (takes_nothing a gone) (λ name key. refl) (λ known has. has)
         (answered_set kept.anatomy.records state.actors id a (noting a gone) mine refl refl)
         (λ fit. noting_fits shape kept.anatomy state.cursors _ kept.roles.opener id a gone fit fit.names fit.owes
         (calls_by kept.anatomy a gone fit.calls counts none_ordered (λ some_run. absurd (some_run refl)) (omega arith)
-        (All-append (λ (c : Counting). has_ended c ≡ true) a.entries.log ended fit.calls.ended done)
+        (All-append (λ (c : EntryProgress). has_ended c ≡ true) a.entries.log ended fit.calls.ended done)
         (λ name.
-        let logs = ap (λ (entries : List Entry). tally_noted entries name) (map-append (λ (c : Counting). c.entry) a.entries.log ended) in
-        let both = noted_total name (map (λ (c : Counting). c.entry) a.entries.log) (map (λ (c : Counting). c.entry) ended) in
+        let logs = ap (λ (entries : List Entry). tally_noted entries name) (map-append (λ (c : EntryProgress). c.entry) a.entries.log ended) in
+        let both = noted_total name (map (λ (c : EntryProgress). c.entry) a.entries.log) (map (λ (c : EntryProgress). c.entry) ended) in
         let costs = sum_by-append (λ (cost : Cost). if bytes_eq cost.name name then cost.units else 0) a.units.costs spent in
         let before = fit.calls.spent name in
         let now = pays kept.anatomy fit.calls name in
@@ -130,15 +130,15 @@ ends_kept shape opened state id a kept mine records (unbound, done) =
 -- ---- it is refused
 
 module _ (a : Actor) (added : ℕ) where
-  abbrev done : List Counting
+  abbrev done : List EntryProgress
   done = take added a.entries.running
 
-  abbrev left : List Counting
+  abbrev left : List EntryProgress
   left = drop added a.entries.running
 
   -- all that ran is what has ended, and what nothing has happened of
   ran : (a.entries.log ++ done) ++ left ≡ a.entries.log ++ a.entries.running
-  ran = append_assoc a.entries.log done left ∙ ap (λ (list : List Counting). a.entries.log ++ list) (take-append-drop added a.entries.running)
+  ran = append_assoc a.entries.log done left ∙ ap (λ (list : List EntryProgress). a.entries.log ++ list) (take-append-drop added a.entries.running)
 
   -- a call of which nothing runs has spent nothing
   none_spent : (held : List Cost) → cost_total (map (λ (cost : Cost). record cost { units = units_running [] cost.name }) held) ≡ 0
@@ -153,10 +153,10 @@ module _ (a : Actor) (added : ℕ) where
   spends : (anatomy : Anatomy) → CallsRight anatomy a → cost_total (spent_by added a) ≤ cost_total a.units.held
   spends anatomy calls = by_running a.entries.running refl
     where
-      by_running : (r : List Counting) → a.entries.running ≡ r → cost_total (spent_by added a) ≤ cost_total a.units.held
+      by_running : (r : List EntryProgress) → a.entries.running ≡ r → cost_total (spent_by added a) ≤ cost_total a.units.held
       by_running [] runs =
           let nothing : done ≡ [] = ap (take added) runs ∙ take-nil added in
-          let same = ap (λ (list : List Counting). cost_total (map (λ (cost : Cost). record cost { units = units_running list cost.name }) a.units.held)) nothing in
+          let same = ap (λ (list : List EntryProgress). cost_total (map (λ (cost : Cost). record cost { units = units_running list cost.name }) a.units.held)) nothing in
           let none = none_spent a.units.held in
           omega (arith, same, none)
       by_running (c ∷ cs) runs =
@@ -165,48 +165,48 @@ module _ (a : Actor) (added : ℕ) where
           let spent_is : cost_total (spent_by added a) ≡ 0 + units_running done name =
           ap (λ (held : List Cost). cost_total (map (λ (cost : Cost). record cost { units = units_running done cost.name }) held)) holds in
           let all : units_running a.entries.running name ≡ units_running done name + units_running left name =
-          ap (λ (list : List Counting). units_running list name) (sym (take-append-drop added a.entries.running))
-          ∙ (ap (λ (list : List Entry). tally_noted list name) (map-append (λ (c : Counting). c.entry) done left)
-          ∙ noted_total name (map (λ (c : Counting). c.entry) done) (map (λ (c : Counting). c.entry) left)) in
+          ap (λ (list : List EntryProgress). units_running list name) (sym (take-append-drop added a.entries.running))
+          ∙ (ap (λ (list : List Entry). tally_noted list name) (map-append (λ (c : EntryProgress). c.entry) done left)
+          ∙ noted_total name (map (λ (c : EntryProgress). c.entry) done) (map (λ (c : EntryProgress). c.entry) left)) in
           let most = within.units in
           omega (arith, held_is, spent_is, all, most)
 
   -- what it has spent covers what has ended, for each name
-  pays : (anatomy : Anatomy) → CallsRight anatomy a → (name : List ℕ) → tally_noted (map (λ (c : Counting). c.entry) done) name ≤ cost_of (spent_by added a) name
+  pays : (anatomy : Anatomy) → CallsRight anatomy a → (name : List ℕ) → tally_noted (map (λ (c : EntryProgress). c.entry) done) name ≤ cost_of (spent_by added a) name
   pays anatomy calls name = by_running a.entries.running refl
     where
-      by_running : (r : List Counting) → a.entries.running ≡ r → tally_noted (map (λ (c : Counting). c.entry) done) name ≤ cost_of (spent_by added a) name
+      by_running : (r : List EntryProgress) → a.entries.running ≡ r → tally_noted (map (λ (c : EntryProgress). c.entry) done) name ≤ cost_of (spent_by added a) name
       by_running [] runs =
-          let none = ap (λ (list : List Counting). tally_noted (map (λ (c : Counting). c.entry) list) name) (ap (take added) runs ∙ take-nil added) in
+          let none = ap (λ (list : List EntryProgress). tally_noted (map (λ (c : EntryProgress). c.entry) list) name) (ap (take added) runs ∙ take-nil added) in
           omega (arith, none)
       by_running (c ∷ cs) runs =
           let (other, cost, holds, within, known) = calls.within (λ none. cc (sym runs ∙ none)) in
           let named : Entry → Type 0 = λ e. e.name ≡ other in
-          let entries : List Entry = map (λ (c : Counting). c.entry) done in
-          let all : All named entries = all_left named entries (map (λ (c : Counting). c.entry) left)
-          (subst (All named) (ap (map (λ (c : Counting). c.entry)) (sym (take-append-drop added a.entries.running)) ∙ map-append (λ (c : Counting). c.entry) done left) within.of_name) in
+          let entries : List Entry = map (λ (c : EntryProgress). c.entry) done in
+          let all : All named entries = all_left named entries (map (λ (c : EntryProgress). c.entry) left)
+          (subst (All named) (ap (map (λ (c : EntryProgress). c.entry)) (sym (take-append-drop added a.entries.running)) ∙ map-append (λ (c : EntryProgress). c.entry) done left) within.of_name) in
           subst (λ (held : List Cost). tally_noted entries name ≤ cost_of (map (λ (cost : Cost). record cost { units = units_running done cost.name }) held) name)
           (sym holds) (by_name other name entries (units_running done other) all (omega arith))
 
   module _ (untouched : All (λ c. is_untouched c ≡ true) left) (unsummed : All (λ c. c.summed ≡ false) done) where
-    each_left : (c : Counting) → Contains left c → is_untouched c ≡ true
-    each_left c has = All-contains (λ (c : Counting). is_untouched c ≡ true) left c untouched has
+    each_left : (c : EntryProgress) → Contains left c → is_untouched c ≡ true
+    each_left c has = All-contains (λ (c : EntryProgress). is_untouched c ≡ true) left c untouched has
 
-    each : (c : Counting) → Contains a.entries.running c → Contains done c ⊎ (is_untouched c ≡ true)
+    each : (c : EntryProgress) → Contains a.entries.running c → Contains done c ⊎ (is_untouched c ≡ true)
     each c has = ⊎_elim (λ first. inl first) (λ rest. inr (each_left c rest))
-        (Contains-append_cases done left c (subst (λ (list : List Counting). Contains list c) (sym (take-append-drop added a.entries.running)) has))
+        (Contains-append_cases done left c (subst (λ (list : List EntryProgress). Contains list c) (sym (take-append-drop added a.entries.running)) has))
 
     -- no amount was added
-    none_summed : filter (λ (c : Counting). c.summed) a.entries.running ≡ []
+    none_summed : filter (λ (c : EntryProgress). c.summed) a.entries.running ≡ []
     none_summed = filter_none a.entries.running (λ c has. ⊎_elim
-        (λ first. All-contains (λ (c : Counting). c.summed ≡ false) done c unsummed first)
+        (λ first. All-contains (λ (c : EntryProgress). c.summed ≡ false) done c unsummed first)
         (λ rest. untouched_summed c rest)
         (each c has))
       where
-        filter_none : (list : List Counting) → ((c : Counting) → Contains list c → c.summed ≡ false) → filter (λ (c : Counting). c.summed) list ≡ []
+        filter_none : (list : List EntryProgress) → ((c : EntryProgress) → Contains list c → c.summed ≡ false) → filter (λ (c : EntryProgress). c.summed) list ≡ []
         filter_none [] off = refl
         filter_none (c ∷ cs) off =
-            ap (λ (b : Bool). cond b (c ∷ filter (λ (c : Counting). c.summed) cs) (filter (λ (c : Counting). c.summed) cs)) (off c (0, omega arith, refl))
+            ap (λ (b : Bool). cond b (c ∷ filter (λ (c : EntryProgress). c.summed) cs) (filter (λ (c : EntryProgress). c.summed) cs)) (off c (0, omega arith, refl))
             ∙ filter_none cs (λ d has. off d (Contains-append_right (c ∷ []) cs d has))
 
     refused_counts : cost_total (spent_by added a) ≤ cost_total a.units.held → SameCounts a (noted a (refused added))
@@ -221,7 +221,7 @@ module _ (a : Actor) (added : ℕ) where
           let all : cost_of (a.units.costs ++ spent_by added a) name ≡ cost_of a.units.costs name + cost_of (spent_by added a) name =
           sum_by-append (λ (cost : Cost). if bytes_eq cost.name name then cost.units else 0) a.units.costs (spent_by added a) in
           let before : summed_cost name a ≡ cost_of a.units.costs name + 0 =
-          ap (λ (list : List Counting). cost_of a.units.costs name + (if length list == 0 then 0 else cost_of a.units.held name)) none_summed in
+          ap (λ (list : List EntryProgress). cost_of a.units.costs name + (if length list == 0 then 0 else cost_of a.units.held name)) none_summed in
           omega (arith, all, before);
       units =
           let all = sum_by-append (λ (cost : Cost). cost.units) a.units.costs (spent_by added a) in

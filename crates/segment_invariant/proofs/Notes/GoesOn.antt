@@ -7,7 +7,7 @@ use Rattle.std.proofs.lemmas.List.{map-append}
 use Rattle.std.proofs.lemmas.List.Elements.{All-push, filter-append}
 use Rattle.segment_invariant.proofs.Frames.Answers.{answered_set}
 use Rattle.segment_machine.specs.declared.entry.Entry.{Entry}
-use Rattle.segment_machine.specs.declared.entry.Counting.{Counting}
+use Rattle.segment_machine.specs.declared.entry.EntryProgress.{EntryProgress}
 use Rattle.segment_machine.specs.declared.place.Place.TheVariants.{Spent}
 use Rattle.segment_machine.specs.declared.actor.Actor.{Actor}
 use Rattle.segment_machine.specs.declared.actor.Cost.{Cost}
@@ -24,7 +24,7 @@ use Rattle.segment_invariant.proofs.Notes.Actors.{noting_fits, finals_on, calls_
 use Rattle.segment_invariant.proofs.Notes.Begins.{takes_nothing}
 
 module _ (a : Actor) (entry : Entry) (cost : ℕ) where
-  abbrev more : List Counting
+  abbrev more : List EntryProgress
   more = fresh entry ∷ []
 
   abbrev dearer : Cost → Cost
@@ -33,15 +33,15 @@ module _ (a : Actor) (entry : Entry) (cost : ℕ) where
   abbrev further : Noting
   further = record (noting_of a) { share = a.units.share - cost; held = map dearer a.units.held; running = a.entries.running ++ more }
 
-  untouched : (c : Counting) → Contains more c → is_untouched c ≡ true
+  untouched : (c : EntryProgress) → Contains more c → is_untouched c ≡ true
   untouched c has = ap is_untouched (sym (one_in (fresh entry) c has))
 
   -- its entries are as they were, with one behind them of which nothing has happened
   ran : (a.entries.log ++ a.entries.running) ++ more ≡ a.entries.log ++ (a.entries.running ++ more)
   ran = append_assoc a.entries.log a.entries.running more
 
-  as_summed : filter (λ (c : Counting). c.summed) (a.entries.running ++ more) ≡ filter (λ (c : Counting). c.summed) a.entries.running
-  as_summed = filter-append (λ (c : Counting). c.summed) a.entries.running more ∙ append-nil (filter (λ (c : Counting). c.summed) a.entries.running)
+  as_summed : filter (λ (c : EntryProgress). c.summed) (a.entries.running ++ more) ≡ filter (λ (c : EntryProgress). c.summed) a.entries.running
+  as_summed = filter-append (λ (c : EntryProgress). c.summed) a.entries.running more ∙ append-nil (filter (λ (c : EntryProgress). c.summed) a.entries.running)
 
   goes_on_counts : cost ≤ a.units.share → (name : List ℕ) (units : ℕ) → a.units.held ≡ record { name = name; units = units } ∷ [] → SameCounts a (noting a further)
   goes_on_counts enough name units holds = record {
@@ -55,9 +55,9 @@ module _ (a : Actor) (entry : Entry) (cost : ℕ) where
         ∙ (untouched_notes [] (a.entries.log ++ a.entries.running) more untouched name
         ∙ ap (λ list. tally_noted (noted_among list) name) (append-nil (a.entries.log ++ a.entries.running)));
     costs = λ of.
-        let now : summed_cost of (noting a further) ≡ cost_of a.units.costs of + (if length (filter (λ (c : Counting). c.summed) a.entries.running) == 0 then 0 else cost_of (map dearer a.units.held) of) =
-        ap (λ (list : List Counting). cost_of a.units.costs of + (if length list == 0 then 0 else cost_of (map dearer a.units.held) of)) as_summed in
-        let bound = covers (length (filter (λ (c : Counting). c.summed) a.entries.running) == 0) (cost_of a.units.costs of) _ _
+        let now : summed_cost of (noting a further) ≡ cost_of a.units.costs of + (if length (filter (λ (c : EntryProgress). c.summed) a.entries.running) == 0 then 0 else cost_of (map dearer a.units.held) of) =
+        ap (λ (list : List EntryProgress). cost_of a.units.costs of + (if length list == 0 then 0 else cost_of (map dearer a.units.held) of)) as_summed in
+        let bound = covers (length (filter (λ (c : EntryProgress). c.summed) a.entries.running) == 0) (cost_of a.units.costs of) _ _
         (subst (λ held. cost_of held of ≤ cost_of (map dearer held) of) (sym holds) (costs_more (bytes_eq name of))) in
         omega (arith, now, bound);
     units =
@@ -85,13 +85,13 @@ module _ (a : Actor) (entry : Entry) (cost : ℕ) where
           let at = new.0 in
           absurd (omega (arith, below, low, long, at))
     ];
-    counted_first = All-push (λ (c : Counting). c.summed ≡ true → is_counted c ≡ true) a.entries.running (fresh entry) ordered.counted_first (λ summed. absurd (true≢false (sym summed)));
-    summed_next = All-push (λ (c : Counting). c.noted ≡ true → is_summed c ≡ true) a.entries.running (fresh entry) ordered.summed_next (λ noted. absurd (true≢false (sym noted)));
-    amounted = All-push (λ (c : Counting). c.summed ≡ true → c.entry.amount ≢ pos 0) a.entries.running (fresh entry) ordered.amounted (λ summed. absurd (true≢false (sym summed)));
+    counted_first = All-push (λ (c : EntryProgress). c.summed ≡ true → is_counted c ≡ true) a.entries.running (fresh entry) ordered.counted_first (λ summed. absurd (true≢false (sym summed)));
+    summed_next = All-push (λ (c : EntryProgress). c.noted ≡ true → is_summed c ≡ true) a.entries.running (fresh entry) ordered.summed_next (λ noted. absurd (true≢false (sym noted)));
+    amounted = All-push (λ (c : EntryProgress). c.summed ≡ true → c.entry.amount ≢ pos 0) a.entries.running (fresh entry) ordered.amounted (λ summed. absurd (true≢false (sym summed)));
   }
 
   goes_on_quiet : (name : List ℕ) (k : ℕ) → IsQuiet (noting a further) name k → IsQuiet a name k
-  goes_on_quiet name k quiet = (quiet.0, all_left (λ (c : Counting). (is_of name c.entry ≡ false) ⊎ (is_untouched c ≡ true)) a.entries.running more quiet.1)
+  goes_on_quiet name k quiet = (quiet.0, all_left (λ (c : EntryProgress). (is_of name c.entry ≡ false) ⊎ (is_untouched c ≡ true)) a.entries.running more quiet.1)
 
 pub goes_on_kept : (entry : Entry) (cost : ℕ) → NoteKeeps (goes_on entry cost)
 goes_on_kept entry cost shape opened state id a kept mine records (runs, done, enough, (name, units, holds, within)) =
@@ -109,7 +109,7 @@ goes_on_kept entry cost shape opened state id a kept mine records (runs, done, e
       name,
       units + cost,
       ap (map (dearer a entry cost)) holds,
-      subst (AreWithin name (units + cost)) (sym (map-append (λ (c : Counting). c.entry) a.entries.running (fresh entry ∷ []))) within,
+      subst (AreWithin name (units + cost)) (sym (map-append (λ (c : EntryProgress). c.entry) a.entries.running (fresh entry ∷ []))) within,
       subst (λ name. Contains (map (λ known. known.name) a.answers.names) name) named known,
     ))
     (subst (λ held. length (map (dearer a entry cost) held) ≤ 1) (sym holds) (omega arith)) fit.calls.ended fit.calls.spent

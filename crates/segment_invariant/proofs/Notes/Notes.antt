@@ -6,7 +6,7 @@ use lib.ListN.{get_elem?}
 use Rattle.atomic_table.proofs.Lists.{at_set, set_else}
 use Rattle.segment_image.specs.Shape.{Dimensions}
 use Rattle.segment_machine.specs.declared.entry.Entry.{Entry}
-use Rattle.segment_machine.specs.declared.entry.Counting.{Counting}
+use Rattle.segment_machine.specs.declared.entry.EntryProgress.{EntryProgress}
 use Rattle.segment_machine.specs.declared.place.Place.TheVariants.{Spent}
 use Rattle.segment_machine.specs.declared.actor.Actor.{Actor}
 use Rattle.segment_machine.specs.declared.actor.Portion.{Portion}
@@ -39,8 +39,8 @@ pub record Noting : Type 0 where
   pub share : ℕ
   pub costs : List Cost
   pub held : List Cost
-  pub log : List Counting
-  pub running : List Counting
+  pub log : List EntryProgress
+  pub running : List EntryProgress
   pub names : List Known
   pub owed : List Known
   pub taken : List Taken

@@ -14,7 +14,7 @@ use Rattle.bucket_ranges.specs.Spec.{buckets_of}
 use Rattle.bucket_ranges.specs.Single.{single_of, packed_bucket, units_packed}
 use Rattle.segment_machine.specs.declared.actor.Actor.{Actor}
 use Rattle.segment_machine.specs.declared.actor.Known.{Known}
-use Rattle.segment_machine.specs.declared.entry.Counting.{Counting}
+use Rattle.segment_machine.specs.declared.entry.EntryProgress.{EntryProgress}
 use Rattle.segment_machine.specs.declared.place.Place.TheVariants.{Spent, Idle}
 use Rattle.segment_machine.specs.Actor.{is_bound, Buckets, is_opener}
 use Rattle.segment_machine.specs.Calls.{IsKeyOfBucket}
@@ -127,7 +127,7 @@ module _ (version page : ℕ) (versions : (version ≡ 1) ⊎ (version ≡ 2)) (
 -- ---- the exchange
 
 module _ (shape : Dimensions) (opened : Anatomy) (state : State) (kept : Invariant shape opened state) (id : ℕ) (a : Actor)
-    (mine : get_elem? state.actors id ≡ some a) (recorder : is_opener a.role ≡ false) (unbound : is_bound a.hand.place ≡ false) (entry : Counting) (next : Next a.entries.running entry)
+    (mine : get_elem? state.actors id ≡ some a) (recorder : is_opener a.role ≡ false) (unbound : is_bound a.hand.place ≡ false) (entry : EntryProgress) (next : Next a.entries.running entry)
     (uncounted : is_counted entry ≡ false) (h : ℕ) (known : Known) (buckets : Buckets a h known) (named : entry.entry.name ≡ known.name)
     (bucket : ℕ) (is_key : IsKeyOfBucket known bucket entry.entry.key) (new : ℕ) (found_on : is_off (word_at state.words (h + 9)) ≡ false)
     (word_packs : IsPacking bucket entry.entry.units (word_at state.words (h + 9)) new) where

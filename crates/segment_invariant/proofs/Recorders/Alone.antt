@@ -10,7 +10,7 @@ use mathlib.Core.Option.{some}
 use lib.ListN.{get_elem?}
 use Rattle.segment_image.specs.Shape.{Dimensions}
 use Rattle.segment_machine.specs.declared.entry.Entry.{Entry}
-use Rattle.segment_machine.specs.declared.entry.Counting.{Counting}
+use Rattle.segment_machine.specs.declared.entry.EntryProgress.{EntryProgress}
 use Rattle.segment_machine.specs.declared.place.Place.{Place}
 use Rattle.segment_machine.specs.declared.place.Place.TheVariants.{Spent}
 use Rattle.segment_machine.specs.declared.actor.Actor.{Actor}
@@ -77,20 +77,20 @@ module _ (shape : Dimensions) (opened : Anatomy) (state : State) (kept : Invaria
       log ∙ (ap (λ list. a.entries.inherited ++ list) (nothing alone.2 last) ∙ append-nil a.entries.inherited)
 
   -- What all come to is what the logs of these two come to, with what stands in front of them, where nothing of the running entries counts.
-  module _ (total : List Entry → ℕ) (sums : IsTotal ◌+◌ total) (none : total [] ≡ 0) (test : Counting → Bool)
-      (passes : (c : Counting) → has_ended c ≡ true → test c ≡ true) (front : Actor → List Entry) (nothing : front spent ≡ [])
-      (still : (c : Counting) → Contains a.entries.running c → test c ≡ true → total (c.entry ∷ []) ≡ total []) where
+  module _ (total : List Entry → ℕ) (sums : IsTotal ◌+◌ total) (none : total [] ≡ 0) (test : EntryProgress → Bool)
+      (passes : (c : EntryProgress) → has_ended c ≡ true → test c ≡ true) (front : Actor → List Entry) (nothing : front spent ≡ [])
+      (still : (c : EntryProgress) → Contains a.entries.running c → test c ≡ true → total (c.entry ∷ []) ≡ total []) where
     abbrev entries : Actor → List Entry
     entries c = front c ++ map (λ c. c.entry) (filter test (c.entries.log ++ c.entries.running))
 
     abbrev logged : Actor → ℕ
-    logged c = total (front c) + total (map (λ (c : Counting). c.entry) c.entries.log)
+    logged c = total (front c) + total (map (λ (c : EntryProgress). c.entry) c.entries.log)
 
-    one : (c : Actor) → All (λ c. has_ended c ≡ true) c.entries.log → total (map (λ (c : Counting). c.entry) (filter test c.entries.running)) ≡ 0 → total (entries c) ≡ logged c
+    one : (c : Actor) → All (λ c. has_ended c ≡ true) c.entries.log → total (map (λ (c : EntryProgress). c.entry) (filter test c.entries.running)) ≡ 0 → total (entries c) ≡ logged c
     one c done rest =
-        let all = sums (front c) (map (λ (c : Counting). c.entry) (filter test (c.entries.log ++ c.entries.running))) in
+        let all = sums (front c) (map (λ (c : EntryProgress). c.entry) (filter test (c.entries.log ++ c.entries.running))) in
         let log = ap total (among_all test passes c.entries.log done c.entries.running) in
-        let parts = sums (map (λ (c : Counting). c.entry) c.entries.log) (map (λ (c : Counting). c.entry) (filter test c.entries.running)) in
+        let parts = sums (map (λ (c : EntryProgress). c.entry) c.entries.log) (map (λ (c : EntryProgress). c.entry) (filter test c.entries.running)) in
         omega (arith, all, log, parts, rest)
 
     two_logs : total (flat_map entries state.actors) ≡ logged opener + logged a
@@ -98,13 +98,13 @@ module _ (shape : Dimensions) (opened : Anatomy) (state : State) (kept : Invaria
         let all = total_rows total sums none entries state.actors in
         let both = sum_pair (λ c. total (entries c)) state.actors 0 id opener a (λ e. not_first (sym e)) kept.roles.stands mine
         (λ j c there others. ap (λ (c : Actor). total (entries c)) (gone j c there others) ∙ (ap (λ list. total (list ++ [])) nothing ∙ none)) in
-        let first = one opener ended (ap (λ (list : List Counting). total (map (λ (c : Counting). c.entry) (filter test list))) kept.roles.rests.0 ∙ none) in
+        let first = one opener ended (ap (λ (list : List EntryProgress). total (map (λ (c : EntryProgress). c.entry) (filter test list))) kept.roles.rests.0 ∙ none) in
         let second = one a (kept.each id a mine lives).calls.ended (nothing_among ◌+◌ total sums test a.entries.running still ∙ none) in
         omega (arith, all, both, first, second)
 
   module _ (name : List ℕ) (quiet : All (λ c. (is_of name c.entry ≡ false) ⊎ (is_untouched c ≡ true)) a.entries.running) where
-    either : (c : Counting) → Contains a.entries.running c → (is_of name c.entry ≡ false) ⊎ (is_untouched c ≡ true)
-    either c has = All-contains (λ (c : Counting). (is_of name c.entry ≡ false) ⊎ (is_untouched c ≡ true)) a.entries.running c quiet has
+    either : (c : EntryProgress) → Contains a.entries.running c → (is_of name c.entry ≡ false) ⊎ (is_untouched c ≡ true)
+    either c has = All-contains (λ (c : EntryProgress). (is_of name c.entry ≡ false) ⊎ (is_untouched c ≡ true)) a.entries.running c quiet has
 
     pub counted_accepted : (key : ℤ) → tally_units (all_counted state.actors) name key ≡ tally_units (accepted_by a) name key
     counted_accepted key =
@@ -114,8 +114,8 @@ module _ (shape : Dimensions) (opened : Anatomy) (state : State) (kept : Invaria
         (λ other. (λ i. 0 + (if other i && int_eq c.entry.key key then c.entry.units else 0)))
         (λ untouched. no_units name key c.entry (counted_none c untouched passes))
         (either c has)) in
-        let before = ap total (sym heir) ∙ units_total name key opener.entries.first (map (λ (c : Counting). c.entry) opener.entries.log) in
-        let since = units_total name key a.entries.first (map (λ (c : Counting). c.entry) a.entries.log) in
+        let before = ap total (sym heir) ∙ units_total name key opener.entries.first (map (λ (c : EntryProgress). c.entry) opener.entries.log) in
+        let since = units_total name key a.entries.first (map (λ (c : EntryProgress). c.entry) a.entries.log) in
         let accepted = units_total name key a.entries.inherited (log_of a) in
         omega (arith, all, before, since, accepted)
 
@@ -128,6 +128,6 @@ module _ (shape : Dimensions) (opened : Anatomy) (state : State) (kept : Invaria
         (λ untouched. no_noted name c.entry (noted_none c untouched passes))
         (either c has)) in
         let before = ap (λ list. total (drop (length opener.entries.first) list)) (sym heir)
-        ∙ ap total (drop-append_seam opener.entries.first (map (λ (c : Counting). c.entry) opener.entries.log)) in
-        let accepted = noted_total name (drop (length opener.entries.first) a.entries.inherited) (map (λ (c : Counting). c.entry) a.entries.log) in
+        ∙ ap total (drop-append_seam opener.entries.first (map (λ (c : EntryProgress). c.entry) opener.entries.log)) in
+        let accepted = noted_total name (drop (length opener.entries.first) a.entries.inherited) (map (λ (c : EntryProgress). c.entry) a.entries.log) in
         omega (arith, all, before, accepted)

@@ -10,7 +10,7 @@ use Rattle.std.proofs.lemmas.List.Elements.{All-nil, All-append, All-weaker, Con
 use Rattle.segment_image.specs.Shape.{Dimensions}
 use Rattle.alloc_core.specs.Layout.{IsShown}
 use Rattle.segment_machine.specs.declared.entry.Entry.{Entry}
-use Rattle.segment_machine.specs.declared.entry.Counting.{Counting}
+use Rattle.segment_machine.specs.declared.entry.EntryProgress.{EntryProgress}
 use Rattle.segment_machine.specs.declared.actor.Actor.{Actor}
 use Rattle.segment_machine.specs.declared.actor.Answered.{Answered}
 use Rattle.segment_machine.specs.declared.actor.Moment.{Moment}
@@ -51,9 +51,9 @@ module _ (actors : List Actor) (opener : Actor) (other : ℕ) (a b : Actor) (may
   -- the log of both is the opener's, and then the recorder's
   log_joined : log_of both ≡ log_of a ++ log_of b
   log_joined =
-      ap (λ (list : List Entry). a.entries.first ++ list) (map-append (λ (c : Counting). c.entry) a.entries.log b.entries.log)
-      ∙ sym (append_assoc a.entries.first (map (λ (c : Counting). c.entry) a.entries.log) (map (λ (c : Counting). c.entry) b.entries.log))
-      ∙ ap (λ (list : List Entry). log_of a ++ (list ++ map (λ (c : Counting). c.entry) b.entries.log)) (sym may.begins)
+      ap (λ (list : List Entry). a.entries.first ++ list) (map-append (λ (c : EntryProgress). c.entry) a.entries.log b.entries.log)
+      ∙ sym (append_assoc a.entries.first (map (λ (c : EntryProgress). c.entry) a.entries.log) (map (λ (c : EntryProgress). c.entry) b.entries.log))
+      ∙ ap (λ (list : List Entry). log_of a ++ (list ++ map (λ (c : EntryProgress). c.entry) b.entries.log)) (sym may.begins)
 
   -- ---- where nothing was counted since
 
@@ -68,8 +68,8 @@ module _ (actors : List Actor) (opener : Actor) (other : ℕ) (a b : Actor) (may
   quiet_second : (name : List ℕ) (n : ℕ) → IsQuiet both name (before + n) → IsQuiet b name n
   quiet_second name n quiet = (
     subst (All (λ (entry : Entry). is_of name entry ≡ false)) (ap (drop (before + n)) log_joined ∙ drop-append-add (log_of a) (log_of b) n) quiet.0,
-    subst (All (λ (c : Counting). (is_of name c.entry ≡ false) ⊎ (is_untouched c ≡ true))) (sym may.rests)
-        (All-nil (λ (c : Counting). (is_of name c.entry ≡ false) ⊎ (is_untouched c ≡ true))),
+    subst (All (λ (c : EntryProgress). (is_of name c.entry ≡ false) ⊎ (is_untouched c ≡ true))) (sym may.rests)
+        (All-nil (λ (c : EntryProgress). (is_of name c.entry ≡ false) ⊎ (is_untouched c ≡ true))),
   )
 
   -- ---- moments

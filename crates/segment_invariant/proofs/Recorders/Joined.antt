@@ -14,7 +14,7 @@ use Rattle.list_core.specs.Walk.{IsPrefix}
 use Rattle.segment_machine.specs.declared.actor.Known.{Known}
 use Rattle.segment_machine.specs.declared.actor.Portion.{Portion}
 use Rattle.segment_machine.specs.declared.entry.Entry.{Entry}
-use Rattle.segment_machine.specs.declared.entry.Counting.{Counting}
+use Rattle.segment_machine.specs.declared.entry.EntryProgress.{EntryProgress}
 use Rattle.segment_machine.specs.declared.place.Place.TheVariants.{Idle}
 use Rattle.segment_machine.specs.declared.actor.Actor.{Actor}
 use Rattle.segment_machine.specs.declared.actor.Cost.{Cost}
@@ -43,23 +43,23 @@ use Rattle.segment_invariant.proofs.Frames.Standing.{met_more}
 
 -- ---- entries
 
-abbrev entries : (Counting → Bool) → List Counting → List Entry
+abbrev entries : (EntryProgress → Bool) → List EntryProgress → List Entry
 entries test list = map (λ c. c.entry) (filter test list)
 
-entries_append : (test : Counting → Bool) (log more : List Counting) → entries test (log ++ more) ≡ entries test log ++ entries test more
-entries_append test log more = ap (map (λ (c : Counting). c.entry)) (filter-append test log more) ∙ map-append (λ (c : Counting). c.entry) (filter test log) (filter test more)
+entries_append : (test : EntryProgress → Bool) (log more : List EntryProgress) → entries test (log ++ more) ≡ entries test log ++ entries test more
+entries_append test log more = ap (map (λ (c : EntryProgress). c.entry)) (filter-append test log more) ∙ map-append (λ (c : EntryProgress). c.entry) (filter test log) (filter test more)
 
 -- of two who run nothing, the second without first entries, the entries of both logs
-entries_joined : (test : Counting → Bool) (first nothing : List Entry) (log more run last : List Counting) → run ≡ [] → last ≡ [] → nothing ≡ []
+entries_joined : (test : EntryProgress → Bool) (first nothing : List Entry) (log more run last : List EntryProgress) → run ≡ [] → last ≡ [] → nothing ≡ []
     → first ++ entries test ((log ++ more) ++ run) ≡ (first ++ entries test (log ++ run)) ++ (nothing ++ entries test (more ++ last))
 entries_joined test first nothing log more run last idle rests without =
-    subst (λ (r : List Counting). first ++ entries test ((log ++ more) ++ r) ≡ (first ++ entries test (log ++ r)) ++ (nothing ++ entries test (more ++ last))) (sym idle)
-    (subst (λ (l : List Counting). first ++ entries test ((log ++ more) ++ []) ≡ (first ++ entries test (log ++ [])) ++ (nothing ++ entries test (more ++ l))) (sym rests)
+    subst (λ (r : List EntryProgress). first ++ entries test ((log ++ more) ++ r) ≡ (first ++ entries test (log ++ r)) ++ (nothing ++ entries test (more ++ last))) (sym idle)
+    (subst (λ (l : List EntryProgress). first ++ entries test ((log ++ more) ++ []) ≡ (first ++ entries test (log ++ [])) ++ (nothing ++ entries test (more ++ l))) (sym rests)
     (subst (λ (n : List Entry). first ++ entries test ((log ++ more) ++ []) ≡ (first ++ entries test (log ++ [])) ++ (n ++ entries test (more ++ []))) (sym without)
-    (ap (λ (list : List Counting). first ++ entries test list) (append-nil (log ++ more))
+    (ap (λ (list : List EntryProgress). first ++ entries test list) (append-nil (log ++ more))
     ∙ ap (λ (list : List Entry). first ++ list) (entries_append test log more)
     ∙ sym (append_assoc first (entries test log) (entries test more))
-    ∙ ap₂ (λ (x y : List Counting). (first ++ entries test x) ++ entries test y) (sym (append-nil log)) (sym (append-nil more)))))
+    ∙ ap₂ (λ (x y : List EntryProgress). (first ++ entries test x) ++ entries test y) (sym (append-nil log)) (sym (append-nil more)))))
 
 -- ---- what both did together
 
@@ -87,7 +87,7 @@ portions_joined n first more nothing xs ys =
 rests_cost : (name : List ℕ) (a : Actor) → a.entries.running ≡ [] → summed_cost name a ≡ cost_of a.units.costs name
 rests_cost name a rests =
     let nothing : (if length (filter (λ c. c.summed) a.entries.running) == 0 then 0 else cost_of a.units.held name) ≡ 0 =
-    ap (λ (run : List Counting). if length (filter (λ c. c.summed) run) == 0 then 0 else cost_of a.units.held name) rests in
+    ap (λ (run : List EntryProgress). if length (filter (λ c. c.summed) run) == 0 then 0 else cost_of a.units.held name) rests in
     omega (arith, nothing)
 
 -- a recorder that may be joined, and an opener that joins it
@@ -294,10 +294,10 @@ module _ (shape : Dimensions) (words : List ℕ) (anatomy : Anatomy) (shown : Is
     ordered = first.ordered;
     within = λ some_run. absurd (some_run may.runs);
     held = first.held;
-    ended = All-append (λ (c : Counting). has_ended c ≡ true) a.entries.log b.entries.log first.ended second.ended;
+    ended = All-append (λ (c : EntryProgress). has_ended c ≡ true) a.entries.log b.entries.log first.ended second.ended;
     spent = λ name.
-        let logs = ap (λ (entries : List Entry). tally_noted entries name) (map-append (λ (c : Counting). c.entry) a.entries.log b.entries.log) in
-        let both = noted_total name (map (λ (c : Counting). c.entry) a.entries.log) (map (λ (c : Counting). c.entry) b.entries.log) in
+        let logs = ap (λ (entries : List Entry). tally_noted entries name) (map-append (λ (c : EntryProgress). c.entry) a.entries.log b.entries.log) in
+        let both = noted_total name (map (λ (c : EntryProgress). c.entry) a.entries.log) (map (λ (c : EntryProgress). c.entry) b.entries.log) in
         let costs = sum_by-append (λ (cost : Cost). if bytes_eq cost.name name then cost.units else 0) a.units.costs b.units.costs in
         let one = first.spent name in
         let two = second.spent name in

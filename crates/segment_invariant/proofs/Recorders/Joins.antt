@@ -9,7 +9,7 @@ use Rattle.std.proofs.lemmas.List.Elements.{All-nil, All-append, All-map}
 use Rattle.atomic_table.proofs.Lists.{set_else, set_here}
 use Rattle.segment_image.specs.Shape.{Dimensions}
 use Rattle.segment_machine.specs.declared.entry.Entry.{Entry}
-use Rattle.segment_machine.specs.declared.entry.Counting.{Counting}
+use Rattle.segment_machine.specs.declared.entry.EntryProgress.{EntryProgress}
 use Rattle.segment_machine.specs.declared.place.Place.TheVariants.{Spent, SumLoaded}
 use Rattle.segment_machine.specs.declared.actor.Actor.{Actor}
 use Rattle.segment_machine.specs.declared.actor.Answered.{Answered}
@@ -100,10 +100,10 @@ module _ (shape : Dimensions) (opened : Anatomy) (old : State) (kept : Invariant
 
   -- ---- openers and recorders
 
-  log_longer : log_of later ≡ log_of opener ++ map (λ (c : Counting). c.entry) b.entries.log
+  log_longer : log_of later ≡ log_of opener ++ map (λ (c : EntryProgress). c.entry) b.entries.log
   log_longer =
-      ap (λ (list : List Entry). opener.entries.first ++ list) (map-append (λ (c : Counting). c.entry) opener.entries.log b.entries.log)
-      ∙ sym (append_assoc opener.entries.first (map (λ (c : Counting). c.entry) opener.entries.log) (map (λ (c : Counting). c.entry) b.entries.log))
+      ap (λ (list : List Entry). opener.entries.first ++ list) (map-append (λ (c : EntryProgress). c.entry) opener.entries.log b.entries.log)
+      ∙ sym (append_assoc opener.entries.first (map (λ (c : EntryProgress). c.entry) opener.entries.log) (map (λ (c : EntryProgress). c.entry) b.entries.log))
 
   -- beside the joined recorder no other one that lives was alone
   not_alone : (k : ℕ) (c : Actor) → get_elem? old.actors k ≡ some c → is_living c ≡ true → k ≢ other → outstanding_of c.role ≡ 0
@@ -145,7 +145,7 @@ module _ (shape : Dimensions) (opened : Anatomy) (old : State) (kept : Invariant
         (λ alive. absurd (true≢false (sym alive)))
         (λ k c past front at alive.
         let was = kept.roles.heirs k c at alive in
-        let entries = map (λ (x : Counting). x.entry) b.entries.log in (
+        let entries = map (λ (x : EntryProgress). x.entry) b.entries.log in (
           was.0 ++ entries,
           log_longer ∙ ap (λ (list : List Entry). list ++ entries) was.1 ∙ append_assoc c.entries.inherited was.0 entries,
           λ nobody last. absurd (not_alone k c at alive past nobody last),

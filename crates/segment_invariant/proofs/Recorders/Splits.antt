@@ -15,7 +15,7 @@ use Rattle.segment_image.specs.Shape.{Dimensions}
 use Rattle.list_core.specs.Laws.{IsStop}
 use Rattle.segment_invariant.proofs.Frames.Ahead.{ahead_anew, reached_stop}
 use Rattle.segment_machine.specs.declared.entry.Entry.{Entry}
-use Rattle.segment_machine.specs.declared.entry.Counting.{Counting}
+use Rattle.segment_machine.specs.declared.entry.EntryProgress.{EntryProgress}
 use Rattle.segment_machine.specs.declared.place.Place.TheVariants.{Spent, SumLoaded}
 use Rattle.segment_machine.specs.declared.actor.Actor.{Actor}
 use Rattle.segment_machine.specs.declared.actor.Given.{Given}
@@ -68,15 +68,15 @@ pub logged_counted : (a : Actor) (entry : Entry) → All (λ c. has_ended c ≡ 
 logged_counted a entry ended there = Contains-append_right a.entries.inherited (counted_of a) entry (⊎_elim
     (λ first. Contains-append_left a.entries.first _ entry first)
     (λ later. Contains-append_right a.entries.first _ entry (counted later))
-    (Contains-append_cases a.entries.first (map (λ (c : Counting). c.entry) a.entries.log) entry there))
+    (Contains-append_cases a.entries.first (map (λ (c : EntryProgress). c.entry) a.entries.log) entry there))
   where
-    counted : Contains (map (λ (c : Counting). c.entry) a.entries.log) entry → Contains (counted_among (a.entries.log ++ a.entries.running)) entry
+    counted : Contains (map (λ (c : EntryProgress). c.entry) a.entries.log) entry → Contains (counted_among (a.entries.log ++ a.entries.running)) entry
     counted there =
-        let c = contains_mapped (λ (c : Counting). c.entry) a.entries.log entry there in
-        let done = All-contains (λ (c : Counting). has_ended c ≡ true) a.entries.log c.0 ended c.1 in
+        let c = contains_mapped (λ (c : EntryProgress). c.entry) a.entries.log entry there in
+        let done = All-contains (λ (c : EntryProgress). has_ended c ≡ true) a.entries.log c.0 ended c.1 in
         let passes = (and_parts (is_counted c.0) (is_summed c.0) (and_parts (is_counted c.0 && is_summed c.0) (is_noted c.0) done).0).0 in
         subst (Contains (counted_among (a.entries.log ++ a.entries.running))) c.2
-        (contains_map (λ (c : Counting). c.entry) _ c.0
+        (contains_map (λ (c : EntryProgress). c.entry) _ c.0
         (contains_filter is_counted (a.entries.log ++ a.entries.running) c.0 (Contains-append_left a.entries.log a.entries.running c.0 c.1) passes))
 
 module _ (anatomy : Anatomy) (cursors : List ℕ) (actors : List Actor) (later a : Actor) where
@@ -87,13 +87,13 @@ module _ (anatomy : Anatomy) (cursors : List ℕ) (actors : List Actor) (later a
   fresh_calls calls = record {
     ordered = record {
       one_by_one = λ i j x y below first. absurd (none_at i x first);
-      counted_first = All-nil (λ (c : Counting). c.summed ≡ true → is_counted c ≡ true);
-      summed_next = All-nil (λ (c : Counting). c.noted ≡ true → is_summed c ≡ true);
-      amounted = All-nil (λ (c : Counting). c.summed ≡ true → c.entry.amount ≢ pos 0);
+      counted_first = All-nil (λ (c : EntryProgress). c.summed ≡ true → is_counted c ≡ true);
+      summed_next = All-nil (λ (c : EntryProgress). c.noted ≡ true → is_summed c ≡ true);
+      amounted = All-nil (λ (c : EntryProgress). c.summed ≡ true → c.entry.amount ≢ pos 0);
     };
     within = λ some_run. absurd (some_run refl);
     held = omega arith;
-    ended = All-nil (λ (c : Counting). has_ended c ≡ true);
+    ended = All-nil (λ (c : EntryProgress). has_ended c ≡ true);
     spent = λ name. omega arith;
     met = λ entry of there. calls.met entry of
         (logged_counted a entry calls.ended (subst (λ (list : List Entry). Contains list entry) (append-nil (log_of a)) there));

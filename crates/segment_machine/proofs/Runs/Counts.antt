@@ -9,7 +9,7 @@ use Rattle.std.specs.Int.{w64, cast_signed, cast_unsigned}
 use Rattle.segment_machine.specs.declared.actor.Actor.{Actor}
 use Rattle.segment_machine.specs.declared.actor.Known.{Known}
 use Rattle.segment_machine.specs.declared.actor.Own.{Own}
-use Rattle.segment_machine.specs.declared.entry.Counting.{Counting}
+use Rattle.segment_machine.specs.declared.entry.EntryProgress.{EntryProgress}
 use Rattle.segment_machine.specs.declared.place.Look.{Look}
 use Rattle.segment_machine.specs.declared.place.Place.{Place}
 use Rattle.segment_machine.specs.declared.place.Place.TheVariants.{Looking, Losing, Moving, CountLoaded, SampleLoaded, SumLoaded}
@@ -60,7 +60,7 @@ buckets_at a histogram =
 abbrev known_at : (a : Actor) (histogram : ℕ) → Option ((known : Known) × Contains a.answers.names known × (known.reference ≡ histogram))
 known_at a histogram = some_of (λ known. same known.reference histogram) a.answers.names
 
-abbrev next_of : (a : Actor) → Option ((c : Counting) × IsNext a c)
+abbrev next_of : (a : Actor) → Option ((c : EntryProgress) × IsNext a c)
 next_of a = then (first_of_list (filter (λ c. not (has_ended c)) a.entries.running)) (λ t. Some (t.0, (t.1, t.2)))
 
 abbrev has_key : (known : Known) (bucket : ℕ) (key : ℤ) → Option (IsKeyOfBucket known bucket key)
@@ -132,13 +132,13 @@ may_count a (add_redundant histogram units) =
 
 -- ---- packing
 
-pub only_next : (list : List Counting) (c first : Counting) (rest others : List Counting) → list ≡ first ∷ others → list ≡ c ∷ rest → first ≡ c
+pub only_next : (list : List EntryProgress) (c first : EntryProgress) (rest others : List EntryProgress) → list ≡ first ∷ others → list ≡ c ∷ rest → first ≡ c
 only_next list c first rest others is other = let same : first ∷ others ≡ c ∷ rest = sym is ∙ other in cc
 
-pub counts_in : (a : Actor) (known : Known) (first : Counting) → a.deltas.taking ≡ false → IsNext a first → is_counted first ≡ false → first.entry.name ≡ known.name
+pub counts_in : (a : Actor) (known : Known) (first : EntryProgress) → a.deltas.taking ≡ false → IsNext a first → is_counted first ≡ false → first.entry.name ≡ known.name
     → CountsIn a known
 counts_in a known first no_delta is new named =
-    (no_delta, λ c other. subst (λ (x : Counting). (is_counted x ≡ false) × (x.entry.name ≡ known.name)) (only_next _ c first other.0 is.0 is.1 other.1) (new, named))
+    (no_delta, λ c other. subst (λ (x : EntryProgress). (is_counted x ≡ false) × (x.entry.name ≡ known.name)) (only_next _ c first other.0 is.0 is.1 other.1) (new, named))
 
 abbrev makes_room : (a : Actor) (known : Known) → Option (CountsIn a known)
 makes_room a known =

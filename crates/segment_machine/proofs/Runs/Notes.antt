@@ -20,7 +20,7 @@ use Rattle.segment_machine.specs.declared.actor.Actor.{Actor}
 use Rattle.segment_machine.specs.declared.actor.Answered.{Answered}
 use Rattle.segment_machine.specs.declared.actor.Known.{Known}
 use Rattle.segment_machine.specs.declared.actor.Moment.{Moment}
-use Rattle.segment_machine.specs.declared.entry.Counting.{Counting}
+use Rattle.segment_machine.specs.declared.entry.EntryProgress.{EntryProgress}
 use Rattle.segment_machine.specs.declared.entry.Entry.{Entry}
 use Rattle.segment_machine.specs.declared.place.Place.{Place}
 use Rattle.segment_machine.specs.declared.place.Place.TheVariants.{Spent}
@@ -273,7 +273,7 @@ may_note a (begins name cost entries) =
 may_note a (goes_on entry cost) =
     then (first_of_list a.entries.running) (λ r. then (first_of_list a.units.held) (λ h. then (empty h.1) (λ one.
     then (all_of (λ c. has_ended c ≡ true) (λ c. is_true (has_ended c)) a.entries.running) (λ ended. then (at_most cost a.units.share) (λ fits.
-    then (are_within h.0.name (h.0.units + cost) (map (λ (c : Counting). c.entry) a.entries.running ++ entry ∷ [])) (λ within.
+    then (are_within h.0.name (h.0.units + cost) (map (λ (c : EntryProgress). c.entry) a.entries.running ++ entry ∷ [])) (λ within.
     Some (not_empty a.entries.running r.0 r.1 r.2, ended, fits, (h.0.name, h.0.units, h.2 ∙ ap (λ rest. h.0 ∷ rest) one, within))))))))
 may_note a (asks at made) = then (own_at a at) (λ t. then (nothing_in t.0.made) (λ none. Some (t.0, t.1, t.2, none)))
 may_note a (knows known) = may_know a known

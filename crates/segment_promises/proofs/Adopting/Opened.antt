@@ -10,7 +10,7 @@ pub mod Listings
 pub mod Lists
 pub mod Names
 pub mod NearSums
-pub mod Once
+pub mod NoRepeats
 pub mod Opens
 pub mod PassedOver
 pub mod Pieces

@@ -8,7 +8,7 @@ use mathlib.Core.Option.{some}
 use lib.ListN.{get_elem?}
 use Rattle.segment_image.specs.Shape.{Dimensions}
 use Rattle.segment_machine.specs.declared.entry.Entry.{Entry}
-use Rattle.segment_machine.specs.declared.entry.Counting.{Counting}
+use Rattle.segment_machine.specs.declared.entry.EntryProgress.{EntryProgress}
 use Rattle.segment_machine.specs.declared.actor.Actor.{Actor}
 use Rattle.segment_machine.specs.Entry.{is_counted, has_ended, tally_units, counted_among}
 use Rattle.segment_machine.specs.Actor.{log_of, counted_of, all_counted}
@@ -39,7 +39,7 @@ module _ (name : List ℕ) (key : ℤ) where
       omega (arith, first, others, less, more)
 
   -- those that pass a test are among all
-  passing_below : (test : Counting → Bool) (list : List Counting) → units (map (λ c. c.entry) (filter test list)) ≤ units (map (λ c. c.entry) list)
+  passing_below : (test : EntryProgress → Bool) (list : List EntryProgress) → units (map (λ c. c.entry) (filter test list)) ≤ units (map (λ c. c.entry) list)
   passing_below test [] = omega arith
   passing_below test (c ∷ rest) = by_test (test c) (passing_below test rest)
     where
@@ -57,24 +57,24 @@ module _ (name : List ℕ) (key : ℤ) where
   counted_begun : (a : Actor) → units (counted_of a) ≤ units (begun_of a)
   counted_begun a =
       let some_pass = passing_below is_counted (a.entries.log ++ a.entries.running) in
-      let parts = ap units (map-append (λ (c : Counting). c.entry) a.entries.log a.entries.running) in
+      let parts = ap units (map-append (λ (c : EntryProgress). c.entry) a.entries.log a.entries.running) in
       let counted = both a.entries.first (counted_among (a.entries.log ++ a.entries.running)) in
-      let begun = both (log_of a) (map (λ (c : Counting). c.entry) a.entries.running) in
-      let logged = both a.entries.first (map (λ (c : Counting). c.entry) a.entries.log) in
-      let all = both (map (λ (c : Counting). c.entry) a.entries.log) (map (λ (c : Counting). c.entry) a.entries.running) in
+      let begun = both (log_of a) (map (λ (c : EntryProgress). c.entry) a.entries.running) in
+      let logged = both a.entries.first (map (λ (c : EntryProgress). c.entry) a.entries.log) in
+      let all = both (map (λ (c : EntryProgress). c.entry) a.entries.log) (map (λ (c : EntryProgress). c.entry) a.entries.running) in
       omega (arith, some_pass, parts, counted, begun, logged, all)
 
   -- and what has ended is counted
   ended_counted : (a : Actor) → All (λ c. has_ended c ≡ true) a.entries.log → units (log_of a) ≤ units (counted_of a)
   ended_counted a ended =
       let all = all_pass is_counted (λ c e. (and_parts (is_counted c) _ (and_parts _ _ e).0).0) a.entries.log
-      (λ c among. All-contains (λ (c : Counting). has_ended c ≡ true) a.entries.log c ended among) in
-      let split = ap (λ (list : List Counting). units (map (λ (c : Counting). c.entry) list))
-      (filter-append is_counted a.entries.log a.entries.running ∙ ap (λ (list : List Counting). list ++ filter is_counted a.entries.running) all) in
-      let parts = ap units (map-append (λ (c : Counting). c.entry) a.entries.log (filter is_counted a.entries.running)) in
+      (λ c among. All-contains (λ (c : EntryProgress). has_ended c ≡ true) a.entries.log c ended among) in
+      let split = ap (λ (list : List EntryProgress). units (map (λ (c : EntryProgress). c.entry) list))
+      (filter-append is_counted a.entries.log a.entries.running ∙ ap (λ (list : List EntryProgress). list ++ filter is_counted a.entries.running) all) in
+      let parts = ap units (map-append (λ (c : EntryProgress). c.entry) a.entries.log (filter is_counted a.entries.running)) in
       let counted = both a.entries.first (counted_among (a.entries.log ++ a.entries.running)) in
-      let logged = both a.entries.first (map (λ (c : Counting). c.entry) a.entries.log) in
-      let two = both (map (λ (c : Counting). c.entry) a.entries.log) (map (λ (c : Counting). c.entry) (filter is_counted a.entries.running)) in
+      let logged = both a.entries.first (map (λ (c : EntryProgress). c.entry) a.entries.log) in
+      let two = both (map (λ (c : EntryProgress). c.entry) a.entries.log) (map (λ (c : EntryProgress). c.entry) (filter is_counted a.entries.running)) in
       omega (arith, split, parts, counted, logged, two)
 
 module _ (shape : Dimensions) (opened : Anatomy) (state : State) (kept : Invariant shape opened state) (name : List ℕ) (key : ℤ) where

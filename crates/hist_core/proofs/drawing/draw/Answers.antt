@@ -2,9 +2,9 @@ use Rattle.std.proofs.Common.{◌≡◌, ◌-◌, ℤ, w32, to_z, of_z, rules, l
 use mathlib.Core.Option.{some}
 use lib.ListN.{get_elem?}
 use Rattle.hist_core.specs.declared.entry.Taken.{Taken}
-use Rattle.hist_core.specs.Taker.{insert_by_key}
-use Rattle.hist_core.proofs.Boards.{is_there}
-use Rattle.hist_core.proofs.Deltas.{last_set_at}
+use Rattle.hist_core.specs.DeltaCall.{insert_by_key}
+use Rattle.hist_core.proofs.Worlds.WorldStates.{is_there}
+use Rattle.hist_core.proofs.DeltaCall.Deltas.{last_set_at}
 use Rattle.hist_core.proofs.drawing.draw.Goals as goal
 
 pub list_by_key-requires : goal.list_by_key-requires

@@ -1,6 +1,6 @@
 use Rattle.std.proofs.Common.{◌≡◌, ◌-◌, ℤ, w64, to_z, of_z, ap, vec_len, arith, rules}
 use Rattle.hist_core.specs.declared.entry.Taken.{Taken}
-use Rattle.hist_core.proofs.Deltas.{last_set_at}
+use Rattle.hist_core.proofs.DeltaCall.Deltas.{last_set_at}
 use Rattle.hist_core.proofs.drawing.draw_sum.Goals as goal
 
 pub returns : goal.returns

@@ -1,5 +1,5 @@
 use Rattle.std.proofs.Common.{◌≡◌, ◌+◌, drop}
-use Rattle.hist_core.specs.Taker.{place_of}
+use Rattle.hist_core.specs.DeltaCall.{place_of}
 use Rattle.hist_core.proofs.samples.place_of.Given as goal
 
 abbrev pub invariant-loop-place : goal.invariant-loop-place

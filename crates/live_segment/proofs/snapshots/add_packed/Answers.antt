@@ -3,7 +3,7 @@ use Rattle.std.specs.Prelude.{IfSome}
 use Rattle.bucket_ranges.specs.declared.single.SingleWord.{SingleWord}
 use Rattle.bucket_ranges.specs.declared.single.SingleWord.TheVariants.{Packed, Frozen}
 use Rattle.bucket_ranges.specs.Single.{units_packed, IsForm, word_of}
-use Rattle.live_segment.proofs.Packed.{packed_one}
+use Rattle.live_segment.proofs.SnapshotCall.Packed.{packed_one}
 use Rattle.live_segment.proofs.snapshots.add_packed.Goals as goal
 
 pub returns-in-Some-Packed : goal.returns-in-Some-Packed

@@ -5,7 +5,7 @@ use Rattle.segment_machine.specs.Seats.{newcomer, offering}
 use Rattle.live_segment.specs.Fresh.{given_fresh}
 use Rattle.live_segment.specs.Holders.{table_of, view_of_opener, view_of_recorder}
 use Rattle.live_segment.specs.Steps.{recorder_checks}
-use Rattle.live_segment.proofs.Callers.{made_still}
+use Rattle.live_segment.proofs.Seating.Callers.{made_still}
 use Rattle.persist_commands.specs.declared.worker.Worker.{Worker}
 use Rattle.persist_commands.specs.Recording.{IsReady}
 use Rattle.persist_commands.proofs.Meetings.{each_pushed, fresh_newcomer, hands_more, not_refused}

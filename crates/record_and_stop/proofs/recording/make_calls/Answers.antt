@@ -1,5 +1,5 @@
 use Rattle.std.proofs.Common.{rules, ◌≡◌, ◌∙◌}
-use Rattle.live_segment.proofs.Callers.{knows_same}
+use Rattle.live_segment.proofs.Seating.Callers.{knows_same}
 use Rattle.record_and_stop.proofs.recording.make_calls.Goals as goal
 
 pub add-requires-in-loop-call : goal.add-requires-in-loop-call

@@ -1,4 +1,4 @@
-use Rattle.live_segment.proofs.Callers.{knows_same}
+use Rattle.live_segment.proofs.Seating.Callers.{knows_same}
 use Rattle.record_timing.proofs.burst.record_into.Goals as goal
 
 pub loop-i-preserved : goal.loop-i-preserved

@@ -1,7 +1,7 @@
 use Rattle.std.proofs.Common.{◌≡◌, suc, ◌∷◌, List, All, subst, arith}
 use Rattle.std.specs.Vec.Iter.{into_iter_items}
 use Rattle.live_segment.specs.Holders.{table_of, view_of_recorder}
-use Rattle.live_segment.proofs.Callers.{joined_still}
+use Rattle.live_segment.proofs.Seating.Callers.{joined_still}
 use Rattle.recording_threads.specs.Holders.{IsDoneAt}
 use Rattle.recording_threads.proofs.round.show_all.Goals as goal
 

@@ -3,7 +3,7 @@ use Rattle.std.specs.Prelude.{ℤ, pos, negsuc, slice_index, unwrap_or}
 use Rattle.std.proofs.lemmas.List.Elements.{All-nil, All-contains}
 use Rattle.bucket_ranges.specs.declared.spec.Spec.TheVariants as spec
 use Rattle.segment_machine.specs.declared.actor.Known.{Known}
-use Rattle.segment_machine.specs.declared.entry.Counting.{Counting}
+use Rattle.segment_machine.specs.declared.entry.EntryProgress.{EntryProgress}
 use Rattle.segment_machine.specs.Entry.{fresh}
 use Rattle.segment_machine.specs.Made.{SawSample, SawOther, IsFirstSample}
 use Rattle.segment_machine.specs.Examples.{letter_s}
@@ -13,7 +13,7 @@ use Rattle.segment_machine.proofs.laws.first_samples_count.Goals as goal
 abbrev known_s : Known
 known_s = record { name = letter_s; spec = spec.Sparse; reference = 40 }
 
-abbrev counting : Counting
+abbrev counting : EntryProgress
 counting = fresh (record { name = letter_s; key = negsuc 4; units = 1; amount = pos 0 })
 
 -- between the histogram and the later sample stands the first one

@@ -23,7 +23,7 @@ use Rattle.segment_promises.proofs.Adopting.Images.{is_linked, free_bounds}
 use Rattle.segment_promises.proofs.Adopting.Openers.{actors}
 use Rattle.segment_promises.proofs.Adopting.Opened.Anatomy.{made_by, listed_at, opened, order_is, placed}
 use Rattle.segment_promises.proofs.Adopting.Opened.Blocks.{begins, record_body}
-use Rattle.segment_promises.proofs.Adopting.Opened.Once.{listed_begins}
+use Rattle.segment_promises.proofs.Adopting.Opened.NoRepeats.{listed_begins}
 use Rattle.segment_promises.proofs.Adopting.Opened.Pieces.{claimed_block, stood_block, record_cases, body_cases, listed_is, listed_body, owned_counts}
 
 -- ---- what stands as a body stands as what was given to its maker

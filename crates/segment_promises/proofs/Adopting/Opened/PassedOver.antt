@@ -28,7 +28,7 @@ use Rattle.segment_promises.proofs.Adopting.Opened.Blocks.{is_read, record_body,
 use Rattle.segment_promises.proofs.Adopting.Opened.KeptRecords.{split_place}
 use Rattle.segment_promises.proofs.Adopting.Opened.Lawful.{is_lawful, packed_small, are_counts, as_other, counts_as_other, bucketed, total_is, mark_is, marks_small, totals_small, sums_bounded}
 use Rattle.segment_promises.proofs.Adopting.Opened.Names.{read, first_among}
-use Rattle.segment_promises.proofs.Adopting.Opened.Once.{one_owner, owned_unlisted}
+use Rattle.segment_promises.proofs.Adopting.Opened.NoRepeats.{one_owner, owned_unlisted}
 use Rattle.segment_promises.proofs.Adopting.Opened.Pieces.{record_cases, stood_block, listed_body, owned_body}
 
 -- a record has a name or not

@@ -14,7 +14,7 @@ use Rattle.segment_promises.proofs.Adopting.Bodies.{record_at, sample_at, counts
 use Rattle.segment_promises.proofs.Adopting.Opened.Anatomy.{body, are_cut, opened, placed}
 use Rattle.segment_promises.proofs.Adopting.Images.{no_record_fault}
 use Rattle.segment_promises.proofs.Adopting.Opened.Records.{named_found}
-use Rattle.segment_promises.proofs.Adopting.Opened.Once.{listed_begins, owned_begins, owned_unlisted, one_owner}
+use Rattle.segment_promises.proofs.Adopting.Opened.NoRepeats.{listed_begins, owned_begins, owned_unlisted, one_owner}
 use Rattle.segment_promises.proofs.Adopting.Opened.Blocks.{begins, is_read, is_listed, record_body, counts_body, owner_of, Owns, owned, block_cases, there_by_test, test_there}
 
 -- ---- kinds of bodies

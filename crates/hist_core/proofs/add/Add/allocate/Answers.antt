@@ -1,6 +1,6 @@
 use Rattle.std.proofs.Props.{props}
 use Rattle.std.proofs.Math.Logic.{∥∥₁_elim}
-use Rattle.hist_core.proofs.Adds.Mounts.{allocates_so, asks_long, asks_more}
+use Rattle.hist_core.proofs.AddCall.Mounts.{allocates_so, asks_long, asks_more}
 use Rattle.hist_core.proofs.add.Add.allocate.Goals as goal
 
 pub step-said-requires-clause-long : goal.step-said-requires-clause-long

@@ -1,11 +1,11 @@
 use Rattle.std.proofs.Common.{subst, sym, ◌∙◌, ◌+◌, ◌%◌, ◌^◌, ℕ, ap}
 use Rattle.hist_core.specs.declared.add.Add.{Add}
 use Rattle.hist_core.specs.declared.add.AddStep.TheVariants.{More}
-use Rattle.hist_core.specs.Goes.{Goes}
+use Rattle.hist_core.specs.StepsBy.{StepsBy}
 use Rattle.hist_core.specs.Add.{AddGives}
 use Rattle.std.proofs.Props.{props}
 use Rattle.std.proofs.Math.Logic.{∥∥₁_elim}
-use Rattle.hist_core.proofs.Adds.Counts.{count_inside, counts_so}
+use Rattle.hist_core.proofs.AddCall.Counts.{count_inside, counts_so}
 use Rattle.hist_core.proofs.add.Add.count.Goals as goal
 use Rattle.std.specs.Prelude.{slice_set}
 use Rattle.segment_image.specs.Words.{word_at}
@@ -17,6 +17,6 @@ fetch_add-requires c =
 
 pub returns-clause-steps : goal.returns-clause-steps
 returns-clause-steps c = λ shape known amid a long is.
-    subst (λ (n : Add). Goes shape.size c.args.self.now.version a c.args.words.now c.fetch_add.new.words (AddGives shape known amid n More a)) (sym c.counted.ensures)
+    subst (λ (n : Add). StepsBy shape.size c.args.self.now.version a c.args.words.now c.fetch_add.new.words (AddGives shape known amid n More a)) (sym c.counted.ensures)
     (counts_so shape known amid c.args.self.now a c.args.words.now is c.args.at c.requires.counts c.fetch_add.new.words
     (c.fetch_add.ensures ∙ ap (λ (n : ℕ). slice_set c.args.words.now c.args.at ((word_at c.args.words.now c.args.at + n) % 2 ^ 64)) c.from.ensures))

@@ -5,11 +5,11 @@ use Rattle.std.proofs.lemmas.Bool.{eq-eqb, ne_eqb}
 use Rattle.alloc_core.specs.Event as atomic
 use Rattle.hist_core.specs.declared.add.AddStep.TheVariants.{More}
 use Rattle.hist_core.specs.declared.add.Stage.{Stage}
-use Rattle.hist_core.specs.Goes.{Goes}
+use Rattle.hist_core.specs.StepsBy.{StepsBy}
 use Rattle.hist_core.specs.Add.{StandsAtStage, AddGives}
-use Rattle.hist_core.proofs.Adds.Counts.{some_inside}
-use Rattle.hist_core.proofs.Adds.Moves.{old_on, disables_so}
-use Rattle.hist_core.proofs.Adds.Packs.{small_bucket}
+use Rattle.hist_core.proofs.AddCall.Counts.{some_inside}
+use Rattle.hist_core.proofs.AddCall.Moves.{old_on, disables_so}
+use Rattle.hist_core.proofs.AddCall.Packs.{small_bucket}
 use Rattle.hist_core.proofs.add.Add.disable.Goals.{then-exchange-old, else-exchange-old}
 use Rattle.hist_core.proofs.add.Add.disable.Goals as goal
 
@@ -31,7 +31,7 @@ behind_disabling-self-requires c =
 pub returns-clause-steps : goal.returns-clause-steps
 returns-clause-steps c = λ shape known amid a long is.
     let add = c.args.self.now in
-    let gives : Stage → Type 0 = λ stage. Goes shape.size add.version a c.args.words.now c.exchange.new.words (AddGives shape known amid (record add { stage = stage }) More a) in
+    let gives : Stage → Type 0 = λ stage. StepsBy shape.size add.version a c.args.words.now c.exchange.new.words (AddGives shape known amid (record add { stage = stage }) More a) in
     let are = c.exchange.ensures.words ∙ ap (λ (n : ℕ). atomic.after (atomic.exchange (add.histogram + 9) c.args.old n) c.args.words.now) c.off_word-off.ensures in
     elim c.if-exchange-old.branch [
       | then-exchange-old w ↦ subst gives (sym (w.self-is ∙ w.behind_disabling-self.ensures))

@@ -3,11 +3,11 @@ use Rattle.std.proofs.lemmas.Bool.{le-leb, lt-leb}
 use Rattle.hist_core.specs.declared.add.AddStep.TheVariants.{More}
 use Rattle.hist_core.specs.declared.add.Stage.{Stage}
 use Rattle.hist_core.specs.declared.add.Stage.TheVariants.{Counting}
-use Rattle.hist_core.specs.Goes.{Goes}
+use Rattle.hist_core.specs.StepsBy.{StepsBy}
 use Rattle.hist_core.specs.Add.{StandsAtStage, AddGives}
-use Rattle.hist_core.proofs.Adds.Counts.{some_inside}
-use Rattle.hist_core.proofs.Adds.Moves.{loads_off, loads_on_word}
-use Rattle.hist_core.proofs.Adds.Packs.{small_bucket}
+use Rattle.hist_core.proofs.AddCall.Counts.{some_inside}
+use Rattle.hist_core.proofs.AddCall.Moves.{loads_off, loads_on_word}
+use Rattle.hist_core.proofs.AddCall.Packs.{small_bucket}
 use Rattle.hist_core.proofs.add.Add.load_again.Goals.{then-old-ge-DISABLED_BIT, else-old-ge-DISABLED_BIT}
 use Rattle.hist_core.proofs.add.Add.load_again.Goals as goal
 
@@ -28,7 +28,7 @@ count_in-requires c =
 pub returns-clause-steps : goal.returns-clause-steps
 returns-clause-steps c = λ shape known amid a long is.
     let add = c.args.self.now in
-    let gives : Stage → Type 0 = λ stage. Goes shape.size add.version a c.args.words.now c.args.words.now (AddGives shape known amid (record add { stage = stage }) More a) in
+    let gives : Stage → Type 0 = λ stage. StepsBy shape.size add.version a c.args.words.now c.args.words.now (AddGives shape known amid (record add { stage = stage }) More a) in
     elim c.if-old-ge-DISABLED_BIT.branch [
       | then-old-ge-DISABLED_BIT w ↦ subst gives (sym (w.self-is ∙ ap Counting w.count_in.ensures))
           (loads_off shape known amid add a c.args.words.now is c.args.counts c.requires.loads (le-leb (2 ^ 63) _ (let off = w.if-old-ge-DISABLED_BIT.true in omega (arith, off))))

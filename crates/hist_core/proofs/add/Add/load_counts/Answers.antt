@@ -1,9 +1,9 @@
 use Rattle.std.proofs.Common.{arith, subst}
-use Rattle.hist_core.proofs.Adds.Counts.{some_inside}
-use Rattle.hist_core.proofs.Adds.Loads.{loads_so}
+use Rattle.hist_core.proofs.AddCall.Counts.{some_inside}
+use Rattle.hist_core.proofs.AddCall.Loads.{loads_so}
 use Rattle.hist_core.proofs.add.Add.load_counts.Goals as goal
 use Rattle.hist_core.specs.Add.{StandsAtStage}
-use Rattle.hist_core.proofs.Adds.Packs.{small_bucket}
+use Rattle.hist_core.proofs.AddCall.Packs.{small_bucket}
 
 pub overflow_add-counts : goal.overflow_add-counts
 overflow_add-counts c = let inside = some_inside c.args.self.now c.args.words.now c.requires.stands in omega (arith, inside.0, inside.1)

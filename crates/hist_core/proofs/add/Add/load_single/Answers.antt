@@ -1,7 +1,7 @@
 use Rattle.std.proofs.Common.{subst, arith}
 use Rattle.hist_core.specs.Add.{StandsAtStage}
-use Rattle.hist_core.proofs.Adds.Counts.{some_inside}
-use Rattle.hist_core.proofs.Adds.Packs.{small_bucket, loads_single_so}
+use Rattle.hist_core.proofs.AddCall.Counts.{some_inside}
+use Rattle.hist_core.proofs.AddCall.Packs.{small_bucket, loads_single_so}
 use Rattle.hist_core.proofs.add.Add.load_single.Goals as goal
 
 pub overflow_add-word : goal.overflow_add-word

@@ -3,10 +3,10 @@ use Rattle.std.proofs.lemmas.Bool.{eq-eqb, ne_eqb}
 use Rattle.hist_core.specs.declared.add.AddStep.TheVariants.{More}
 use Rattle.hist_core.specs.declared.add.Stage.{Stage}
 use Rattle.hist_core.specs.declared.add.Stage.TheVariants.{Purging}
-use Rattle.hist_core.specs.Goes.{Goes}
+use Rattle.hist_core.specs.StepsBy.{StepsBy}
 use Rattle.hist_core.specs.Add.{AddGives}
-use Rattle.hist_core.proofs.Adds.Counts.{some_inside}
-use Rattle.hist_core.proofs.Adds.Mounts.{mounts_so}
+use Rattle.hist_core.proofs.AddCall.Counts.{some_inside}
+use Rattle.hist_core.proofs.AddCall.Mounts.{mounts_so}
 use Rattle.hist_core.proofs.add.Add.mount.Goals.{then-counts-eq0, else-counts-eq0}
 use Rattle.hist_core.proofs.add.Add.mount.Goals as goal
 
@@ -19,7 +19,7 @@ exchange-counts-requires c = let inside = some_inside c.args.self.now c.args.wor
 pub returns-clause-steps : goal.returns-clause-steps
 returns-clause-steps c = λ shape known amid a long is.
     let add = c.args.self.now in
-    let gives : Stage → Type 0 = λ stage. Goes shape.size add.version a c.args.words.now c.exchange-counts.new.words (AddGives shape known amid (record add { stage = stage }) More a) in
+    let gives : Stage → Type 0 = λ stage. StepsBy shape.size add.version a c.args.words.now c.exchange-counts.new.words (AddGives shape known amid (record add { stage = stage }) More a) in
     elim c.if-counts-eq0.branch [
       | then-counts-eq0 w ↦ subst gives (sym w.self-is)
           (mounts_so shape known amid add a c.args.words.now is c.args.at c.requires.mounts c.exchange-counts.new.words true

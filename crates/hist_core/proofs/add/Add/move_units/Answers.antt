@@ -4,10 +4,10 @@ use Rattle.std.proofs.Math.Logic.{∥∥₁_elim}
 use Rattle.hist_core.specs.declared.add.AddStep.TheVariants.{More}
 use Rattle.hist_core.specs.declared.add.Stage.{Stage}
 use Rattle.hist_core.specs.declared.add.Stage.TheVariants.{Counting}
-use Rattle.hist_core.specs.Goes.{Goes}
+use Rattle.hist_core.specs.StepsBy.{StepsBy}
 use Rattle.hist_core.specs.Add.{StandsAtStage, AddGives}
-use Rattle.hist_core.proofs.Adds.Moves.{moves_so, move_inside}
-use Rattle.hist_core.proofs.Adds.Packs.{small_bucket}
+use Rattle.hist_core.proofs.AddCall.Moves.{moves_so, move_inside}
+use Rattle.hist_core.proofs.AddCall.Packs.{small_bucket}
 use Rattle.hist_core.proofs.add.Add.move_units.Goals as goal
 
 pub overflow_add-bucket : goal.overflow_add-bucket
@@ -32,6 +32,6 @@ count_in-requires c =
 pub returns-clause-steps : goal.returns-clause-steps
 returns-clause-steps c = λ shape known amid a long is.
     let add = c.args.self.now in
-    let gives : Stage → Type 0 = λ stage. Goes shape.size add.version a c.args.words.now c.fetch_add.new.words (AddGives shape known amid (record add { stage = stage }) More a) in
+    let gives : Stage → Type 0 = λ stage. StepsBy shape.size add.version a c.args.words.now c.fetch_add.new.words (AddGives shape known amid (record add { stage = stage }) More a) in
     subst gives (ap Counting (sym c.count_in.ensures))
     (moves_so shape known amid add a c.args.words.now is c.args.counts c.args.bucket c.args.units c.requires.moves c.fetch_add.new.words c.fetch_add.ensures)

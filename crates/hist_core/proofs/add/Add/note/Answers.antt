@@ -1,6 +1,6 @@
 use Rattle.std.proofs.Common.{arith, ◌∙◌, ◌+◌, ◌%◌, ◌^◌, ℕ, ap}
-use Rattle.hist_core.proofs.Adds.Counts.{some_inside}
-use Rattle.hist_core.proofs.Adds.Redundants.{notes_so}
+use Rattle.hist_core.proofs.AddCall.Counts.{some_inside}
+use Rattle.hist_core.proofs.AddCall.Redundants.{notes_so}
 use Rattle.hist_core.proofs.add.Add.note.Goals as goal
 use Rattle.std.specs.Prelude.{slice_set}
 use Rattle.segment_image.specs.Words.{word_at}

@@ -1,7 +1,7 @@
 use Rattle.std.proofs.Common.{arith}
 use Rattle.std.proofs.Props.{props}
 use Rattle.std.proofs.Math.Logic.{∥∥₁_elim}
-use Rattle.hist_core.proofs.Adds.Mounts.{purges_so, purge_inside}
+use Rattle.hist_core.proofs.AddCall.Mounts.{purges_so, purge_inside}
 use Rattle.hist_core.proofs.add.Add.purge.Goals as goal
 
 pub overflow_add-at : goal.overflow_add-at

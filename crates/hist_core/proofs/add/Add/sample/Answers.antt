@@ -1,6 +1,6 @@
 use Rattle.std.proofs.Props.{props}
 use Rattle.std.proofs.Math.Logic.{∥∥₁_elim}
-use Rattle.hist_core.proofs.Adds.Samples.{stood_sampling, samples_so}
+use Rattle.hist_core.proofs.AddCall.Samples.{stood_sampling, samples_so}
 use Rattle.hist_core.proofs.add.Add.sample.Goals as goal
 
 pub step-said-requires : goal.step-said-requires

@@ -3,8 +3,8 @@ use Rattle.std.proofs.Props.{props}
 use Rattle.std.proofs.Math.Logic.{∥∥₁_elim}
 use Rattle.segment_image.specs.Shape.{Dimensions}
 use Rattle.alloc_core.specs.Layout.{IsShape}
-use Rattle.hist_core.proofs.Adds.Counts.{some_inside}
-use Rattle.hist_core.proofs.Adds.Mounts.{seeks_none, seeks_some}
+use Rattle.hist_core.proofs.AddCall.Counts.{some_inside}
+use Rattle.hist_core.proofs.AddCall.Mounts.{seeks_none, seeks_some}
 use Rattle.hist_core.proofs.add.Add.seek_counts.Goals as goal
 
 pub overflow_add-counts : goal.overflow_add-counts

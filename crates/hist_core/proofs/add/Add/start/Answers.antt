@@ -1,7 +1,7 @@
 use Rattle.std.proofs.Common.{rules, refl, subst, ◌∙◌, ◌-◌, ℕ, List, length}
 use Rattle.bucket_ranges.specs.Ranges.{clamped, IsBucketOf}
-use Rattle.hist_core.specs.Runner.{known_of}
-use Rattle.hist_core.proofs.Buckets.{bucketed_of, count_is, found_is, is_its}
+use Rattle.hist_core.specs.ActorRun.{known_of}
+use Rattle.hist_core.proofs.Worlds.Buckets.{bucketed_of, count_is, found_is, is_its}
 use Rattle.hist_core.proofs.add.Add.start.Goals as goal
 
 pub returns : goal.returns

@@ -3,8 +3,8 @@ use Rattle.std.specs.Prelude.{slice_set}
 use Rattle.segment_image.specs.Words.{word_at}
 use Rattle.std.proofs.Common.{rules, ◌%◌, ◌^◌}
 use Rattle.std.proofs.Common.{◌≡◌, ◌+◌, ℕ, arith, ap, ◌∙◌}
-use Rattle.hist_core.proofs.Adds.Counts.{some_inside}
-use Rattle.hist_core.proofs.Adds.Sums.{sums_so}
+use Rattle.hist_core.proofs.AddCall.Counts.{some_inside}
+use Rattle.hist_core.proofs.AddCall.Sums.{sums_so}
 use Rattle.hist_core.proofs.add.Add.sum.Goals as goal
 
 pub overflow_add-at : goal.overflow_add-at

@@ -2,8 +2,8 @@ use Rattle.std.specs.Int.{cast_signed, cast_unsigned, w64}
 use Rattle.std.specs.Prelude.{slice_set}
 use Rattle.segment_image.specs.Words.{word_at}
 use Rattle.std.proofs.Common.{◌≡◌, ◌+◌, ◌%◌, ◌^◌, ℕ, arith, ap, ◌∙◌, rules}
-use Rattle.hist_core.proofs.Batches.Finals.{adds_sum}
-use Rattle.hist_core.proofs.Batching.{some_inside, sums_there}
+use Rattle.hist_core.proofs.BatchCall.Finals.{adds_sum}
+use Rattle.hist_core.proofs.BatchCall.Batching.{some_inside, sums_there}
 use Rattle.hist_core.proofs.batch.Batch.add_sum.Goals as goal
 
 pub overflow_add-at : goal.overflow_add-at

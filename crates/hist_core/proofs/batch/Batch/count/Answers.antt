@@ -1,8 +1,8 @@
 use Rattle.std.proofs.Common.{length, refl, vec_len}
 use Rattle.std.proofs.Props.{props}
 use Rattle.std.proofs.Math.Logic.{∥∥₁_elim}
-use Rattle.hist_core.proofs.Boards.{is_there}
-use Rattle.hist_core.proofs.Batching.{adds_there, fits_there, item_on, same_on, refused_on}
+use Rattle.hist_core.proofs.Worlds.WorldStates.{is_there}
+use Rattle.hist_core.proofs.BatchCall.Batching.{adds_there, fits_there, item_on, same_on, refused_on}
 use Rattle.hist_core.proofs.batch.Batch.count.Goals as goal
 
 pub step-said-requires : goal.step-said-requires

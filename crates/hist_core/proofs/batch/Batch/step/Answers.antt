@@ -2,7 +2,7 @@ use Rattle.std.proofs.Common.{◌≤◌, sym, subst, arith, vec_len}
 use Rattle.std.proofs.Props.{props}
 use Rattle.std.proofs.Math.Logic.{∥∥₁_elim}
 use Rattle.hist_core.specs.Batch.{IsRefusedAt}
-use Rattle.hist_core.proofs.Batching.{not_more}
+use Rattle.hist_core.proofs.BatchCall.Batching.{not_more}
 use Rattle.hist_core.proofs.batch.Batch.step.Goals as goal
 
 pub add_sum-requires-clause-counted : goal.add_sum-requires-clause-counted

@@ -1,5 +1,5 @@
 use Rattle.std.proofs.Common.{arith}
-use Rattle.hist_core.proofs.Searches.{histogram_inside, loads_histogram}
+use Rattle.hist_core.proofs.AddCall.Searches.{histogram_inside, loads_histogram}
 use Rattle.hist_core.proofs.sampling.Sampling.load_histogram.Goals as goal
 
 pub overflow_add-of : goal.overflow_add-of

@@ -1,6 +1,6 @@
 use Rattle.std.proofs.Common.{arith, subst}
 use Rattle.hist_core.specs.Sampling.{IsIts}
-use Rattle.hist_core.proofs.Searches.{value_inside, found_so, other_so}
+use Rattle.hist_core.proofs.AddCall.Searches.{value_inside, found_so, other_so}
 use Rattle.hist_core.proofs.sampling.Sampling.load_value.Goals as goal
 
 pub overflow_add-word : goal.overflow_add-word

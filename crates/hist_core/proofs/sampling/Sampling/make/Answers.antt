@@ -2,7 +2,7 @@ use Rattle.std.proofs.Common.{◌∷◌, ℕ, [], sym, ap}
 use Rattle.std.proofs.Props.{props}
 use Rattle.std.proofs.Math.Logic.{∥∥₁_elim}
 use Rattle.hist_core.specs.Sampling.{wanted_of}
-use Rattle.hist_core.proofs.Searches.{stood_making, makes_so}
+use Rattle.hist_core.proofs.AddCall.Searches.{stood_making, makes_so}
 use Rattle.hist_core.proofs.sampling.Sampling.make.Goals as goal
 
 pub step-said-requires : goal.step-said-requires

@@ -5,7 +5,7 @@ use Rattle.segment_image.specs.Shape.{Dimensions}
 use Rattle.alloc_core.specs.Layout.{IsShape}
 use Rattle.list_core.specs.Chain.{is_reference}
 use Rattle.hist_core.proofs.Makes.Drafts.{is_wide}
-use Rattle.hist_core.proofs.Searches.{ends, meets, strays}
+use Rattle.hist_core.proofs.AddCall.Searches.{ends, meets, strays}
 use Rattle.hist_core.proofs.sampling.Sampling.walk_on.Goals as goal
 
 pub step-requires-clause-headed : goal.step-requires-clause-headed

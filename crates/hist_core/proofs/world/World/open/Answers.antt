@@ -1,4 +1,4 @@
-use Rattle.hist_core.proofs.NewBoards.{new_is_reached}
+use Rattle.hist_core.proofs.Worlds.NewWorldStates.{new_is_reached}
 use Rattle.hist_core.proofs.world.World.open.Goals as goal
 
 pub invariant_of-result : goal.invariant_of-result

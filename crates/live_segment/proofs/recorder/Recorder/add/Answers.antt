@@ -4,8 +4,8 @@ use Rattle.std.proofs.lemmas.Result.{err_from_is_err_and}
 use Rattle.segment_machine.specs.declared.actor.Known.{Known}
 use Rattle.live_segment.specs.Adding.{IsAdded, IsRefused, LacksBlock}
 use Rattle.live_segment.specs.Known.{known_view}
-use Rattle.live_segment.proofs.Adds.{passes, meant, is_of_still, names_still}
-use Rattle.live_segment.proofs.Walked.{all_right, come_still}
+use Rattle.live_segment.proofs.AddCall.Adds.{passes, meant, is_of_still, names_still}
+use Rattle.live_segment.proofs.Walks.Walked.{all_right, come_still}
 use Rattle.live_segment.proofs.recorder.Recorder.add.Goals as goal
 
 pub invariant_of-self : goal.invariant_of-self

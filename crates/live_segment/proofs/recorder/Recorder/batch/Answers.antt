@@ -6,9 +6,9 @@ use Rattle.segment_invariant.proofs.Lists.Elements.{below_length}
 use Rattle.segment_machine.specs.declared.actor.Known.{Known}
 use Rattle.live_segment.specs.Batching.{batch_checks, IsBatched, IsCutShort}
 use Rattle.live_segment.specs.Known.{known_view}
-use Rattle.live_segment.proofs.Adds.{meant, is_of_still, names_still}
-use Rattle.live_segment.proofs.Batches.{passed, passes_all, fails_one}
-use Rattle.live_segment.proofs.Walked.{all_right, come_still}
+use Rattle.live_segment.proofs.AddCall.Adds.{meant, is_of_still, names_still}
+use Rattle.live_segment.proofs.BatchCall.Batches.{passed, passes_all, fails_one}
+use Rattle.live_segment.proofs.Walks.Walked.{all_right, come_still}
 use Rattle.live_segment.proofs.recorder.Recorder.batch.Goals as goal
 
 pub returns-in-Err-clause-answer : goal.returns-in-Err-clause-answer

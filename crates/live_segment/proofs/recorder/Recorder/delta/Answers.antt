@@ -2,9 +2,9 @@ use Rattle.std.proofs.Common.{ℤ, FitsSigned, w64, rules, sym, subst, ◌∙◌
 use Rattle.std.proofs.lemmas.Int.{to_z-of_z}
 use Rattle.segment_machine.specs.declared.actor.Known.{Known}
 use Rattle.live_segment.specs.Deltas.{HasTaken}
-use Rattle.live_segment.proofs.Adds.{meant}
-use Rattle.live_segment.proofs.Given.{taken_rests, taken_of, taken_names, taken_share}
-use Rattle.live_segment.proofs.Walked.{all_right, come_still}
+use Rattle.live_segment.proofs.AddCall.Adds.{meant}
+use Rattle.live_segment.proofs.DeltaCall.Given.{taken_rests, taken_of, taken_names, taken_share}
+use Rattle.live_segment.proofs.Walks.Walked.{all_right, come_still}
 use Rattle.live_segment.proofs.recorder.Recorder.delta.Goals as goal
 
 pub invariant_of-self : goal.invariant_of-self

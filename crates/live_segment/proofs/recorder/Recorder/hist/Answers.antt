@@ -3,8 +3,8 @@ use Rattle.std.specs.List.{All}
 use Rattle.std.proofs.lemmas.Result.{err_from_is_err_and}
 use Rattle.segment_invariant.proofs.Lists.Elements.{below_length}
 use Rattle.live_segment.specs.Known.{known_view, KnowsRight}
-use Rattle.live_segment.proofs.Walked.{all_right, come_still}
-use Rattle.live_segment.proofs.HistAnswered.{read_known, none_known, names_still, of_still, rests_still, share_still, chain_grew, of_then, rests_then, share_same, right_then, listed_then, named_then, count_of, asked_here}
+use Rattle.live_segment.proofs.Walks.Walked.{all_right, come_still}
+use Rattle.live_segment.proofs.HistCall.HistAnswered.{read_known, none_known, names_still, of_still, rests_still, share_still, chain_grew, of_then, rests_then, share_same, right_then, listed_then, named_then, count_of, asked_here}
 use Rattle.live_segment.proofs.recorder.Recorder.hist.Goals as goal
 use Rattle.live_segment.proofs.recorder.Recorder.hist.Goals.{then-is_same, else-is_same}
 

@@ -4,7 +4,7 @@ use Rattle.std.proofs.lemmas.Slice.Eq.{bytes_eq-Decides}
 use lib.ListN.{get_elem?}
 use Rattle.live_segment.specs.declared.recorder.KnownHistogram.{KnownHistogram}
 use Rattle.segment_invariant.proofs.Lists.Elements.{below_length}
-use Rattle.live_segment.proofs.KnownNames.{is_there, none_further}
+use Rattle.live_segment.proofs.HistCall.KnownNames.{is_there, none_further}
 use Rattle.live_segment.proofs.recorder.Recorder.index_of.Goals as goal
 
 pub loop-index-init : goal.loop-index-init

@@ -2,9 +2,9 @@ use Rattle.std.proofs.Common.{refl, sym, ap, subst, ◌∙◌}
 use Rattle.std.proofs.lemmas.Result.{err_from_is_err_and}
 use Rattle.segment_machine.specs.declared.actor.Known.{Known}
 use Rattle.live_segment.specs.Snapshots.{HasSnapshot}
-use Rattle.live_segment.proofs.Adds.{meant}
-use Rattle.live_segment.proofs.Given.{looked_rests, looked_of, looked_names, looked_share}
-use Rattle.live_segment.proofs.Walked.{all_right, come_still}
+use Rattle.live_segment.proofs.AddCall.Adds.{meant}
+use Rattle.live_segment.proofs.DeltaCall.Given.{looked_rests, looked_of, looked_names, looked_share}
+use Rattle.live_segment.proofs.Walks.Walked.{all_right, come_still}
 use Rattle.live_segment.proofs.recorder.Recorder.snapshot.Goals as goal
 
 pub returns-in_err-totals-clause-answer : goal.returns-in_err-totals-clause-answer

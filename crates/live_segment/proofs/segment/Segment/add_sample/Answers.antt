@@ -5,8 +5,8 @@ use Rattle.live_segment.specs.Finishing.{HasEnded, HasSample, item_of, sample_of
 use Rattle.live_segment.specs.Known.{known_view}
 use Rattle.live_segment.specs.Refusing.{IsNotCounted}
 use Rattle.live_segment.specs.Working.{CountsAlone, HasCounted}
-use Rattle.live_segment.proofs.TurnedAway.{turned_rests, turned_refused}
-use Rattle.live_segment.proofs.Added.{counts_alone, has_sample, added, added_rests}
+use Rattle.live_segment.proofs.AddCall.TurnedAway.{turned_rests, turned_refused}
+use Rattle.live_segment.proofs.AddCall.Added.{counts_alone, has_sample, added, added_rests}
 use Rattle.live_segment.proofs.segment.Segment.add_sample.Goals as goal
 
 pub count_value-requires-clause-may : goal.count_value-requires-clause-may

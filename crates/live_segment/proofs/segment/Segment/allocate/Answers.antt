@@ -1,6 +1,6 @@
 use Rattle.std.proofs.Common.{◌∙◌, sym}
-use Rattle.live_segment.proofs.Refusing.{clear}
-use Rattle.live_segment.proofs.Tries.{loaded, may_claim, may_waste, claims}
+use Rattle.live_segment.proofs.AddCall.Refusing.{clear}
+use Rattle.live_segment.proofs.NewRecords.Tries.{loaded, may_claim, may_waste, claims}
 use Rattle.live_segment.proofs.segment.Segment.allocate.Goals as goal
 
 pub claim-requires-clause-may : goal.claim-requires-clause-may

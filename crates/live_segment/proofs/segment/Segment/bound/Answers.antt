@@ -1,5 +1,5 @@
 use Rattle.std.proofs.Common.{rules}
-use Rattle.live_segment.proofs.Seated.{bounds}
+use Rattle.live_segment.proofs.Seating.Seated.{bounds}
 use Rattle.live_segment.proofs.segment.Segment.bound.Goals as goal
 
 pub load-requires : goal.load-requires

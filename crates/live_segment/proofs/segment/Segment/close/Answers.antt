@@ -2,8 +2,8 @@ use Rattle.std.proofs.Common.{sym, ap, subst, is_ok, arith}
 use Rattle.std.specs.Slots.{slots_items}
 use Rattle.live_segment.specs.Rule.{Closes}
 use Rattle.live_segment.specs.Holders.{view_of_opener}
-use Rattle.live_segment.proofs.Copies.{copied}
-use Rattle.live_segment.proofs.Seated.{closes}
+use Rattle.live_segment.proofs.Closing.Copies.{copied}
+use Rattle.live_segment.proofs.Seating.Seated.{closes}
 use Rattle.live_segment.proofs.Closing.Joined.{image_of, joined, deltas, snapshots}
 use Rattle.live_segment.proofs.Closing.Stopped.{stopped}
 use Rattle.live_segment.proofs.segment.Segment.close.Goals as goal

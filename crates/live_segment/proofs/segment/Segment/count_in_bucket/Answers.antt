@@ -1,8 +1,8 @@
 use Rattle.std.proofs.Common.{◌∙◌, rules}
 use Rattle.std.proofs.lemmas.Result.{err_from_is_err_and}
 use Rattle.live_segment.specs.Known.{known_view}
-use Rattle.live_segment.proofs.Counted.{may_mount, may_do_without, room_here, may_add_here, same_here, counted_here, counts_off, stands_off, looks_off_on, filled_off, may_passed, looks_passed_on, filled_passed, turned}
-use Rattle.live_segment.proofs.Mounted.{may_load_counts, mounts_on}
+use Rattle.live_segment.proofs.AddCall.Counted.{may_mount, may_do_without, room_here, may_add_here, same_here, counted_here, counts_off, stands_off, looks_off_on, filled_off, may_passed, looks_passed_on, filled_passed, turned}
+use Rattle.live_segment.proofs.AddCall.Mounted.{may_load_counts, mounts_on}
 use Rattle.live_segment.proofs.segment.Segment.count_in_bucket.Goals as goal
 
 pub load_counts-counts-requires-clause-may : goal.load_counts-counts-requires-clause-may

@@ -4,9 +4,9 @@ use Rattle.std.proofs.lemmas.Result.{err_from_is_err_and}
 use Rattle.live_segment.specs.Finishing.{item_of}
 use Rattle.live_segment.specs.Known.{known_view}
 use Rattle.live_segment.specs.Sampling.{HasSampleOf, LacksSampleOf}
-use Rattle.live_segment.specs.Telling.{HasSampled, MaySample}
-use Rattle.live_segment.proofs.CountsAlone.{may_give_up}
-use Rattle.live_segment.proofs.ValueCounted.{may_sample, sample_within, same_counted, value_counted, value_lacks}
+use Rattle.live_segment.specs.GhostNotes.{HasSampled, MaySample}
+use Rattle.live_segment.proofs.AddCall.CountsAlone.{may_give_up}
+use Rattle.live_segment.proofs.AddCall.ValueCounted.{may_sample, sample_within, same_counted, value_counted, value_lacks}
 use Rattle.live_segment.proofs.segment.Segment.count_in_sample.Goals as goal
 
 pub returns-in_err-sample-clause-outcome : goal.returns-in_err-sample-clause-outcome

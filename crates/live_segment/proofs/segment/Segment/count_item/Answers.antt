@@ -9,7 +9,7 @@ use Rattle.live_segment.specs.Known.{known_view}
 use Rattle.live_segment.specs.Refusing.{IsNotCounted}
 use Rattle.live_segment.specs.Steps.{Stepped}
 use Rattle.live_segment.specs.Working.{CountsAlone, HasCounted}
-use Rattle.live_segment.proofs.ItemNoted.{may_note, item_noted}
+use Rattle.live_segment.proofs.BatchCall.ItemNoted.{may_note, item_noted}
 use Rattle.live_segment.proofs.segment.Segment.count_item.Goals as goal
 
 pub count_value-requires-clause-may : goal.count_value-requires-clause-may

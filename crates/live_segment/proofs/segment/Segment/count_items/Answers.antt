@@ -6,9 +6,9 @@ use Rattle.live_segment.specs.Finishing.{item_of}
 use Rattle.live_segment.specs.Known.{known_view}
 use Rattle.live_segment.specs.Refusing.{IsNotCounted}
 use Rattle.live_segment.specs.Working.{CountsAlone}
-use Rattle.live_segment.proofs.Items.{within_all}
-use Rattle.live_segment.proofs.ItemsCounted.{no_items, may_next, one_counted}
-use Rattle.live_segment.proofs.ItemsRefused.{stops_at}
+use Rattle.live_segment.proofs.BatchCall.Items.{within_all}
+use Rattle.live_segment.proofs.BatchCall.ItemsCounted.{no_items, may_next, one_counted}
+use Rattle.live_segment.proofs.BatchCall.ItemsRefused.{stops_at}
 use Rattle.live_segment.proofs.segment.Segment.count_items.Goals as goal
 
 pub loop-added-init : goal.loop-added-init

@@ -1,8 +1,8 @@
 use Rattle.std.proofs.Common.{ℤ, sym, subst, w64}
 use Rattle.std.proofs.lemmas.Int.{to_z-of_z}
 use Rattle.live_segment.specs.Known.{known_view}
-use Rattle.live_segment.specs.Telling.{HasSum, MaySum}
-use Rattle.live_segment.proofs.SumAdded.{may_sum, same_summed, sum_rests, batched}
+use Rattle.live_segment.specs.GhostNotes.{HasSum, MaySum}
+use Rattle.live_segment.proofs.BatchCall.SumAdded.{may_sum, same_summed, sum_rests, batched}
 use Rattle.live_segment.proofs.segment.Segment.count_summed.Goals as goal
 
 pub add_sum-requires-clause-may : goal.add_sum-requires-clause-may

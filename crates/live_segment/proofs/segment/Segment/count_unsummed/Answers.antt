@@ -10,13 +10,13 @@ use Rattle.live_segment.specs.Batching.{IsBatched, IsCutShort}
 use Rattle.live_segment.specs.Finishing.{item_of}
 use Rattle.live_segment.specs.Known.{known_view}
 use Rattle.live_segment.specs.Refusing.{IsNotCounted}
-use Rattle.live_segment.specs.Telling.{MayDo, Noted}
+use Rattle.live_segment.specs.GhostNotes.{MayDo, Noted}
 use Rattle.live_segment.specs.Working.{CountsAlone, HasCounted}
-use Rattle.live_segment.proofs.Items.{within_all}
-use Rattle.live_segment.proofs.ItemsCounted.{may_next}
-use Rattle.live_segment.proofs.ItemsRefused.{stops_at}
-use Rattle.live_segment.proofs.LastItem.{may_end_batch, same_ended, last_rests, last_batched}
-use Rattle.live_segment.proofs.Unsummed.{cut_before, front_and_last}
+use Rattle.live_segment.proofs.BatchCall.Items.{within_all}
+use Rattle.live_segment.proofs.BatchCall.ItemsCounted.{may_next}
+use Rattle.live_segment.proofs.BatchCall.ItemsRefused.{stops_at}
+use Rattle.live_segment.proofs.BatchCall.LastItem.{may_end_batch, same_ended, last_rests, last_batched}
+use Rattle.live_segment.proofs.BatchCall.Unsummed.{cut_before, front_and_last}
 use Rattle.live_segment.proofs.segment.Segment.count_unsummed.Goals as goal
 
 pub returns-in_err-count_items-clause-outcome : goal.returns-in_err-count_items-clause-outcome

@@ -6,8 +6,8 @@ use Rattle.live_segment.specs.Finishing.{item_of}
 use Rattle.live_segment.specs.Known.{known_view}
 use Rattle.live_segment.specs.Refusing.{IsNotCounted}
 use Rattle.live_segment.specs.Working.{CountsAlone, HasCounted}
-use Rattle.live_segment.proofs.BucketKeys.{found_is, below, item_is, one_bucket, is_bucketed, is_sparse}
-use Rattle.live_segment.proofs.TurnedAway.{turned_not_counted}
+use Rattle.live_segment.proofs.DeltaCall.BucketKeys.{found_is, below, item_is, one_bucket, is_bucketed, is_sparse}
+use Rattle.live_segment.proofs.AddCall.TurnedAway.{turned_not_counted}
 use Rattle.live_segment.proofs.segment.Segment.count_value.Goals as goal
 
 pub count_in_sample-requires-clause-sparse : goal.count_in_sample-requires-clause-sparse

@@ -4,9 +4,9 @@ use Rattle.segment_machine.specs.declared.actor.Actor.{Actor}
 use Rattle.live_segment.specs.Deltas.{HasTaken}
 use Rattle.live_segment.specs.Known.{known_view}
 use Rattle.segment_promises.specs.Onward.{Grows}
-use Rattle.live_segment.proofs.Knowing.{right_on}
-use Rattle.live_segment.proofs.OneDelta.{may_take, view, same, takes_word}
-use Rattle.live_segment.proofs.DeltaEnds.{may_take_sum, has_taken_all}
+use Rattle.live_segment.proofs.HistCall.Knowing.{right_on}
+use Rattle.live_segment.proofs.DeltaCall.OneDelta.{may_take, view, same, takes_word}
+use Rattle.live_segment.proofs.DeltaCall.DeltaEnds.{may_take_sum, has_taken_all}
 use Rattle.segment_promises.proofs.Growing.{grows_not}
 use Rattle.live_segment.proofs.segment.Segment.delta_of_buckets.Goals as goal
 

@@ -1,6 +1,6 @@
 use Rattle.std.proofs.Common.{sym, ◌∙◌, arith}
 use Rattle.live_segment.specs.Known.{known_view}
-use Rattle.live_segment.proofs.Disabled.{may_disable, same_after, rests, may_move, moved, looks_after, done_after, stands_after, falls}
+use Rattle.live_segment.proofs.AddCall.Disabled.{may_disable, same_after, rests, may_move, moved, looks_after, done_after, stands_after, falls}
 use Rattle.live_segment.proofs.segment.Segment.disable_single.Goals as goal
 
 pub disable-requires-clause-may : goal.disable-requires-clause-may

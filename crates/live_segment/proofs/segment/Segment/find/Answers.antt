@@ -1,7 +1,7 @@
 use Rattle.std.proofs.Common.{Bool, refl, subst, arith}
 use Rattle.live_segment.specs.Finding.{ShowsName, ShowsSpec}
-use Rattle.live_segment.proofs.Showing.{same_on, sees_on, meets_still}
-use Rattle.live_segment.proofs.Searching.{searched_not, searched_on, sees_searched, searched, seat_on, may_follow, room, ends, meets, room_found, walks_then, comes_further, met_spec, met_other}
+use Rattle.live_segment.proofs.Walks.Showing.{same_on, sees_on, meets_still}
+use Rattle.live_segment.proofs.HistCall.Searching.{searched_not, searched_on, sees_searched, searched, seat_on, may_follow, room, ends, meets, room_found, walks_then, comes_further, met_spec, met_other}
 use Rattle.live_segment.proofs.segment.Segment.find.Goals as goal
 
 pub loop-from-init : goal.loop-from-init

@@ -1,10 +1,10 @@
 use Rattle.std.proofs.Common.{Bool, ℤ, w32, refl, sym, ◌∙◌, subst, arith}
 use Rattle.std.proofs.lemmas.Int.{to_z-of_z}
 use Rattle.live_segment.specs.Sampling.{ShowsValue, WalksBehind}
-use Rattle.live_segment.proofs.OnWay.{comes_further}
-use Rattle.live_segment.proofs.Searching.{searched_not, searched_on, sees_searched, seat_on}
-use Rattle.live_segment.proofs.Showing.{same_on}
-use Rattle.live_segment.proofs.SampleSearches.{may_follow, room, searched, ends, meets, room_found, walks_then, met_first}
+use Rattle.live_segment.proofs.Walks.WalkProgress.{comes_further}
+use Rattle.live_segment.proofs.HistCall.Searching.{searched_not, searched_on, sees_searched, seat_on}
+use Rattle.live_segment.proofs.Walks.Showing.{same_on}
+use Rattle.live_segment.proofs.AddCall.SampleSearches.{may_follow, room, searched, ends, meets, room_found, walks_then, met_first}
 use Rattle.live_segment.proofs.segment.Segment.find_sample.Goals as goal
 
 pub loop-from-init : goal.loop-from-init

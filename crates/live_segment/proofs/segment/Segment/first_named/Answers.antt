@@ -1,5 +1,5 @@
 use Rattle.std.proofs.lemmas.Result.{err_from_is_err_and}
-use Rattle.live_segment.proofs.Settled.{walk_goes_on, meets_own, met_first, met_another, met_then, met_another_then, not_made}
+use Rattle.live_segment.proofs.HistCall.Settled.{walk_goes_on, meets_own, met_first, met_another, met_then, met_another_then, not_made}
 use Rattle.live_segment.proofs.segment.Segment.first_named.Goals as goal
 
 pub returns-in-Met-clause-outcome : goal.returns-in-Met-clause-outcome

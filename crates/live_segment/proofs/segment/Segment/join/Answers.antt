@@ -1,5 +1,5 @@
 use Rattle.std.proofs.Common.{rules}
-use Rattle.live_segment.proofs.Seated.{joins}
+use Rattle.live_segment.proofs.Seating.Seated.{joins}
 use Rattle.live_segment.proofs.segment.Segment.join.Goals as goal
 
 pub join_seat-requires : goal.join_seat-requires

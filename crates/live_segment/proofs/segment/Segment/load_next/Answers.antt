@@ -1,5 +1,5 @@
 use Rattle.std.proofs.Common.{rules, arith}
-use Rattle.live_segment.proofs.Walked.{loads_next}
+use Rattle.live_segment.proofs.Walks.Walked.{loads_next}
 use Rattle.live_segment.proofs.segment.Segment.load_next.Goals as goal
 
 pub load-requires : goal.load-requires

@@ -1,8 +1,8 @@
 use Rattle.std.proofs.Common.{true≢false, length, ap, sym, arith, ◌∙◌}
 use Rattle.segment_machine.specs.Actor.{has_buckets}
 use Rattle.live_segment.specs.Known.{known_view}
-use Rattle.live_segment.proofs.AllBuckets.{split}
-use Rattle.live_segment.proofs.BucketKeys.{is_bucketed}
+use Rattle.live_segment.proofs.DeltaCall.AllBuckets.{split}
+use Rattle.live_segment.proofs.DeltaCall.BucketKeys.{is_bucketed}
 use Rattle.live_segment.proofs.segment.Segment.most_keys.Goals as goal
 
 pub returns-else-len-eq0 : goal.returns-else-len-eq0

@@ -1,5 +1,5 @@
 use Rattle.std.proofs.Common.{refl}
-use Rattle.live_segment.proofs.Sharing.{late_not, may_load, shape_is, may_follow, room, same_still, new_shape, ended, may_move, same_last, given, later, falls, gives_none, gives_one}
+use Rattle.live_segment.proofs.Walks.Sharing.{late_not, may_load, shape_is, may_follow, room, same_still, new_shape, ended, may_move, same_last, given, later, falls, gives_none, gives_one}
 use Rattle.live_segment.proofs.segment.Segment.next_shared.Goals as goal
 
 pub loop-cursor-init : goal.loop-cursor-init

@@ -1,5 +1,5 @@
 use Rattle.std.proofs.Common.{rules, refl}
-use Rattle.live_segment.proofs.Seated.{offers}
+use Rattle.live_segment.proofs.Seating.Seated.{offers}
 use Rattle.live_segment.proofs.segment.Segment.offer.Goals as goal
 
 pub compare_exchange_with-requires : goal.compare_exchange_with-requires

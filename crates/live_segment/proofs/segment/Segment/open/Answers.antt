@@ -1,5 +1,5 @@
 use Rattle.std.proofs.Common.{◌∙◌}
-use Rattle.live_segment.proofs.Seated.{opens}
+use Rattle.live_segment.proofs.Seating.Seated.{opens}
 use Rattle.live_segment.proofs.segment.Segment.open.Goals as goal
 
 pub of_words-requires : goal.of_words-requires

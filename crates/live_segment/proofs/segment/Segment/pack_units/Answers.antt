@@ -1,7 +1,7 @@
 use Rattle.std.proofs.Common.{refl, arith}
 use Rattle.live_segment.specs.Known.{known_view}
-use Rattle.live_segment.specs.Telling.{bucket_entry}
-use Rattle.live_segment.proofs.Attempts.{may_load, tries_off, tries_passed, formed, may_pack, same_after, tries_packed, looks_after, done_after, counts_after, falls, begun_not}
+use Rattle.live_segment.specs.GhostNotes.{bucket_entry}
+use Rattle.live_segment.proofs.AddCall.Attempts.{may_load, tries_off, tries_passed, formed, may_pack, same_after, tries_packed, looks_after, done_after, counts_after, falls, begun_not}
 use Rattle.live_segment.proofs.segment.Segment.pack_units.Goals as goal
 
 pub loop-bucket-init : goal.loop-bucket-init

@@ -1,7 +1,7 @@
 use Rattle.std.proofs.Common.{◌≡◌, ◌-◌, ◌+◌}
 use Rattle.bucket_ranges.specs.Spec.{buckets_of}
 use Rattle.live_segment.specs.Known.{known_view}
-use Rattle.live_segment.specs.Telling.{bucket_entry}
+use Rattle.live_segment.specs.GhostNotes.{bucket_entry}
 use Rattle.live_segment.specs.Steps.{IsSame}
 use Rattle.live_segment.specs.Working.{LooksFor}
 use Rattle.segment_promises.proofs.Ranks.{last_rank}

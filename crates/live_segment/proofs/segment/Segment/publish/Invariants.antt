@@ -2,7 +2,7 @@ use Rattle.std.proofs.Common.{◌≡◌, ◌-◌, ◌*◌, Some}
 use Rattle.segment_machine.specs.declared.actor.Made.{Made}
 use Rattle.live_segment.specs.Listing.{asked_for}
 use Rattle.live_segment.specs.Publishing.{IsFilledAs}
-use Rattle.live_segment.proofs.Published.{IsWaiting}
+use Rattle.live_segment.proofs.NewRecords.Published.{IsWaiting}
 use Rattle.live_segment.proofs.segment.Segment.publish.Given as goal
 
 -- the block waits, filled as what is said

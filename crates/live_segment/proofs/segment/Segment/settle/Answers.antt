@@ -2,8 +2,8 @@ use Rattle.std.proofs.Common.{refl, ap, ◌∙◌}
 use Rattle.segment_machine.specs.declared.actor.Actor.{Actor}
 use Rattle.segment_machine.specs.Actor.{is_opener}
 use Rattle.live_segment.specs.Searching.{asked_at}
-use Rattle.live_segment.proofs.Showing.{same_on}
-use Rattle.live_segment.proofs.Settled.{may_decline, refused_so, known_so}
+use Rattle.live_segment.proofs.Walks.Showing.{same_on}
+use Rattle.live_segment.proofs.HistCall.Settled.{may_decline, refused_so, known_so}
 use Rattle.live_segment.proofs.segment.Segment.settle.Goals as goal
 
 pub know-requires-clause-may : goal.know-requires-clause-may

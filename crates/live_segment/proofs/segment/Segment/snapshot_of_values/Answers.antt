@@ -7,9 +7,9 @@ use Rattle.live_segment.specs.Deltas.{AreUnits}
 use Rattle.live_segment.specs.Known.{known_view}
 use Rattle.live_segment.specs.Snapshots.{HasSnapshot, saw_sum}
 use Rattle.live_segment.specs.Taking.{answered_as}
-use Rattle.live_segment.proofs.Answering.{may_sum, may_answer, has_snapshot}
-use Rattle.live_segment.proofs.Sharing.{same_on}
-use Rattle.live_segment.proofs.ValuesSeen.{may_look, looks_first, comes, has_looked, saw_values, are_units}
+use Rattle.live_segment.proofs.SnapshotCall.Answering.{may_sum, may_answer, has_snapshot}
+use Rattle.live_segment.proofs.Walks.Sharing.{same_on}
+use Rattle.live_segment.proofs.SnapshotCall.ValuesSeen.{may_look, looks_first, comes, has_looked, saw_values, are_units}
 use Rattle.segment_promises.proofs.ValueWalks.{stands_there}
 use Rattle.live_segment.proofs.segment.Segment.snapshot_of_values.Goals as goal
 

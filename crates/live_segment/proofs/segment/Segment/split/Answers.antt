@@ -1,5 +1,5 @@
 use Rattle.std.proofs.Common.{rules}
-use Rattle.live_segment.proofs.Seated.{splits}
+use Rattle.live_segment.proofs.Seating.Seated.{splits}
 use Rattle.live_segment.proofs.segment.Segment.split.Goals as goal
 
 pub split_seat-requires : goal.split_seat-requires

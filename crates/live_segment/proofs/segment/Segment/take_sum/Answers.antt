@@ -9,18 +9,18 @@ use Rattle.segment_machine.specs.declared.actor.Known.{Known}
 use Rattle.live_segment.specs.declared.segment.Segment.{Segment}
 use Rattle.live_segment.specs.Deltas.{MayTakeSum}
 use Rattle.live_segment.specs.Known.{known_view}
-use Rattle.segment_promises.specs.Values.{StandOnce}
+use Rattle.segment_promises.specs.Values.{NoRepeats}
 use Rattle.live_segment.specs.Samples.{SamplesStandBehind}
 use Rattle.live_segment.specs.Steps.{Pass}
-use Rattle.live_segment.specs.Telling.{MayDo, Noted}
+use Rattle.live_segment.specs.GhostNotes.{MayDo, Noted}
 use Rattle.live_segment.specs.Values.{HasTakenValues}
-use Rattle.live_segment.proofs.DeltaEnds.{may_swap, ended}
-use Rattle.live_segment.proofs.ValuesDelta.{may_take_sum}
+use Rattle.live_segment.proofs.DeltaCall.DeltaEnds.{may_swap, ended}
+use Rattle.live_segment.proofs.DeltaCall.ValuesDelta.{may_take_sum}
 use Rattle.live_segment.proofs.segment.Segment.take_sum.Goals as goal
 
 -- it has taken of all buckets, or of all samples up to the end of the list
 may_take : (segment : Segment) (known : Known) (seat : Pass) → MayTakeSum segment known seat ⊎ HasTakenValues segment known seat
-    → SamplesStandBehind seat.me.0 → StandOnce seat.me.0.seen.chain → MayTakeSum segment known seat
+    → SamplesStandBehind seat.me.0 → NoRepeats seat.me.0.seen.chain → MayTakeSum segment known seat
 may_take segment known seat (inl may) behind once = may
 may_take segment known seat (inr has) behind once = may_take_sum segment known seat has behind once
 

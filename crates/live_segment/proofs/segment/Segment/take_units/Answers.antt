@@ -5,11 +5,11 @@ use Rattle.segment_invariant.proofs.Packing.OffForms.{few_buckets}
 use Rattle.live_segment.specs.Deltas.{HasTakenBuckets}
 use Rattle.segment_machine.specs.Form.{SaysPacked}
 use Rattle.live_segment.specs.Known.{known_view}
-use Rattle.live_segment.proofs.AllBuckets.{buckets_long}
-use Rattle.live_segment.proofs.Attempts.{is_on}
-use Rattle.live_segment.proofs.BucketsSeen.{free_at}
-use Rattle.live_segment.proofs.OneBucket.{takes_then}
-use Rattle.live_segment.proofs.OneDelta.{loads_on, takes_at, took_nothing}
+use Rattle.live_segment.proofs.DeltaCall.AllBuckets.{buckets_long}
+use Rattle.live_segment.proofs.AddCall.Attempts.{is_on}
+use Rattle.live_segment.proofs.SnapshotCall.BucketsSeen.{free_at}
+use Rattle.live_segment.proofs.DeltaCall.OneBucket.{takes_then}
+use Rattle.live_segment.proofs.DeltaCall.OneDelta.{loads_on, takes_at, took_nothing}
 use Rattle.live_segment.proofs.segment.Segment.take_units.Goals as goal
 
 pub packed_in-packed-requires : goal.packed_in-packed-requires

@@ -3,7 +3,7 @@ use Rattle.std.proofs.lemmas.Int.{to_z-of_z}
 use Rattle.live_segment.specs.Known.{known_view}
 use Rattle.live_segment.specs.Samples.{CountsSample}
 use Rattle.live_segment.specs.Values.{TakesValue}
-use Rattle.live_segment.proofs.OneValue.{takes_nothing, may_take, takes_none, takes_some}
+use Rattle.live_segment.proofs.DeltaCall.OneValue.{takes_nothing, may_take, takes_none, takes_some}
 use Rattle.live_segment.proofs.segment.Segment.take_value.Goals as goal
 
 pub returns-in_err-value-clause-takes : goal.returns-in_err-value-clause-takes

@@ -2,7 +2,7 @@ use Rattle.std.proofs.Common.{◌≡◌, ℕ, List, arith, sym, ap, subst, ◌�
 use Rattle.std.specs.Prelude.{take}
 use Rattle.std.proofs.lemmas.List.{append-nil, append_assoc, length_push, length-take-le}
 use Rattle.segment_image.specs.Shape.{Dimensions}
-use Rattle.live_segment.proofs.Walked.{IsWalking, begins, may_load, room, same_still, ended, walking, walked_on, few}
+use Rattle.live_segment.proofs.Walks.Walked.{IsWalking, begins, may_load, room, same_still, ended, walking, walked_on, few}
 use Rattle.live_segment.proofs.segment.Segment.walk.Goals as goal
 
 pub loop-next-init : goal.loop-next-init

@@ -1,5 +1,5 @@
 use Rattle.std.proofs.Common.{◌∙◌}
-use Rattle.live_segment.proofs.Callers.{knows_same}
+use Rattle.live_segment.proofs.Seating.Callers.{knows_same}
 use Rattle.live_segment.proofs.tests.packing.add_all.Goals as goal
 
 pub loop-value-preserved : goal.loop-value-preserved

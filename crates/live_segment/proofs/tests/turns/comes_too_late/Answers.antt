@@ -1,6 +1,6 @@
 use Rattle.std.proofs.Common.{◌≡◌, ◌∙◌, true, false, not, filter, refl, sym, ap, arith}
 use Rattle.segment_machine.specs.declared.actor.Actor.{Actor}
-use Rattle.segment_machine.specs.declared.entry.Counting.{Counting}
+use Rattle.segment_machine.specs.declared.entry.EntryProgress.{EntryProgress}
 use Rattle.segment_machine.specs.Actor.{has_buckets, is_bound}
 use Rattle.segment_machine.specs.Entry.{has_ended}
 use Rattle.live_segment.specs.declared.recorder.KnownHistogram.{KnownHistogram}
@@ -10,11 +10,11 @@ use Rattle.live_segment.specs.Mounting.{MayMount}
 use Rattle.live_segment.specs.Rule.{IsOf}
 use Rattle.live_segment.specs.Steps.{IsAtRest}
 use Rattle.live_segment.specs.Working.{LooksOn}
-use Rattle.live_segment.proofs.Beginning.{known_there}
-use Rattle.live_segment.proofs.BucketKeys.{is_bucketed}
-use Rattle.live_segment.proofs.Disabled.{may_load, may_disable, looks_after}
-use Rattle.live_segment.proofs.Mounted.{mounts_on}
-use Rattle.live_segment.proofs.Proceeding.{does_not, sees_not}
+use Rattle.live_segment.proofs.AddCall.Beginning.{known_there}
+use Rattle.live_segment.proofs.DeltaCall.BucketKeys.{is_bucketed}
+use Rattle.live_segment.proofs.AddCall.Disabled.{may_load, may_disable, looks_after}
+use Rattle.live_segment.proofs.AddCall.Mounted.{mounts_on}
+use Rattle.live_segment.proofs.Seating.Proceeding.{does_not, sees_not}
 use Rattle.live_segment.proofs.tests.turns.comes_too_late.Goals as goal
 
 -- a recorder at rest may mount the counts of a histogram with buckets that it knows
@@ -25,7 +25,7 @@ may_mount setting a known rests right bucketed = record {
   free = rests.free;
   knows = ((known_there a.answers.names known.reference (known_view known) right.alone).0, refl, bucketed);
   alone = right.alone;
-  counts = (rests.takes, λ c (rest, is). absurd (cc (sym is ∙ ap (filter (λ (x : Counting). not (has_ended x))) rests.runs)));
+  counts = (rests.takes, λ c (rest, is). absurd (cc (sym is ∙ ap (filter (λ (x : EntryProgress). not (has_ended x))) rests.runs)));
 }
 
 -- it has not looked yet

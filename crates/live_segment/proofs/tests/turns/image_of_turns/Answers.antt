@@ -1,5 +1,5 @@
 use Rattle.live_segment.specs.Holders.{view_of_recorder}
-use Rattle.live_segment.proofs.Callers.{joined_still, made_still}
+use Rattle.live_segment.proofs.Seating.Callers.{joined_still, made_still}
 use Rattle.live_segment.proofs.tests.turns.image_of_turns.Goals as goal
 
 pub close-requires : goal.close-requires

@@ -10,14 +10,14 @@ use Rattle.stepped.proofs.replay.Replay.advance.Goals as goal
 
 pub change_of-requires : goal.change_of-requires
 change_of-requires c =
-    let old = c.args.self.now.world.board.words.items in let new = c.step.new.self.board.words.items in
+    let old = c.args.self.now.world.world_state.words.items in let new = c.step.new.self.world_state.words.items in
     let ok = same_ok ReplayFault c.step.result c.in_ok-said.said c.in_ok-said.ensures.cases in
     let changes = subst (λ (made : Result Stepped WorldFault). OnOk made (∥ ChangesOneWord old new ∥₁)) ok c.step.ensures.word in
     ap length (c.deref.ensures.value ∙ c.args.self.now.in_step) ∙ (same_length old new changes ∙ ap length (sym c.words.ensures.words))
 
 pub invariant_of-self-in-Some : goal.invariant_of-self-in-Some
 invariant_of-self-in-Some c =
-    let before = c.args.self.now.before.items in let old = c.args.self.now.world.board.words.items in let new = c.step.new.self.board.words.items in
+    let before = c.args.self.now.before.items in let old = c.args.self.now.world.world_state.words.items in let new = c.step.new.self.world_state.words.items in
     let change = c.in-Some.change in
     let differs : IsDifference old new change = differs_in c.deref.result.now c.words.result.now old new change
     (c.deref.ensures.value ∙ c.args.self.now.in_step) c.words.ensures.words c.in-Some.ensures in
@@ -27,7 +27,7 @@ invariant_of-self-in-Some c =
 
 pub returns-in-Some-clause-ok : goal.returns-in-Some-clause-ok
 returns-in-Some-clause-ok c =
-    let old = c.args.self.now.world.board in let new = c.step.new.self.board in let change = c.in-Some.change in
+    let old = c.args.self.now.world.world_state in let new = c.step.new.self.world_state in let change = c.in-Some.change in
     let said = c.in_ok-said.said in let ok = same_ok ReplayFault c.step.result said c.in_ok-said.ensures.cases in
     let differs : IsDifference old.words.items new.words.items change = differs_in c.deref.result.now c.words.result.now old.words.items new.words.items change
     (c.deref.ensures.value ∙ c.args.self.now.in_step) c.words.ensures.words c.in-Some.ensures in
@@ -43,7 +43,7 @@ returns-in-Some-clause-ok c =
 
 pub returns-in-None-clause-ok : goal.returns-in-None-clause-ok
 returns-in-None-clause-ok c =
-    let old = c.args.self.now.world.board in let new = c.step.new.self.board in let said = c.in_ok-said.said in (
+    let old = c.args.self.now.world.world_state in let new = c.step.new.self.world_state in let said = c.in_ok-said.said in (
       is_stepped c.args.place.actor old new c.step.result said (same_ok ReplayFault c.step.result said c.in_ok-said.ensures.cases)
           (c.step.ensures.faults, c.step.ensures.others, c.step.ensures.says, c.step.ensures.steps),
       sym c.words.ensures.words ∙ (c.in-None.ensures ∙ (c.deref.ensures.value ∙ c.args.self.now.in_step)),

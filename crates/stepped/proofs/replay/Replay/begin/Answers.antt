@@ -12,7 +12,7 @@ pub returns-in-Going-clause-ok : goal.returns-in-Going-clause-ok
 returns-in-Going-clause-ok g c =
     let start = g.W.Write.contents c.args.writer.now in let last = g.W.Write.contents c.show_begin.new.writer in
     let ok = same_ok ReplayFault c.begin.result c.in_ok-begun.begun c.in_ok-begun.ensures.cases ∙ ap Ok c.in-Going.is in
-    let begun = is_begun c.args.place.actor c.args.call.now c.args.self.now.world.board c.begin.new.self.board c.begin.result Going ok
+    let begun = is_begun c.args.place.actor c.args.call.now c.args.self.now.world.world_state c.begin.new.self.world_state c.begin.result Going ok
     (c.begin.ensures.faults, c.begin.ensures.says) c.begin.ensures.others c.begin.ensures.begins in
     let shown : OnOk c.map_err-in-Going.result (Appends start last (deed_line c.args.place Begins)) = search rules in
     on_ok c.map_err-in-Going.result (λ line. (Begins ∷ [], (Going, begun, refl), one_line c.args.place start last Begins line)) shown
@@ -21,6 +21,6 @@ pub returns-in-Ended-clause-ok : goal.returns-in-Ended-clause-ok
 returns-in-Ended-clause-ok g c =
     let start = g.W.Write.contents c.args.writer.now in let last = g.W.Write.contents c.show.new.writer in let answer = c.in-Ended.answer in
     let ok = same_ok ReplayFault c.begin.result c.in_ok-begun.begun c.in_ok-begun.ensures.cases ∙ ap Ok c.in-Ended.is in
-    let begun = is_begun c.args.place.actor c.args.call.now c.args.self.now.world.board c.begin.new.self.board c.begin.result (Ended answer) ok
+    let begun = is_begun c.args.place.actor c.args.call.now c.args.self.now.world.world_state c.begin.new.self.world_state c.begin.result (Ended answer) ok
     (c.begin.ensures.faults, c.begin.ensures.says) c.begin.ensures.others c.begin.ensures.begins in
     on_ok c.show.result (λ line. (Ends answer ∷ [], (Ended answer, begun, refl), one_line c.args.place start last (Ends answer) line)) c.show.ensures.ok

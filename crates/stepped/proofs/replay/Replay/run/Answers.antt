@@ -8,7 +8,7 @@ pub returns-then-self-eq0-clause-replays : goal.returns-then-self-eq0-clause-rep
 returns-then-self-eq0-clause-replays g c =
     let l = c.loop-i in let so_far = l.invariant in (
       so_far.0,
-      replays_all c.args.orders.now l.i c.args.self.now.left c.args.self.now.world.board l.self.world.board l.self.left so_far.0 (omega (arith, c.if-self-eq0.true)) so_far.1,
+      replays_all c.args.orders.now l.i c.args.self.now.left c.args.self.now.world.world_state l.self.world.world_state l.self.left so_far.0 (omega (arith, c.if-self-eq0.true)) so_far.1,
       so_far.2,
     )
 
@@ -22,7 +22,7 @@ returns-in_err-obey-clause-stops g c =
       l.i + 2,
       why,
       so_far.0 ++ lines_of (l.i + 2) order.actor deeds,
-      stops_next c.args.orders.now l.i order c.args.self.now.left c.args.self.now.world.board l.self.world.board l.self.left so_far.0 why deeds
+      stops_next c.args.orders.now l.i order c.args.self.now.left c.args.self.now.world.world_state l.self.world.world_state l.self.left so_far.0 why deeds
           c.loop-i-test.true c.index-orders-i.is so_far.1 some fails,
       is,
       appends_both (contents c.args.writer.now) (contents l.writer) (contents c.obey.new.writer) so_far.0 (lines_of (l.i + 2) order.actor deeds) so_far.2 shown,
@@ -35,7 +35,7 @@ loop-i-preserved g c =
     let its = c.in_ok-obey.ensures.ok in
     let some : 0 < l.self.left = omega (arith, c.if-self-eq0.false) in (
       so_far.0 ++ lines_of (l.i + 2) order.actor its.0,
-      replays_next c.args.orders.now l.i order c.args.self.now.left c.args.self.now.world.board l.self.world.board c.obey.new.self.world.board l.self.left
+      replays_next c.args.orders.now l.i order c.args.self.now.left c.args.self.now.world.world_state l.self.world.world_state c.obey.new.self.world.world_state l.self.left
           c.obey.new.self.left so_far.0 its.0 c.loop-i-test.true c.index-orders-i.is so_far.1 some its.1,
       appends_both (contents c.args.writer.now) (contents l.writer) (contents c.obey.new.writer) so_far.0 (lines_of (l.i + 2) order.actor its.0) so_far.2 its.2,
     )

@@ -14,7 +14,7 @@ returns-in-More-clause-ok g c =
     let did = c.in_ok-said.ensures.ok in
     let shown : Appends start last (deed_line c.args.place (Steps change)) = search rules in (
       Steps change ∷ [],
-      (More, subst (λ (said : Stepped). IsStepped c.args.place.actor c.args.self.now.world.board c.advance.new.self.world.board said) c.in-More.is did.0, (change, did.1, refl)),
+      (More, subst (λ (said : Stepped). IsStepped c.args.place.actor c.args.self.now.world.world_state c.advance.new.self.world.world_state said) c.in-More.is did.0, (change, did.1, refl)),
       one_line c.args.place start last (Steps change) shown,
       λ is. absurd (cc is),
     )
@@ -26,7 +26,7 @@ returns-in_ok-show-in-Done-clause-ok g c =
     let did = c.in_ok-said.ensures.ok in let place = c.args.place in
     let shown : Appends start event (deed_line place (Steps change)) = search rules in (
       Steps change ∷ Ends answer ∷ [],
-      (Done answer, subst (λ (said : Stepped). IsStepped place.actor c.args.self.now.world.board c.advance.new.self.world.board said) c.in-Done.is did.0, (change, did.1, refl)),
+      (Done answer, subst (λ (said : Stepped). IsStepped place.actor c.args.self.now.world.world_state c.advance.new.self.world.world_state said) c.in-Done.is did.0, (change, did.1, refl)),
       lines_both place.number place.actor start event last (Steps change ∷ []) (Ends answer ∷ []) (one_line place start event (Steps change) shown)
           (one_line place event last (Ends answer) c.in_ok-show-in-Done.ensures.ok),
       λ is. (Steps change ∷ [], answer, refl),

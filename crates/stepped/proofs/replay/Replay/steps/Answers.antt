@@ -13,7 +13,7 @@ returns-in_err-step-clause-err g c =
     (λ (why, faults, is, same). inr (
       why,
       so_far.0,
-      (c.loop.counter, c.loop.self.world.board, c.loop-test.true, so_far.1, faults),
+      (c.loop.counter, c.loop.self.world.world_state, c.loop-test.true, so_far.1, faults),
       is,
       subst (λ (writer : _). Appends (contents c.args.writer.now) (contents writer) (lines_of place.number place.actor so_far.0)) (sym same) so_far.3,
     ))
@@ -26,7 +26,7 @@ returns-then-not-branch-clause-ok g c =
       so_far.0 ++ its.0,
       record {
         events = c.loop.counter + 1;
-        goes = goes_next place.actor c.loop.counter c.args.self.now.world.board c.loop.self.world.board c.step.new.self.world.board so_far.0 its.0 so_far.1 its.1;
+        goes = goes_next place.actor c.loop.counter c.args.self.now.world.world_state c.loop.self.world.world_state c.step.new.self.world.world_state so_far.0 its.0 so_far.1 its.1;
         spent = omega (arith, so_far.2, c.step.ensures.left, c.if-self-eq0.false);
         few = omega (arith, c.loop-test.true);
         whole = inr (inr (ends_behind so_far.0 its.0 (its.3 over)));
@@ -38,7 +38,7 @@ pub loop-preserved : goal.loop-preserved
 loop-preserved g c =
     let place = c.args.place in let contents = g.W.Write.contents in let so_far = c.loop.invariant in let its = c.in_ok-step.ensures.ok in (
       so_far.0 ++ its.0,
-      goes_next place.actor c.loop.counter c.args.self.now.world.board c.loop.self.world.board c.step.new.self.world.board so_far.0 its.0 so_far.1 its.1,
+      goes_next place.actor c.loop.counter c.args.self.now.world.world_state c.loop.self.world.world_state c.step.new.self.world.world_state so_far.0 its.0 so_far.1 its.1,
       omega (arith, so_far.2, c.step.ensures.left, c.if-self-eq0.false),
       lines_both place.number place.actor (contents c.args.writer.now) (contents c.loop.writer) (contents c.step.new.writer) so_far.0 its.0 so_far.3 its.2,
     )

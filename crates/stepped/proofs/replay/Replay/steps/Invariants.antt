@@ -7,6 +7,6 @@ use Rattle.stepped.proofs.replay.Replay.steps.Given as goal
 -- there were as many events as rounds, each of which is shown
 abbrev pub invariant-loop : goal.invariant-loop
 invariant-loop g l = (deeds : List Deed)
-    × GoesBy l.place.actor l.counter l.initial.self.world.board l.self.world.board deeds
+    × GoesBy l.place.actor l.counter l.initial.self.world.world_state l.self.world.world_state deeds
     × (l.initial.self.left ≡ l.counter + l.self.left)
     × Appends (g.W.Write.contents l.initial.writer) (g.W.Write.contents l.writer) (lines_of l.place.number l.place.actor deeds)

@@ -1,0 +1,292 @@
+-- An `add` puts the counts in use: it loads their reference, claims a block for them, and mounts it, or marks it as of no use.
+use Rattle.std.proofs.Common.{◌≡◌, ◌≢◌, ◌≤◌, ℕ, ◌+◌, ◌*◌, ◌==◌, Bool, true, false, List, [], length, refl, sym, ap, subst, ◌∙◌, arith}
+use Rattle.std.specs.Prelude.{None, if◌then◌else◌, is_some, max}
+use lib.Seq.{set-get_or}
+use Rattle.alloc_core.specs.declared.alloc.AllocStep.{AllocStep}
+use Rattle.alloc_core.specs.declared.alloc.AllocStep.TheVariants as said
+use Rattle.alloc_core.specs.declared.alloc.Stage.TheVariants.{Claimed}
+use Rattle.alloc_core.specs.Alloc.{Allocation, IsAimed}
+use Rattle.alloc_core.specs.Alloc as alloc
+use Rattle.alloc_core.specs.Event as atomic
+use Rattle.alloc_core.specs.Layout.{IsShape}
+use Rattle.bucket_ranges.specs.Spec.{buckets_of}
+use Rattle.segment_image.specs.Shape.{Dimensions}
+use Rattle.segment_image.specs.Words.{word_at}
+use Rattle.segment_machine.specs.declared.actor.Actor.{Actor}
+use Rattle.segment_machine.specs.declared.actor.Known.{Known}
+use Rattle.segment_machine.specs.declared.actor.Segment.{Segment}
+use Rattle.segment_machine.specs.declared.place.Place.TheVariants.{Looking}
+use Rattle.segment_machine.specs.Actor.{is_bound, Buckets, AreApart}
+use Rattle.segment_machine.specs.Allocating.{new_own}
+use Rattle.segment_machine.specs.Calls.{look_of, AreCountsOf, back}
+use Rattle.segment_machine.specs.Counting.{load_counts}
+use Rattle.segment_machine.specs.Event.{Event, next, counting_event, packing_event}
+use Rattle.segment_machine.specs.Note.{Note, Notes}
+use Rattle.segment_machine.specs.Packing.{mount_counts, purge_block, after_mount, PackingEvent}
+use Rattle.segment_machine.specs.Stages.{Allocates, StandsAt}
+use Rattle.hist_core.specs.declared.add.Add.{Add}
+use Rattle.hist_core.specs.declared.add.AddStep.{AddStep}
+use Rattle.hist_core.specs.declared.add.AddStep.TheVariants.{More, Done, Refused}
+use Rattle.hist_core.specs.declared.add.Stage.{Stage}
+use Rattle.hist_core.specs.declared.add.Stage.TheVariants.{SeekingCounts, Allocating, Mounting, Purging, LoadingAgain}
+use Rattle.segment_calls.specs.declared.refusal.Refusal.TheVariants as why
+use Rattle.hist_core.specs.StepsBy.{FrameOfStep, StepsBy, is_tied}
+use Rattle.hist_core.specs.Add.{Amid, HasEntry, AreCounts, StandsAtStage, IsAdd, AddGives, BeginsToAllocate, IsAllocated}
+use Rattle.hist_core.proofs.AddCall.Counts.{counts_in}
+use Rattle.hist_core.proofs.AddCall.Entries.{counting_of}
+use Rattle.hist_core.proofs.AddCall.Going.{acts_on, packs_on, goes_still, aside_counts}
+use Rattle.hist_core.proofs.AddCall.Packs.{has_them}
+use Rattle.hist_core.proofs.AddCall.Refusals.{refuses, beside_aside}
+use Rattle.hist_core.proofs.SnapshotCall.Looks.{looks_there}
+use Rattle.hist_core.proofs.Parts.Allocations.{allocates_on, goes_with}
+use Rattle.hist_core.proofs.Parts.Alone.{makes_so}
+use Rattle.hist_core.proofs.Parts.Claims.{claimed_suits, claimed_of, goes_noting, rests_at, ended_so}
+use Rattle.std.proofs.lemmas.Bool.{eq-eqb}
+
+module _ (shape : Dimensions) (known : Known) (amid : Amid) (add : Add) (a : Actor) (words : List ℕ) (is : IsAdd shape known amid add a) where
+  -- counts that it learns of lie within the segment
+  counts_learned : (counts : ℕ) → Buckets a known.reference known → AreCountsOf a known.reference counts → counts ≢ 0 → AreCounts shape add counts
+  counts_learned counts has learned some = (
+    some,
+    subst (λ (n : ℕ). counts + (4 + 2 * n) ≤ shape.size) (sym is.counting.buckets)
+        (subst (λ (d : Dimensions). counts + (4 + 2 * buckets_of known.spec) ≤ d.size) is.segment (learned known has some)),
+  )
+
+  -- ---- it loads the counts reference
+
+  module _ (seeks : add.stage ≡ SeekingCounts) where
+    stood_seeking : StandsAtStage shape known amid add a SeekingCounts
+    stood_seeking = subst (StandsAtStage shape known amid add a) seeks is.stands
+
+    abbrev load : Event
+    load = counting_event (load_counts known.reference)
+
+    abbrev sought : ℕ
+    sought = word_at words (known.reference + 8)
+
+    abbrev loaded : Actor
+    loaded = next a load sought
+
+    looks_loaded : loaded.hand.place ≡ Looking (record { histogram = known.reference; single = (look_of a.hand.place known.reference).single; counts = sought })
+    looks_loaded = ap (λ (n : ℕ). Looking (record { histogram = n; single = (look_of a.hand.place known.reference).single; counts = sought })) (looks_there a.hand.place known.reference)
+
+    seeks_on : (stage : Stage) → (AreCountsOf a known.reference sought → StandsAtStage shape known amid (record add { stage = stage }) loaded stage)
+        → StepsBy shape.size add.version a words words (AddGives shape known amid (record add { stage = stage }) More a)
+    seeks_on stage stands = acts_on shape known amid add a is stage words words load
+        (stood_seeking.2, (known, has_them shape known amid add a words is stood_seeking.0))
+        (sym (set-get_or words (known.reference + 8) 0))
+        (aside_counts a loaded known.reference sought refl refl refl refl refl refl, (refl, refl))
+        (λ learned. stands learned.0)
+
+    -- there are some
+    pub seeks_some : word_at words (add.histogram + 8) ≢ 0 → let stage = LoadingAgain (word_at words (add.histogram + 8)) in
+        StepsBy shape.size add.version a words words (AddGives shape known amid (record add { stage = stage }) More a)
+    seeks_some some =
+        subst (λ (r : ℕ). StepsBy shape.size add.version a words words (AddGives shape known amid (record add { stage = LoadingAgain (word_at words (r + 8)) }) More a)) is.counting.reference
+        (seeks_on (LoadingAgain sought) (λ learned. (
+          stood_seeking.0,
+          stood_seeking.1,
+          (
+            counts_learned sought (has_them shape known amid add a words is stood_seeking.0) learned (λ none. some (ap (λ (r : ℕ). word_at words (r + 8)) (sym is.counting.reference) ∙ none)),
+            ((look_of a.hand.place known.reference).single, looks_loaded),
+          ),
+        )))
+
+    -- there are none: it begins to allocate
+    pub seeks_none : (new : Add) (result : AddStep) → BeginsToAllocate add new result → StepsBy shape.size add.version a words words (AddGives shape known amid new result a)
+    seeks_none new More begins = subst (λ (n : Add). StepsBy shape.size add.version a words words (AddGives shape known amid n More a)) (sym begins)
+        (seeks_on (Allocating (alloc.first_of add.shape (2 * add.buckets) 2)) (λ learned.
+        let some = (is.counting.bucket stood_seeking.0).0 in
+        let count : 1 ≤ add.buckets = subst (λ (n : ℕ). 1 ≤ n) (sym is.counting.buckets) (omega (arith, some)) in
+        let fits = is.counting.fits in
+        let same : max (2 * add.buckets) 1 ≡ 2 * add.buckets = omega (arith, count) in (
+          stood_seeking.0,
+          stood_seeking.1,
+          (
+            record {
+              lawful = record {
+                shaped = subst IsShape (sym is.counting.shaped) is.lawful_shape;
+                least = omega (arith, same, count);
+                most = subst (λ (d : Dimensions). max (2 * add.buckets) 1 + 4 ≤ d.page) (sym is.counting.shaped) (omega (arith, same, fits));
+                aimed = tt;
+              };
+              shape = is.counting.shaped ∙ sym is.segment;
+              least = omega arith;
+              most = omega arith;
+              stands = ap is_bound looks_loaded;
+            },
+            refl,
+            refl,
+            omega (arith, same),
+          ),
+        )))
+    seeks_none new Done begins = absurd begins
+    seeks_none new (Refused why) begins = absurd begins
+
+  -- ---- it claims a block
+
+  module _ (x : Allocation) (allocates : add.stage ≡ Allocating x) where
+    stood_allocating : StandsAtStage shape known amid add a (Allocating x)
+    stood_allocating = subst (StandsAtStage shape known amid add a) allocates is.stands
+
+    module _ (long : length words ≡ shape.size) (y : Allocation) (new_words : List ℕ) (says : AllocStep) (step : alloc.IsStep x words y new_words says) where
+      claims : StepsBy shape.size add.version a words new_words (λ b. FrameOfStep a b × AreApart b × Allocates b y)
+      claims =
+          let size = ap (λ (d : Dimensions). d.size) is.segment in
+          subst (λ (n : ℕ). StepsBy n add.version a words new_words (λ b. FrameOfStep a b × AreApart b × Allocates b y)) size
+          (allocates_on add.version a x y words new_words says stood_allocating.2.0 (long ∙ sym size) step)
+
+      -- its entry is as it was
+      entry_still : (b : Actor) → FrameOfStep a b → HasEntry known amid add b false false
+      entry_still b beside = ap (λ e. e.running) beside.entries ∙ stood_allocating.1
+
+      still : (b : Actor) → FrameOfStep a b → (stage : Stage) → StandsAtStage shape known amid (record add { stage = stage }) b stage
+          → AddGives shape known amid (record add { stage = stage }) More a b
+      still b beside stage stands = goes_still shape known amid add a is stage b (beside_aside a b beside) (beside.units, beside.entries ∙ ap (λ e. record a.entries { running = e.running }) (sym beside.entries)) stands
+
+      -- it goes on
+      still_claims : is_some (alloc.next_event y) ≡ true → StepsBy shape.size add.version a words new_words (AddGives shape known amid (record add { stage = Allocating y }) More a)
+      still_claims more = goes_noting claims (λ b (beside, apart, goes). (
+        [],
+        b,
+        refl,
+        still b beside (Allocating y) (
+          stood_allocating.0,
+          entry_still b beside,
+          (
+            goes,
+            more,
+            ap (λ (z : Allocation). z.tag) step.new_is ∙ stood_allocating.2.2,
+            subst (λ (n : ℕ). 4 + 2 * add.buckets ≤ n) (sym (ap (λ (z : Allocation). z.size) step.new_is)) stood_allocating.2.3,
+          ),
+        ),
+      ))
+
+      -- it has a block, which it mounts
+      has_claimed : (at : ℕ) → says ≡ said.Done at → StepsBy shape.size add.version a words new_words (AddGives shape known amid (record add { stage = Mounting at }) More a)
+      has_claimed at done = goes_noting claims (λ b (beside, apart, goes). claimed b beside goes (claimed_of y.stage at (sym done ∙ step.answers)))
+        where
+          claimed : (b : Actor) → FrameOfStep a b → Allocates b y → (size : ℕ) × (y.stage ≡ Claimed at size)
+              → (notes : List Note) × (c : Actor) × Notes b notes c × AddGives shape known amid (record add { stage = Mounting at }) More a c
+          claimed b beside goes (size, ends) =
+              let has = subst (StandsAt b y) ends goes.stands in
+              let place = subst (IsAimed y) ends goes.lawful.aimed in
+              let suits : x.size ≤ size = claimed_suits x x.stage (word_at words (atomic.spot step.event)) at size step.event step.next stood_allocating.2.0.lawful.aimed
+              (sym (ap (λ (z : Allocation). z.stage) step.new_is) ∙ ends) in
+              let enough = stood_allocating.2.3 in
+              let ends_within = subst (λ (d : Dimensions). at + size ≤ d.size) (goes.shape ∙ ap (λ (s : Segment). s.shape) beside.segment ∙ is.segment) place.within in (
+                [],
+                b,
+                refl,
+                still b beside (Mounting at) (
+                  stood_allocating.0,
+                  entry_still b beside,
+                  (
+                    ap is_bound has.0,
+                    (
+                      (new_own at size y.tag, has.1, refl, (ap (λ (z : Allocation). z.tag) step.new_is ∙ stood_allocating.2.2, refl, refl, omega (arith, suits, enough))),
+                      place.from,
+                      omega (arith, suits, enough, ends_within),
+                    ),
+                  ),
+                ),
+              )
+
+    -- whatever the allocation says
+    pub allocates_so : length words ≡ shape.size → (y : Allocation) (new_words : List ℕ) (says : AllocStep) (new : Add) (result : AddStep) → alloc.IsStep x words y new_words says
+        → (says ≡ said.More → is_some (alloc.next_event y) ≡ true) → IsAllocated (record add { stage = Allocating y }) says new result
+        → StepsBy shape.size add.version a words new_words (AddGives shape known amid new result a)
+    allocates_so long y new_words said.More new result step more (new_is, result_is) =
+        subst (λ (p : Add × AddStep). StepsBy shape.size add.version a words new_words (AddGives shape known amid p.0 p.1 a)) (λ i. (sym new_is i, sym result_is i))
+        (still_claims long y new_words said.More step (more refl))
+    allocates_so long y new_words (said.Done at) new result step more (new_is, result_is) =
+        subst (λ (p : Add × AddStep). StepsBy shape.size add.version a words new_words (AddGives shape known amid p.0 p.1 a)) (λ i. (sym new_is i, sym result_is i))
+        (has_claimed long y new_words (said.Done at) step at refl)
+    allocates_so long y new_words said.Full new result step more (new_is, result_is) =
+        subst (λ (r : AddStep). StepsBy shape.size add.version a words new_words (AddGives shape known amid new r a)) (sym result_is)
+        (goes_with (claims long y new_words said.Full step) (λ b (beside, apart, goes).
+        refuses shape known amid add new a stood_allocating.1 b beside why.Full (ap (λ (n : Add). counting_of known n false false) new_is)
+        (ap is_tied (rests_at b y y.stage (λ e. cc (step.answers ∙ e)) goes.stands)) (ended_so b y said.Full step.answers goes.stands)))
+    allocates_so long y new_words said.Corrupt new result step more (new_is, result_is) =
+        subst (λ (r : AddStep). StepsBy shape.size add.version a words new_words (AddGives shape known amid new r a)) (sym result_is)
+        (goes_with (claims long y new_words said.Corrupt step) (λ b (beside, apart, goes).
+        refuses shape known amid add new a stood_allocating.1 b beside why.Corrupt (ap (λ (n : Add). counting_of known n false false) new_is)
+        (ap is_tied (rests_at b y y.stage (λ e. cc (step.answers ∙ e)) goes.stands)) (ended_so b y said.Corrupt step.answers goes.stands)))
+
+    -- what the step of its allocation asks for
+    pub asks_long : length words ≡ shape.size → length words ≡ x.shape.size
+    asks_long long = long ∙ sym (ap (λ (d : Dimensions). d.size) (stood_allocating.2.0.shape ∙ is.segment))
+
+    pub asks_more : is_some (alloc.next_event x) ≡ true
+    asks_more = stood_allocating.2.1
+
+  -- ---- it mounts its block
+
+  module _ (at : ℕ) (mounts : add.stage ≡ Mounting at) where
+    stood_mounting : StandsAtStage shape known amid add a (Mounting at)
+    stood_mounting = subst (StandsAtStage shape known amid add a) mounts is.stands
+
+    abbrev mount : PackingEvent
+    mount = mount_counts known.reference at
+
+    abbrev met : ℕ
+    met = word_at words (known.reference + 8)
+
+    -- where it lies
+    block_within : at + 5 ≤ shape.size
+    block_within =
+        let some = (is.counting.bucket stood_mounting.0).0 in
+        let count : 1 ≤ add.buckets = subst (λ (n : ℕ). 1 ≤ n) (sym is.counting.buckets) (omega (arith, some)) in
+        let ends = stood_mounting.2.1.2 in omega (arith, count, ends)
+
+    stands_mounted : (none : Bool) → (met == 0) ≡ none → AreCountsOf a known.reference met
+        → let stage = if none then LoadingAgain at else Purging at met in StandsAtStage shape known amid (record add { stage = stage }) (after_mount none a known.reference at met) stage
+    stands_mounted true e learned = (
+      stood_mounting.0,
+      stood_mounting.1,
+      (((λ (none : at ≡ 0). let from = stood_mounting.2.1.1 in omega (arith, none, from)), stood_mounting.2.1.2), (None, refl)),
+    )
+    stands_mounted false e learned = (
+      stood_mounting.0,
+      stood_mounting.1,
+      (counts_learned met (has_them shape known amid add a words is stood_mounting.0) learned (λ none. cc (sym e ∙ eq-eqb met 0 none)), refl, block_within),
+    )
+
+    pub mounts_so : (new_words : List ℕ) (none : Bool) → (word_at words (add.histogram + 8) == 0) ≡ none
+        → new_words ≡ atomic.after (atomic.exchange (add.histogram + 8) 0 at) words
+        → let stage = if none then LoadingAgain at else Purging at (word_at words (add.histogram + 8)) in
+        StepsBy shape.size add.version a words new_words (AddGives shape known amid (record add { stage = stage }) More a)
+    mounts_so new_words none is_none are =
+        subst (λ (r : ℕ). StepsBy shape.size add.version a words new_words (AddGives shape known amid (record add { stage = if none then LoadingAgain at else Purging at (word_at words (r + 8)) }) More a))
+        is.counting.reference
+        (packs_on shape known amid add a is (if none then LoadingAgain at else Purging at met) words new_words mount (
+          stood_mounting.2.1.0.0,
+          known,
+          stood_mounting.2.0,
+          stood_mounting.2.1.0.1,
+          stood_mounting.2.1.0.2,
+          has_them shape known amid add a words is stood_mounting.0,
+          counts_in shape known amid add a is stood_mounting.1,
+          let blank = stood_mounting.2.1.0.3 in (blank.0, blank.1, blank.2, subst (λ (n : ℕ). 4 + 2 * n ≤ stood_mounting.2.1.0.0.size) is.counting.buckets blank.3),
+        )
+        (are ∙ ap (λ (r : ℕ). atomic.after (atomic.exchange (r + 8) 0 at) words) (sym is.counting.reference)
+        ∙ sym (makes_so shape.size add.version (packing_event mount) (atomic.exchange (known.reference + 8) 0 at) refl refl words))
+        (λ learned. let here = ap (λ (r : ℕ). word_at words (r + 8) == 0) is.counting.reference ∙ is_none in
+        subst (λ (b : Bool). StandsAtStage shape known amid (record add { stage = if none then LoadingAgain at else Purging at met }) (after_mount b a known.reference at met)
+        (if none then LoadingAgain at else Purging at met)) (sym here) (stands_mounted none here learned.0)))
+
+  -- ---- it marks its block as of no use
+
+  module _ (at counts : ℕ) (purges : add.stage ≡ Purging at counts) where
+    stood_purging : StandsAtStage shape known amid add a (Purging at counts)
+    stood_purging = subst (StandsAtStage shape known amid add a) purges is.stands
+
+    pub purges_so : (new_words : List ℕ) → new_words ≡ atomic.after (atomic.store (at + 2) 0) words
+        → StepsBy shape.size add.version a words new_words (AddGives shape known amid (record add { stage = LoadingAgain counts }) More a)
+    purges_so new_words are = packs_on shape known amid add a is (LoadingAgain counts) words new_words (purge_block at)
+        (record { histogram = known.reference; single = None; counts = counts }, stood_purging.2.1)
+        (are ∙ sym (makes_so shape.size add.version (packing_event (purge_block at)) (atomic.store (at + 2) 0) refl refl words))
+        (λ learned. (stood_purging.0, stood_purging.1, (stood_purging.2.0, (None, ap back stood_purging.2.1))))
+
+    pub purge_inside : length words ≡ shape.size → at + 5 ≤ length words
+    purge_inside long = subst (λ (n : ℕ). at + 5 ≤ n) (sym long) stood_purging.2.2

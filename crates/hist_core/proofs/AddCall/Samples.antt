@@ -1,0 +1,103 @@
+-- An `add` looks for the sample of its value.
+use Rattle.std.proofs.Common.{◌≡◌, ℕ, ◌+◌, ◌%◌, ◌^◌, true, false, true≢false, List, ◌∷◌, ◌++◌, inr, refl, sym, ap, subst, ◌∙◌, arith}
+use Rattle.std.specs.List.{Contains}
+use Rattle.segment_image.specs.Shape.{Dimensions}
+use Rattle.alloc_core.specs.Layout.{IsShape}
+use Rattle.list_core.specs.Chain.{is_reference}
+use Rattle.segment_machine.specs.declared.actor.Actor.{Actor}
+use Rattle.segment_machine.specs.declared.actor.Known.{Known}
+use Rattle.segment_machine.specs.Made.{IsFirstSample}
+use Rattle.hist_core.specs.declared.add.Add.{Add}
+use Rattle.hist_core.specs.declared.add.AddStep.{AddStep}
+use Rattle.hist_core.specs.declared.add.Stage.{Stage}
+use Rattle.hist_core.specs.declared.add.Stage.TheVariants as stage
+use Rattle.hist_core.specs.declared.sampling.Sampling.{Sampling}
+use Rattle.hist_core.specs.declared.sampling.SamplingStep.{SamplingStep}
+use Rattle.hist_core.specs.declared.sampling.SamplingStep.TheVariants as found
+use Rattle.hist_core.specs.Add.{Amid, HasEntry, IsAdd, IsSampled, OpensWith, StandsAtStage, StaysOpen, AddGives}
+use Rattle.hist_core.specs.StepsBy.{FrameOfStep, StepsBy, IsFree}
+use Rattle.hist_core.specs.Sampling.{SamplingGives}
+use Rattle.hist_core.proofs.AddCall.Entries.{counting_of}
+use Rattle.hist_core.proofs.AddCall.Going.{goes_still}
+use Rattle.hist_core.proofs.AddCall.Refusals.{beside_aside, refuses}
+use Rattle.hist_core.proofs.Worlds.Free.{free_turns}
+use Rattle.hist_core.proofs.Parts.Allocations.{goes_with}
+use Rattle.hist_core.proofs.AddCall.Searches.{begins_at}
+
+-- ---- it begins
+
+-- an actor that is free, knows the histogram and has met its record stands where an `add` begins
+pub stands_first : (shape : Dimensions) (known : Known) (amid : Amid) (add : Add) (a : Actor) (at : Stage) → OpensWith shape known add at → a.segment.shape ≡ shape
+    → IsShape shape → Contains a.answers.names known → is_reference shape.size known.reference ≡ true
+    → (front behind : List ℕ) × (a.seen.chain ≡ front ++ known.reference ∷ behind) → HasEntry known amid add a false false → IsFree a
+    → StandsAtStage shape known amid add a at
+stands_first shape known amid add a stage.LoadingSingle bucketed segment lawful knows reach met has free = (bucketed, has, free_turns a.hand.place free)
+stands_first shape known amid add a (stage.Sampling sampling) (sparse, valued, starts) segment lawful knows reach met has free = (
+  has,
+  sparse,
+  starts.of,
+  starts.counts,
+  begins_at shape known.reference add.value sampling a starts segment lawful free (known, (knows, refl, sparse)) valued
+      (λ none. true≢false (sym (sym (ap (is_reference shape.size) none) ∙ reach))) reach met,
+)
+stands_first shape known amid add a (stage.Packing old new) none segment lawful knows reach met has free = absurd none
+stands_first shape known amid add a stage.LoadingCounts none segment lawful knows reach met has free = absurd none
+stands_first shape known amid add a stage.SeekingCounts none segment lawful knows reach met has free = absurd none
+stands_first shape known amid add a (stage.Allocating alloc) none segment lawful knows reach met has free = absurd none
+stands_first shape known amid add a (stage.Mounting at) none segment lawful knows reach met has free = absurd none
+stands_first shape known amid add a (stage.Purging at counts) none segment lawful knows reach met has free = absurd none
+stands_first shape known amid add a (stage.LoadingAgain counts) none segment lawful knows reach met has free = absurd none
+stands_first shape known amid add a (stage.Disabling counts old) none segment lawful knows reach met has free = absurd none
+stands_first shape known amid add a (stage.Moving counts bucket units) none segment lawful knows reach met has free = absurd none
+stands_first shape known amid add a (stage.Counting at) none segment lawful knows reach met has free = absurd none
+stands_first shape known amid add a stage.Summing none segment lawful knows reach met has free = absurd none
+stands_first shape known amid add a stage.Noting none segment lawful knows reach met has free = absurd none
+
+-- ---- a step
+
+module _ (shape : Dimensions) (known : Known) (amid : Amid) (add : Add) (a : Actor) (words : List ℕ) (is : IsAdd shape known amid add a) (s : Sampling)
+    (samples : add.stage ≡ stage.Sampling s) where
+  pub stood_sampling : StandsAtStage shape known amid add a (stage.Sampling s)
+  stood_sampling = subst (StandsAtStage shape known amid add a) samples is.stands
+
+  -- what an event beside leaves open
+  still_open : (b : Actor) → FrameOfStep a b → StaysOpen a b
+  still_open b beside = (beside.units, beside.entries ∙ ap (λ e. record a.entries { running = e.running }) (sym beside.entries))
+
+  has_still : (b : Actor) → FrameOfStep a b → HasEntry known amid add b false false
+  has_still b beside = ap (λ e. e.running) beside.entries ∙ stood_sampling.0
+
+  -- whatever the step of the search says
+  pub samples_so : (x : Sampling) → x ≡ record s { walk = x.walk; stage = x.stage } → (new_words : List ℕ) (says : SamplingStep) (new : Add) (result : AddStep)
+      → StepsBy shape.size add.version a words new_words (SamplingGives shape x says a) → IsSampled (record add { stage = stage.Sampling x }) says new result
+      → StepsBy shape.size add.version a words new_words (AddGives shape known amid new result a)
+  samples_so x same new_words found.More new result goes (new_is, result_is) =
+      subst (λ (p : Add × AddStep). StepsBy shape.size add.version a words new_words (AddGives shape known amid p.0 p.1 a)) (λ i. (sym new_is i, sym result_is i))
+      (goes_with goes (λ b (beside, searches). goes_still shape known amid add a is (stage.Sampling x) b (beside_aside a b beside) (still_open b beside) (
+        has_still b beside,
+        stood_sampling.1,
+        ap (λ (y : Sampling). y.histogram) same ∙ stood_sampling.2,
+        ap (λ (y : Sampling). y.value) same ∙ stood_sampling.3,
+        searches,
+      )))
+  samples_so x same new_words (found.Found sample) new result goes (new_is, result_is) =
+      subst (λ (p : Add × AddStep). StepsBy shape.size add.version a words new_words (AddGives shape known amid p.0 p.1 a)) (λ i. (sym new_is i, sym result_is i))
+      (goes_with goes (λ b (beside, free, first, within).
+      let many = is.lawful_shape.many in
+      let here : (sample + 6) % 2 ^ 64 ≡ sample + 6 = omega (arith, within, many) in
+      goes_still shape known amid add a is (stage.Counting ((sample + 6) % 2 ^ 64)) b (beside_aside a b beside) (still_open b beside) (
+        has_still b beside,
+        inr (
+          sample,
+          free_turns b.hand.place free,
+          (subst (λ (l : List Known). Contains l known) (sym beside.names) is.knows, refl, stood_sampling.1),
+          subst (λ (p : ℕ × _). IsFirstSample b.seen p.0 p.1 sample)
+              (λ i. ((ap (λ (y : Sampling). y.histogram) same ∙ stood_sampling.2) i, (ap (λ (y : Sampling). y.value) same ∙ stood_sampling.3) i)) first,
+          here,
+        ),
+        omega (arith, here, within),
+      )))
+  samples_so x same new_words (found.Refused cause) new result goes (new_is, result_is) =
+      subst (λ (r : AddStep). StepsBy shape.size add.version a words new_words (AddGives shape known amid new r a)) (sym result_is)
+      (goes_with goes (λ b (beside, free, is_cause).
+      refuses shape known amid add new a stood_sampling.0 b beside cause (ap (λ (n : Add). counting_of known n false false) new_is) free is_cause))

@@ -1,0 +1,372 @@
+-- A search for the sample of a value, event by event.
+use Rattle.std.proofs.Common.{◌≡◌, ◌≢◌, ℕ, ◌+◌, ◌≤◌, ◌==◌, ℤ, Bool, true, false, true≢false, if◌then◌else◌, List, [], ◌∷◌, ◌++◌, length, inl, inr, refl, sym, ap, subst, ◌∙◌, arith, append_assoc, eqb-true, eq-eqb}
+use Rattle.std.specs.Prelude.{Some}
+use Rattle.std.specs.List.{All, Contains}
+use Rattle.std.proofs.Props.{props}
+use Rattle.std.proofs.Math.Logic.{∥∥₁_elim}
+use Rattle.std.proofs.lemmas.List.{get_or_push, length_push}
+use Rattle.std.proofs.lemmas.List.Elements.{All-nil, All-push, Contains-append_right}
+use lib.Seq.{set-get_or}
+use Rattle.bucket_ranges.specs.Reading.{is_i32}
+use Rattle.segment_image.specs.Shape.{Dimensions}
+use Rattle.segment_image.specs.Words.{word_at}
+use Rattle.alloc_core.specs.Layout.{IsShape}
+use Rattle.list_core.specs.declared.walk.WalkStep.{WalkStep}
+use Rattle.list_core.specs.declared.walk.WalkStep.TheVariants.{Record, End, Stray}
+use Rattle.list_core.specs.Chain.{is_reference, stops}
+use Rattle.list_core.specs.Walk.{IsPrefix, said_of, given_after, stands_behind}
+use Rattle.list_core.proofs.Prefixes.{prefix_of_prefix}
+use Rattle.segment_machine.specs.declared.actor.Actor.{Actor}
+use Rattle.segment_machine.specs.declared.actor.Known.{Known}
+use Rattle.segment_machine.specs.Actor.{Sparse, word_seen}
+use Rattle.segment_machine.specs.Event.{Learned, next, walking_event}
+use Rattle.segment_machine.specs.Made.{SawOther}
+use Rattle.segment_machine.specs.Walking.{IsFixed, WalkingEvent, load_published}
+use Rattle.segment_promises.proofs.Growing.{others_still, reference_within, still}
+use Rattle.hist_core.specs.declared.making.Making.{Making as MakingOf}
+use Rattle.hist_core.specs.declared.making.MakingStep.{MakingStep}
+use Rattle.hist_core.specs.declared.making.MakingStep.TheVariants as made
+use Rattle.hist_core.specs.declared.sampling.Sampling.{Sampling}
+use Rattle.hist_core.specs.declared.sampling.SamplingStep.{SamplingStep}
+use Rattle.hist_core.specs.declared.sampling.SamplingStep.TheVariants.{More, Found}
+use Rattle.hist_core.specs.declared.sampling.Stage.{Stage}
+use Rattle.hist_core.specs.declared.sampling.Stage.TheVariants.{Walking, LoadingType, LoadingHistogram, LoadingValue, Making}
+use Rattle.hist_core.specs.StepsBy.{FrameOfStep, StepsBy, IsFree}
+use Rattle.hist_core.specs.Making.{MakingGives, MayMake}
+use Rattle.hist_core.specs.Making as making
+use Rattle.hist_core.specs.Sampling.{HaveOthers, IsIts, IsMade, IsSampling, IsSomeSampling, IsStarted, MetRecord, SamplingGives, StandsAtStage, behind_type, wanted_of}
+use Rattle.hist_core.proofs.Worlds.Free.{free_turns}
+use Rattle.hist_core.proofs.Makes.Drafts.{begins}
+use Rattle.hist_core.proofs.Parts.Allocations.{goes_with, walks_saying}
+use Rattle.hist_core.proofs.Parts.Compares.{seen_now}
+use Rattle.hist_core.proofs.Walks.Walking.{walk_beside}
+
+-- ---- it begins
+
+-- a walk that has given a record stands there
+stands_last : (front : List ℕ) (at : ℕ) → at ≡ stands_behind (front ++ at ∷ [])
+stands_last front at = let long = length_push front at in sym (get_or_push (stops front) at 0 (length (front ++ at ∷ [])) (omega (arith, long)))
+
+-- an actor that may turn to it begins at the record of a sparse histogram that it knows and has met
+pub begins_at : (shape : Dimensions) (histogram : ℕ) (value : ℤ) (s : Sampling) (a : Actor) → IsStarted shape histogram value s → a.segment.shape ≡ shape
+    → IsShape shape → IsFree a → (known : Known) × Sparse a histogram known → is_i32 value ≡ true → histogram ≢ 0 → is_reference shape.size histogram ≡ true
+    → (front behind : List ℕ) × (a.seen.chain ≡ front ++ histogram ∷ behind) → IsSampling shape s a
+begins_at shape histogram value s a starts segment lawful free knows valued some reach (front, behind, chain) = record {
+  shaped = starts.shaped;
+  segment = segment;
+  lawful_shape = lawful;
+  some = λ none. some (sym starts.of ∙ none);
+  valued = ap is_i32 starts.counts ∙ valued;
+  knows = subst (λ (h : ℕ). (known : Known) × Sparse a h known) (sym starts.of) knows;
+  front = front;
+  behind = [];
+  walk = starts.walk ∙ (stands_last front histogram ∙ ap (λ (h : ℕ). stands_behind (front ++ h ∷ [])) (sym starts.of));
+  reach = ap (is_reference shape.size) starts.walk ∙ reach;
+  chain = subst (λ (h : ℕ). IsPrefix (front ++ h ∷ []) a.seen.chain) (sym starts.of) (behind, chain ∙ sym (append_assoc front (histogram ∷ []) behind));
+  stands = subst (StandsAtStage shape s a []) (sym starts.stage) (free, All-nil _);
+}
+
+-- ---- a step
+
+module _ (shape : Dimensions) (version : ℕ) (s : Sampling) (a : Actor) (words : List ℕ) (long : length words ≡ shape.size) (is : IsSampling shape s a) where
+  -- all that the walk has given
+  abbrev given : List ℕ
+  given = is.front ++ s.histogram ∷ is.behind
+
+  others_on : (b : Actor) → FrameOfStep a b → (records : List ℕ) → HaveOthers s a records → HaveOthers s b records
+  others_on b beside records others = others_still a.seen b.seen beside.words s.histogram s.value records others
+
+  -- it goes on, where its walk may have gone on too
+  goes_further : (walk : ℕ) (behind : List ℕ) (stage : Stage) (b : Actor) → FrameOfStep a b → walk ≡ stands_behind (is.front ++ s.histogram ∷ behind)
+      → is_reference shape.size walk ≡ true → IsPrefix (is.front ++ s.histogram ∷ behind) b.seen.chain
+      → StandsAtStage shape (record s { walk = walk; stage = stage }) b behind stage → IsSampling shape (record s { walk = walk; stage = stage }) b
+  goes_further walk behind stage b beside here reach chain stands = record {
+    shaped = is.shaped;
+    segment = ap (λ x. x.shape) beside.segment ∙ is.segment;
+    lawful_shape = is.lawful_shape;
+    some = is.some;
+    valued = is.valued;
+    knows = let (known, (inside, there, sparse)) = is.knows in (known, (subst (λ (l : List Known). Contains l known) (sym beside.names) inside, there, sparse));
+    front = is.front;
+    behind = behind;
+    walk = here;
+    reach = reach;
+    chain = chain;
+    stands = stands;
+  }
+
+  goes_still : (stage : Stage) (b : Actor) → FrameOfStep a b → StandsAtStage shape (record s { stage = stage }) b is.behind stage
+      → IsSampling shape (record s { stage = stage }) b
+  goes_still stage b beside stands =
+      goes_further s.walk is.behind stage b beside is.walk is.reach (prefix_of_prefix given a.seen.chain b.seen.chain is.chain beside.chain) stands
+
+  -- ---- a next
+
+  module _ (walks : s.stage ≡ Walking) where
+    stood : IsFree a × HaveOthers s a is.behind
+    stood = subst (StandsAtStage shape s a is.behind) walks is.stands
+
+    loads : (said : WalkStep) → said ≡ said_of (length words) (word_at words (s.walk + 3))
+        → StepsBy shape.size version a words words (λ b. FrameOfStep a b × IsFree b × IsPrefix (given_after given said) b.seen.chain)
+    loads = walks_saying shape version a given words s.walk is.segment long is.walk stood.0 is.chain
+
+    -- it met a record, whose type it loads next
+    pub meets : (reference walk : ℕ) → Record reference ≡ said_of (length words) (word_at words (s.walk + 3))
+        → walk ≡ stands_behind (given ++ reference ∷ []) → is_reference (length words) walk ≡ true → walk ≡ reference
+        → StepsBy shape.size version a words words (SamplingGives shape (record s { walk = walk; stage = LoadingType reference }) More a)
+    meets reference walk says walked reach here =
+        let onward = append_assoc is.front (s.histogram ∷ is.behind) (reference ∷ []) in
+        let within = reference_within shape reference is.lawful_shape (subst (λ (p : ℕ × ℕ). is_reference p.0 p.1 ≡ true) (λ i. (long i, here i)) reach) in
+        goes_with (loads (Record reference) says) (λ b (beside, free, front). (
+          beside,
+          goes_further walk (is.behind ++ reference ∷ []) (LoadingType reference) b beside (walked ∙ ap stands_behind onward)
+              (subst (λ (n : ℕ). is_reference n walk ≡ true) long reach) (subst (λ (l : List ℕ). IsPrefix l b.seen.chain) onward front)
+              (record { free = free; passed = is.behind; are = refl; others = others_on b beside is.behind stood.1; within = within }),
+        ))
+
+    -- a word that no list has: it stands where it stood
+    pub strays : (walk : ℕ) → Stray ≡ said_of (length words) (word_at words (s.walk + 3)) → walk ≡ s.walk
+        → StepsBy shape.size version a words words (SamplingGives shape (record s { walk = walk }) More a)
+    strays walk says here = goes_with (loads Stray says) (λ b (beside, free, front). (
+      beside,
+      goes_further walk is.behind s.stage b beside (here ∙ is.walk) (ap (is_reference shape.size) here ∙ is.reach) front
+          (subst (StandsAtStage shape (record s { walk = walk }) b is.behind) (sym walks) (free, others_on b beside is.behind stood.1)),
+    ))
+
+    -- its actor may make a sample
+    may_make : (b : Actor) → FrameOfStep a b → MayMake shape (wanted_of s) b
+    may_make b beside = record {
+      some = omega arith;
+      first = is.some;
+      enough = omega arith;
+      one_page = let wide = is.lawful_shape.wide in omega (arith, wide);
+      holds = λ front k kept. (k, kept);
+      may = λ own tag size.
+          let (known, (inside, there, sparse)) = is.knows in
+          (tag, size, is.valued, (known, (subst (λ (l : List Known). Contains l known) (sym beside.names) inside, there, sparse)));
+    }
+
+    -- at the end of the list it begins to make a sample
+    pub ends : (walk : ℕ) (makes : MakingOf) → End ≡ said_of (length words) (word_at words (s.walk + 3)) → walk ≡ s.walk → making.IsStarted s.shape 4 3 makes
+        → StepsBy shape.size version a words words (SamplingGives shape (record s { walk = walk; stage = Making makes }) More a)
+    ends walk makes says here starts = goes_with (loads End says) (λ b (beside, free, front). (
+      beside,
+      goes_further walk is.behind (Making makes) b beside (here ∙ is.walk) (ap (is_reference shape.size) here ∙ is.reach) front (
+        others_on b beside is.behind stood.1,
+        begins shape (wanted_of s) makes b (ap (λ x. x.shape) beside.segment ∙ is.segment) is.lawful_shape (may_make b beside) (free_turns b.hand.place free)
+            (subst (λ (d : Dimensions). making.IsStarted d 4 3 makes) is.shaped starts),
+      ),
+    ))
+
+  -- ---- a record that it met
+
+  module _ (at : ℕ) (met : MetRecord shape s at a is.behind) where
+    -- it stands on the chain that its actor has seen
+    chain_is : (rest : List ℕ) × (a.seen.chain ≡ is.front ++ s.histogram ∷ (met.passed ++ at ∷ rest))
+    chain_is = let (rest, chain) = is.chain in (
+      rest,
+      chain
+          ∙ (append_assoc is.front (s.histogram ∷ is.behind) rest
+          ∙ ap (λ (l : List ℕ). is.front ++ s.histogram ∷ l) (ap (λ (l : List ℕ). l ++ rest) met.are ∙ append_assoc met.passed (at ∷ []) rest)),
+    )
+
+    there : Contains a.seen.chain at
+    there = subst (λ (l : List ℕ). Contains l at) (sym chain_is.1)
+        (Contains-append_right is.front (s.histogram ∷ (met.passed ++ at ∷ chain_is.0)) at
+        (Contains-append_right (s.histogram ∷ met.passed) (at ∷ chain_is.0) at (0, omega arith, refl)))
+
+    -- a word of it that never changes is loaded
+    module _ (index : ℕ) (fixed : IsFixed a at index) where
+      abbrev event : WalkingEvent
+      event = load_published at index
+
+      abbrev found : ℕ
+      found = word_at words (at + index)
+
+      abbrev acted : Actor
+      acted = next a (walking_event event) found
+
+      beside : FrameOfStep a acted
+      beside = walk_beside a event found
+
+      -- its actor has seen that word then
+      seen_there : Learned a (walking_event event) found → word_seen acted.seen.words (at + index) ≡ Some found
+      seen_there learned = seen_now a.seen.words (at + index) found learned.1
+
+      -- and what it had seen
+      seen_still : (other word : ℕ) → word_seen a.seen.words other ≡ Some word → word_seen acted.seen.words other ≡ Some word
+      seen_still other word saw = still a.seen.words acted.seen.words beside.words other word saw
+
+      -- it stands there still
+      met_still : (stage : Stage) → MetRecord shape (record s { stage = stage }) at acted is.behind
+      met_still stage = record { free = met.free; passed = met.passed; are = met.are; others = others_on acted beside met.passed met.others; within = met.within }
+
+      -- it is no sample of the value
+      passes_it : SawOther acted.seen s.histogram s.value at → StandsAtStage shape (record s { stage = Walking }) acted is.behind Walking
+      passes_it other = (
+        met.free,
+        subst (All (SawOther acted.seen s.histogram s.value)) (sym met.are)
+            (All-push (SawOther acted.seen s.histogram s.value) met.passed at (others_on acted beside met.passed met.others) other),
+      )
+
+      does_load : (new : Sampling) (said : SamplingStep) → (Learned a (walking_event event) found → SamplingGives shape new said a acted)
+          → StepsBy shape.size version a words words (SamplingGives shape new said a)
+      does_load new said gives = record {
+        before = [];
+        at = a;
+        told = refl;
+        event = walking_event event;
+        ready = (free_turns a.hand.place met.free, there, fixed);
+        words_are = sym (set-get_or words (at + index) 0);
+        goes = λ learned apart. ([], acted, refl, gives learned);
+      }
+
+  -- the type
+  module _ (at : ℕ) (loads : s.stage ≡ LoadingType at) where
+    met_type : MetRecord shape s at a is.behind
+    met_type = subst (StandsAtStage shape s a is.behind) loads is.stands
+
+    abbrev tag : ℕ
+    tag = word_at words (at + 2)
+
+    abbrev typed : Actor
+    typed = next a (walking_event (load_published at 2)) tag
+
+    pub loads_type : StepsBy shape.size version a words words (SamplingGives shape (record s { stage = behind_type at tag }) More a)
+    loads_type = does_load at met_type 2 (inl refl) (record s { stage = behind_type at tag }) More (λ learned. (
+      beside at met_type 2 (inl refl),
+      goes_still (behind_type at tag) typed (beside at met_type 2 (inl refl)) (by (tag == 3) refl learned),
+    ))
+      where
+        by : (test : Bool) → (tag == 3) ≡ test → Learned a (walking_event (load_published at 2)) tag
+            → let stage = if test then LoadingHistogram at else Walking in StandsAtStage shape (record s { stage = stage }) typed is.behind stage
+        by true e learned =
+            let sample = eqb-true tag 3 e in (
+              met_still at met_type 2 (inl refl) (LoadingHistogram at),
+              (seen_there at met_type 2 (inl refl) learned ∙ ap Some sample, subst (λ (d : Dimensions). at + 8 ≤ d.size) is.segment (learned.0.1 refl sample)),
+            )
+        by false e learned =
+            passes_it at met_type 2 (inl refl) (inl (tag, seen_there at met_type 2 (inl refl) learned, λ same. true≢false (sym (eq-eqb tag 3 same) ∙ e)))
+
+    pub type_within : at + 5 ≤ shape.size
+    type_within = met_type.within
+
+  -- the histogram of a sample
+  module _ (at : ℕ) (loads : s.stage ≡ LoadingHistogram at) where
+    met_sample : StandsAtStage shape s a is.behind (LoadingHistogram at)
+    met_sample = subst (StandsAtStage shape s a is.behind) loads is.stands
+
+    fixed_histogram : IsFixed a at 4
+    fixed_histogram = inr (inr (met_sample.1.0, omega arith, omega arith))
+
+    pub loads_histogram : StepsBy shape.size version a words words (SamplingGives shape (record s { stage = LoadingValue at (word_at words (at + 4)) }) More a)
+    loads_histogram =
+        let of : ℕ = word_at words (at + 4) in
+        let b : Actor = next a (walking_event (load_published at 4)) of in
+        let its_beside = beside at met_sample.0 4 fixed_histogram in
+        does_load at met_sample.0 4 fixed_histogram (record s { stage = LoadingValue at of }) More (λ learned. (
+          its_beside,
+          goes_still (LoadingValue at of) b its_beside (
+            met_still at met_sample.0 4 fixed_histogram (LoadingValue at of),
+            (seen_still at met_sample.0 4 fixed_histogram (at + 2) 3 met_sample.1.0, met_sample.1.1),
+            seen_there at met_sample.0 4 fixed_histogram learned,
+          ),
+        ))
+
+    pub histogram_within : at + 8 ≤ shape.size
+    histogram_within = met_sample.1.1
+
+  -- its value
+  module _ (at of : ℕ) (loads : s.stage ≡ LoadingValue at of) where
+    met_value : StandsAtStage shape s a is.behind (LoadingValue at of)
+    met_value = subst (StandsAtStage shape s a is.behind) loads is.stands
+
+    fixed_value : IsFixed a at 5
+    fixed_value = inr (inr (met_value.1.0, omega arith, omega arith))
+
+    abbrev word : ℕ
+    word = word_at words (at + 5)
+
+    abbrev valued : Actor
+    valued = next a (walking_event (load_published at 5)) word
+
+    -- it is the first sample of the value
+    pub found_so : IsIts s of word true → StepsBy shape.size version a words words (SamplingGives shape s (Found at) a)
+    found_so (its, same) =
+        let met = met_value.0 in
+        let its_beside = beside at met 5 fixed_value in
+        does_load at met 5 fixed_value s (Found at) (λ learned. (
+          its_beside,
+          met.free,
+          (
+            is.front,
+            met.passed ++ at ∷ (chain_is at met).0,
+            (chain_is at met).1,
+            (
+              met.passed,
+              (chain_is at met).0,
+              refl,
+              others_on valued its_beside met.passed met.others,
+              (
+                seen_still at met 5 fixed_value (at + 2) 3 met_value.1.0,
+                seen_still at met 5 fixed_value (at + 4) of met_value.2 ∙ ap Some its,
+                seen_there at met 5 fixed_value learned ∙ ap Some same,
+                is.valued,
+              ),
+            ),
+          ),
+          met_value.1.1,
+        ))
+
+    -- it is none of the value, and the walk goes on
+    pub other_so : IsIts s of word false → StepsBy shape.size version a words words (SamplingGives shape (record s { stage = Walking }) More a)
+    other_so other =
+        let met = met_value.0 in
+        let its_beside = beside at met 5 fixed_value in
+        does_load at met 5 fixed_value (record s { stage = Walking }) More (λ learned. (
+          its_beside,
+          goes_still Walking valued its_beside (passes_it at met 5 fixed_value (saw_other learned other)),
+        ))
+      where
+        saw_other : Learned a (walking_event (load_published at 5)) word → IsIts s of word false → SawOther valued.seen s.histogram s.value at
+        saw_other learned (inl apart) = inr (inl (of, seen_still at met_value.0 5 fixed_value (at + 4) of met_value.2, apart))
+        saw_other learned (inr apart) = inr (inr (word, seen_there at met_value.0 5 fixed_value learned, apart))
+
+    pub value_within : at + 8 ≤ shape.size
+    value_within = met_value.1.1
+
+  -- ---- a sample is made
+
+  module _ (m : MakingOf) (makes : s.stage ≡ Making m) where
+    pub stood_making : StandsAtStage shape s a is.behind (Making m)
+    stood_making = subst (StandsAtStage shape s a is.behind) makes is.stands
+
+    -- whatever the step of the making says
+    pub makes_so : (x : MakingOf) (new_words : List ℕ) (says : MakingStep) (new : Sampling) (result : SamplingStep)
+        → StepsBy shape.size version a words new_words (MakingGives shape (wanted_of s) x says a) → IsMade (record s { stage = Making x }) says new result
+        → StepsBy shape.size version a words new_words (SamplingGives shape new result a)
+    makes_so x new_words made.More new result goes (new_is, result_is) =
+        subst (λ (p : Sampling × SamplingStep). StepsBy shape.size version a words new_words (SamplingGives shape p.0 p.1 a)) (λ i. (sym new_is i, sym result_is i))
+        (goes_with goes (λ b (beside, makes_on). (beside, goes_still (Making x) b beside (others_on b beside is.behind stood_making.0, makes_on))))
+    makes_so x new_words made.Done new result goes (new_is, result_is) =
+        subst (λ (p : Sampling × SamplingStep). StepsBy shape.size version a words new_words (SamplingGives shape p.0 p.1 a)) (λ i. (sym new_is i, sym result_is i))
+        (goes_with goes (λ b (beside, turns). (beside, goes_still Walking b beside (turns, others_on b beside is.behind stood_making.0))))
+    makes_so x new_words (made.Refused cause) new result goes (new_is, result_is) =
+        subst (λ (r : SamplingStep). StepsBy shape.size version a words new_words (SamplingGives shape new r a)) (sym result_is) goes
+
+-- ---- where it loads
+
+pub type_inside : (s : Sampling) (words : List ℕ) (at : ℕ) → s.stage ≡ LoadingType at → ∥ IsSomeSampling (length words) s ∥₁
+    → (at + 5 ≤ length words) × (length words ≤ 1048576)
+type_inside s words at loads stands = ∥∥₁_elim stands (hlevel props) (λ (shape, a, long, is).
+    let within = type_within shape 1 s a words long is at loads in let many = is.lawful_shape.many in (omega (arith, within, long), omega (arith, many, long)))
+
+pub histogram_inside : (s : Sampling) (words : List ℕ) (at : ℕ) → s.stage ≡ LoadingHistogram at → ∥ IsSomeSampling (length words) s ∥₁
+    → (at + 8 ≤ length words) × (length words ≤ 1048576)
+histogram_inside s words at loads stands = ∥∥₁_elim stands (hlevel props) (λ (shape, a, long, is).
+    let within = histogram_within shape 1 s a words long is at loads in let many = is.lawful_shape.many in (omega (arith, within, long), omega (arith, many, long)))
+
+pub value_inside : (s : Sampling) (words : List ℕ) (at of : ℕ) → s.stage ≡ LoadingValue at of → ∥ IsSomeSampling (length words) s ∥₁
+    → (at + 8 ≤ length words) × (length words ≤ 1048576)
+value_inside s words at of loads stands = ∥∥₁_elim stands (hlevel props) (λ (shape, a, long, is).
+    let within = value_within shape 1 s a words long is at of loads in let many = is.lawful_shape.many in (omega (arith, within, long), omega (arith, many, long)))

@@ -1,0 +1,183 @@
+-- What becomes of an actor by what its `batch` says.
+use Rattle.std.proofs.Common.{◌≡◌, ◌≤◌, ◌+◌, ◌-◌, ℕ, List, ◌++◌, map, length, take, inr, refl, sym, ap, subst, ◌∙◌, arith, length-append, inl}
+use Rattle.std.specs.Prelude.{Option, Some, vec_len}
+use Rattle.std.proofs.lemmas.List.{length-map, length-drop, take-append-drop, take-take, take_all, drop-take}
+use Rattle.segment_image.specs.Shape.{Dimensions}
+use Rattle.segment_machine.specs.declared.actor.Actor.{Actor}
+use Rattle.segment_machine.specs.declared.actor.Known.{Known as MachineKnown}
+use Rattle.segment_machine.specs.declared.entry.Entry.{Entry as MachineEntry}
+use Rattle.segment_machine.specs.Note.{Note, Notes, noted, refused}
+use Rattle.hist_core.specs.declared.batch.Batch.{Batch as BatchCall}
+use Rattle.hist_core.specs.declared.batch.BatchStep.{BatchStep}
+use Rattle.hist_core.specs.declared.batch.BatchStep.TheVariants.{More, Done, Refused}
+use Rattle.hist_core.specs.declared.call.Stepped.{Stepped}
+use Rattle.hist_core.specs.declared.actor_run.Running.{Running}
+use Rattle.hist_core.specs.declared.actor_run.Running.TheVariants.{Batch}
+use Rattle.hist_core.specs.declared.actor_run.ActorRun.{ActorRun}
+use Rattle.hist_core.specs.Add.{counted_entry}
+use Rattle.segment_machine.specs.Entry.{tally_noted}
+use Rattle.hist_core.specs.Batch.{IsBatch, IsCutAt, HaveEnded, IsSomeBatch, IsSameBatch, IsRefusedAt, BatchSteps, BatchGives, added_of, counted_entries, sum_entries, units_among}
+use Rattle.hist_core.specs.StepsBy.{StepsBy}
+use Rattle.hist_core.specs.ActorRun.{ended_by, begun_by, pending_by, entry_of, held_by, IsGhostNoting, IsBatching, StandsIn, IsRun, IsBatchAnnounced, LandsBack, Advances, Answers, IsRefusedBy}
+use Rattle.hist_core.proofs.Worlds.Causes.{refused_still}
+use Rattle.hist_core.proofs.Parts.Allocations.{goes_with}
+use Rattle.hist_core.proofs.Worlds.Apart.{asks_not, adds_not, looks_not}
+use Rattle.hist_core.proofs.BatchCall.Batching.{runs_so, first_units}
+use Rattle.hist_core.proofs.Parts.Claims.{goes_noting}
+use Rattle.hist_core.proofs.Worlds.Quiet.{takes_none, takes_not}
+use Rattle.hist_core.proofs.AddCall.GhostNotes.{Counts, goes_from, counts_somewhere, still_counts, has_counted, is_cut}
+
+module _ (shape : Dimensions) (version : ℕ) (old : ActorRun) (batch : BatchCall) (is : old.running ≡ Some (Batch batch)) where
+  batching : (a : Actor) → IsRun shape version old a → IsBatching shape (pending_by old) batch a
+  batching a run = subst (λ running. StandsIn shape old.known.items (pending_by old) running a) is run.stands
+
+  module _ (known : MachineKnown) where
+    abbrev entries : List MachineEntry
+    entries = counted_entries known batch
+
+    abbrev standing : Actor → Type 0
+    standing = IsBatch shape known batch
+
+    runs : (a : Actor) → standing a → map (λ c. c.entry) a.entries.running ≡ entries
+    runs a counting = runs_so shape known batch a counting
+
+    into : (a : Actor) → IsGhostNoting (pending_by old) known.name batch.cost entries standing a → StandsIn shape old.known.items (pending_by old) old.running a
+    into a telling = subst (λ running. StandsIn shape old.known.items (pending_by old) running a) (sym is) (known, telling)
+
+    abbrev Tells : Actor → Type 0
+    Tells = Counts shape version old known.name batch.cost entries standing runs into
+
+    -- ---- what a step makes of it
+
+    module _ (now : BatchCall) (same : IsSameBatch batch now) (same_entries : counted_entries known now ≡ entries) (a : Actor) (counts : Tells a) where
+      -- it goes on
+      goes_on : (b : Actor) → BatchGives shape known now More a b → IsRun shape version (record old { begun = length old.entries.items; running = Some (Batch now) }) b
+      goes_on b (aside, stays, counting) =
+          still_counts shape version old known.name batch.cost entries standing runs into a counts b aside stays (Batch now)
+          (runs_so shape known now b counting ∙ same_entries)
+          (known, record { pending_are = counts.pending_are ∙ sym same_entries; stands = inr (ap (λ u. u.share) stays.0 ∙ counts.share, counting) })
+          tt tt
+
+      its_steps : (words new_words : List ℕ) (said : BatchStep) → length words ≡ shape.size → BatchSteps batch words now new_words said
+          → StepsBy shape.size version a words new_words (BatchGives shape known now said a)
+      its_steps words new_words said long steps =
+          subst (λ (v : ℕ). StepsBy shape.size v a words new_words (BatchGives shape known now said a)) (ap (λ s. s.version) counts.run.segment) (steps shape known a long counts.counting)
+
+  -- what it counts is the same, since it counts the same items
+  entries_same : (known : MachineKnown) (now : BatchCall) → IsSameBatch batch now → counted_entries known now ≡ entries known
+  entries_same known now same i = same.entries known i ++ sum_entries known.name (same.sum i)
+
+  -- as many entries more than have ended are there
+  pub pending_there : (a : Actor) → IsRun shape version old a → old.ended + vec_len batch.items ≤ length old.entries.items
+  pending_there a run =
+      let (known, telling) = batching a run in
+      let rest : length old.entries.items - old.ended ≡ length (entries known) =
+      sym (length-drop old.ended old.entries.items) ∙ (sym (length-map (pending_by old) entry_of) ∙ ap length telling.pending_are) in
+      let both = length-append (map (counted_entry known) batch.items.items) (sum_entries known.name batch.sum) in
+      let items = length-map batch.items.items (counted_entry known) in let ok = batch.items.ok.0 in let within = run.within in
+      omega (arith, rest, both, items, ok, within)
+
+  -- what the machine's actor does, and what becomes of that at run time
+  module _ (a : Actor) (run : IsRun shape version old a) (now : BatchCall) (same : IsSameBatch batch now) (words new_words : List ℕ) (long : length words ≡ shape.size)
+      (new : ActorRun) where
+    abbrev its : MachineKnown
+    its = (batching a run).0
+
+    still_same : counted_entries its now ≡ entries its
+    still_same = entries_same its now same
+
+    goes : {holds : Actor → Type 0} → ((b : Actor) → Tells its b → StepsBy shape.size version b words new_words holds) → StepsBy shape.size version a words new_words holds
+    goes = goes_from shape version old its.name batch.cost (entries its) (standing its) (runs its) (into its) a run (batching a run).1
+
+    pub batch_goes : (said : BatchStep) (result : Stepped) → BatchSteps batch words now new_words said → IsRefusedAt batch now said
+        → IsBatchAnnounced (record old { running = Some (Batch now) }) said new result → Advances shape version old words new new_words result a
+    batch_goes More result steps at (new_is, result_is) =
+        subst (λ said. Advances shape version old words new new_words said a) (sym result_is) (goes (λ b counts. goes_with (its_steps its now same still_same b counts words new_words More long steps)
+        (λ c gives. subst (λ (r : ActorRun). IsRun shape version r c) (sym new_is) (goes_on its now same still_same b counts c gives))))
+    batch_goes Done result steps at (new_is, result_is) =
+        subst (λ said. Advances shape version old words new new_words said a) (sym result_is) (goes (λ b counts. goes_noting (its_steps its now same still_same b counts words new_words Done long steps)
+        (λ c (aside, stays, turns, over). subst (λ (r : ActorRun). (notes : List Note) × (d : Actor) × Notes c notes d × IsRun shape version r d) (sym new_is)
+        (has_counted shape version old its.name batch.cost (entries its) (standing its) (runs its) (into its) b counts c aside stays turns counts.counting.rests
+        (subst (λ (l : List MachineEntry). HaveEnded l c) still_same over)))))
+    batch_goes (Refused refusal) result steps at (new_is, items, result_is) =
+        subst (λ said. Advances shape version old words new new_words said a) (sym result_is) (goes (λ b counts. goes_noting (its_steps its now same still_same b counts words new_words (Refused refusal) long steps)
+        (λ c (aside, stays, turns, cause, cut, few, spent). subst (λ (units : ℕ). (notes : List Note) × (d : Actor) × Notes c notes d
+        × (LandsBack shape version units new d × IsRefusedBy old.running refusal.why d)) (sym (ap held_by is))
+        (is_cut shape version old its.name batch.cost (entries its) (standing its) (runs its) (into its) b counts c aside stays turns counts.counting.rests counts.counting.held
+        refusal.added batch.left (few_entries few) (subst (λ (l : List MachineEntry). IsCutAt refusal.added l c) still_same cut) (left_so few spent) new (old.ended + refusal.added) refl new_is items
+        (IsRefusedBy old.running refusal.why) (refused_still old.running refusal.why c (noted c (refused refusal.added)) refl refl (inl cause))))))
+      where
+        few_entries : refusal.added ≤ length now.items.items → refusal.added ≤ length (entries its)
+        few_entries few =
+            let many = ap length (sym still_same) in let both = length-append (map (counted_entry its) now.items.items) (sum_entries its.name now.sum) in
+            let items = length-map now.items.items (counted_entry its) in omega (arith, few, many, both, items)
+
+        left_so : refusal.added ≤ length now.items.items → now.left + units_among (take refusal.added now.items.items) ≡ now.cost
+            → batch.left ≡ batch.cost - tally_noted (take refusal.added (entries its)) its.name
+        left_so few spent =
+            let first = first_units its now refusal.added few in
+            let there : tally_noted (take refusal.added (entries its)) its.name ≡ tally_noted (take refusal.added (counted_entries its now)) its.name =
+            ap (λ (l : List MachineEntry). tally_noted (take refusal.added l) its.name) (sym still_same) in
+            let cost = same.cost in let left = at.2 in omega (arith, first, there, cost, spent, left)
+
+  -- it is one that goes on somewhere
+  pub some_batch : (n : ℕ) (a : Actor) (run : IsRun shape version old a) → n ≡ shape.size → IsSomeBatch n batch
+  some_batch n a run long =
+      let known = (batching a run).0 in
+      let there = counts_somewhere shape version old known.name batch.cost (entries known) (standing known) (runs known) (into known) a run (batching a run).1 in
+      (shape, known, there.0, long, there.1.counting)
+
+-- no more are counted where it is refused than there are
+pub added_few : (old new : BatchCall) (said : BatchStep) → IsRefusedAt old new said → added_of said ≤ vec_len old.items
+added_few old new More at = omega arith
+added_few old new Done at = omega arith
+added_few old new (Refused refusal) at = let less = at.1 in omega (arith, less)
+
+-- ---- what is answered
+
+abbrev batch_by : BatchCall → Option Running → BatchCall
+batch_by d (Some (Batch x)) = x
+batch_by d running = d
+
+module _ (old : ActorRun) (batch now : BatchCall) (is : old.running ≡ Some (Batch batch)) (same : IsSameBatch batch now) (words new_words : List ℕ) where
+  whole : take (length old.entries.items) old.entries.items ≡ ended_by old ++ pending_by old
+  whole = take_all (length old.entries.items) old.entries.items (omega arith) ∙ sym (take-append-drop old.ended old.entries.items)
+
+  -- the first of those that are pending
+  front : (added : ℕ) → old.ended + added ≤ length old.entries.items
+      → take (old.ended + added) old.entries.items ≡ ended_by old ++ take added (pending_by old)
+  front added fits =
+      sym (take-append-drop old.ended (take (old.ended + added) old.entries.items))
+      ∙ (λ i. take-take old.ended (old.ended + added) old.entries.items (omega arith) i ++ drop-take old.ended added old.entries.items i)
+
+  pub batch_answers : (said : BatchStep) (new : ActorRun) (result : Stepped) → IsRefusedAt batch now said → old.ended + vec_len batch.items ≤ length old.entries.items
+      → IsBatchAnnounced (record old { running = Some (Batch now) }) said new result → Answers old words new new_words result
+  batch_answers More new result at fits (new_is, result_is) =
+      subst (Answers old words new new_words) (sym result_is) (
+        (
+          ap (λ (r : ActorRun). r.known.items) new_is,
+          (λ asked is_asked. absurd (subst asks_not (sym is ∙ is_asked) tt)),
+          (λ add is_add. absurd (subst adds_not (sym is ∙ is_add) tt)),
+          (λ snapshot_call is_snapshot_call. absurd (subst looks_not (sym is ∙ is_snapshot_call) tt)),
+          (λ delta_call fresh is_delta_call. absurd (subst takes_not (sym is ∙ is_delta_call) tt)),
+          (λ other is_other. (now, ap (λ (r : ActorRun). r.running) new_is, subst (λ (x : BatchCall). IsSameBatch x now) (ap (batch_by batch) (sym is ∙ is_other)) same)),
+        ),
+        (ap ended_by new_is, ap begun_by new_is ∙ whole, ap pending_by new_is),
+        takes_none old new _ (subst takes_not (sym is) tt) (ap (λ (r : ActorRun). r.taken.items) new_is),
+      )
+  batch_answers Done new result at fits (new_is, result_is) =
+      subst (Answers old words new new_words) (sym result_is) (
+        (inr (batch, is), ap (λ (r : ActorRun). r.running) new_is, ap (λ (r : ActorRun). r.known.items) new_is),
+        (ap ended_by new_is ∙ whole, ap begun_by new_is ∙ sym (ap ended_by new_is)),
+        takes_none old new _ (subst takes_not (sym is) tt) (ap (λ (r : ActorRun). r.taken.items) new_is),
+      )
+  batch_answers (Refused refusal) new result at fits (new_is, items, result_is) =
+      subst (Answers old words new new_words) (sym result_is) (
+        ((batch, is, at.0), ap (λ (r : ActorRun). r.running) new_is, ap (λ (r : ActorRun). r.known.items) new_is),
+        (
+          ap ended_by new_is ∙ (ap (take (old.ended + refusal.added)) items
+              ∙ (take-take (old.ended + refusal.added) (old.ended + refusal.added) old.entries.items (omega arith) ∙ front refusal.added (let less = at.1 in omega (arith, less, fits)))),
+          ap begun_by new_is ∙ sym (ap ended_by new_is),
+        ),
+        takes_none old new _ (subst takes_not (sym is) tt) (ap (λ (r : ActorRun). r.taken.items) new_is),
+      )

@@ -1,0 +1,87 @@
+-- A `batch` adds its sum.
+use Rattle.std.proofs.Common.{◌≡◌, ℕ, ◌+◌, ◌%◌, ◌^◌, Bool, true, false, not, List, [], ◌∷◌, ◌++◌, map, filter, All, refl, sym, ap, subst, ◌∙◌}
+use Rattle.std.specs.Prelude.{◌&&◌, slice_set}
+use Rattle.std.specs.Int.{cast_unsigned, w64}
+use Rattle.std.proofs.lemmas.List.{append-nil, map-append}
+use Rattle.std.proofs.lemmas.List.Elements.{All-nil, All-cons, All-append}
+use Rattle.segment_image.specs.Shape.{Dimensions}
+use Rattle.segment_image.specs.Words.{word_at}
+use Rattle.segment_machine.specs.declared.actor.Actor.{Actor}
+use Rattle.segment_machine.specs.declared.actor.Known.{Known}
+use Rattle.segment_machine.specs.declared.entry.EntryProgress.{EntryProgress}
+use Rattle.segment_machine.specs.declared.entry.Entry.{Entry}
+use Rattle.segment_machine.specs.Calls.{IsNext}
+use Rattle.segment_machine.specs.Counting.{add_sum, sum_next}
+use Rattle.segment_machine.specs.Entry.{fresh, has_ended, sum_entry}
+use Rattle.segment_machine.specs.Event.{Event, next, counting_event}
+use Rattle.hist_core.specs.declared.batch.Batch.{Batch}
+use Rattle.hist_core.specs.declared.batch.BatchStep.TheVariants.{Done}
+use Rattle.hist_core.specs.Add.{counted_entry, ended_entry}
+use Rattle.hist_core.specs.Batch.{IsBatch, SumsUp, BatchGives}
+use Rattle.hist_core.specs.StepsBy.{StepsBy}
+use Rattle.hist_core.proofs.AddCall.Entries.{only_open, only_changed}
+use Rattle.hist_core.proofs.BatchCall.Entries.{ended_are, all_over, one_sum}
+
+module _ (shape : Dimensions) (known : Known) (batch : Batch) (a : Actor) (words : List ℕ) (is : IsBatch shape known batch a) (sums : SumsUp known batch a) where
+  abbrev event : Event
+  event = counting_event (add_sum batch.histogram batch.sum)
+
+  abbrev acted : Actor
+  acted = next a event (word_at words (batch.histogram + 11))
+
+  abbrev its : EntryProgress
+  its = fresh (sum_entry known.name batch.sum)
+
+  abbrev before : List EntryProgress
+  before = map (ended_entry known) batch.items.items
+
+  -- of its entry nothing has happened
+  waits : has_ended its ≡ false
+  waits = ap (λ (b : Bool). b && true) sums.some
+
+  its_next : IsNext a its
+  its_next = ([], ap (filter (λ c. not (has_ended c))) sums.runs ∙ only_open its [] waits before (all_over known batch.items.items))
+
+  abbrev last : EntryProgress
+  last = record its { summed = true }
+
+  then_are : acted.entries.running ≡ before ++ last ∷ []
+  then_are = ap sum_next sums.runs ∙ only_changed its [] waits (λ c. record c { summed = true }) before (all_over known batch.items.items)
+
+  pub adds_sum : (new_words : List ℕ)
+      → new_words ≡ slice_set words (batch.histogram + 11) ((word_at words (batch.histogram + 11) + cast_unsigned w64 batch.sum) % 2 ^ 64)
+      → StepsBy shape.size a.segment.version a words new_words (BatchGives shape known batch Done a)
+  adds_sum new_words are = record {
+    before = [];
+    at = a;
+    told = refl;
+    event = event;
+    ready = (sums.turns, its, known, (its_next, refl, sums.some), refl, is.knows, is.reference, refl);
+    words_are = are;
+    goes = λ learned apart. (
+      [],
+      acted,
+      refl,
+      (
+        record {
+          role = refl;
+          segment = refl;
+          deltas = refl;
+          names = refl;
+          chain = ([], sym (append-nil a.seen.chain));
+          words = ([], sym (append-nil a.seen.words));
+        },
+        (refl, refl),
+        refl,
+        (
+          ap (map (λ (c : EntryProgress). c.entry)) then_are
+              ∙ (map-append (λ (c : EntryProgress). c.entry) before (last ∷ [])
+              ∙ ((λ i. ended_are known batch.items.items i ++ sum_entry known.name batch.sum ∷ [])
+              ∙ ap (λ (l : List Entry). map (counted_entry known) batch.items.items ++ l) (sym (one_sum known.name batch.sum sums.some)))),
+          subst (All (λ c. has_ended c ≡ true)) (sym then_are)
+              (All-append (λ c. has_ended c ≡ true) before (last ∷ []) (all_over known batch.items.items)
+              (All-cons (λ c. has_ended c ≡ true) last [] refl (All-nil (λ c. has_ended c ≡ true)))),
+        ),
+      ),
+    );
+  }

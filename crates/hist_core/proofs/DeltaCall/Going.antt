@@ -1,0 +1,178 @@
+-- A delta goes on by one event of its actor.
+use Rattle.std.proofs.Common.{◌≡◌, ℕ, ◌+◌, ◌-◌, ◌≤◌, true, true≢false, List, [], length, refl, sym, ap, ◌∙◌, subst, arith}
+use Rattle.std.specs.Prelude.{None, vec_capacity}
+use Rattle.std.proofs.Props.{props}
+use Rattle.std.proofs.Math.Logic.{∥∥₁_elim}
+use Rattle.std.specs.List.{Contains}
+use Rattle.std.proofs.lemmas.List.{append-nil}
+use Rattle.bucket_ranges.specs.Ranges.{IsSplit, boundaries_of}
+use Rattle.bucket_ranges.specs.Spec.{buckets_of, spec_fault}
+use Rattle.bucket_ranges.specs.declared.spec.Spec.{Spec}
+use Rattle.bucket_ranges.specs.declared.spec.Spec.TheVariants as spec
+use Rattle.bucket_ranges.proofs.Ascent.{boundaries_of-split}
+use Rattle.segment_image.specs.Shape.{Dimensions}
+use Rattle.segment_image.specs.Words.{word_at}
+use Rattle.segment_invariant.proofs.Packing.OffForms.{few_buckets}
+use Rattle.segment_machine.specs.declared.actor.Actor.{Actor}
+use Rattle.segment_machine.specs.declared.actor.Known.{Known}
+use Rattle.segment_machine.specs.declared.actor.Taken.{Taken}
+use Rattle.segment_machine.specs.Actor.{Buckets, has_buckets, is_opener, known_at, units_listed}
+use Rattle.segment_machine.specs.Calls.{MayTurn, sight}
+use Rattle.segment_machine.specs.Event.{Event, spot, after, next, Ready, Learned, taking_event}
+use Rattle.segment_machine.specs.Taking.{TakingEvent, Takes, load_count, raise_mark, raise_single_mark, load_sum, swap_sum_mark, load_redundant}
+use Rattle.hist_core.specs.declared.delta_call.Stage.{Stage}
+use Rattle.hist_core.specs.declared.delta_call.DeltaCall.{DeltaCall}
+use Rattle.hist_core.specs.StepsBy.{StepsBy}
+use Rattle.hist_core.specs.DeltaCall.{AreUnits, IsSomeDeltaCall, IsDeltaCall, IsUnderWay, StandsAtStage, FrameOfDelta}
+use Rattle.hist_core.proofs.DeltaCall.Sights.{Grows, SeesMore}
+
+-- ---- what stays as it was
+
+grows_not : {X : Type 0} (list : List X) → Grows list list
+grows_not list = ([], sym (append-nil list))
+
+pub taking_aside : (a : Actor) (e : TakingEvent) (found : ℕ) → FrameOfDelta a (next a (taking_event e) found)
+taking_aside a e found = by e
+  where
+    by : (e : TakingEvent) → FrameOfDelta a (next a (taking_event e) found)
+    by (load_count at) = record { role = refl; segment = refl; units = refl; entries = refl; names = refl; snapshots = refl; first = refl; chain = grows_not a.seen.chain; words = grows_not a.seen.words }
+    by (raise_mark at least) = record { role = refl; segment = refl; units = refl; entries = refl; names = refl; snapshots = refl; first = refl; chain = grows_not a.seen.chain; words = grows_not a.seen.words }
+    by (raise_single_mark histogram least) = record { role = refl; segment = refl; units = refl; entries = refl; names = refl; snapshots = refl; first = refl; chain = grows_not a.seen.chain; words = grows_not a.seen.words }
+    by (load_sum histogram) = record { role = refl; segment = refl; units = refl; entries = refl; names = refl; snapshots = refl; first = refl; chain = grows_not a.seen.chain; words = grows_not a.seen.words }
+    by (swap_sum_mark histogram sum) = record { role = refl; segment = refl; units = refl; entries = refl; names = refl; snapshots = refl; first = refl; chain = grows_not a.seen.chain; words = grows_not a.seen.words }
+    by (load_redundant histogram) = record { role = refl; segment = refl; units = refl; entries = refl; names = refl; snapshots = refl; first = refl; chain = grows_not a.seen.chain; words = grows_not a.seen.words }
+
+pub taking_sees : (a : Actor) (e : TakingEvent) (found : ℕ) → SeesMore a (next a (taking_event e) found)
+taking_sees a (load_count at) found = record { segment = refl; since = refl; singles = grows_not a.seen.singles; counts = (sight at found, refl); words = grows_not a.seen.words }
+taking_sees a (raise_mark at least) found = record { segment = refl; since = refl; singles = grows_not a.seen.singles; counts = (_, refl); words = grows_not a.seen.words }
+taking_sees a (raise_single_mark histogram least) found = record { segment = refl; since = refl; singles = grows_not a.seen.singles; counts = (_, refl); words = grows_not a.seen.words }
+taking_sees a (load_sum histogram) found = record { segment = refl; since = refl; singles = grows_not a.seen.singles; counts = grows_not a.seen.counts; words = grows_not a.seen.words }
+taking_sees a (swap_sum_mark histogram sum) found = record { segment = refl; since = refl; singles = grows_not a.seen.singles; counts = grows_not a.seen.counts; words = grows_not a.seen.words }
+taking_sees a (load_redundant histogram) found = record { segment = refl; since = refl; singles = grows_not a.seen.singles; counts = (_, refl); words = grows_not a.seen.words }
+
+-- ---- a step
+
+-- another that lists the same is under way as well
+pub same_way : (known : Known) (earlier : List Taken) (old new : DeltaCall) (a : Actor) → new.counts ≡ old.counts → IsUnderWay known earlier old a
+    → IsUnderWay known earlier new a
+same_way known earlier old new a same way = record {
+  taking = way.taking;
+  last = way.last;
+  taken = way.taken;
+  name = way.name;
+  counts = λ key. ap (λ l. units_listed l.items key) same ∙ way.counts key;
+  sum = way.sum;
+}
+
+-- it takes of the same histogram, with as much room
+pub record IsSame (old new : DeltaCall) : Type 0 where
+  pub version : new.version ≡ old.version
+  pub histogram : new.histogram ≡ old.histogram
+  pub ranges : new.ranges ≡ old.ranges
+  pub room : vec_capacity new.counts ≡ vec_capacity old.counts
+
+module _ (shape : Dimensions) (known : Known) (earlier : List Taken) (delta_call : DeltaCall) (a : Actor) (is : IsDeltaCall shape known earlier delta_call a) where
+  -- its record lies in the words
+  pub is_inside : (n : ℕ) → n ≡ shape.size → (delta_call.histogram + 15 ≤ n) × (n ≤ 1048576)
+  is_inside n long =
+      let within = is.within in let many = is.lawful_shape.many in (omega (arith, long, within), omega (arith, long, many))
+
+  module _ (bucketed : has_buckets known.spec ≡ true) where
+    pub knows_it : Buckets a known.reference known
+    knows_it = (is.knows, refl, bucketed)
+
+    pub split : IsSplit (buckets_of known.spec) (boundaries_of known.spec)
+    split = boundaries_of-split known.spec is.lawful (λ sparse. true≢false (sym bucketed ∙ ap has_buckets sparse))
+
+    pub buckets_are : length delta_call.ranges - 1 ≡ buckets_of known.spec
+    buckets_are = let count = split.count in let long = ap length is.ranges in omega (arith, count, long)
+
+    pub long_ranges : length delta_call.ranges ≡ buckets_of known.spec + 1
+    long_ranges = let count = split.count in let long = ap length is.ranges in omega (arith, count, long)
+
+  -- it takes the histogram
+  pub takes_it : IsUnderWay known earlier delta_call a → Takes a known.reference known
+  takes_it way = (way.taking, is.knows, refl, (earlier, way.last, way.taken, way.name))
+
+  -- it goes on from another stage, and may have taken more
+  pub goes_still : (new : DeltaCall) (b : Actor) → IsSame delta_call new → FrameOfDelta a b → MayTurn b → AreUnits new.counts.items
+      → StandsAtStage shape known earlier new b new.stage → IsDeltaCall shape known earlier new b
+  goes_still new b same aside turns units stands = record {
+    segment = ap (λ s. s.shape) aside.segment ∙ is.segment;
+    version = ap (λ s. s.version) aside.segment ∙ (is.version ∙ sym same.version);
+    lawful_shape = is.lawful_shape;
+    recorder = ap is_opener aside.role ∙ is.recorder;
+    counts_nothing = ap (λ e. e.running) aside.entries ∙ is.counts_nothing;
+    turns = turns;
+    reference = is.reference ∙ sym same.histogram;
+    within = subst (λ (h : ℕ). h + 15 ≤ shape.size) (sym same.histogram) is.within;
+    lawful = is.lawful;
+    ranges = same.ranges ∙ is.ranges;
+    knows = subst (λ (l : List Known). Contains l known) (sym aside.names) is.knows;
+    alone = ap (λ (l : List Known). known_at l known.reference) aside.names ∙ is.alone;
+    units = units;
+    stands = stands;
+  }
+
+  -- by an event that it may do
+  module _ (words new_words : List ℕ) (e : TakingEvent) (new : DeltaCall) (same : IsSame delta_call new) where
+    abbrev event : Event
+    event = taking_event e
+
+    abbrev found : ℕ
+    found = word_at words (spot shape.size event)
+
+    abbrev acted : Actor
+    acted = next a event found
+
+    pub acts_on : Ready a event → new_words ≡ after shape.size delta_call.version event words → MayTurn acted → AreUnits new.counts.items
+        → (Learned a event found → StandsAtStage shape known earlier new acted new.stage)
+        → StepsBy shape.size delta_call.version a words new_words (λ b. FrameOfDelta a b × IsDeltaCall shape known earlier new b)
+    acts_on ready are turns units stands = record {
+      before = [];
+      at = a;
+      told = refl;
+      event = event;
+      ready = ready;
+      words_are = are;
+      goes = λ learned apart. ([], acted, refl, (taking_aside a e found, goes_still new acted same (taking_aside a e found) turns units (stands learned)));
+    }
+
+-- the boundaries of a lawful spec are few
+few_of : (s : Spec) → spec_fault s ≡ None → has_buckets s ≡ true → length (boundaries_of s) ≤ 1001
+few_of s lawful bucketed =
+    let count = (boundaries_of-split s lawful (λ sparse. true≢false (sym bucketed ∙ ap has_buckets sparse))).count in
+    let few = few_buckets s lawful in omega (arith, count, few)
+
+few_boundaries : (s : Spec) → spec_fault s ≡ None → length (boundaries_of s) ≤ 1001
+few_boundaries spec.Sparse lawful = omega arith
+few_boundaries (spec.Linear min max n) lawful = few_of (spec.Linear min max n) lawful refl
+few_boundaries spec.Boolean lawful = few_of spec.Boolean lawful refl
+few_boundaries (spec.Custom values) lawful = few_of (spec.Custom values) lawful refl
+
+-- the record of a delta that stands somewhere lies in so many words, which are few
+pub some_inside : (delta_call : DeltaCall) (words : List ℕ) → ∥ IsSomeDeltaCall (length words) delta_call ∥₁
+    → (delta_call.histogram + 15 ≤ length words) × (length words ≤ 1048576) × (length delta_call.ranges ≤ 1001)
+some_inside delta_call words stands = ∥∥₁_elim stands (hlevel props) (λ (shape, known, earlier, a, long, is).
+    let inside = is_inside shape known earlier delta_call a is (length words) long in
+    let ranges = ap length is.ranges in
+    let some = few_boundaries known.spec is.lawful in
+    (inside.0, inside.1, omega (arith, ranges, some)))
+
+-- it goes on with another stage, with what it lists as it was or with more
+pub same_still : (old : DeltaCall) (stage : Stage) (new : DeltaCall) → new ≡ record old { stage = stage } → IsSame old new
+same_still old stage new same = record {
+  version = ap (λ (t : DeltaCall). t.version) same;
+  histogram = ap (λ (t : DeltaCall). t.histogram) same;
+  ranges = ap (λ (t : DeltaCall). t.ranges) same;
+  room = ap (λ (t : DeltaCall). vec_capacity t.counts) same;
+}
+
+pub same_taken : (old : DeltaCall) (stage : Stage) (new : DeltaCall) → new ≡ record old { stage = stage; counts = new.counts } → vec_capacity new.counts ≡ vec_capacity old.counts
+    → IsSame old new
+same_taken old stage new same room = record {
+  version = ap (λ (t : DeltaCall). t.version) same;
+  histogram = ap (λ (t : DeltaCall). t.histogram) same;
+  ranges = ap (λ (t : DeltaCall). t.ranges) same;
+  room = room;
+}

@@ -1,0 +1,2 @@
+-- The call `hist`.
+pub mod Asking

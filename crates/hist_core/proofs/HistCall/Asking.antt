@@ -1,0 +1,305 @@
+-- A `hist` of an actor goes on, and what its actor knows then.
+use Rattle.std.proofs.Common.{◌≡◌, ◌≢◌, ◌<◌, ◌+◌, ℕ, zero, suc, ◌≤◌, List, [], ◌∷◌, ◌++◌, length, map, take, drop, All, inl, inr, ⊎_elim, refl, sym, ap, subst, ◌∙◌, vec_len, arith}
+use Rattle.std.specs.Prelude.{Option, Some, None, Result, Ok, Err, vec_capacity}
+use Rattle.std.specs.declared.alloc.AllocError.{AllocError}
+use Rattle.bucket_ranges.specs.declared.spec.Spec.{Spec}
+use Rattle.alloc_core.specs.Layout.{IsShape}
+use Rattle.segment_calls.specs.Asked.{IsAskedFor}
+use Rattle.segment_calls.specs.declared.asked.Asked.{Asked}
+use Rattle.hist_core.specs.declared.call.Begun.{Begun}
+use Rattle.hist_core.specs.declared.call.Begun.TheVariants.{Going, Ended}
+use Rattle.std.proofs.lemmas.List.{map-append}
+use Rattle.std.specs.List.{Contains}
+use Rattle.std.proofs.lemmas.List.Elements.{All-push, Contains-append_cases, Contains-append_right}
+use mathlib.Core.Logic.{dite}
+use native.Mathlib.Decide.{ℕ_discrete}
+use mathlib.Core.Option.{some, some-injective, some-ne-none}
+use lib.ListN.{get_elem?}
+use Rattle.atomic_table.proofs.Lists.{at_snoc}
+use Rattle.segment_image.specs.Shape.{Dimensions}
+use Rattle.segment_machine.specs.declared.actor.Actor.{Actor}
+use Rattle.segment_machine.specs.declared.actor.Known.{Known as MachineKnown}
+use Rattle.segment_machine.specs.Actor.{is_opener}
+use Rattle.segment_machine.specs.Note.{Note, Notes, MayNote, noted, knows}
+use Rattle.hist_core.specs.declared.call.Answer.TheVariants as answer
+use Rattle.hist_core.specs.declared.call.Stepped.{Stepped}
+use Rattle.hist_core.specs.declared.call.Stepped.TheVariants as stepped
+use Rattle.hist_core.specs.declared.entry.Taken.{Taken}
+use Rattle.hist_core.specs.declared.hist.Hist.{Hist as HistCall}
+use Rattle.hist_core.specs.declared.hist.HistStep.{HistStep}
+use Rattle.hist_core.specs.declared.hist.HistStep.TheVariants.{More, Done, Refused}
+use Rattle.hist_core.specs.declared.hist.Known.{Known}
+use Rattle.hist_core.specs.declared.actor_run.Running.{Running}
+use Rattle.hist_core.specs.declared.actor_run.Running.TheVariants.{Hist}
+use Rattle.hist_core.specs.declared.entry.Entry.{Entry}
+use Rattle.hist_core.proofs.Parts.Allocations.{goes_with}
+use Rattle.hist_core.proofs.Worlds.Apart.{adds_not, looks_not, batches_not}
+use Rattle.hist_core.proofs.Worlds.Free.{free_turns}
+use Rattle.hist_core.proofs.Worlds.Quiet.{met_on, quiet_on, gives_none, begun_there, takes_none, takes_not}
+use Rattle.hist_core.specs.declared.actor_run.ActorRun.{ActorRun}
+use Rattle.hist_core.specs.StepsBy.{FrameOfStep, StepsBy, IsFree}
+use Rattle.hist_core.specs.Hist.{HasOtherSpec, IsCause, IsSomeHist, HistSteps, asked_of}
+use Rattle.segment_calls.specs.declared.refusal.Refusal.{Refusal}
+use Rattle.hist_core.specs.ActorRun.{known_of, AreShown, HasDraft, IsKnown, NoneHasName, HaveOwnNames, StandsIn, HasRoom, IsRun, IsSomeRun, IsHistAnnounced, IsRefusedBy, BeginsHist, IsAsItWas, IsQuiet, Advances, Answers, held_by, entry_of, ended_by, begun_by, pending_by}
+
+-- ---- a note more
+
+notes_more : (a b : Actor) (list : List Note) (note : Note) → Notes a list b → MayNote b note → Notes a (list ++ note ∷ []) (noted b note)
+notes_more a b [] note told may = (subst (λ x. MayNote x note) (sym told) may, ap (λ x. noted x note) told)
+notes_more a b (first ∷ rest) note (may_first, told) may = (may_first, notes_more (noted a first) b rest note told may)
+
+-- an actor that goes on notes one thing more
+pub goes_noting : {size version : ℕ} {a : Actor} {words new_words : List ℕ} {holds then_holds : Actor → Type 0} → StepsBy size version a words new_words holds
+    → ((b : Actor) → holds b → (note : Note) × MayNote b note × then_holds (noted b note)) → StepsBy size version a words new_words then_holds
+goes_noting go notes = record {
+  before = go.before;
+  at = go.at;
+  told = go.told;
+  event = go.event;
+  ready = go.ready;
+  words_are = go.words_are;
+  goes = λ learned apart.
+      let did = go.goes learned apart in let more = notes did.1 did.3 in
+      (did.0 ++ more.0 ∷ [], noted did.1 more.0, notes_more _ did.1 did.0 more.0 did.2 more.1, more.2);
+}
+
+-- ---- names
+
+none_more : (list : List Known) (known : Known) (name : List ℕ) → NoneHasName list name → known.name.items ≢ name → NoneHasName (list ++ known ∷ []) name
+none_more list known name none other i x at same =
+    elim (at_snoc list known x i at) [ inl before ↦ none i x before same | inr last ↦ other (ap (λ (k : Known). k.name.items) last ∙ same) ]
+
+pub own_more : (list : List Known) (known : Known) → HaveOwnNames list → NoneHasName list known.name.items → HaveOwnNames (list ++ known ∷ [])
+own_more [] known own none = ((λ i x at. absurd (some-ne-none x (sym at))), tt)
+own_more (first ∷ rest) known own none =
+    (none_more rest known first.name.items own.0 (λ same. none 0 first refl (sym same)), own_more rest known own.1 (λ i x at. none (suc i) x at))
+
+one_of : (x y : MachineKnown) → Contains (x ∷ []) y → x ≡ y
+one_of x y (zero, low, is) = is
+one_of x y (suc k, low, is) = absurd (omega (arith, low))
+
+-- who may note that it knows a histogram has met its record
+met_first : (b : Actor) (known : MachineKnown) → MayNote b (knows known) → Contains b.seen.chain known.reference
+met_first b known ((front, behind, is, others, saw), spelled) =
+    subst (λ (l : List ℕ). Contains l known.reference) (sym is) (Contains-append_right front (known.reference ∷ behind) known.reference (0, omega arith, refl))
+
+-- ---- an actor
+
+module _ (shape : Dimensions) (version : ℕ) (old : ActorRun) (a : Actor) (run : IsRun shape version old a) where
+  -- its call is another, or none, and of what it has counted and knows nothing has changed
+  pub runs_on : (b : Actor) (running : Option Running) → FrameOfStep a b → StandsIn shape old.known.items (pending_by old) running b
+      → HasRoom running (vec_len old.known) (vec_capacity old.known) → HasDraft running old.taken → IsRun shape version (record old { running = running }) b
+  runs_on b running beside stands room draft = record {
+    records = ap is_opener beside.role ∙ run.records;
+    segment = beside.segment ∙ run.segment;
+    first = ap (λ e. e.first) beside.entries ∙ run.first;
+    within = run.within;
+    ended = run.ended ∙ ap (λ e. map (λ c. c.entry) e.log) (sym beside.entries);
+    begun = run.begun ∙ ap (λ e. map (λ c. c.entry) (e.log ++ e.running)) (sym beside.entries);
+    taken = subst (AreShown old.taken.items) (sym (ap (λ d. d.taken) beside.deltas)) run.taken;
+    names = run.names ∙ sym beside.names;
+    lawful = run.lawful;
+    once = run.once;
+    met = met_on a b beside.names beside.chain run.met;
+    stands = stands;
+    room = room;
+    draft = draft;
+  }
+
+  -- it knows one histogram more
+  pub knows_more : (b : Actor) (new : ActorRun) (known : Known) → FrameOfStep a b → IsFree b → IsQuiet (pending_by old) b → Contains b.seen.chain known.reference
+      → new ≡ record old { known = new.known; running = None } → new.known.items ≡ old.known.items ++ known ∷ [] → IsKnown shape known
+      → NoneHasName old.known.items known.name.items → IsRun shape version new (noted b (knows (known_of known)))
+  knows_more b new known beside may quiet met new_is items lawful none =
+      subst (λ (r : ActorRun). IsRun shape version r (noted b (knows (known_of known)))) (sym new_is) (record {
+        records = ap is_opener beside.role ∙ run.records;
+        segment = beside.segment ∙ run.segment;
+        first = ap (λ e. e.first) beside.entries ∙ run.first;
+        within = run.within;
+        ended = run.ended ∙ ap (λ e. map (λ c. c.entry) e.log) (sym beside.entries);
+        begun = run.begun ∙ ap (λ e. map (λ c. c.entry) (e.log ++ e.running)) (sym beside.entries);
+        taken = subst (AreShown old.taken.items) (sym (ap (λ d. d.taken) beside.deltas)) run.taken;
+        names = ap (map known_of) items
+            ∙ (map-append known_of old.known.items (known ∷ []) ∙ ap (λ l. l ++ known_of known ∷ []) (run.names ∙ sym beside.names));
+        lawful = subst (All (IsKnown shape)) (sym items) (All-push (IsKnown shape) old.known.items known run.lawful lawful);
+        once = subst HaveOwnNames (sym items) (own_more old.known.items known run.once none);
+        met = λ k inside.
+            ⊎_elim (λ before. met_on a b beside.names beside.chain run.met k before) (λ last. subst (λ (m : MachineKnown). Contains b.seen.chain m.reference) (one_of (known_of known) k last) met)
+            (Contains-append_cases b.answers.names (known_of known ∷ []) k inside);
+        stands = (may, quiet_on (pending_by old) b (noted b (knows (known_of known))) refl refl refl quiet);
+        room = tt;
+        draft = tt;
+      })
+
+-- ---- its `hist`
+
+abbrev asked_by : HistCall → Option Running → HistCall
+asked_by d (Some (Hist h)) = h
+asked_by d running = d
+
+pub some_hist : (n : ℕ) (actor_run : ActorRun) (h : HistCall) → actor_run.running ≡ Some (Hist h) → IsSomeRun n actor_run → IsSomeHist n h
+some_hist n actor_run h is (shape, version, a, long, wide, run) =
+    (shape, a, long, (subst (λ running. StandsIn shape actor_run.known.items (pending_by actor_run) running a) is run.stands).0)
+
+pub some_words : (n : ℕ) (actor_run : ActorRun) → IsSomeRun n actor_run → 16 ≤ n
+some_words n actor_run (shape, version, a, long, wide, run) = wide
+
+pub some_room : (n : ℕ) (actor_run : ActorRun) → IsSomeRun n actor_run → HasRoom actor_run.running (vec_len actor_run.known) (vec_capacity actor_run.known)
+some_room n actor_run (shape, version, a, long, wide, run) = run.room
+
+module _ (shape : Dimensions) (version : ℕ) (old : ActorRun) (a : Actor) (run : IsRun shape version old a) (h now : HistCall)
+    (is : old.running ≡ Some (Hist h)) (same : now.asked ≡ h.asked) (words new_words : List ℕ) (long : length words ≡ shape.size) where
+  stands : StandsIn shape old.known.items (pending_by old) (Some (Hist h)) a
+  stands = subst (λ running. StandsIn shape old.known.items (pending_by old) running a) is run.stands
+
+  room : HasRoom (Some (Hist now)) (vec_len old.known) (vec_capacity old.known)
+  room = subst (λ running. HasRoom running (vec_len old.known) (vec_capacity old.known)) is run.room
+
+  none : NoneHasName old.known.items now.asked.name.items
+  none = subst (λ (k : Known). NoneHasName old.known.items k.name.items) (sym same) stands.2
+
+  still_quiet : (b : Actor) → FrameOfStep a b → IsQuiet (pending_by old) b
+  still_quiet b beside = quiet_on (pending_by old) a b beside.units beside.entries beside.deltas stands.1
+
+  -- why it is refused
+  refused_by : (cause : Refusal) (b : Actor) → IsCause now.asked.name.items now.asked.spec cause b → IsRefusedBy old.running cause b
+  refused_by cause b its =
+      ⊎_elim (λ own. inl own) (λ (other, saw). inr (h, is, other, subst (λ (k : Known). HasOtherSpec k.name.items k.spec b.seen) same saw)) its
+
+  -- what the machine's actor does, and what becomes of that at run time
+  pub hist_goes : (said : HistStep) (new : ActorRun) (result : Stepped) → HistSteps h words now new_words said
+      → IsHistAnnounced (record old { running = Some (Hist now) }) said new result → Advances shape version old words new new_words result a
+  hist_goes More new result steps (new_is, result_is) =
+      subst (λ said. Advances shape version old words new new_words said a) (sym result_is) (goes_with (steps shape version a long stands.0) (λ b (beside, is_hist).
+      subst (λ (r : ActorRun). IsRun shape version r b) (sym new_is)
+      (runs_on shape version old a run b (Some (Hist now)) beside (is_hist, still_quiet b beside, none) room tt)))
+  hist_goes Done new result steps (asked, is_asked, new_is, items, result_is) =
+      let here : asked ≡ now = sym (ap (asked_by now) is_asked) in
+      let then_items : new.known.items ≡ old.known.items ++ (let k = now.asked in record k { reference = now.reference }) ∷ [] =
+      items ∙ ap (λ (x : HistCall). old.known.items ++ (let k = x.asked in record k { reference = x.reference }) ∷ []) here in
+      subst (λ said. Advances shape version old words new new_words said a) (sym result_is) (goes_noting (steps shape version a long stands.0) (λ b (beside, may, may_note, asking, within). (
+        knows (asked_of now),
+        may_note,
+        knows_more shape version old a run b new (let k = now.asked in record k { reference = now.reference }) beside may (still_quiet b beside) (met_first b (asked_of now) may_note) new_is then_items
+            (record { name = asking.name; lawful = asking.lawful; ranges = asking.ranges; fits = asking.fits; within = within }) none,
+      )))
+  hist_goes (Refused why) new result steps (new_is, result_is) =
+      subst (λ said. Advances shape version old words new new_words said a) (sym result_is) (goes_with (steps shape version a long stands.0) (λ b (beside, may, cause). (
+        gives_none shape version new b (held_by old.running) (ap held_by is) (free_turns b.hand.place may) (subst (λ (r : ActorRun). IsRun shape version r b) (sym new_is)
+            (runs_on shape version old a run b None beside (may, still_quiet b beside) tt tt)),
+        refused_by why b cause,
+      )))
+
+-- what is answered
+module _ (old : ActorRun) (h now : HistCall) (is : old.running ≡ Some (Hist h)) (same : now.asked ≡ h.asked) (words new_words : List ℕ)
+    (all : length old.entries.items ≡ old.ended) (unbegun : old.begun ≡ old.ended) where
+  ended_on : (new : ActorRun) → new.entries ≡ old.entries → new.ended ≡ old.ended → ended_by new ≡ ended_by old
+  ended_on new entries ended i = take (ended i) (entries i).items
+
+  begun_on : (new : ActorRun) → new.entries ≡ old.entries → new.ended ≡ old.ended → new.begun ≡ old.begun → begun_by new ≡ ended_by new
+  begun_on new entries ended begun = ap (λ n. take n new.entries.items) (begun ∙ unbegun ∙ sym ended)
+
+  pub hist_answers : (said : HistStep) (new : ActorRun) (result : Stepped) → IsHistAnnounced (record old { running = Some (Hist now) }) said new result
+      → Answers old words new new_words result
+  hist_answers More new result (new_is, result_is) =
+      subst (Answers old words new new_words) (sym result_is) (
+        (
+          ap (λ (r : ActorRun). r.known.items) new_is,
+          (λ asked is_asked. (now, ap (λ (r : ActorRun). r.running) new_is, same ∙ ap (λ (y : HistCall). y.asked) (ap (asked_by h) (sym is ∙ is_asked)))),
+          (λ add is_add. absurd (subst adds_not (sym is ∙ is_add) tt)),
+          (λ snapshot_call is_snapshot_call. absurd (subst looks_not (sym is ∙ is_snapshot_call) tt)),
+          (λ delta_call fresh is_delta_call. absurd (subst takes_not (sym is ∙ is_delta_call) tt)),
+          (λ batch is_batch. absurd (subst batches_not (sym is ∙ is_batch) tt)),
+        ),
+        (
+          ap ended_by new_is,
+          ap begun_by new_is ∙ begun_there old all unbegun,
+          ap pending_by new_is,
+        ),
+        takes_none old new stepped.More (subst takes_not (sym is) tt) (ap (λ (r : ActorRun). r.taken.items) new_is),
+      )
+  hist_answers Done new result (asked, is_asked, new_is, items, result_is) =
+      let then_same : asked.asked ≡ h.asked = ap (λ (y : HistCall). y.asked) (sym (ap (asked_by now) is_asked)) ∙ same in
+      subst (Answers old words new new_words) (sym result_is) (
+        (
+          (let k = asked.asked in record k { reference = asked.reference }),
+          (h, is, (ap (λ (k : Known). k.name) then_same, ap (λ (k : Known). k.spec) then_same)),
+          refl,
+          items,
+          ap (λ (r : ActorRun). r.running) new_is,
+        ),
+        (ap ended_by new_is, begun_on new (ap (λ (r : ActorRun). r.entries) new_is) (ap (λ (r : ActorRun). r.ended) new_is) (ap (λ (r : ActorRun). r.begun) new_is)),
+        takes_none old new (stepped.Done (answer.Hist asked.reference)) (subst takes_not (sym is) tt) (ap (λ (r : ActorRun). r.taken.items) new_is),
+      )
+  hist_answers (Refused why) new result (new_is, result_is) =
+      subst (Answers old words new new_words) (sym result_is) (
+        (ap (λ (r : ActorRun). r.running) new_is, ap (λ (r : ActorRun). r.known.items) new_is),
+        (ap ended_by new_is, begun_on new (ap (λ (r : ActorRun). r.entries) new_is) (ap (λ (r : ActorRun). r.ended) new_is) (ap (λ (r : ActorRun). r.begun) new_is)),
+        takes_none old new (stepped.Done (answer.Refused why)) (subst takes_not (sym is) tt) (ap (λ (r : ActorRun). r.taken.items) new_is),
+      )
+
+-- ---- what it begins with
+
+-- what stands at a place stands within the list
+pub place_below : {A : Type 0} (l : List A) (i : ℕ) (x : A) → get_elem? l i ≡ some x → i < length l
+place_below [] i x at = absurd (some-ne-none x (sym at))
+place_below (y ∷ l) zero x at = omega arith
+place_below (y ∷ l) (suc i) x at = let below = place_below l i x at in omega (arith, below)
+
+-- where it is as it was but for room, the machine's actor stands as before
+pub as_it_stood : (shape : Dimensions) (version : ℕ) (old new : ActorRun) (a : Actor) → old.running ≡ None → IsAsItWas old new → IsRun shape version old a
+    → IsRun shape version new a
+as_it_stood shape version old new a rests (new_is, entries, items, taken) run =
+    subst (λ (r : ActorRun). IsRun shape version r a) (sym new_is) (record {
+      records = run.records;
+      segment = run.segment;
+      first = run.first;
+      within = subst (λ (l : List Entry). (old.ended ≤ old.begun) × (old.begun ≤ length l)) (sym entries) run.within;
+      ended = ap (λ (l : List Entry). map entry_of (take old.ended l)) entries ∙ run.ended;
+      begun = ap (λ (l : List Entry). map entry_of (take old.begun l)) entries ∙ run.begun;
+      taken = subst (λ (l : List Taken). AreShown l a.deltas.taken) (sym taken) run.taken;
+      names = ap (map known_of) items ∙ run.names;
+      lawful = subst (All (IsKnown shape)) (sym items) run.lawful;
+      once = subst HaveOwnNames (sym items) run.once;
+      met = run.met;
+      stands = subst (λ (p : List Known × List Entry). StandsIn shape p.0 (drop old.ended p.1) old.running a) (λ i. (sym items i, sym entries i)) run.stands;
+      room = subst (λ running. HasRoom running (vec_len new.known) (vec_capacity new.known)) (sym rests) tt;
+      draft = subst (λ running. HasDraft running new.taken) (sym rests) tt;
+    })
+
+-- it begins a `hist`, or there was no memory for it: the machine's actor stands as before
+pub begins_hist : (shape : Dimensions) (version : ℕ) (name : List ℕ) (spec : Spec) (asked : Asked) (old new : ActorRun) (result : Result Begun AllocError) (a : Actor)
+    → IsAskedFor shape name spec asked → IsShape shape → old.running ≡ None → BeginsHist shape asked old new result → IsRun shape version old a → IsRun shape version new a
+begins_hist shape version name spec asked old new (Ok Going) a asks lawful rests (hist, begun, new_is, items, room, none) run =
+    let stands = subst (λ running. StandsIn shape old.known.items (pending_by old) running a) rests run.stands in
+    subst (λ (r : ActorRun). IsRun shape version r a) (sym new_is) (record {
+      records = run.records;
+      segment = run.segment;
+      first = run.first;
+      within = run.within;
+      ended = run.ended;
+      begun = run.begun;
+      taken = run.taken;
+      names = ap (map known_of) items ∙ run.names;
+      lawful = subst (All (IsKnown shape)) (sym items) run.lawful;
+      once = subst HaveOwnNames (sym items) run.once;
+      met = run.met;
+      stands = (
+        begun.stands name spec a asks lawful (ap (λ s. s.shape) run.segment) stands.0,
+        stands.1,
+        subst (λ (l : List Known). NoneHasName l hist.asked.name.items) (sym items)
+            (subst (NoneHasName old.known.items) (ap (λ n. n.items) (sym begun.named)) none),
+      );
+      room = room;
+      draft = tt;
+    })
+begins_hist shape version name spec asked old new (Ok (Ended answered)) a asks lawful rests (new_is, known) run = subst (λ (r : ActorRun). IsRun shape version r a) (sym new_is) run
+begins_hist shape version name spec asked old new (Err error) a asks lawful rests same run = as_it_stood shape version old new a rests same run
+
+-- the next has another name, too
+pub none_further : (list : List Known) (name : List ℕ) (i : ℕ) (next : Known)
+    → ((j : ℕ) (known : Known) → j < i → get_elem? list j ≡ some known → known.name.items ≢ name) → get_elem? list i ≡ some next → next.name.items ≢ name
+    → (j : ℕ) (known : Known) → j < i + 1 → get_elem? list j ≡ some known → known.name.items ≢ name
+none_further list name i next before here other j known below at = dite (ℕ_discrete j i)
+    (λ same. λ named. other (ap (λ (k : Known). k.name.items) (some-injective next known (sym here ∙ (ap (get_elem? list) (sym same) ∙ at))) ∙ named))
+    (λ apart. before j known (omega (arith, below, apart)) at)

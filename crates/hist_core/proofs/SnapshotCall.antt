@@ -1,0 +1,5 @@
+-- The call `snapshot`.
+pub mod Looks
+pub mod Snapshots
+pub mod ValuesSeen
+pub mod Viewing

@@ -1,0 +1,308 @@
+-- A `snapshot` of an actor goes on, and what it is answered with.
+use Rattle.std.proofs.Common.{◌≡◌, ◌≤◌, ◌+◌, ◌-◌, ℕ, ℤ, pos, true, true≢false, arith, set, slice_index, List, [], length, map, take, All, refl, sym, ap, subst, ◌∙◌}
+use Rattle.std.specs.Prelude.{Option, Some, None}
+use Rattle.std.specs.List.{Contains}
+use Rattle.segment_image.specs.Shape.{Dimensions}
+use Rattle.segment_machine.specs.declared.actor.Actor.{Actor}
+use Rattle.segment_machine.specs.declared.actor.Known.{Known as MachineKnown}
+use Rattle.hist_core.specs.declared.call.Stepped.{Stepped}
+use Rattle.hist_core.specs.declared.call.Answer.TheVariants as answer
+use Rattle.hist_core.specs.declared.call.Stepped.TheVariants as stepped
+use Rattle.hist_core.specs.declared.snapshot_call.SnapshotCall.{SnapshotCall}
+use Rattle.hist_core.specs.declared.snapshot_call.SnapshotCallStep.{SnapshotCallStep}
+use Rattle.hist_core.specs.declared.snapshot_call.SnapshotCallStep.TheVariants.{More, Done}
+use Rattle.hist_core.specs.declared.actor_run.Running.{Running}
+use Rattle.hist_core.specs.declared.actor_run.Running.TheVariants.{Snapshot}
+use Rattle.hist_core.specs.declared.actor_run.ActorRun.{ActorRun}
+use Rattle.hist_core.specs.StepsBy.{StepsBy, IsFree, WalksInOrder}
+use Rattle.hist_core.specs.SnapshotCall.{HasLooked, IsSnapshotCall, IsSomeSnapshotCall, SnapshotCallGives, SnapshotCallSteps}
+use Rattle.hist_core.specs.ActorRun.{Advances, Answers, AreShown, BeginsSnapshot, IsKnown, known_of, IsAnswer, IsQuiet, IsRun, IsSnapshotAnnounced, IsSomeRun, StandsIn, begun_by, ended_by, looked_by, pending_by}
+use Rattle.std.specs.List.{range_with_len}
+use Rattle.std.proofs.lemmas.Simd.{map-map}
+use Rattle.std.proofs.lemmas.List.FromFn.{get_or-map-range_with_len, length-map-range_with_len}
+use mathlib.Core.Option.{some}
+use lib.ListN.{get_elem?}
+use Rattle.alloc_core.specs.Layout.{IsShape}
+use Rattle.atomic_table.proofs.Lists.{set_here}
+use Rattle.bucket_ranges.specs.Ranges.{boundaries_of}
+use Rattle.bucket_ranges.specs.Spec.{buckets_of, spec_fault}
+use Rattle.bucket_ranges.proofs.Ascent.{boundaries_of-split}
+use Rattle.segment_invariant.specs.Body.{blank}
+use Rattle.segment_invariant.proofs.Lists.Elements.{all_at, contains_at}
+use Rattle.segment_invariant.proofs.Lists.Maps.{contains_map}
+use Rattle.segment_promises.proofs.Reached.{states_are_kept}
+use Rattle.segment_machine.specs.State.{State}
+use Rattle.segment_machine.specs.Actor.{bucket_key, has_buckets, known_at}
+use Rattle.hist_core.specs.declared.world_state.WorldState.{WorldState}
+use Rattle.hist_core.specs.declared.hist.Known.{Known}
+use Rattle.hist_core.specs.WorldState.{IsReachedAs, LooksAt}
+use Rattle.hist_core.specs.SnapshotCall.{HasListed, HasSeenValues, HasTotal, IsStarted, OpensWith, StandsAtStage, blank_totals}
+use Rattle.hist_core.specs.declared.snapshot_call.Stage.{Stage}
+use Rattle.hist_core.specs.declared.snapshot_call.Stage.TheVariants.{LoadingSingle, LoadingCounts, LoadingCount, Walking, LoadingSample, LoadingSum, LoadingRedundant}
+use Rattle.hist_core.specs.declared.walk.Walk.TheVariants.{LoadingFirst, LoadingType, LoadingHistogram, LoadingValue, LoadingNext}
+use Rattle.segment_promises.proofs.ListedValues.{lists_nothing}
+use Rattle.hist_core.proofs.Parts.Allocations.{goes_with}
+use Rattle.hist_core.proofs.HistCall.Asking.{place_below, runs_on}
+use Rattle.hist_core.proofs.Worlds.WorldStates.{same_there}
+use Rattle.hist_core.proofs.AddCall.Opening.{alone_there}
+use Rattle.hist_core.proofs.Worlds.Apart.{asks_not, adds_not, batches_not}
+use Rattle.hist_core.proofs.Worlds.Free.{free_apart, free_turns}
+use Rattle.hist_core.proofs.Worlds.Quiet.{begun_there, met_split, not_spent, quiet_on, takes_none, takes_not}
+
+abbrev looks_by : SnapshotCall → Option Running → SnapshotCall
+looks_by d (Some (Snapshot snapshot_call)) = snapshot_call
+looks_by d running = d
+
+pub some_snapshot_call : (n : ℕ) (actor_run : ActorRun) (snapshot_call : SnapshotCall) → actor_run.running ≡ Some (Snapshot snapshot_call) → IsSomeRun n actor_run → IsSomeSnapshotCall n snapshot_call
+some_snapshot_call n actor_run snapshot_call is (shape, version, a, long, wide, run) =
+    let stands = subst (λ running. StandsIn shape actor_run.known.items (pending_by actor_run) running a) is run.stands in
+    (shape, stands.1.0, a, long, stands.1.1)
+
+module _ (shape : Dimensions) (version : ℕ) (old : ActorRun) (a : Actor) (run : IsRun shape version old a) (snapshot_call now : SnapshotCall)
+    (is : old.running ≡ Some (Snapshot snapshot_call)) (same : now.histogram ≡ snapshot_call.histogram) (words new_words : List ℕ) (long : length words ≡ shape.size)
+    (order : WalksInOrder a) where
+  stands : StandsIn shape old.known.items (pending_by old) (Some (Snapshot snapshot_call)) a
+  stands = subst (λ running. StandsIn shape old.known.items (pending_by old) running a) is run.stands
+
+  abbrev known : MachineKnown
+  known = stands.1.0
+
+  looks : IsSnapshotCall shape known snapshot_call a
+  looks = stands.1.1
+
+  one_version : snapshot_call.version ≡ version
+  one_version = sym looks.version ∙ ap (λ s. s.version) run.segment
+
+  -- it has ended: of what its actor has counted and knows nothing has changed
+  rests_then : (b : Actor) (sum : ℤ) (redundant : ℕ) → IsFree b → HasLooked known now sum redundant a b → IsRun shape version (record old { running = None }) b
+  rests_then b sum redundant turns looked =
+      let c : Actor = record b { deltas = a.deltas } in
+      let quiet = quiet_on (pending_by old) a c looked.beside.units looked.beside.entries refl stands.0 in
+      let then_is : IsRun shape version (record old { running = None }) c = runs_on shape version old a run c None looked.beside (turns, quiet) tt tt in
+      let deltas = looked.deltas in record {
+        records = then_is.records;
+        segment = then_is.segment;
+        first = then_is.first;
+        within = then_is.within;
+        ended = then_is.ended;
+        begun = then_is.begun;
+        taken = subst (AreShown old.taken.items) (sym (ap (λ d. d.taken) deltas)) run.taken;
+        names = then_is.names;
+        lawful = then_is.lawful;
+        once = then_is.once;
+        met = then_is.met;
+        stands = (
+          turns,
+          record { none = quiet.none; runs = quiet.runs; holds = quiet.holds; share = quiet.share; takes = ap (λ d. d.taking) deltas ∙ quiet.takes },
+        );
+        room = tt;
+        draft = tt;
+      }
+
+  is_answer : (b : Actor) (sum : ℤ) (redundant : ℕ) → HasLooked known now sum redundant a b
+      → IsAnswer (looked_by old.running) (record { counts = now.totals; sum = sum; redundant = redundant }) b
+  is_answer b sum redundant looked = record {
+    known = known;
+    knows = subst (λ l. Contains l known) (sym looked.beside.names) looks.knows;
+    reference = looks.reference ∙ sym (ap looked_by is);
+    before = a.deltas.snapshots;
+    answered = looked.answered;
+    snapshots = ap (λ d. d.snapshots) looked.deltas;
+    name = looked.name;
+    counts = looked.counts;
+    sum = looked.sum_is;
+    redundant = looked.redundant_is;
+    saw = looked.saw;
+  }
+
+  its_steps : (said : SnapshotCallStep) → SnapshotCallSteps snapshot_call words now new_words said → StepsBy shape.size version a words new_words (SnapshotCallGives shape known now said a)
+  its_steps said steps = subst (λ (v : ℕ). StepsBy shape.size v a words new_words (SnapshotCallGives shape known now said a)) one_version (steps shape known a long order looks)
+
+  -- what the machine's actor does, and what becomes of that at run time
+  pub snapshot_goes : (said : SnapshotCallStep) (new : ActorRun) (result : Stepped) → SnapshotCallSteps snapshot_call words now new_words said
+      → IsSnapshotAnnounced (record old { running = Some (Snapshot now) }) said new result → Advances shape version old words new new_words result a
+  snapshot_goes More new result steps (new_is, result_is) =
+      subst (λ said. Advances shape version old words new new_words said a) (sym result_is) (goes_with (its_steps More steps) (λ b (beside, looks_on).
+      subst (λ (r : ActorRun). IsRun shape version r b) (sym new_is)
+      (runs_on shape version old a run b (Some (Snapshot now)) beside (quiet_on (pending_by old) a b beside.units beside.entries beside.deltas stands.0, (known, looks_on)) tt tt)))
+  snapshot_goes (Done sum redundant) new result steps (other, is_other, new_is, result_is) =
+      let here : other ≡ now = sym (ap (looks_by now) is_other) in
+      let said_is : result ≡ stepped.Done (answer.Snapshot (record { counts = now.totals; sum = sum; redundant = redundant })) =
+      result_is ∙ ap (λ (x : SnapshotCall). stepped.Done (answer.Snapshot (record { counts = x.totals; sum = sum; redundant = redundant }))) here in
+      subst (λ said. Advances shape version old words new new_words said a) (sym said_is) (goes_with (its_steps (Done sum redundant) steps) (λ b (turns, looked). (
+        subst (λ (r : ActorRun). IsRun shape version r b) (sym new_is) (rests_then b sum redundant turns looked),
+        is_answer b sum redundant looked,
+      )))
+
+-- ---- what is answered
+
+module _ (old : ActorRun) (snapshot_call now : SnapshotCall) (is : old.running ≡ Some (Snapshot snapshot_call)) (same : now.histogram ≡ snapshot_call.histogram) (words new_words : List ℕ)
+    (all : length old.entries.items ≡ old.ended) (unbegun : old.begun ≡ old.ended) where
+  pub snapshot_answers : (said : SnapshotCallStep) (new : ActorRun) (result : Stepped) → IsSnapshotAnnounced (record old { running = Some (Snapshot now) }) said new result
+      → Answers old words new new_words result
+  snapshot_answers More new result (new_is, result_is) =
+      subst (Answers old words new new_words) (sym result_is) (
+        (
+          ap (λ (r : ActorRun). r.known.items) new_is,
+          (λ asked is_asked. absurd (subst asks_not (sym is ∙ is_asked) tt)),
+          (λ add is_add. absurd (subst adds_not (sym is ∙ is_add) tt)),
+          (λ other is_other. (now, ap (λ (r : ActorRun). r.running) new_is, same ∙ ap (λ (x : SnapshotCall). x.histogram) (ap (looks_by snapshot_call) (sym is ∙ is_other)))),
+          (λ delta_call fresh is_delta_call. absurd (subst takes_not (sym is ∙ is_delta_call) tt)),
+          (λ batch is_batch. absurd (subst batches_not (sym is ∙ is_batch) tt)),
+        ),
+        (ap ended_by new_is, ap begun_by new_is ∙ begun_there old all unbegun, ap pending_by new_is),
+        takes_none old new stepped.More (subst takes_not (sym is) tt) (ap (λ (r : ActorRun). r.taken.items) new_is),
+      )
+  snapshot_answers (Done sum redundant) new result (other, is_other, new_is, result_is) =
+      subst (Answers old words new new_words) (sym result_is) (
+        ((snapshot_call, is), ap (λ (r : ActorRun). r.running) new_is, ap (λ (r : ActorRun). r.known.items) new_is),
+        (ap ended_by new_is, ap begun_by new_is ∙ (ap (λ n. take n old.entries.items) unbegun ∙ sym (ap ended_by new_is))),
+        takes_none old new _ (subst takes_not (sym is) tt) (ap (λ (r : ActorRun). r.taken.items) new_is),
+      )
+
+-- ---- it begins
+
+-- the keys of the buckets of a histogram
+keys_of_buckets : (known : MachineKnown) → spec_fault known.spec ≡ None → has_buckets known.spec ≡ true
+    → (map (λ (total : ℤ × ℕ). total.0) (blank_totals (boundaries_of known.spec)) ≡ map (bucket_key (Some known)) (range_with_len 0 (buckets_of known.spec)))
+    × (length (blank_totals (boundaries_of known.spec)) ≡ buckets_of known.spec)
+keys_of_buckets known lawful has =
+    let split = boundaries_of-split known.spec lawful (λ sparse. true≢false (sym has ∙ ap has_buckets sparse)) in
+    let count = split.count in
+    let boundaries = boundaries_of known.spec in
+    let n : length (boundaries_of known.spec) - 1 ≡ buckets_of known.spec = omega (arith, count) in (
+      map-map (λ (total : ℤ × ℕ). total.0) (λ i. (pos (slice_index boundaries i), 0)) (range_with_len 0 (length boundaries - 1))
+          ∙ (λ j. map (λ i. pos (slice_index boundaries i)) (range_with_len 0 (n j))),
+      length-map-range_with_len (λ i. (pos (slice_index boundaries i), 0)) 0 (length boundaries - 1) ∙ n,
+    )
+
+no_units : (boundaries : List ℕ) → All (λ total. total.1 ≡ 0) (blank_totals boundaries)
+no_units boundaries k d below =
+    let blank_one : ℕ → ℤ × ℕ = λ i. (pos (slice_index boundaries i), 0) in
+    let long = length-map-range_with_len blank_one 0 (length boundaries - 1) in
+    ap (λ (total : ℤ × ℕ). total.1) (get_or-map-range_with_len blank_one 0 (length boundaries - 1) k k d (omega (arith, below, long)) (omega arith))
+
+-- who rests begins it, which is no event
+module _ (shape : Dimensions) (version : ℕ) (known : Known) (old new : ActorRun) (starts : BeginsSnapshot shape version known old new) (i : ℕ)
+    (at : get_elem? old.known.items i ≡ some known) (rests : old.running ≡ None) where
+  module _ (a : Actor) (run : IsRun shape version old a) (lawful : IsShape shape) (alone : known_at a.answers.names known.reference ≡ Some (known_of known)) where
+    stood : IsFree a × IsQuiet (pending_by old) a
+    stood = subst (λ running. StandsIn shape old.known.items (pending_by old) running a) rests run.stands
+
+    its_known : IsKnown shape known
+    its_known = all_at (IsKnown shape) old.known.items i known run.lawful at
+
+    abbrev snapshot_call : SnapshotCall
+    snapshot_call = starts.0
+
+    abbrev HasBlanks : List (ℤ × ℕ) → Type 0
+    HasBlanks totals = (map (λ (total : ℤ × ℕ). total.0) totals ≡ map (bucket_key (Some (known_of known))) (range_with_len 0 (buckets_of known.spec)))
+        × (length totals ≡ buckets_of known.spec)
+
+    started : IsStarted shape version (known_of known) snapshot_call
+    started = starts.1
+
+    knows : Contains a.answers.names (known_of known)
+    knows = subst (λ (l : List MachineKnown). Contains l (known_of known)) run.names (contains_map known_of old.known.items known (contains_at old.known.items i known at))
+
+    -- of a histogram with buckets it stands before the single word, of a sparse one at the record
+    stands_first : (stage : Stage) → OpensWith shape (known_of known) snapshot_call stage → StandsAtStage shape (known_of known) snapshot_call a stage
+    stands_first LoadingSingle (has, blank) =
+        let keys : HasBlanks snapshot_call.totals.items = subst HasBlanks (sym blank) (keys_of_buckets (known_of known) its_known.lawful has) in (
+          record { bucketed = has; keys = keys.0; buckets = keys.1 },
+          subst (All (λ total. total.1 ≡ 0)) (sym blank) (no_units (boundaries_of known.spec)),
+        )
+    stands_first (Walking LoadingFirst) (sparse, none, room) = (
+      room,
+      (
+        record { sparse = sparse; apart = free_apart a.hand.place stood.0; met = met_split a.seen.chain known.reference (run.met (known_of known) knows) },
+        λ b. subst (λ (l : List (ℤ × ℕ)). HasSeenValues (known_of known) [] l b) (sym none) (lists_nothing (HasListed [] b) (HasTotal b) known.reference b.seen),
+      ),
+    )
+    stands_first (Walking (LoadingType at)) none = absurd none
+    stands_first (Walking (LoadingHistogram at)) none = absurd none
+    stands_first (Walking (LoadingValue at of)) none = absurd none
+    stands_first (Walking (LoadingNext at)) none = absurd none
+    stands_first (LoadingCounts packed kept) none = absurd none
+    stands_first (LoadingCount mounted bucket) none = absurd none
+    stands_first (LoadingSample at value) none = absurd none
+    stands_first LoadingSum none = absurd none
+    stands_first (LoadingRedundant sum) none = absurd none
+
+    begins_looking : IsSnapshotCall shape (known_of known) snapshot_call a
+    begins_looking = record {
+      segment = ap (λ s. s.shape) run.segment;
+      version = ap (λ s. s.version) run.segment ∙ sym started.versioned;
+      lawful_shape = lawful;
+      recorder = run.records;
+      counts_nothing = stood.1.runs;
+      takes_nothing = stood.1.takes;
+      turns = free_turns a.hand.place stood.0;
+      reference = sym started.reference;
+      within = subst (λ n. n + 15 ≤ shape.size) (sym started.reference) its_known.within;
+      lawful = its_known.lawful;
+      knows = knows;
+      alone = alone;
+      stands = stands_first snapshot_call.stage started.opens;
+    }
+
+    pub begins_with : IsRun shape version new a
+    begins_with = subst (λ (r : ActorRun). IsRun shape version r a) (sym starts.2) (record {
+      records = run.records;
+      segment = run.segment;
+      first = run.first;
+      within = run.within;
+      ended = run.ended;
+      begun = run.begun;
+      taken = run.taken;
+      names = run.names;
+      lawful = run.lawful;
+      once = run.once;
+      met = run.met;
+      stands = (stood.1, (known_of known, begins_looking));
+      room = tt;
+      draft = tt;
+    })
+
+-- on a world_state
+module _ (old new : WorldState) (actor : ℕ) (r now : ActorRun) (here : get_elem? old.actor_runs.items actor ≡ some r) (place : ℕ) (known : Known)
+    (at : get_elem? r.known.items place ≡ some known) (rests : r.running ≡ None) (shaped : new.shape ≡ old.shape) (versioned : new.version ≡ old.version)
+    (worded : new.words ≡ old.words) (pooled : new.units ≡ old.units) (actor_runs : new.actor_runs.items ≡ set old.actor_runs.items actor now) where
+  -- a call on a known histogram begins, which is no event
+  pub call_begins : ((a : Actor) → IsRun old.shape old.version r a → IsShape old.shape → known_at a.answers.names known.reference ≡ Some (known_of known)
+      → IsRun old.shape old.version now a) → (state : State) → IsReachedAs old state → IsReachedAs new state
+  call_begins begins state reach =
+      let kept = states_are_kept old.shape old.version reach.id 0 state reach.reached in
+      same_there old state reach actor r now new here (λ a there run.
+      let free = free_turns a.hand.place (subst (λ running. StandsIn old.shape r.known.items (pending_by r) running a) rests run.stands).0 in
+      begins a run reach.reached.0
+      (alone_there old.shape (blank old.version reach.id old.shape.size) state kept (actor + 1) a there (not_spent a.hand.place free) r.known.items run.once run.names place known at))
+      shaped versioned pooled (ap (λ w. w.items) worded) actor_runs
+
+  pub snapshot_begins : BeginsSnapshot old.shape old.version known r now → (state : State) → IsReachedAs old state → IsReachedAs new state
+  snapshot_begins starts = call_begins (begins_with old.shape old.version known r now starts place at rests)
+
+-- so it is among the actors
+pub call_begun : (IsOf : ℕ → Option Running → Type 0) (actor_runs : List ActorRun) (actor : ℕ) (r now : ActorRun) → get_elem? actor_runs actor ≡ some r → (place : ℕ) (known : Known)
+    → get_elem? r.known.items place ≡ some known → now.known.items ≡ r.known.items → now.taken.items ≡ r.taken.items → IsOf known.reference now.running
+    → (name : List ℕ) → known.name.items ≡ name
+    → (before behind : ActorRun) × (get_elem? actor_runs actor ≡ some before) × (get_elem? (set actor_runs actor now) actor ≡ some behind)
+    × (behind.taken.items ≡ before.taken.items)
+    × ((k : Known) × Contains behind.known.items k × (k.name.items ≡ name) × IsOf k.reference behind.running)
+call_begun IsOf actor_runs actor r now here place known at same taken is name named = (
+  r,
+  now,
+  here,
+  set_here actor_runs actor now (place_below actor_runs actor r here),
+  taken,
+  (known, subst (λ (l : List Known). Contains l known) (sym same) (contains_at r.known.items place known at), named, is),
+)
+
+pub snapshot_begun : {shape : Dimensions} {version : ℕ} (actor_runs : List ActorRun) (actor : ℕ) (r now : ActorRun) → get_elem? actor_runs actor ≡ some r → (place : ℕ) (known : Known)
+    → get_elem? r.known.items place ≡ some known → BeginsSnapshot shape version known r now → (name : List ℕ) → known.name.items ≡ name
+    → (before behind : ActorRun) × (get_elem? actor_runs actor ≡ some before) × (get_elem? (set actor_runs actor now) actor ≡ some behind)
+    × (behind.taken.items ≡ before.taken.items)
+    × ((k : Known) × Contains behind.known.items k × (k.name.items ≡ name) × LooksAt k.reference behind.running)
+snapshot_begun actor_runs actor r now here place known at starts =
+    call_begun LooksAt actor_runs actor r now here place known at (ap (λ (x : ActorRun). x.known.items) starts.2) (ap (λ (x : ActorRun). x.taken.items) starts.2)
+    (subst (LooksAt known.reference) (sym (ap (λ (x : ActorRun). x.running) starts.2)) starts.1.reference)

@@ -1,0 +1,5 @@
+-- Walks along the list, and shared cursors.
+pub mod Orders
+pub mod Passing
+pub mod SampleLists
+pub mod Walking

@@ -1,0 +1,73 @@
+-- How the running call of an actor goes on, by what its next event is.
+use Rattle.std.proofs.Common.{◌≡◌, ◌≤◌, ℕ, List, [], inl, refl, subst}
+use Rattle.std.specs.Prelude.{Some, None}
+use Rattle.segment_image.specs.Shape.{Dimensions}
+use Rattle.segment_image.specs.Words.{word_at}
+use Rattle.segment_image.specs.declared.layout.TheConstants.{HEADER_WORDS}
+use Rattle.alloc_core.specs.Event as atomic
+use Rattle.segment_machine.specs.declared.actor.Actor.{Actor}
+use Rattle.segment_machine.specs.Event.{allocating_event, next}
+use Rattle.segment_machine.specs.Allocating.{set_flag}
+use Rattle.hist_core.specs.declared.actor_run.Running.TheVariants.{SetCorrupt}
+use Rattle.hist_core.specs.declared.actor_run.ActorRun.{ActorRun}
+use Rattle.hist_core.specs.ActorRun.{IsRun, StandsIn, Advances, pending_by}
+use Rattle.hist_core.specs.declared.call.Answer.TheVariants.{Flagged}
+use Rattle.hist_core.specs.declared.call.Stepped.TheVariants.{Done}
+use Rattle.hist_core.proofs.Worlds.Free.{free_turns}
+use Rattle.hist_core.proofs.Worlds.Quiet.{quiet_on}
+
+-- the one event of `set_corrupt`
+pub sets_corrupt : (shape : Dimensions) (version : ℕ) (a : Actor) (old : ActorRun) (words new_words : List ℕ) → HEADER_WORDS ≤ shape.size
+    → IsRun shape version old a → old.running ≡ Some SetCorrupt → new_words ≡ atomic.after (atomic.set_flag 1) words
+    → Advances shape version old words (record old { running = None }) new_words (Done Flagged) a
+sets_corrupt shape version a old words new_words long run is stored =
+    let stands = subst (λ running. StandsIn shape old.known.items (pending_by old) running a) is run.stands in
+    record {
+      before = [];
+      at = a;
+      told = refl;
+      event = allocating_event (set_flag 1);
+      ready = (free_turns a.hand.place stands.0, inl refl);
+      words_are = stored;
+      goes = λ learned apart. (
+        [],
+        next a (allocating_event (set_flag 1)) (word_at words 6),
+        refl,
+        record {
+          records = run.records;
+          segment = run.segment;
+          first = run.first;
+          within = run.within;
+          ended = run.ended;
+          begun = run.begun;
+          taken = run.taken;
+          names = run.names;
+          lawful = run.lawful;
+          once = run.once;
+          met = run.met;
+          stands = (refl, quiet_on (pending_by old) a (next a (allocating_event (set_flag 1)) (word_at words 6)) refl refl refl stands.1);
+          room = tt;
+          draft = tt;
+        },
+      );
+    }
+
+-- who rests begins it, which is no event
+pub begins_set_corrupt : (shape : Dimensions) (version : ℕ) (r : ActorRun) (a : Actor) → r.running ≡ None → IsRun shape version r a
+    → IsRun shape version (record r { running = Some SetCorrupt }) a
+begins_set_corrupt shape version r a rests run = record {
+  records = run.records;
+  segment = run.segment;
+  first = run.first;
+  within = run.within;
+  ended = run.ended;
+  begun = run.begun;
+  taken = run.taken;
+  names = run.names;
+  lawful = run.lawful;
+  once = run.once;
+  met = run.met;
+  room = tt;
+  draft = tt;
+  stands = subst (λ running. StandsIn shape r.known.items (pending_by r) running a) rests run.stands;
+}

@@ -1,0 +1,156 @@
+use Rattle.std.proofs.Common.{◌≤◌, ◌<◌, ◌+◌, take, length, ap, sym, subst, ◌∙◌, refl, arith, rules, vec_len}
+use Rattle.std.specs.Prelude.{Some, None, vec_capacity}
+use Rattle.std.proofs.Props.{props}
+use Rattle.std.proofs.Math.Logic.{∥∥₁_elim}
+use Rattle.hist_core.specs.ActorRun.{HasRoom}
+use Rattle.hist_core.proofs.AddCall.Adding.{add_goes, add_answers, some_add}
+use Rattle.hist_core.proofs.BatchCall.Batched.{batch_goes, batch_answers, some_batch, pending_there, added_few}
+use Rattle.hist_core.proofs.HistCall.Asking.{some_hist, some_words, some_room, hist_goes, hist_answers}
+use Rattle.hist_core.proofs.Worlds.Quiet.{counts_none, some_quiet, some_within, takes_none, takes_not}
+use Rattle.hist_core.proofs.DeltaCall.Deltas.{delta_answers, delta_goes, has_place, some_draft, some_delta_call}
+use Rattle.hist_core.proofs.Worlds.ActorRuns.{sets_corrupt}
+use Rattle.hist_core.proofs.SnapshotCall.Viewing.{snapshot_answers, snapshot_goes, some_snapshot_call}
+use Rattle.hist_core.proofs.actor_run.ActorRun.advance.Goals as goal
+
+pub set_bits-requires : goal.set_bits-requires
+set_bits-requires c =
+    let wide : 16 ≤ length c.args.words.now = ∥∥₁_elim c.requires.stands (hlevel props) (λ some. some_words (length c.args.words.now) c.args.self.now some) in omega (arith, wide)
+
+pub returns-in-Some-SetCorrupt-clause-advances : goal.returns-in-Some-SetCorrupt-clause-advances
+returns-in-Some-SetCorrupt-clause-advances c = λ shape version a size order run.
+    sets_corrupt shape version a c.args.self.now c.args.words.now c.set_bits.new.words
+    (subst (λ n. 16 ≤ n) (sym size) (∥∥₁_elim c.requires.stands (hlevel props) (λ some. some_words (length c.args.words.now) c.args.self.now some)))
+    run (c.in-Some-SetCorrupt.is ∙ ap Some c.in-Some-SetCorrupt.field-0-is) c.set_bits.ensures.words
+
+pub returns-in-Some-SetCorrupt-clause-answers : goal.returns-in-Some-SetCorrupt-clause-answers
+returns-in-Some-SetCorrupt-clause-answers c =
+    let wide : 16 ≤ length c.args.words.now = ∥∥₁_elim c.requires.stands (hlevel props) (λ some. some_words (length c.args.words.now) c.args.self.now some) in
+    let near : 6 < length c.args.words.now = omega (arith, wide) in
+    let unbegun = ∥∥₁_elim c.requires.stands (hlevel props) (λ some.
+    some_quiet (length c.args.words.now) c.args.self.now (subst counts_none (sym (c.in-Some-SetCorrupt.is ∙ ap Some c.in-Some-SetCorrupt.field-0-is)) tt) some) in
+    let its = c.in-Some-SetCorrupt.is ∙ ap Some c.in-Some-SetCorrupt.field-0-is in (
+      (search rules, refl, refl),
+      (refl, λ i. take (unbegun.1 i) c.args.self.now.entries.items),
+      takes_none c.args.self.now (record c.args.self.now { running = None }) _ (subst takes_not (sym its) tt) refl,
+    )
+
+pub step-said-requires : goal.step-said-requires
+step-said-requires c = record {
+  stands = ∥∥₁_elim c.requires.stands (hlevel props) (λ some.
+      ∣ some_hist (length c.args.words.now) c.args.self.now c.in-Some-Hist.hist (c.in-Some-Hist.is ∙ ap Some c.in-Some-Hist.field-0-is) some ∣₁);
+}
+
+pub hist_said-requires : goal.hist_said-requires
+hist_said-requires c = record {
+  room = ∥∥₁_elim c.requires.stands (hlevel props) (λ some.
+      subst (λ running. HasRoom running (vec_len c.args.self.now.known) (vec_capacity c.args.self.now.known)) (c.in-Some-Hist.is ∙ ap Some c.in-Some-Hist.field-0-is)
+      (some_room (length c.args.words.now) c.args.self.now some));
+  asks = tt;
+}
+
+pub returns-in-Some-Hist-clause-advances : goal.returns-in-Some-Hist-clause-advances
+returns-in-Some-Hist-clause-advances c = λ shape version a size order run.
+    hist_goes shape version c.args.self.now a run c.in-Some-Hist.hist c.step-said.new.self (c.in-Some-Hist.is ∙ ap Some c.in-Some-Hist.field-0-is) c.step-said.ensures.asks
+    c.args.words.now c.step-said.new.words (sym size) c.step-said.result c.hist_said.new.self c.hist_said.result c.step-said.ensures.steps c.hist_said.ensures
+
+pub returns-in-Some-Hist-clause-answers : goal.returns-in-Some-Hist-clause-answers
+returns-in-Some-Hist-clause-answers c =
+    let its = c.in-Some-Hist.is ∙ ap Some c.in-Some-Hist.field-0-is in
+    let unbegun = ∥∥₁_elim c.requires.stands (hlevel props) (λ some. some_quiet (length c.args.words.now) c.args.self.now (subst counts_none (sym its) tt) some) in
+    hist_answers c.args.self.now c.in-Some-Hist.hist c.step-said.new.self its c.step-said.ensures.asks
+    c.args.words.now c.step-said.new.words unbegun.0 unbegun.1 c.step-said.result c.hist_said.new.self c.hist_said.result c.hist_said.ensures
+
+pub step-said-requires-in-Some-Add : goal.step-said-requires-in-Some-Add
+step-said-requires-in-Some-Add c = record {
+  stands = ∥∥₁_elim c.requires.stands (hlevel props) (λ (shape, version, a, long, wide, run).
+      ∣ some_add shape version c.args.self.now c.in-Some-Add.add (c.in-Some-Add.is ∙ ap Some c.in-Some-Add.field-0-is) (length c.args.words.now) a run long ∣₁);
+}
+
+pub add_said-requires : goal.add_said-requires
+add_said-requires c = record { within = ∥∥₁_elim c.requires.stands (hlevel props) (λ some. (let within = some_within (length c.args.words.now) c.args.self.now some in omega (arith, within))) }
+
+pub returns-in-Some-Add-clause-advances : goal.returns-in-Some-Add-clause-advances
+returns-in-Some-Add-clause-advances c = λ shape version a size order run.
+    add_goes shape version c.args.self.now c.in-Some-Add.add (c.in-Some-Add.is ∙ ap Some c.in-Some-Add.field-0-is) a run c.step-said-in-Some-Add.new.self c.step-said-in-Some-Add.ensures.same
+    c.args.words.now c.step-said-in-Some-Add.new.words (sym size) c.step-said-in-Some-Add.result c.add_said.new.self c.add_said.result c.step-said-in-Some-Add.ensures.steps c.add_said.ensures
+
+pub returns-in-Some-Add-clause-answers : goal.returns-in-Some-Add-clause-answers
+returns-in-Some-Add-clause-answers c =
+    add_answers c.args.self.now c.in-Some-Add.add c.step-said-in-Some-Add.new.self (c.in-Some-Add.is ∙ ap Some c.in-Some-Add.field-0-is) c.step-said-in-Some-Add.ensures.same
+    c.args.words.now c.step-said-in-Some-Add.new.words c.step-said-in-Some-Add.result c.add_said.new.self c.add_said.result c.add_said.ensures
+
+pub step-said-requires-in-Some-Snapshot : goal.step-said-requires-in-Some-Snapshot
+step-said-requires-in-Some-Snapshot c = record {
+  stands = ∥∥₁_elim c.requires.stands (hlevel props) (λ some.
+      ∣ some_snapshot_call (length c.args.words.now) c.args.self.now c.in-Some-Snapshot.snapshot_call (c.in-Some-Snapshot.is ∙ ap Some c.in-Some-Snapshot.field-0-is) some ∣₁);
+}
+
+pub returns-in-Some-Snapshot-clause-advances : goal.returns-in-Some-Snapshot-clause-advances
+returns-in-Some-Snapshot-clause-advances c = λ shape version a size order run.
+    snapshot_goes shape version c.args.self.now a run c.in-Some-Snapshot.snapshot_call c.step-said-in-Some-Snapshot.new.self (c.in-Some-Snapshot.is ∙ ap Some c.in-Some-Snapshot.field-0-is)
+    c.step-said-in-Some-Snapshot.ensures.of c.args.words.now c.args.words.now (sym size) order c.step-said-in-Some-Snapshot.result c.snapshot_said.new.self c.snapshot_said.result
+    c.step-said-in-Some-Snapshot.ensures.steps c.snapshot_said.ensures
+
+pub returns-in-Some-Snapshot-clause-answers : goal.returns-in-Some-Snapshot-clause-answers
+returns-in-Some-Snapshot-clause-answers c =
+    let its = c.in-Some-Snapshot.is ∙ ap Some c.in-Some-Snapshot.field-0-is in
+    let unbegun = ∥∥₁_elim c.requires.stands (hlevel props) (λ some. some_quiet (length c.args.words.now) c.args.self.now (subst counts_none (sym its) tt) some) in
+    snapshot_answers c.args.self.now c.in-Some-Snapshot.snapshot_call c.step-said-in-Some-Snapshot.new.self its c.step-said-in-Some-Snapshot.ensures.of
+    c.args.words.now c.args.words.now unbegun.0 unbegun.1 c.step-said-in-Some-Snapshot.result c.snapshot_said.new.self c.snapshot_said.result c.snapshot_said.ensures
+
+pub step-said-requires-in-Some-Delta : goal.step-said-requires-in-Some-Delta
+step-said-requires-in-Some-Delta c = record {
+  stands = ∥∥₁_elim c.requires.stands (hlevel props) (λ some.
+      ∣ some_delta_call (length c.args.words.now) c.args.self.now c.in-Some-Delta.delta_call c.in-Some-Delta.field-0-1 (c.in-Some-Delta.is ∙ ap Some c.in-Some-Delta.field-0-is) some ∣₁);
+}
+
+pub delta_said-requires : goal.delta_said-requires
+delta_said-requires c = record {
+  place = has_place (length c.args.words.now) c.args.self.now c.in-Some-Delta.delta_call c.step-said-in-Some-Delta.new.self c.step-said-in-Some-Delta.result
+      c.step-said-in-Some-Delta.ensures.lists c.step-said-in-Some-Delta.ensures.room c.requires.stands c.in-Some-Delta.field-0-1 (c.in-Some-Delta.is ∙ ap Some c.in-Some-Delta.field-0-is);
+}
+
+pub returns-in-Some-Delta-clause-advances : goal.returns-in-Some-Delta-clause-advances
+returns-in-Some-Delta-clause-advances c = λ shape version a size order run.
+    delta_goes shape version c.args.self.now a run c.in-Some-Delta.delta_call c.step-said-in-Some-Delta.new.self c.in-Some-Delta.field-0-1 (c.in-Some-Delta.is ∙ ap Some c.in-Some-Delta.field-0-is)
+    c.args.words.now c.step-said-in-Some-Delta.new.words (sym size) c.step-said-in-Some-Delta.ensures.begun c.step-said-in-Some-Delta.ensures.room order
+    c.step-said-in-Some-Delta.result c.delta_said.new.self c.delta_said.result c.step-said-in-Some-Delta.ensures.steps c.step-said-in-Some-Delta.ensures.lists
+    (c.delta_said.ensures c.step-said-in-Some-Delta.new.self c.in-Some-Delta.field-0-1 refl)
+
+pub returns-in-Some-Delta-clause-answers : goal.returns-in-Some-Delta-clause-answers
+returns-in-Some-Delta-clause-answers c =
+    let its = c.in-Some-Delta.is ∙ ap Some c.in-Some-Delta.field-0-is in
+    let unbegun = ∥∥₁_elim c.requires.stands (hlevel props) (λ some. some_quiet (length c.args.words.now) c.args.self.now (subst counts_none (sym its) tt) some) in
+    delta_answers c.args.self.now c.in-Some-Delta.delta_call c.step-said-in-Some-Delta.new.self c.in-Some-Delta.field-0-1 its c.step-said-in-Some-Delta.ensures.of
+    c.args.words.now c.step-said-in-Some-Delta.new.words unbegun.0 unbegun.1
+    (λ before last same. ∥∥₁_elim c.requires.stands (hlevel props) (λ some. some_draft (length c.args.words.now) c.args.self.now c.in-Some-Delta.delta_call c.in-Some-Delta.field-0-1 its before last same some))
+    c.step-said-in-Some-Delta.result c.delta_said.new.self c.delta_said.result c.step-said-in-Some-Delta.ensures.lists
+    (c.delta_said.ensures c.step-said-in-Some-Delta.new.self c.in-Some-Delta.field-0-1 refl)
+
+pub step-said-requires-in-Some-Batch : goal.step-said-requires-in-Some-Batch
+step-said-requires-in-Some-Batch c = record {
+  stands = ∥∥₁_elim c.requires.stands (hlevel props) (λ (shape, version, a, long, wide, run).
+      ∣ some_batch shape version c.args.self.now c.in-Some-Batch.batch (c.in-Some-Batch.is ∙ ap Some c.in-Some-Batch.field-0-is) (length c.args.words.now) a run long ∣₁);
+}
+
+pub batch_said-requires : goal.batch_said-requires
+batch_said-requires c = record {
+  within =
+      let fits : c.args.self.now.ended + vec_len c.in-Some-Batch.batch.items ≤ length c.args.self.now.entries.items = ∥∥₁_elim c.requires.stands (hlevel props) (λ (shape, version, a, long, wide, run).
+      pending_there shape version c.args.self.now c.in-Some-Batch.batch (c.in-Some-Batch.is ∙ ap Some c.in-Some-Batch.field-0-is) a run) in
+      let few = added_few c.in-Some-Batch.batch c.step-said-in-Some-Batch.new.self c.step-said-in-Some-Batch.result c.step-said-in-Some-Batch.ensures.refused in
+      let ok = c.args.self.now.entries.ok.0 in omega (arith, fits, few, ok);
+}
+
+pub returns-in-Some-Batch-clause-advances : goal.returns-in-Some-Batch-clause-advances
+returns-in-Some-Batch-clause-advances c = λ shape version a size order run.
+    batch_goes shape version c.args.self.now c.in-Some-Batch.batch (c.in-Some-Batch.is ∙ ap Some c.in-Some-Batch.field-0-is) a run c.step-said-in-Some-Batch.new.self
+    c.step-said-in-Some-Batch.ensures.same c.args.words.now c.step-said-in-Some-Batch.new.words (sym size) c.batch_said.new.self c.step-said-in-Some-Batch.result c.batch_said.result
+    c.step-said-in-Some-Batch.ensures.steps c.step-said-in-Some-Batch.ensures.refused c.batch_said.ensures
+
+pub returns-in-Some-Batch-clause-answers : goal.returns-in-Some-Batch-clause-answers
+returns-in-Some-Batch-clause-answers c =
+    let fits : c.args.self.now.ended + vec_len c.in-Some-Batch.batch.items ≤ length c.args.self.now.entries.items = ∥∥₁_elim c.requires.stands (hlevel props) (λ (shape, version, a, long, wide, run).
+    pending_there shape version c.args.self.now c.in-Some-Batch.batch (c.in-Some-Batch.is ∙ ap Some c.in-Some-Batch.field-0-is) a run) in
+    batch_answers c.args.self.now c.in-Some-Batch.batch c.step-said-in-Some-Batch.new.self (c.in-Some-Batch.is ∙ ap Some c.in-Some-Batch.field-0-is) c.step-said-in-Some-Batch.ensures.same
+    c.args.words.now c.step-said-in-Some-Batch.new.words c.step-said-in-Some-Batch.result c.batch_said.new.self c.batch_said.result c.step-said-in-Some-Batch.ensures.refused fits c.batch_said.ensures

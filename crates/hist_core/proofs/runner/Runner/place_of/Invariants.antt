@@ -1,8 +1,0 @@
-use Rattle.std.proofs.Common.{◌≡◌, ◌≢◌, ◌<◌, ℕ}
-use mathlib.Core.Option.{some}
-use lib.ListN.{get_elem?}
-use Rattle.hist_core.specs.declared.hist.Known.{Known}
-use Rattle.hist_core.proofs.runner.Runner.place_of.Given as goal
-
-abbrev pub invariant-loop-i : goal.invariant-loop-i
-invariant-loop-i l = (j : ℕ) (known : Known) → j < l.i → get_elem? l.self.known.items j ≡ some known → known.name.items ≢ l.name

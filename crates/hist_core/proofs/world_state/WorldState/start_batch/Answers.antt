@@ -1,0 +1,95 @@
+use Rattle.std.proofs.Common.{◌≡◌, ◌+◌, ◌-◌, ℤ, w64, inl, refl, sym, ap, subst, ◌∙◌, vec_len, arith}
+use Rattle.std.proofs.lemmas.Int.{to_z-of_z}
+use Rattle.hist_core.specs.ActorRun.{BeginsBatch}
+use mathlib.Core.Option.{some, some-injective}
+use lib.ListN.{get_elem?}
+use Rattle.atomic_table.proofs.Lists.{set_else}
+use Rattle.hist_core.specs.declared.actor_run.ActorRun.{ActorRun}
+use Rattle.bucket_ranges.specs.Ranges.{boundaries_of}
+use Rattle.segment_machine.specs.Entry.{batch_entries}
+use Rattle.hist_core.specs.declared.batch.Batch.{Batch as BatchCall}
+use Rattle.hist_core.specs.declared.actor_run.Running.TheVariants.{Batch}
+use Rattle.hist_core.specs.WorldState.{IsPlaceOf, CountsItems}
+use Rattle.hist_core.proofs.BatchCall.BatchBegins.{batch_stands, samples_are}
+use Rattle.hist_core.proofs.HistCall.Asking.{as_it_stood, place_below}
+use Rattle.hist_core.proofs.Worlds.Beginnings.{as_before}
+use Rattle.hist_core.proofs.Worlds.WorldStates.{is_there, same_state, lawful_now, ranges_now, quiet_now}
+use Rattle.hist_core.proofs.AddCall.Opening.{count_begins, count_begun, on_err}
+use Rattle.hist_core.proofs.world_state.WorldState.start_batch.Goals as goal
+
+pub begin_batch-requires-clause-near : goal.begin_batch-requires-clause-near
+begin_batch-requires-clause-near c =
+    let old = c.args.self.now in let r = c.index_mut-actor_run.result.now in
+    let at = is_there old.actor_runs.items (vec_len old.actor_runs) c.args.actor r old.actor_runs.ok.0 c.requires.near c.index_mut-actor_run.ensures.value in
+    let place : IsPlaceOf old c.args.actor c.requires.known.0 c.args.place = c.requires.known.1 in
+    let x : ActorRun = place.1.0 in
+    let below = place_below x.known.items c.args.place place.0 place.1.2 in
+    let same = ap (λ (x : ActorRun). vec_len x.known) (some-injective x r (sym place.1.1 ∙ at)) in
+    let long = x.known.ok.0 in
+    omega (arith, below, same, long)
+
+pub begin_batch-requires-clause-lawful : goal.begin_batch-requires-clause-lawful
+begin_batch-requires-clause-lawful c = λ known there.
+    let old = c.args.self.now in let r = c.index_mut-actor_run.result.now in
+    lawful_now old c.requires.reached c.args.actor r (is_there old.actor_runs.items (vec_len old.actor_runs) c.args.actor r old.actor_runs.ok.0 c.requires.near c.index_mut-actor_run.ensures.value)
+    c.args.place known there
+
+pub begin_batch-requires-clause-ranges : goal.begin_batch-requires-clause-ranges
+begin_batch-requires-clause-ranges c = λ known there.
+    let old = c.args.self.now in let r = c.index_mut-actor_run.result.now in
+    ranges_now old c.requires.reached c.args.actor r (is_there old.actor_runs.items (vec_len old.actor_runs) c.args.actor r old.actor_runs.ok.0 c.requires.near c.index_mut-actor_run.ensures.value)
+    c.args.place known there
+
+pub returns-in_err-begin_batch-clause-fault : goal.returns-in_err-begin_batch-clause-fault
+returns-in_err-begin_batch-clause-fault c =
+    let old = c.args.self.now in let r = c.index_mut-actor_run.result.now in
+    let at = is_there old.actor_runs.items (vec_len old.actor_runs) c.args.actor r old.actor_runs.ok.0 c.requires.near c.index_mut-actor_run.ensures.value in
+    on_err c.from_residual.result (as_before old _ c.args.actor r c.begin_batch.new.self at refl refl refl refl refl refl c.in_err-begin_batch.ensures.fails)
+
+pub returns-in_err-begin_batch-clause-begins : goal.returns-in_err-begin_batch-clause-begins
+returns-in_err-begin_batch-clause-begins c = λ state reach.
+    let old = c.args.self.now in let r = c.index_mut-actor_run.result.now in
+    let at = is_there old.actor_runs.items (vec_len old.actor_runs) c.args.actor r old.actor_runs.ok.0 c.requires.near c.index_mut-actor_run.ensures.value in (
+      state,
+      inl refl,
+      same_state old state reach c.args.actor r c.begin_batch.new.self _ at
+          (λ a run. as_it_stood old.shape old.version r c.begin_batch.new.self a (c.requires.rests r at) c.in_err-begin_batch.ensures.fails run) refl refl refl refl refl,
+    )
+
+pub returns-in_err-begin_batch-clause-others : goal.returns-in_err-begin_batch-clause-others
+returns-in_err-begin_batch-clause-others c =
+    record { shape = refl; version = refl; count = refl; others = λ other apart. set_else c.args.self.now.actor_runs.items c.args.actor other _ apart }
+
+pub returns-clause-begins : goal.returns-clause-begins
+returns-clause-begins c =
+    let old = c.args.self.now in let r = c.index_mut-actor_run.result.now in
+    let at = is_there old.actor_runs.items (vec_len old.actor_runs) c.args.actor r old.actor_runs.ok.0 c.requires.near c.index_mut-actor_run.ensures.value in
+    let place : IsPlaceOf old c.args.actor c.requires.known.0 c.args.place = c.requires.known.1 in
+    let same = some-injective place.1.0 r (sym place.1.1 ∙ at) in
+    let known_there = subst (λ (x : ActorRun). get_elem? x.known.items c.args.place ≡ some place.0) same place.1.2 in
+    let starts = subst (λ (n : ℤ). BeginsBatch old.shape old.version place.0 c.args.items.now n c.args.cost r c.begin_batch.new.self) (to_z-of_z w64 c.args.sum c.ranges.sum)
+    (c.in_ok-begin_batch.ensures.begins place.0 known_there) in
+    count_begins old _ c.args.actor r c.begin_batch.new.self at c.args.place place.0 known_there _ (Batch starts.call) c.args.cost starts.begins (c.requires.rests r at)
+    refl refl refl (let some_units = c.requires.some.2 in let count = c.from.ensures in omega (arith, some_units, count)) refl c.requires.reached tt tt
+    (λ a run lawful versions alone reach. batch_stands old.shape old.version place.0 c.args.items.now c.args.sum c.args.cost r c.begin_batch.new.self starts c.args.place known_there
+    c.requires.some.0 c.requires.some.3 c.requires.some.1 (c.requires.rests r at) a run lawful versions alone reach)
+
+pub returns-clause-others : goal.returns-clause-others
+returns-clause-others c =
+    record { shape = refl; version = refl; count = refl; others = λ other apart. set_else c.args.self.now.actor_runs.items c.args.actor other _ apart }
+
+pub returns-clause-says : goal.returns-clause-says
+returns-clause-says c = λ name place.
+    let old = c.args.self.now in let r = c.index_mut-actor_run.result.now in
+    let at = is_there old.actor_runs.items (vec_len old.actor_runs) c.args.actor r old.actor_runs.ok.0 c.requires.near c.index_mut-actor_run.ensures.value in
+    let same = some-injective place.1.0 r (sym place.1.1 ∙ at) in
+    let known_there = subst (λ (x : ActorRun). get_elem? x.known.items c.args.place ≡ some place.0) same place.1.2 in
+    let quiet = quiet_now old c.requires.reached c.args.actor r at (c.requires.rests r at) in
+    let pooled : old.units - c.from.result + c.args.cost ≡ old.units = (let some_units = c.requires.some.2 in let count = c.from.ensures in omega (arith, some_units, count)) in
+    let starts = subst (λ (n : ℤ). BeginsBatch old.shape old.version place.0 c.args.items.now n c.args.cost r c.begin_batch.new.self) (to_z-of_z w64 c.args.sum c.ranges.sum)
+    (c.in_ok-begin_batch.ensures.begins place.0 known_there) in
+    count_begun old _ c.args.actor r c.begin_batch.new.self at c.args.place place.0 known_there _ (Batch starts.call) c.args.cost starts.begins (c.requires.rests r at)
+    refl refl refl pooled refl name place.2 quiet.0 quiet.1 (CountsItems c.args.items.now c.args.sum)
+    (samples_are old.shape old.version place.0 c.args.items.now starts.call.items.items starts.started, ap (λ (b : BatchCall). b.sum) starts.fresh)
+    (λ boundaries. batch_entries name boundaries c.args.items.now c.args.sum)
+    (λ j. batch_entries (place.2 j) (boundaries_of place.0.spec) c.args.items.now c.args.sum) _ c.requires.some.3

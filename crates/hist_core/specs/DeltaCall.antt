@@ -1,0 +1,276 @@
+-- A delta that is going on.
+use Rattle.std.specs.Prelude.{◌≡◌, ◌==◌, true, false, nat_lt, nat_eq, int_lt, ℕ, suc, ◌+◌, ◌-◌, ◌/◌, ◌<◌, ◌≤◌, ◌⊎◌, ℤ, pos, List, [], ◌∷◌, ◌++◌, map, length, slice_index, vec_capacity, if◌then◌else◌, Some, None, ⊤}
+use Rattle.std.specs.List.{All, AllByRecursion, Contains, insert}
+use Rattle.std.specs.List.Sorted.{IsStrictlySortedBy}
+use Rattle.std.specs.Option.{option_eq}
+use Rattle.std.specs.Ordering.{int_cmp}
+use Rattle.bucket_ranges.specs.Ranges.{boundaries_of}
+use Rattle.bucket_ranges.specs.Single.{packed_bucket, single_of}
+use Rattle.bucket_ranges.specs.Spec.{buckets_of, spec_fault}
+use Rattle.bucket_ranges.specs.declared.spec.Spec.TheVariants.{Sparse}
+use Rattle.segment_image.specs.declared.layout.TheConstants.{BLOCK_HEADER, BLOCK_LEAST, HEADER_WORDS, HISTOGRAM_NAME, HISTOGRAM_SINGLE_MARK, SAMPLE_COUNT}
+use Rattle.segment_image.specs.Shape.{Dimensions}
+use Rattle.alloc_core.specs.Layout.{IsShape}
+use Rattle.list_core.specs.Walk.{IsPrefix}
+use Rattle.segment_machine.specs.declared.actor.Actor.{Actor}
+use Rattle.segment_machine.specs.declared.actor.Known.{Known}
+use Rattle.segment_machine.specs.declared.actor.Taken.{Taken}
+use Rattle.segment_machine.specs.declared.place.Place.TheVariants.{SampleLoaded, SumLoaded}
+use Rattle.segment_machine.specs.declared.seen.Sighting.{Sighting}
+use Rattle.segment_machine.specs.Actor.{SawCount, bucket_key, has_buckets, is_opener, known_at, units_listed}
+use Rattle.segment_machine.specs.Calls.{MayTurn}
+use Rattle.segment_machine.specs.Form.{is_off, SaysPacked}
+use Rattle.segment_machine.specs.Made.{SawSample}
+use Rattle.segment_machine.specs.Note.{TookAll, TookBucket, TookSample}
+use Rattle.segment_promises.specs.Values.{ListsValues}
+use Rattle.hist_core.specs.declared.mounted.Mounted.{Mounted}
+use Rattle.hist_core.specs.declared.delta_call.Stage.{Stage}
+use Rattle.hist_core.specs.declared.delta_call.Stage.TheVariants.{LoadingSingle, TakingPacked, LoadingCounts, LoadingCount, Raising, Walking, LoadingSample, RaisingSample, LoadingSum, Swapping}
+use Rattle.hist_core.specs.declared.delta_call.DeltaCall.{DeltaCall}
+use Rattle.hist_core.specs.declared.delta_call.DeltaCallStep.{DeltaCallStep}
+use Rattle.hist_core.specs.declared.delta_call.DeltaCallStep.TheVariants.{More, Took, Done}
+use Rattle.hist_core.specs.StepsBy.{StepsBy, IsFree, WalksInOrder}
+use Rattle.hist_core.specs.Mounted.{HasWord, AreMounted, HasLoaded}
+use Rattle.hist_core.specs.declared.walk.Met.{Met}
+use Rattle.hist_core.specs.declared.walk.Met.TheVariants.{Nothing, Sample, End}
+use Rattle.hist_core.specs.declared.walk.Walk.{Walk}
+use Rattle.hist_core.specs.declared.walk.Walk.TheVariants.{LoadingFirst, LoadingNext}
+use Rattle.hist_core.specs.Walk.{HasPassedAll, HasSetOut, MetSample, WalksAt}
+
+-- ---- what is taken
+
+-- keys with units, ascending, each once
+pub record AreUnits (counts : List (ℤ × ℕ)) : Type 0 where
+  pub ascending : IsStrictlySortedBy int_cmp (map (λ count. count.0) counts)
+  pub some : All (λ count. 1 ≤ count.1) counts
+
+-- each is the key of a bucket below this one
+abbrev pub AreBelow : Known → ℕ → List (ℤ × ℕ) → Type 0
+AreBelow known bucket counts = AllByRecursion (λ count. (i : ℕ) × (i < bucket) × (count.0 ≡ bucket_key (Some known) i)) counts
+
+-- before how many of these keys one is to stand: the first that is not less
+abbrev pub place_of : ℤ → List (ℤ × ℕ) → ℕ
+place_of key [] = 0
+place_of key (count ∷ rest) = if int_lt count.0 key then suc (place_of key rest) else 0
+
+-- with units of a key more, which stand there
+abbrev pub insert_by_key : ℤ × ℕ → List (ℤ × ℕ) → List (ℤ × ℕ)
+insert_by_key one counts = insert counts (place_of one.0 counts) one
+
+-- ---- where it stands
+
+-- It has begun: it is the last of what its actor's deltas took, behind those before it, and has taken the units that it lists of each key.
+pub record IsUnderWay (known : Known) (earlier : List Taken) (delta_call : DeltaCall) (a : Actor) : Type 0 where
+  pub taking : a.deltas.taking ≡ true
+  pub last : Taken
+  pub taken : a.deltas.taken ≡ earlier ++ last ∷ []
+  pub name : last.name ≡ known.name
+  pub counts : (key : ℤ) → units_listed delta_call.counts.items key ≡ units_listed last.counts key
+  pub sum : last.sum ≡ pos 0
+
+-- what it saw of each bucket is taken
+abbrev pub TookBuckets : Known → Actor → Type 0
+TookBuckets known a = (i : ℕ) → i < buckets_of known.spec → TookBucket a known i
+
+-- a histogram with buckets has room for all of them
+abbrev pub HasBuckets : Known → DeltaCall → Type 0
+HasBuckets known delta_call = (has_buckets known.spec ≡ true) × (buckets_of known.spec ≤ vec_capacity delta_call.counts)
+
+-- there is room for as many values as fit in the segment
+abbrev pub HoldsValues : Dimensions → DeltaCall → Type 0
+HoldsValues shape delta_call = (shape.size - HEADER_WORDS) / BLOCK_LEAST ≤ vec_capacity delta_call.counts
+
+-- of records that it passed it took what it saw of each sample, and it lists values, each once, with units of the first sample of each
+abbrev pub ListsTaken : Known → DeltaCall → List ℕ → Actor → Type 0
+ListsTaken known delta_call passed a =
+    ListsValues (λ value sample. TookSample a sample) (λ sample units. 1 ≤ units) known.reference passed delta_call.counts.items a.seen
+
+-- it saw the count of a sample of a value, which has units, and none of the records that it passed is a sample of that value
+pub record HasCounted (shape : Dimensions) (known : Known) (delta_call : DeltaCall) (at : ℕ) (value : ℤ) (count : ℕ) (a : Actor) : Type 0 where
+  pub met : MetSample shape known (ListsTaken known delta_call) at value a
+  pub place : a.hand.place ≡ SampleLoaded at count
+  pub saw : SawCount a (at + SAMPLE_COUNT) count
+  pub some : 1 ≤ count
+  pub first : (other : ℕ) → Contains met.0.passed other → SawSample a.seen known.reference value other → ⊥
+
+-- what it saw of all buckets is taken, or of all samples
+abbrev pub TookEach : Known → DeltaCall → Actor → Type 0
+TookEach known delta_call a = ((has_buckets known.spec ≡ true) × TookBuckets known a) ⊎ HasPassedAll known (ListsTaken known delta_call) a
+
+-- before its first event its actor takes nothing, and it lists nothing
+abbrev pub IsBeforeAll : List Taken → DeltaCall → Actor → Type 0
+IsBeforeAll earlier delta_call a = (a.deltas.taking ≡ false) × (a.deltas.taken ≡ earlier) × (delta_call.counts.items ≡ [])
+
+-- with a walk that has not set out it is before its first event
+abbrev pub TakesAlong : Known → List Taken → DeltaCall → Actor → Walk → Type 0
+TakesAlong known earlier delta_call a LoadingFirst = IsBeforeAll earlier delta_call a
+TakesAlong known earlier delta_call a walk = IsUnderWay known earlier delta_call a
+
+-- so is what it saw of the buckets before one, and it lists units of these alone
+pub record HasDrawn (known : Known) (delta_call : DeltaCall) (bucket : ℕ) (a : Actor) : Type 0 where
+  pub took : (i : ℕ) → i < bucket → TookBucket a known i
+  pub below : AreBelow known bucket delta_call.counts.items
+  pub few : length delta_call.counts.items ≤ bucket
+  pub inside : bucket < buckets_of known.spec
+
+-- Where its actor stands.
+abbrev pub StandsAtStage : Dimensions → Known → List Taken → DeltaCall → Actor → Stage → Type 0
+StandsAtStage shape known earlier delta_call a LoadingSingle =
+    (a.deltas.taking ≡ false) × (a.deltas.taken ≡ earlier) × (delta_call.counts.items ≡ []) × HasBuckets known delta_call
+StandsAtStage shape known earlier delta_call a (TakingPacked bucket units) =
+    IsUnderWay known earlier delta_call a × (delta_call.counts.items ≡ [])
+    × ((word : ℕ) × HasWord known word a × (is_off word ≡ false) × SaysPacked delta_call.version (buckets_of known.spec) word (Some bucket) units)
+    × HasBuckets known delta_call
+StandsAtStage shape known earlier delta_call a (LoadingCounts packed kept) =
+    IsUnderWay known earlier delta_call a × (delta_call.counts.items ≡ []) × (kept ≤ 65535)
+    × ((word : ℕ) × HasWord known word a × (is_off word ≡ true) × SaysPacked delta_call.version (buckets_of known.spec) word packed kept)
+    × HasBuckets known delta_call
+StandsAtStage shape known earlier delta_call a (LoadingCount mounted bucket) =
+    IsUnderWay known earlier delta_call a × HasDrawn known delta_call bucket a × ((word : ℕ) × AreMounted known mounted word a) × HasBuckets known delta_call
+StandsAtStage shape known earlier delta_call a (Raising mounted bucket total) =
+    IsUnderWay known earlier delta_call a × HasDrawn known delta_call bucket a × (1 ≤ total)
+    × ((word : ℕ) × AreMounted known mounted word a × HasLoaded known mounted word bucket total a)
+    × HasBuckets known delta_call
+StandsAtStage shape known earlier delta_call a (Walking walk) =
+    TakesAlong known earlier delta_call a walk × WalksAt shape known (ListsTaken known delta_call) walk a × HoldsValues shape delta_call
+StandsAtStage shape known earlier delta_call a (LoadingSample at value) =
+    IsUnderWay known earlier delta_call a × MetSample shape known (ListsTaken known delta_call) at value a × HoldsValues shape delta_call
+StandsAtStage shape known earlier delta_call a (RaisingSample at value count) =
+    IsUnderWay known earlier delta_call a × HasCounted shape known delta_call at value count a × HoldsValues shape delta_call
+StandsAtStage shape known earlier delta_call a LoadingSum = IsUnderWay known earlier delta_call a × TookEach known delta_call a
+StandsAtStage shape known earlier delta_call a (Swapping sum) =
+    IsUnderWay known earlier delta_call a × TookEach known delta_call a × (a.hand.place ≡ SumLoaded known.reference sum)
+
+-- Its actor is a recorder that knows the histogram, which alone has its reference there, and counts nothing. Its deltas took these before.
+pub record IsDeltaCall (shape : Dimensions) (known : Known) (earlier : List Taken) (delta_call : DeltaCall) (a : Actor) : Type 0 where
+  pub segment : a.segment.shape ≡ shape
+  pub version : a.segment.version ≡ delta_call.version
+  pub lawful_shape : IsShape shape
+  pub recorder : is_opener a.role ≡ false
+  pub counts_nothing : a.entries.running ≡ []
+  pub turns : MayTurn a
+  pub reference : known.reference ≡ delta_call.histogram
+  pub within : delta_call.histogram + HISTOGRAM_NAME ≤ shape.size
+  pub lawful : spec_fault known.spec ≡ None
+  pub ranges : delta_call.ranges ≡ boundaries_of known.spec
+  pub knows : Contains a.answers.names known
+  pub alone : known_at a.answers.names known.reference ≡ Some known
+  pub units : AreUnits delta_call.counts.items
+  pub stands : StandsAtStage shape known earlier delta_call a delta_call.stage
+
+-- It begins with the single word where the histogram has buckets, and with a walk where it is sparse. There is room for all keys.
+abbrev pub OpensWith : Dimensions → Known → DeltaCall → Stage → Type 0
+OpensWith shape known delta_call LoadingSingle = HasBuckets known delta_call
+OpensWith shape known delta_call (Walking LoadingFirst) = (known.spec ≡ Sparse) × HoldsValues shape delta_call
+OpensWith shape known delta_call stage = ⊥
+
+-- it has taken nothing
+pub record IsStarted (shape : Dimensions) (version : ℕ) (known : Known) (delta_call : DeltaCall) : Type 0 where
+  pub versioned : delta_call.version ≡ version
+  pub reference : delta_call.histogram ≡ known.reference
+  pub ranges : delta_call.ranges ≡ boundaries_of known.spec
+  pub none : delta_call.counts.items ≡ []
+  pub opens : OpensWith shape known delta_call delta_call.stage
+
+-- ---- what a step makes of its actor
+
+-- What it leaves as it was: its role, its segment, its units and entries, the names that it was answered with, and its snapshots. Of the
+-- chain and of the words of records it has seen no less.
+pub record FrameOfDelta (a b : Actor) : Type 0 where
+  pub role : b.role ≡ a.role
+  pub segment : b.segment ≡ a.segment
+  pub units : b.units ≡ a.units
+  pub entries : b.entries ≡ a.entries
+  pub names : b.answers.names ≡ a.answers.names
+  pub snapshots : b.deltas.snapshots ≡ a.deltas.snapshots
+  pub first : b.deltas.first_taken ≡ a.deltas.first_taken
+  pub chain : IsPrefix a.seen.chain b.seen.chain
+  pub words : (more : List Sighting) × (b.seen.words ≡ a.seen.words ++ more)
+
+-- It has ended: it is the last of what its actor's deltas took, with the units that it lists and this of the sum, and took all that its
+-- actor saw of the histogram since it began.
+pub record HasEnded (known : Known) (earlier : List Taken) (delta_call : DeltaCall) (sum : ℤ) (a : Actor) : Type 0 where
+  pub taking : a.deltas.taking ≡ false
+  pub last : Taken
+  pub taken : a.deltas.taken ≡ earlier ++ last ∷ []
+  pub name : last.name ≡ known.name
+  pub counts : (key : ℤ) → units_listed delta_call.counts.items key ≡ units_listed last.counts key
+  pub sum_is : last.sum ≡ sum
+  pub swapped : last.swapped ≡ true
+  pub all : TookAll a known
+  pub units : AreUnits delta_call.counts.items
+
+-- What a step says: it goes on, and may have taken units; or it has ended, and its actor may turn to another call.
+abbrev pub DeltaCallGives : Dimensions → Known → List Taken → DeltaCall → DeltaCallStep → Actor → Actor → Type 0
+DeltaCallGives shape known earlier new (Done sum) a b = FrameOfDelta a b × IsFree b × HasEnded known earlier new sum b
+DeltaCallGives shape known earlier new said a b = FrameOfDelta a b × IsDeltaCall shape known earlier new b
+
+-- what a step makes of the words, and of whatever actor stands so
+abbrev pub DeltaCallSteps : DeltaCall → List ℕ → DeltaCall → List ℕ → DeltaCallStep → Type 0
+DeltaCallSteps old words new new_words said = (shape : Dimensions) (known : Known) (earlier : List Taken) (a : Actor) → length words ≡ shape.size
+    → WalksInOrder a → IsDeltaCall shape known earlier old a → StepsBy shape.size old.version a words new_words (DeltaCallGives shape known earlier new said a)
+
+-- a delta that stands so somewhere, in so many words
+abbrev pub IsSomeDeltaCall : ℕ → DeltaCall → Type 0
+IsSomeDeltaCall n delta_call =
+    (shape : Dimensions) × (known : Known) × (earlier : List Taken) × (a : Actor) × (n ≡ shape.size) × IsDeltaCall shape known earlier delta_call a
+
+-- what it lists behind a step: the units that it took, where it took some, beside those before
+abbrev pub Lists : DeltaCall → DeltaCall → DeltaCallStep → Type 0
+Lists old new (Took key units) = new.counts.items ≡ insert_by_key (key, units) old.counts.items
+Lists old new said = new.counts.items ≡ old.counts.items
+
+-- its first event has happened
+abbrev pub HasBegun : Stage → Type 0
+HasBegun LoadingSingle = ⊥
+HasBegun (Walking walk) = HasSetOut walk
+HasBegun stage = ⊤
+
+-- it stands before that
+abbrev pub IsFirst : Stage → Type 0
+IsFirst LoadingSingle = ⊤
+IsFirst (Walking LoadingFirst) = ⊤
+IsFirst stage = ⊥
+
+-- ---- what it does next
+
+-- what a single word leads to: the counts, where they are in use; else the packed units, or the sum where there are none
+abbrev pub IsBehindSingle : DeltaCall → ℕ → Stage → Type 0
+IsBehindSingle delta_call word (LoadingCounts packed kept) =
+    (is_off word ≡ true) × SaysPacked delta_call.version (length delta_call.ranges - 1) word packed kept × (kept ≤ 65535)
+IsBehindSingle delta_call word (TakingPacked bucket units) =
+    (is_off word ≡ false) × SaysPacked delta_call.version (length delta_call.ranges - 1) word (Some bucket) units
+IsBehindSingle delta_call word LoadingSum = (is_off word ≡ false) × (packed_bucket (single_of delta_call.version (length delta_call.ranges - 1) word) ≡ None)
+IsBehindSingle delta_call word _ = ⊥
+
+-- behind a bucket comes the next, and behind the last one the sum
+abbrev pub behind_bucket : DeltaCall → Mounted → ℕ → Stage
+behind_bucket delta_call mounted bucket = if nat_lt (bucket + 1) (length delta_call.ranges - 1) then LoadingCount mounted (bucket + 1) else LoadingSum
+
+-- behind what its walk met comes its next event, the count of a sample, or at the end of the list the sum
+abbrev pub behind_walk : Met → Stage
+behind_walk (Nothing walk) = Walking walk
+behind_walk (Sample at value) = LoadingSample at value
+behind_walk End = LoadingSum
+
+-- behind the count of a sample its mark is raised, where it has units
+abbrev pub behind_sample : ℕ → ℤ → ℕ → Stage
+behind_sample at value count = if count == 0 then Walking (LoadingNext at) else RaisingSample at value count
+
+-- where the mark of a bucket stands
+abbrev pub mark_of : DeltaCall → Mounted → ℕ → ℕ
+mark_of delta_call mounted bucket =
+    if option_eq nat_eq mounted.packed (Some bucket) then delta_call.histogram + HISTOGRAM_SINGLE_MARK
+    else mounted.counts + BLOCK_HEADER + (length delta_call.ranges - 1) + bucket
+
+-- it lists the units of a key that stood between a mark and what that was raised to
+abbrev pub TakesUnits : ℤ → ℕ → ℕ → DeltaCall → DeltaCall → DeltaCallStep → Type 0
+TakesUnits of total mark old new More = (total ≤ mark) × (new ≡ old)
+TakesUnits of total mark old new (Took key units) =
+    (mark < total) × (key ≡ of) × (units ≡ total - mark) × (new ≡ record old { counts = new.counts })
+    × (new.counts.items ≡ insert_by_key (key, units) old.counts.items) × (vec_capacity new.counts ≡ vec_capacity old.counts)
+TakesUnits of total mark old new (Done sum) = ⊥
+
+-- of a bucket
+abbrev pub IsTaken : ℕ → ℕ → ℕ → DeltaCall → DeltaCall → DeltaCallStep → Type 0
+IsTaken bucket total mark old new said = TakesUnits (pos (slice_index old.ranges bucket)) total mark old new said

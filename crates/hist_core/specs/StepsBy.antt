@@ -1,0 +1,66 @@
+-- How an actor goes on by one event.
+use Rattle.std.specs.Prelude.{◌≡◌, ◌≢◌, Bool, false, ◌||◌, ℕ, ℤ, List, ◌∷◌, ◌++◌}
+use Rattle.std.specs.List.{Contains}
+use Rattle.segment_image.specs.Words.{word_at}
+use Rattle.list_core.specs.Walk.{IsPrefix}
+use Rattle.segment_machine.specs.declared.actor.Actor.{Actor}
+use Rattle.segment_machine.specs.declared.actor.Known.{Known}
+use Rattle.segment_machine.specs.declared.place.Place.{Place}
+use Rattle.segment_machine.specs.declared.place.Place.TheVariants.{Spent}
+use Rattle.segment_machine.specs.Actor.{AreApart, is_bound}
+use Rattle.segment_machine.specs.declared.seen.Sighting.{Sighting}
+use Rattle.segment_machine.specs.Event.{Event, spot, after, next, Ready, Learned}
+use Rattle.segment_machine.specs.Made.{SawSample}
+use Rattle.segment_machine.specs.Note.{Note, Notes}
+use Rattle.segment_machine.specs.Taking.{is_looking}
+use Rattle.segment_promises.specs.Values.{NoRepeats}
+
+-- What an event leaves as it was: its role, its segment, its units and entries, its deltas, and the names that it was answered with.
+-- Of the chain and of the words of records it has seen no less.
+pub record FrameOfStep (a b : Actor) : Type 0 where
+  pub role : b.role ≡ a.role
+  pub segment : b.segment ≡ a.segment
+  pub units : b.units ≡ a.units
+  pub entries : b.entries ≡ a.entries
+  pub deltas : b.deltas ≡ a.deltas
+  pub names : b.answers.names ≡ a.answers.names
+  pub chain : IsPrefix a.seen.chain b.seen.chain
+  pub words : (more : List Sighting) × (b.seen.words ≡ a.seen.words ++ more)
+
+-- An actor goes on by one event in words of a segment: it does an event that it may do, with notes before it and, once it has learned of
+-- the number that was found, behind it; the words become what the event makes of them; and then something holds of it.
+pub record StepsBy (size version : ℕ) (a : Actor) (words new_words : List ℕ) (holds : Actor → Type 0) : Type 0 where
+  pub before : List Note
+  pub at : Actor
+  pub told : Notes a before at
+  pub event : Event
+  pub ready : Ready at event
+  pub words_are : new_words ≡ after size version event words
+  pub goes : Learned at event (word_at words (spot size event)) → AreApart (next at event (word_at words (spot size event)))
+      → (behind : List Note) × (then_is : Actor) × Notes (next at event (word_at words (spot size event))) behind then_is × holds then_is
+
+-- in the midst of a part of a call, or at the single word or the counts of a histogram
+abbrev pub is_tied : Place → Bool
+is_tied place = is_bound place || is_looking place
+
+-- it may turn to any other call
+abbrev pub IsFree : Actor → Type 0
+IsFree a = is_tied a.hand.place ≡ false
+
+-- it has met the record of each histogram that it knows
+abbrev pub HasMet : Actor → Type 0
+HasMet a = (known : Known) → Contains a.answers.names known → Contains a.seen.chain known.reference
+
+-- each sample that it met stands behind the record of its histogram
+abbrev pub SamplesStandBehind : Actor → Type 0
+SamplesStandBehind a = (histogram sample : ℕ) (value : ℤ) (front behind : List ℕ) → Contains a.seen.chain sample → SawSample a.seen histogram value sample
+    → a.seen.chain ≡ front ++ histogram ∷ behind → Contains behind sample
+
+-- On the list as far as it walked no block stands twice, and each sample stands behind the record of its histogram.
+pub record IsInOrder (a : Actor) : Type 0 where
+  pub once : NoRepeats a.seen.chain
+  pub behind : SamplesStandBehind a
+
+-- so it is for who has not been joined
+abbrev pub WalksInOrder : Actor → Type 0
+WalksInOrder a = a.hand.place ≢ Spent → IsInOrder a

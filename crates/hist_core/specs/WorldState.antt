@@ -1,0 +1,340 @@
+-- The words of a segment with its actors, and the states of the machine that they stand for.
+use Rattle.std.specs.Prelude.{◌≡◌, ◌≢◌, ◌⊎◌, ◌<◌, ◌≤◌, ℕ, ℤ, pos, map, ◌+◌, true, List, [], ◌∷◌, take, bit_and, IsSome, Option, Some, None, Result, Ok, Err, All, vec_len, ⊤}
+use mathlib.Core.Option.{some}
+use lib.ListN.{get_elem?}
+use Rattle.std.specs.List.{Contains}
+use Rattle.segment_image.specs.Shape.{Dimensions}
+use Rattle.segment_image.specs.Head.{head_of}
+use Rattle.bucket_ranges.specs.Reading.{Histogram, Reading, IsReading}
+use Rattle.alloc_core.specs.Layout.{render, fresh}
+use Rattle.segment_machine.specs.declared.place.Place.TheVariants.{Idle}
+use Rattle.segment_machine.specs.declared.actor.Actor.{Actor}
+use Rattle.segment_image.specs.Words.{word_at}
+use Rattle.segment_image.specs.declared.layout.TheConstants.{FLAG_CORRUPT, FLAG_FULL, FLAGS_WORD, HISTOGRAM_REDUNDANT}
+use Rattle.segment_machine.specs.Actor.{accepted_since, is_opener, offered_of, units_listed}
+use Rattle.segment_machine.specs.Event.{Event}
+use Rattle.segment_machine.specs.State.{State, IsStep}
+use Rattle.segment_machine.specs.Reached.{IsState, IsLent, IsReturned}
+use Rattle.segment_invariant.specs.Body.{blank}
+use Rattle.bucket_ranges.specs.Reading.{spec_of}
+use Rattle.bucket_ranges.specs.Spec.{SameSpec}
+use Rattle.list_core.specs.Chain.{IsChain}
+use Rattle.segment_invariant.specs.Consistent.{IsConsistent, IsHistogram, new_opening, units_taken}
+use Rattle.segment_invariant.specs.Invariant.{Invariant}
+use Rattle.segment_promises.specs.Deltas.{IsEnough}
+use Rattle.segment_promises.specs.Reads.{HasNoFault, ReadsHead, ReadsNames, ReadsUnits, ReadsAmounts}
+use Rattle.segment_calls.specs.declared.answer.Delta.{Delta as DeltaAnswer}
+use Rattle.segment_calls.specs.declared.answer.Snapshot.{Snapshot as SnapshotAnswer}
+use Rattle.hist_core.specs.declared.call.Stepped.{Stepped}
+use Rattle.hist_core.specs.declared.call.Stepped.TheVariants.{Done}
+use Rattle.hist_core.specs.declared.actor_run.ActorRun.{ActorRun}
+use Rattle.hist_core.specs.declared.world_state.WorldState.{WorldState}
+use Rattle.bucket_ranges.specs.declared.spec.Spec.{Spec}
+use Rattle.std.specs.declared.alloc.AllocError.{AllocError}
+use Rattle.hist_core.specs.declared.call.Answer.{Answer}
+use Rattle.hist_core.specs.declared.call.Answer.TheVariants as answer
+use Rattle.hist_core.specs.declared.call.Begun.{Begun}
+use Rattle.hist_core.specs.declared.call.Begun.TheVariants.{Going, Ended}
+use Rattle.hist_core.specs.declared.hist.Known.{Known}
+use Rattle.segment_calls.specs.declared.refusal.Refusal.TheVariants as refusal
+use Rattle.hist_core.specs.declared.actor_run.Running.{Running}
+use Rattle.hist_core.specs.declared.actor_run.Running.TheVariants.{Hist, Add, Delta, Snapshot, Batch}
+use Rattle.segment_calls.specs.Asked.{IsRefusedFor}
+use Rattle.hist_core.specs.ActorRun.{IsFresh, IsRun, IsAsItWas, IsAnswer, IsTook, IsKnownAnswer, IsRefusedBy, NoneHasName, Answers, entry_of, looked_by, pending_by, ended_by, begun_by}
+use Rattle.segment_machine.specs.Entry.{batch_cost, batch_entries, sample_entry, tally_noted}
+use Rattle.segment_machine.specs.declared.entry.Entry.{Entry as MachineEntry}
+use Rattle.hist_core.specs.Batch.{sample_of}
+use Rattle.segment_calls.specs.declared.refusal.Refusal.{Refusal}
+use Rattle.bucket_ranges.specs.Ranges.{boundaries_of}
+
+-- a new segment with so many actors, which have done nothing
+pub record IsNewWorldState (shape : Dimensions) (version id actors : ℕ) (world_state : WorldState) : Type 0 where
+  pub shaped : world_state.shape ≡ shape
+  pub versioned : world_state.version ≡ version
+  pub words : world_state.words.items ≡ render shape (fresh shape version id)
+  pub count : vec_len world_state.actor_runs ≡ actors
+  pub rest : All IsFresh world_state.actor_runs.items
+  pub units : world_state.units ≡ 4294967295
+
+-- ---- the state of the machine
+
+-- each actor of a world stands for a recorder, in the same order
+abbrev pub AreRun : Dimensions → ℕ → List ActorRun → List Actor → Type 0
+AreRun shape version [] [] = ⊤
+AreRun shape version [] (a ∷ rest) = ⊥
+AreRun shape version (actor_run ∷ actor_runs) [] = ⊥
+AreRun shape version (actor_run ∷ actor_runs) (a ∷ rest) = IsRun shape version actor_run a × AreRun shape version actor_runs rest
+
+-- The words are those of a state of the machine, without shared cursors. Its first actor is the opener, which has made the others: a
+-- recorder for each actor of the world.
+pub record Shows (world_state : WorldState) (state : State) : Type 0 where
+  pub words : state.words ≡ world_state.words.items
+  pub cursors : state.cursors ≡ []
+  pub opener : Actor
+  pub recorders : List Actor
+  pub actors : state.actors ≡ opener ∷ recorders
+  pub opens : is_opener opener.role ≡ true
+  pub waits : opener.hand.place ≡ Idle
+  pub offers : offered_of opener.role ≡ 0
+  pub pool : opener.units.share ≡ world_state.units
+  pub runs : AreRun world_state.shape world_state.version world_state.actor_runs.items recorders
+
+-- a state that the machine reaches, and that these words and actors stand for
+pub record IsReachedAs (world_state : WorldState) (state : State) : Type 0 where
+  pub id : ℕ
+  pub reached : IsState world_state.shape world_state.version id 0 state
+  pub shows : Shows world_state state
+
+-- the machine reaches such a state
+abbrev pub IsReached : WorldState → Type 0
+IsReached world_state = (state : State) × IsReachedAs world_state state
+
+-- ---- the actors
+
+-- a call of an actor is going on
+abbrev pub IsBusy : WorldState → ℕ → Type 0
+IsBusy world_state actor = (actor_run : ActorRun) → get_elem? world_state.actor_runs.items actor ≡ some actor_run → IsSome actor_run.running
+
+-- no call of an actor is going on
+abbrev pub Rests : WorldState → ℕ → Type 0
+Rests world_state actor = (actor_run : ActorRun) → get_elem? world_state.actor_runs.items actor ≡ some actor_run → actor_run.running ≡ None
+
+-- the opener lends units to the actor, or nothing happens
+abbrev pub Lends : ℕ → State → State → Type 0
+Lends actor old new = (new ≡ old) ⊎ ((units : ℕ) × IsLent old 0 (actor + 1) units new)
+
+-- units of the actor come back to the opener, or nothing happens
+abbrev pub GivesBack : ℕ → State → State → Type 0
+GivesBack actor old new = (new ≡ old) ⊎ ((units : ℕ) × IsReturned old 0 (actor + 1) units new)
+
+-- the begin of a call takes its units from the pool, where it has any; no word changes
+abbrev pub BeginsFrom : State → ℕ → WorldState → Type 0
+BeginsFrom state actor new = (then_is : State) × Lends actor state then_is × IsReachedAs new then_is
+
+-- A snapshot of the histogram of a record is what its actor saw since it began. Of each key it has at least the units that the actor
+-- had accepted and those that it had seen before; so has its redundant count.
+pub record HasSeen (actor histogram : ℕ) (snapshot : SnapshotAnswer) (world_state : WorldState) (state : State) (reach : IsReachedAs world_state state) : Type 0 where
+  pub recorder : Actor
+  pub there : get_elem? state.actors (actor + 1) ≡ some recorder
+  pub answer : IsAnswer histogram snapshot recorder
+  pub kept : Invariant world_state.shape (blank world_state.version reach.id world_state.shape.size) state
+  pub enough : IsEnough state.words kept.anatomy.records recorder answer.known (units_listed snapshot.counts.items)
+  pub noted : tally_noted (accepted_since reach.shows.opener recorder) answer.known.name ≤ snapshot.redundant
+  pub rising : (count : ℕ) → Contains (take recorder.since.counts recorder.seen.counts) (record { at = histogram + HISTOGRAM_REDUNDANT; word = count })
+      → count ≤ snapshot.redundant
+
+-- A delta of the histogram of a record took all that its actor saw since it began. With it all deltas together took, of each key, at least
+-- the units that the actor had accepted and those that it had seen before.
+pub record HasTaken (actor histogram : ℕ) (delta : DeltaAnswer) (world_state : WorldState) (state : State) (reach : IsReachedAs world_state state) : Type 0 where
+  pub recorder : Actor
+  pub there : get_elem? state.actors (actor + 1) ≡ some recorder
+  pub answer : IsTook histogram delta recorder
+  pub kept : Invariant world_state.shape (blank world_state.version reach.id world_state.shape.size) state
+  pub enough : IsEnough state.words kept.anatomy.records recorder answer.known (units_taken state.actors answer.known.name)
+
+-- the flag is set that a call is refused for
+abbrev pub IsFlagSet : Refusal → List ℕ → Type 0
+IsFlagSet refusal.Full words = bit_and (word_at words FLAGS_WORD) FLAG_FULL ≡ FLAG_FULL
+IsFlagSet refusal.Corrupt words = bit_and (word_at words FLAGS_WORD) FLAG_CORRUPT ≡ FLAG_CORRUPT
+IsFlagSet cause words = ⊤
+
+-- A running call is refused for what its actor has done or seen; of a full or a corrupt segment the words show it.
+pub record IsDue (actor : ℕ) (running : Option Running) (cause : Refusal) (world_state : WorldState) (state : State) : Type 0 where
+  pub recorder : Actor
+  pub there : get_elem? state.actors (actor + 1) ≡ some recorder
+  pub refused : IsRefusedBy running cause recorder
+  pub flagged : IsFlagSet cause world_state.words.items
+
+-- what an answer promises of the state behind it, by what the call was to do
+abbrev pub IsPromised : WorldState → ℕ → Stepped → (new : WorldState) (last : State) → IsReachedAs new last → Type 0
+IsPromised old actor (Done (answer.Delta delta)) new last reach =
+    (before : ActorRun) → get_elem? old.actor_runs.items actor ≡ some before → HasTaken actor (looked_by before.running) delta new last reach
+IsPromised old actor (Done (answer.Snapshot snapshot)) new last reach =
+    (before : ActorRun) → get_elem? old.actor_runs.items actor ≡ some before → HasSeen actor (looked_by before.running) snapshot new last reach
+IsPromised old actor (Done (answer.Refused cause)) new last reach =
+    (before : ActorRun) → get_elem? old.actor_runs.items actor ≡ some before → IsDue actor before.running cause new last
+IsPromised old actor (Done (answer.BatchRefused refused)) new last reach =
+    (before : ActorRun) → get_elem? old.actor_runs.items actor ≡ some before → IsDue actor before.running refused.why new last
+IsPromised old actor said new last reach = ⊤
+
+-- One event of the actor leads from a state to another; then the units of a call that is refused come back. What the call says is as it
+-- promises, of the state that it leads to.
+abbrev pub StepsTo : WorldState → ℕ → State → WorldState → Stepped → Type 0
+StepsTo old actor state new said =
+    (event : Event) × (then_is : State) × IsStep old.version state (actor + 1) event then_is
+    × ((last : State) × GivesBack actor then_is last × ((reach : IsReachedAs new last) × IsPromised old actor said new last reach))
+
+-- the shape and the version stay, and so do all other actors
+pub record OthersStay (actor : ℕ) (old new : WorldState) : Type 0 where
+  pub shape : new.shape ≡ old.shape
+  pub version : new.version ≡ old.version
+  pub count : vec_len new.actor_runs ≡ vec_len old.actor_runs
+  pub others : (other : ℕ) → other ≢ actor → get_elem? new.actor_runs.items other ≡ get_elem? old.actor_runs.items other
+
+-- all is as it was, but for the room for entries, for histograms that actors may know, and for deltas
+pub record IsAsBefore (old new : WorldState) : Type 0 where
+  pub units : new.units ≡ old.units
+  pub shape : new.shape ≡ old.shape
+  pub version : new.version ≡ old.version
+  pub words : new.words ≡ old.words
+  pub count : vec_len new.actor_runs ≡ vec_len old.actor_runs
+  pub actor_runs : (i : ℕ) (before behind : ActorRun) → get_elem? old.actor_runs.items i ≡ some before → get_elem? new.actor_runs.items i ≡ some behind
+      → IsAsItWas before behind
+
+-- ---- what an actor knows
+
+-- an actor knows a histogram, at a place
+abbrev pub IsKnownBy : WorldState → ℕ → ℕ → Known → Type 0
+IsKnownBy world_state actor place known =
+    (actor_run : ActorRun) × (get_elem? world_state.actor_runs.items actor ≡ some actor_run) × (get_elem? actor_run.known.items place ≡ some known)
+
+-- an actor knows the histogram of a name at a place, or knows none of it
+abbrev pub IsPlaceOf : WorldState → ℕ → List ℕ → ℕ → Type 0
+IsPlaceOf world_state actor name place = (known : Known) × IsKnownBy world_state actor place known × (known.name.items ≡ name)
+
+abbrev pub LacksName : WorldState → ℕ → List ℕ → Type 0
+LacksName world_state actor name = (actor_run : ActorRun) → get_elem? world_state.actor_runs.items actor ≡ some actor_run → NoneHasName actor_run.known.items name
+
+-- ---- how a `hist` begins
+
+-- What it is answered without an event, and why: the name or the spec is unlawful, or a record or its counts would be too large; or the
+-- actor knows a histogram of that name, with the same spec or with another.
+abbrev pub IsAnsweredAtOnce : Dimensions → List Known → List ℕ → Spec → Answer → Type 0
+IsAnsweredAtOnce shape known name spec (answer.Refused refusal.OtherSpec) = IsKnownAnswer known name spec (answer.Refused refusal.OtherSpec)
+IsAnsweredAtOnce shape known name spec (answer.Refused refusal.NoMemory) = ⊥
+IsAnsweredAtOnce shape known name spec (answer.Refused why) = IsRefusedFor shape name spec why
+IsAnsweredAtOnce shape known name spec answered = IsKnownAnswer known name spec answered
+
+-- the histogram of a name and a spec that a running call asks for
+abbrev pub AsksFor : List ℕ → Spec → Option Running → Type 0
+AsksFor name spec (Some (Hist hist)) = (hist.asked.name.items ≡ name) × (hist.asked.spec ≡ spec)
+AsksFor name spec running = ⊥
+
+-- It goes on, asking for the histogram; or it is answered at once; or there was no memory.
+abbrev pub HistBegins : ℕ → List ℕ → Spec → WorldState → WorldState → Result Begun AllocError → Type 0
+HistBegins actor name spec old new (Ok Going) = (actor_run : ActorRun) × (get_elem? new.actor_runs.items actor ≡ some actor_run) × AsksFor name spec actor_run.running
+HistBegins actor name spec old new (Ok (Ended answered)) =
+    IsAsBefore old new × ((actor_run : ActorRun) → get_elem? old.actor_runs.items actor ≡ some actor_run → IsAnsweredAtOnce old.shape actor_run.known.items name spec answered)
+HistBegins actor name spec old new (Err error) = IsAsBefore old new
+
+-- ---- how an `add` begins
+
+-- a running call counts so many units of a value
+abbrev pub CountsValue : ℤ → ℕ → Option Running → Type 0
+CountsValue value units (Some (Add add)) = (add.value ≡ value) × (add.units ≡ units)
+CountsValue value units running = ⊥
+
+-- A call of a histogram of this name goes on that is to count entries, which its boundaries determine: its units are out of the pool, and
+-- the entries are pending, of which nothing has begun.
+pub record IsCountBegun (actor : ℕ) (name : List ℕ) (cost : ℕ) (entries : List ℕ → List MachineEntry) (runs : Option Running → Type 0) (old new : WorldState)
+    : Type 0 where
+  pub words : new.words ≡ old.words
+  pub pool : new.units + cost ≡ old.units
+  pub before : ActorRun
+  pub behind : ActorRun
+  pub was : get_elem? old.actor_runs.items actor ≡ some before
+  pub is : get_elem? new.actor_runs.items actor ≡ some behind
+  pub known : Known
+  pub knows : Contains before.known.items known
+  pub named : known.name.items ≡ name
+  pub counts : runs behind.running
+  pub pending : map entry_of (pending_by behind) ≡ entries (boundaries_of known.spec)
+  pub ended : ended_by behind ≡ ended_by before
+  pub begun : begun_by behind ≡ begun_by before
+
+-- an `add` counts one entry
+abbrev pub IsAddBegun : ℕ → List ℕ → ℤ → ℕ → WorldState → WorldState → Type 0
+IsAddBegun actor name value units old new =
+    IsCountBegun actor name units (λ boundaries. sample_entry name boundaries (value, units) ∷ []) (CountsValue value units) old new
+
+-- What the begin of an `add` says: it goes on; or it is refused at once, and then all is as it was.
+abbrev pub AddBegins : ℕ → List ℕ → ℤ → ℕ → WorldState → WorldState → Begun → Type 0
+AddBegins actor name value units old new Going = (0 < units) × (units ≤ old.units) × IsAddBegun actor name value units old new
+AddBegins actor name value units old new (Ended (answer.Refused refusal.ZeroCount)) = IsAsBefore old new × (units ≡ 0)
+AddBegins actor name value units old new (Ended (answer.Refused refusal.NoUnits)) = IsAsBefore old new × (old.units < units)
+AddBegins actor name value units old new (Ended answered) = ⊥
+
+-- ---- how a `batch` begins
+
+-- a running call counts these items and adds this sum
+abbrev pub CountsItems : List (ℤ × ℕ) → ℤ → Option Running → Type 0
+CountsItems items sum (Some (Batch batch)) = (map sample_of batch.items.items ≡ items) × (batch.sum ≡ sum)
+CountsItems items sum running = ⊥
+
+-- a `batch` counts one entry for each item, and one for its sum
+abbrev pub IsBatchBegun : ℕ → List ℕ → List (ℤ × ℕ) → ℤ → WorldState → WorldState → Type 0
+IsBatchBegun actor name items sum old new =
+    IsCountBegun actor name (batch_cost items sum) (λ boundaries. batch_entries name boundaries items sum) (CountsItems items sum) old new
+
+-- no item has a count of 0
+abbrev pub AreSome : List (ℤ × ℕ) → Type 0
+AreSome items = All (λ item. 1 ≤ item.1) items
+
+-- why it is refused at once: an item has a count of 0, or it costs more units than the pool has
+abbrev pub IsTooMuch : WorldState → List (ℤ × ℕ) → ℤ → Refusal → Type 0
+IsTooMuch old items sum refusal.ZeroCount = ¬ (AreSome items)
+IsTooMuch old items sum refusal.NoUnits = AreSome items × (old.units < batch_cost items sum)
+IsTooMuch old items sum why = ⊥
+
+-- What the begin of a `batch` says: it goes on; or it counts nothing, and has ended; or it is refused at once, with no item counted. Then all
+-- is as it was.
+abbrev pub BatchBegins : ℕ → List ℕ → List (ℤ × ℕ) → ℤ → WorldState → WorldState → Begun → Type 0
+BatchBegins actor name items sum old new Going = AreSome items × (batch_cost items sum ≤ old.units) × IsBatchBegun actor name items sum old new
+BatchBegins actor name items sum old new (Ended answer.Added) = IsAsBefore old new × (items ≡ []) × (sum ≡ pos 0)
+BatchBegins actor name items sum old new (Ended (answer.BatchRefused refused)) =
+    IsAsBefore old new × (refused.added ≡ 0) × IsTooMuch old items sum refused.why
+BatchBegins actor name items sum old new (Ended answered) = ⊥
+
+-- ---- how a `delta` and a `snapshot` begin
+
+-- a running call takes of the histogram of a record, or looks at it
+abbrev pub TakesOf : ℕ → Option Running → Type 0
+TakesOf reference (Some (Delta delta_call fresh)) = delta_call.histogram ≡ reference
+TakesOf reference running = ⊥
+
+abbrev pub LooksAt : ℕ → Option Running → Type 0
+LooksAt reference (Some (Snapshot snapshot_call)) = snapshot_call.histogram ≡ reference
+LooksAt reference running = ⊥
+
+-- It goes on with a histogram of the name that the actor knows. No word has changed, and what the actor's deltas took is shown as before.
+abbrev pub GoesWith : (ℕ → Option Running → Type 0) → ℕ → List ℕ → WorldState → WorldState → Begun → Type 0
+GoesWith IsOf actor name old new Going =
+    (new.words ≡ old.words) × ((before behind : ActorRun) × (get_elem? old.actor_runs.items actor ≡ some before) × (get_elem? new.actor_runs.items actor ≡ some behind)
+    × (behind.taken.items ≡ before.taken.items)
+    × ((known : Known) × Contains behind.known.items known × (known.name.items ≡ name) × IsOf known.reference behind.running))
+GoesWith IsOf actor name old new (Ended answered) = ⊥
+
+abbrev pub DeltaBegins : ℕ → List ℕ → WorldState → WorldState → Begun → Type 0
+DeltaBegins = GoesWith TakesOf
+
+abbrev pub SnapshotBegins : ℕ → List ℕ → WorldState → WorldState → Begun → Type 0
+SnapshotBegins = GoesWith LooksAt
+
+-- ---- a step
+
+-- what the call of the actor says
+abbrev pub Says : ℕ → WorldState → WorldState → Stepped → Type 0
+Says actor old new said = (before behind : ActorRun) → get_elem? old.actor_runs.items actor ≡ some before → get_elem? new.actor_runs.items actor ≡ some behind
+    → Answers before old.words.items behind new.words.items said
+
+-- ---- at any moment
+
+-- the state is consistent, in all eight parts
+abbrev pub IsConsistentAs : WorldState → Type 0
+IsConsistentAs world_state = (state : State) × (reach : IsReachedAs world_state state) × IsConsistent (new_opening world_state.shape world_state.version reach.id) state
+
+-- Stopped here, the words read back as exactly the histograms that were published, each once, every bucket holding no unit that was not
+-- begun and all ended ones but those in transit: in a state that they stand for.
+abbrev pub IsReadAs : WorldState → Type 0
+IsReadAs world_state = (state : State) × (reach : IsReachedAs world_state state) × (kept : Invariant world_state.shape (blank world_state.version reach.id world_state.shape.size) state)
+    × ((reading : Reading) → IsReading state.words (head_of state.words) reading
+    → HasNoFault reading × ReadsHead (blank world_state.version reach.id world_state.shape.size) state reading × ReadsNames kept.anatomy.records reading
+    × ((h : Histogram) → Contains reading.hists h
+    → ReadsUnits world_state.version state h × ReadsAmounts (blank world_state.version reach.id world_state.shape.size) state h))
+
+-- Each histogram that a resting actor knows, since a `hist` was answered with it, is the first of its name on the list, and the spec of its
+-- record is the same.
+abbrev pub AreKnownFirst : WorldState → Type 0
+AreKnownFirst world_state = (chain : List ℕ) → IsChain world_state.words.items (head_of world_state.words.items) chain
+    → (i : ℕ) (actor_run : ActorRun) (known : Known) → get_elem? world_state.actor_runs.items i ≡ some actor_run → actor_run.running ≡ None → Contains actor_run.known.items known
+    → ∥ IsHistogram world_state.words.items chain known.name.items known.reference × SameSpec (spec_of world_state.words.items known.reference) known.spec ∥₁

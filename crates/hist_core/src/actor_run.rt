@@ -1,0 +1,424 @@
+//! One actor of a world, with the call that it runs.
+
+use crate::add::{Add, AddStep};
+use crate::batch::{Batch, BatchStep};
+use crate::call::{Answer, Begun, Stepped};
+use crate::delta_call::{DeltaCall, DeltaCallStep};
+use crate::drawing::{draw, draw_sum};
+use crate::entry::{Entry, Taken};
+use crate::ghost_notes::{batch_entries, entry_of, new_items};
+use crate::hist::{Hist, HistStep, Known};
+use crate::samples::{amount_of, key_of};
+use crate::snapshot_call::{SnapshotCall, SnapshotCallStep};
+use alloc_core::event::set_bits;
+use segment_calls::{Asked, Delta, Refusal, Snapshot};
+use segment_image::Shape;
+use segment_image::layout::{FLAG_CORRUPT, FLAGS_WORD};
+use std::alloc::{AllocError, Global};
+
+/// A call that is going on, with what it does next.
+#[derive(Debug, Drop)]
+pub(crate) enum Running {
+    /// It sets the corrupt flag.
+    SetCorrupt,
+    /// It asks for a histogram.
+    Hist(Hist),
+    /// It counts a value.
+    Add(Add),
+    /// It takes of a histogram; until its first event with what it is to be shown as.
+    Delta(DeltaCall, Option<Taken>),
+    /// It looks at a histogram.
+    Snapshot(SnapshotCall),
+    /// It counts the items of a batch.
+    Batch(Batch),
+}
+
+/// An actor: what it has counted and taken, and the call that it runs.
+#[derive(Debug, Drop)]
+pub(crate) struct ActorRun {
+    // The entries of its ended calls, then those of the running one.
+    pub(crate) entries: Vec<Entry>,
+    // How many of these are of ended calls, and how many have begun.
+    pub(crate) ended: usize,
+    pub(crate) begun: usize,
+    // What its deltas took; a running one stands last, from its first event on. Until then there is room for it.
+    pub(crate) taken: Vec<Taken>,
+    // The histograms that its `hist` was answered with. Where one is going on, there is room for one more.
+    pub(crate) known: Vec<Known>,
+    pub(crate) running: Option<Running>,
+}
+
+impl ActorRun {
+    ghost use Rattle.std.specs.Prelude.{◌≡◌, ◌≤◌, ◌<◌, ◌+◌, ◌^◌, ℕ, List, length, true, Option, Some, None, IsSome, IfSome, IfNone, IfOk, OnErr, vec_len, vec_capacity};
+    ghost use mathlib.Core.Option.{some};
+    ghost use Rattle.std.specs.List.{All, Contains};
+    ghost use lib.ListN.{get_elem?};
+    ghost use Rattle.hist_core.specs.declared.hist.Known.{Known};
+    ghost use Rattle.hist_core.specs.declared.entry.Taken.{Taken};
+    ghost use Rattle.hist_core.specs.declared.delta_call.DeltaCall.{DeltaCall};
+    ghost use Rattle.hist_core.specs.declared.actor_run.Running.TheVariants as runs;
+    ghost use Rattle.bucket_ranges.specs.Ranges.{boundaries_of};
+    ghost use Rattle.bucket_ranges.specs.Spec.{spec_fault};
+    ghost use Rattle.segment_machine.specs.Actor.{has_buckets};
+    ghost use Rattle.segment_image.specs.Shape.{Dimensions};
+    ghost use Rattle.segment_machine.specs.declared.actor.Actor.{Actor};
+    ghost use Rattle.hist_core.specs.declared.hist.HistStep.TheVariants.{Done};
+    ghost use Rattle.hist_core.specs.Batch.{added_of};
+    ghost use Rattle.hist_core.specs.StepsBy.{WalksInOrder};
+    ghost use Rattle.hist_core.specs.ActorRun.{IsFresh, IsRun, IsSomeRun, NoneHasName, IsKnownAt, IsKnownAnswer, BeginsHist, HasRoom, AsksForOne, IsHistAnnounced, IsAddAnnounced, Adds, BeginsAdd, IsBatchAnnounced, BeginsBatch, BeginsSnapshot, BeginsDelta, IsNowShown, TakesOfOne, HasEndedDelta, HasPlace, IsDeltaAnnounced, LooksAtOne, IsSnapshotAnnounced, IsAsItWas, held_by, Advances, Answers};
+
+    // An actor that has done nothing.
+    pub(crate) fn new(alloc: Global) -> ActorRun
+        ensures { IsFresh result }
+    {
+        ActorRun {
+            entries: Vec::new(alloc),
+            ended: 0,
+            begun: 0,
+            taken: Vec::new(alloc),
+            known: Vec::new(alloc),
+            running: None,
+        }
+    }
+
+    // The place of the histogram of a name among those that it knows.
+    pub(crate) fn place_of(&self, name: &[u8]) -> Option<usize>
+        ensures found { IfSome result (λ i. IsKnownAt self.now.known.items i name.now) }
+        ensures none { IfNone result (NoneHasName self.now.known.items name.now) }
+    {
+        for (i, known) in self.known.iter().enumerate() {
+            if known.name.as_slice() == name {
+                return Some(i);
+            }
+        }
+        None
+    }
+
+    // What a `hist` of a histogram that it knows is answered.
+    fn known_answer(&self, i: usize, asked: &Asked) -> Answer
+        requires { IsKnownAt self.now.known.items i asked.now.name.items }
+        ensures { IsKnownAnswer self.now.known.items asked.now.name.items asked.now.spec result }
+    {
+        let known = &self.known[i];
+        if known.spec.is_same(&asked.spec) {
+            Answer::Hist(known.reference)
+        } else {
+            Answer::Refused(Refusal::OtherSpec)
+        }
+    }
+
+    // It begins to ask for a histogram, or is answered at once where it knows one of that name.
+    pub(crate) fn begin_hist(&mut self, shape: Shape, asked: Asked) -> Result<Begun, AllocError>
+        ensures { BeginsHist shape asked self.old self.new result }
+    {
+        if let Some(i) = self.place_of(&asked.name) {
+            return Ok(Begun::Ended(self.known_answer(i, &asked)));
+        }
+        self.known.reserve(1)?;
+        self.running = Some(Running::Hist(Hist::start(shape, asked)));
+        Ok(Begun::Going)
+    }
+
+    // The units of the pool that its running call would give back.
+    pub(crate) fn held(&self) -> u64
+        ensures units { result ≡ held_by self.now.running }
+        ensures few { result < 2 ^ 32 }
+    {
+        match &self.running {
+            Some(Running::Add(add)) => u64::from(add.units),
+            Some(Running::Batch(batch)) => u64::from(batch.left),
+            Some(Running::SetCorrupt | Running::Hist(_) | Running::Delta(..) | Running::Snapshot(_))
+            | None => 0,
+        }
+    }
+
+    // It begins to count so many units of a value in a histogram that it knows.
+    pub(crate) fn begin_add(
+        &mut self,
+        alloc: Global,
+        shape: Shape,
+        version: u64,
+        i: usize,
+        value: i32,
+        units: u32,
+    ) -> Result<(), AllocError>
+        requires near { i < vec_len self.old.known }
+        requires lawful { (known : Known) → get_elem? self.old.known.items i ≡ some known → spec_fault known.spec ≡ None }
+        requires ranges { (known : Known) → get_elem? self.old.known.items i ≡ some known → known.ranges ≡ boundaries_of known.spec }
+        ensures begins { IfOk result (λ _. (known : Known) → get_elem? self.old.known.items i ≡ some known → BeginsAdd shape version known value units self.old self.new) }
+        ensures fails { OnErr result (IsAsItWas self.old self.new) }
+    {
+        let known = &self.known[i];
+        let amount = amount_of(&known.ranges, value, units);
+        let add = Add::start(shape, version, known, value, units, amount);
+        let entry = entry_of(alloc, known, key_of(&known.ranges, value), units, amount)?;
+        self.entries.push(entry)?;
+        self.running = Some(Running::Add(add));
+        Ok(())
+    }
+
+    // It begins to count the items of a batch in a histogram that it knows, and then to add its sum.
+    pub(crate) fn begin_batch(
+        &mut self,
+        alloc: Global,
+        shape: Shape,
+        version: u64,
+        i: usize,
+        items: &[(i32, u32)],
+        sum: i64,
+        cost: u32,
+    ) -> Result<(), AllocError>
+        requires near { i < vec_len self.old.known }
+        requires lawful { (known : Known) → get_elem? self.old.known.items i ≡ some known → spec_fault known.spec ≡ None }
+        requires ranges { (known : Known) → get_elem? self.old.known.items i ≡ some known → known.ranges ≡ boundaries_of known.spec }
+        ensures begins { IfOk result (λ _. (known : Known) → get_elem? self.old.known.items i ≡ some known → BeginsBatch shape version known items.now sum cost self.old self.new) }
+        ensures fails { OnErr result (IsAsItWas self.old self.new) }
+    {
+        let known = &self.known[i];
+        let batch = Batch {
+            histogram: known.reference,
+            items: new_items(alloc, shape, version, known, items)?,
+            added: 0,
+            sum,
+            cost,
+            left: cost,
+        };
+        let mut entries = batch_entries(alloc, known, items, sum)?;
+        self.entries.append(&mut entries)?;
+        self.running = Some(Running::Batch(batch));
+        Ok(())
+    }
+
+    // What becomes of it by what a step of its `add` said.
+    fn add_said(&mut self, said: AddStep) -> Stepped
+        requires within { self.old.ended ≤ vec_len self.old.entries }
+        ensures { IsAddAnnounced self.old said self.new result }
+    {
+        self.begun = self.entries.len();
+        match said {
+            AddStep::More => Stepped::More,
+            AddStep::Done => {
+                self.ended = self.entries.len();
+                self.running = None;
+                Stepped::Done(Answer::Added)
+            }
+            AddStep::Refused(why) => {
+                self.entries.truncate(self.ended);
+                self.begun = self.ended;
+                self.running = None;
+                Stepped::Done(Answer::Refused(why))
+            }
+        }
+    }
+
+    // What becomes of it by what a step of its `batch` said.
+    fn batch_said(&mut self, said: BatchStep) -> Stepped
+        requires within { self.old.ended + added_of said ≤ vec_len self.old.entries }
+        ensures { IsBatchAnnounced self.old said self.new result }
+    {
+        self.begun = self.entries.len();
+        match said {
+            BatchStep::More => Stepped::More,
+            BatchStep::Done => {
+                self.ended = self.begun;
+                self.running = None;
+                Stepped::Done(Answer::Added)
+            }
+            BatchStep::Refused(refusal) => {
+                self.ended += refusal.added;
+                self.entries.truncate(self.ended);
+                self.begun = self.ended;
+                self.running = None;
+                Stepped::Done(Answer::BatchRefused(refusal))
+            }
+        }
+    }
+
+    // The histogram that its `hist` asked for is known, and the call has ended.
+    fn know(&mut self) -> Stepped
+        requires room { HasRoom self.old.running (vec_len self.old.known) (vec_capacity self.old.known) }
+        requires asks { AsksForOne self.old.running }
+        ensures { IsHistAnnounced self.old Done self.new result }
+    {
+        let Some(Running::Hist(hist)) = self.running.take() else {
+            return Stepped::More;
+        };
+        let Hist {
+            asked: Known {
+                name,
+                spec,
+                ranges,
+                ..
+            },
+            reference,
+            ..
+        } = hist;
+        self.known
+            .push(Known {
+                name,
+                spec,
+                ranges,
+                reference,
+            })
+            .unwrap();
+        Stepped::Done(Answer::Hist(reference))
+    }
+
+    // What becomes of it by what a step of its `hist` said.
+    fn hist_said(&mut self, said: HistStep) -> Stepped
+        requires room { HasRoom self.old.running (vec_len self.old.known) (vec_capacity self.old.known) }
+        requires asks { AsksForOne self.old.running }
+        ensures { IsHistAnnounced self.old said self.new result }
+    {
+        match said {
+            HistStep::More => Stepped::More,
+            HistStep::Done => self.know(),
+            HistStep::Refused(why) => {
+                self.running = None;
+                Stepped::Done(Answer::Refused(why))
+            }
+        }
+    }
+
+    // It begins to take of a histogram that it knows.
+    pub(crate) fn begin_delta(
+        &mut self,
+        alloc: Global,
+        shape: Shape,
+        version: u64,
+        i: usize,
+    ) -> Result<(), AllocError>
+        requires near { i < vec_len self.old.known }
+        requires lawful { (known : Known) → get_elem? self.old.known.items i ≡ some known → spec_fault known.spec ≡ None }
+        ensures begins { IfOk result (λ _. (known : Known) → get_elem? self.old.known.items i ≡ some known → BeginsDelta shape version known self.old self.new) }
+        ensures fails { OnErr result (IsAsItWas self.old self.new) }
+    {
+        let known = &self.known[i];
+        let delta_call = DeltaCall::start(alloc, shape, version, known)?;
+        let fresh = Taken {
+            name: Vec::from_slice(alloc, &known.name)?,
+            counts: Vec::with_capacity(alloc, delta_call.counts.capacity())?,
+            sum: 0,
+        };
+        self.taken.reserve(1)?;
+        self.running = Some(Running::Delta(delta_call, Some(fresh)));
+        Ok(())
+    }
+
+    // Its running delta stands last in what its deltas took, from its first event on.
+    fn show(&mut self)
+        requires room { (delta_call : DeltaCall) (fresh : Taken) → self.old.running ≡ Some (runs.Delta delta_call (Some fresh)) → vec_len self.old.taken < vec_capacity self.old.taken }
+        ensures { (delta_call : DeltaCall) (fresh : Option Taken) → self.old.running ≡ Some (runs.Delta delta_call fresh) → IsNowShown delta_call fresh self.old self.new }
+    {
+        if let Some(Running::Delta(_, fresh)) = &mut self.running {
+            if let Some(taken) = fresh.take() {
+                self.taken.push_reserved(taken);
+            }
+        }
+    }
+
+    // Its delta has ended, with this of the sum, and is answered with what it listed.
+    fn end_delta(&mut self, sum: i64) -> Stepped
+        requires takes { TakesOfOne self.old.running }
+        requires some { 0 < vec_len self.old.taken }
+        ensures { (delta_call : DeltaCall) (fresh : Option Taken) → self.old.running ≡ Some (runs.Delta delta_call fresh) → HasEndedDelta delta_call sum self.old self.new result }
+    {
+        draw_sum(&mut self.taken, sum);
+        let Some(Running::Delta(delta_call, _)) = self.running.take() else {
+            return Stepped::More;
+        };
+        let DeltaCall { counts, .. } = delta_call;
+        Stepped::Done(Answer::Delta(Delta { counts, sum }))
+    }
+
+    // What becomes of it by what a step of its `delta` said.
+    fn delta_said(&mut self, said: DeltaCallStep) -> Stepped
+        requires place { HasPlace said self.old.running self.old.taken }
+        ensures { (delta_call : DeltaCall) (fresh : Option Taken) → self.old.running ≡ Some (runs.Delta delta_call fresh) → IsDeltaAnnounced delta_call fresh self.old said self.new result }
+    {
+        self.show();
+        match said {
+            DeltaCallStep::More => Stepped::More,
+            DeltaCallStep::Took(key, units) => {
+                draw(&mut self.taken, key, units);
+                Stepped::More
+            }
+            DeltaCallStep::Done(sum) => self.end_delta(sum),
+        }
+    }
+
+    // It begins to look at a histogram that it knows.
+    pub(crate) fn begin_snapshot(
+        &mut self,
+        alloc: Global,
+        shape: Shape,
+        version: u64,
+        i: usize,
+    ) -> Result<(), AllocError>
+        requires near { i < vec_len self.old.known }
+        requires lawful { (known : Known) → get_elem? self.old.known.items i ≡ some known → spec_fault known.spec ≡ None }
+        requires ranges { (known : Known) → get_elem? self.old.known.items i ≡ some known → known.ranges ≡ boundaries_of known.spec }
+        ensures begins { IfOk result (λ _. (known : Known) → get_elem? self.old.known.items i ≡ some known → BeginsSnapshot shape version known self.old self.new) }
+        ensures fails { OnErr result (self.new ≡ self.old) }
+    {
+        let snapshot_call = SnapshotCall::start(alloc, shape, version, &self.known[i])?;
+        self.running = Some(Running::Snapshot(snapshot_call));
+        Ok(())
+    }
+
+    // What becomes of it by what a step of its `snapshot` said.
+    fn snapshot_said(&mut self, said: SnapshotCallStep) -> Stepped
+        requires looks { LooksAtOne self.old.running }
+        ensures { IsSnapshotAnnounced self.old said self.new result }
+    {
+        let SnapshotCallStep::Done { sum, redundant } = said else {
+            return Stepped::More;
+        };
+        let Some(Running::Snapshot(snapshot_call)) = self.running.take() else {
+            return Stepped::More;
+        };
+        let SnapshotCall { totals, .. } = snapshot_call;
+        Stepped::Done(Answer::Snapshot(Snapshot {
+            counts: totals,
+            sum,
+            redundant,
+        }))
+    }
+
+    // StepsBy on by one event, which is the next of the running call.
+    pub(crate) fn advance(&mut self, words: &mut [u64]) -> Stepped
+        requires runs { IsSome self.old.running }
+        requires stands { ∥ IsSomeRun (length words.old) self.old ∥₁ }
+        ensures advances { (shape : Dimensions) (version : ℕ) (a : Actor) → shape.size ≡ length words.old → WalksInOrder a → IsRun shape version self.old a → Advances shape version self.old words.old self.new words.new result a }
+        ensures answers { Answers self.old words.old self.new words.new result }
+    {
+        match &mut self.running {
+            Some(Running::SetCorrupt) => {
+                set_bits(words, FLAGS_WORD, FLAG_CORRUPT);
+                self.running = None;
+                Stepped::Done(Answer::Flagged)
+            }
+            Some(Running::Hist(hist)) => {
+                let said = hist.step(words);
+                self.hist_said(said)
+            }
+            Some(Running::Add(add)) => {
+                let said = add.step(words);
+                self.add_said(said)
+            }
+            Some(Running::Delta(delta_call, _)) => {
+                let said = delta_call.step(words);
+                self.delta_said(said)
+            }
+            Some(Running::Snapshot(snapshot_call)) => {
+                let said = snapshot_call.step(words);
+                self.snapshot_said(said)
+            }
+            Some(Running::Batch(batch)) => {
+                let said = batch.step(words);
+                self.batch_said(said)
+            }
+            None => Stepped::More,
+        }
+    }
+}

@@ -1,0 +1,428 @@
+//! A delta that is going on: it takes of each bucket or sample of a histogram the units that no delta has taken yet, and of the sum what
+//! is new.
+
+use crate::hist::Known;
+use crate::mounted::Mounted;
+use crate::samples::list_by_key;
+use crate::walk::{Met, Walk};
+use crate::word_ops::{fetch_max, swap};
+use bucket_ranges::Ranges;
+use segment_calls::packing::{DISABLED_BIT, packed_in};
+use segment_image::Shape;
+use segment_image::layout::{
+    BLOCK_HEADER, BLOCK_LEAST, HEADER_WORDS, HISTOGRAM_COUNTS, HISTOGRAM_SINGLE,
+    HISTOGRAM_SINGLE_MARK, HISTOGRAM_SUM, HISTOGRAM_SUM_MARK, SAMPLE_COUNT, SAMPLE_MARK,
+};
+use std::alloc::{AllocError, Global};
+
+/// What a delta does next.
+#[derive(Clone, Copy, Debug, PartialEq, Eq)]
+pub(crate) enum Stage {
+    /// It loads the single word.
+    LoadingSingle,
+    /// It raises the single mark to the packed units of a bucket.
+    TakingPacked {
+        bucket: usize,
+        units: u64,
+    },
+    /// It loads the counts reference. The counts are in use.
+    LoadingCounts {
+        packed: Option<usize>,
+        kept: u64,
+    },
+    /// It loads the count of a bucket.
+    LoadingCount {
+        mounted: Mounted,
+        bucket: usize,
+    },
+    /// It raises the mark of a bucket to the units that it has.
+    Raising {
+        mounted: Mounted,
+        bucket: usize,
+        total: u64,
+    },
+    /// It walks along the samples of a sparse histogram.
+    Walking {
+        walk: Walk,
+    },
+    /// It loads the count of a sample.
+    LoadingSample {
+        at: u64,
+        value: i32,
+    },
+    /// It raises the mark of a sample to its count.
+    RaisingSample {
+        at: u64,
+        value: i32,
+        count: u64,
+    },
+    /// It loads the sum.
+    LoadingSum,
+    /// It swaps the sum into the sum mark.
+    Swapping {
+        sum: i64,
+    },
+}
+
+/// What a step of a delta says.
+#[derive(Clone, Copy, Debug, PartialEq, Eq)]
+pub(crate) enum DeltaCallStep {
+    /// It goes on.
+    More,
+    /// It has taken so many units of a key, and goes on.
+    Took(i32, u64),
+    /// It has taken this of the sum, and has ended.
+    Done(i64),
+}
+
+/// A delta that is going on.
+#[derive(Debug, Drop)]
+pub(crate) struct DeltaCall {
+    pub(crate) version: u64,
+    // The histogram's record, and the ranges of its buckets.
+    pub(crate) histogram: u64,
+    pub(crate) ranges: Ranges,
+    // The keys of which it took units so far, each with how many. There is room for all buckets, or for as many values as fit in the
+    // segment.
+    pub(crate) counts: Vec<(i32, u64)>,
+    pub(crate) stage: Stage,
+}
+
+impl DeltaCall {
+    ghost use Rattle.std.specs.Prelude.{◌≡◌, ◌≤◌, ◌<◌, ◌+◌, length, vec_len, vec_capacity, None, IfOk};
+    ghost use Rattle.bucket_ranges.specs.Spec.{spec_fault};
+    ghost use Rattle.hist_core.specs.ActorRun.{known_of};
+    ghost use Rattle.hist_core.specs.declared.delta_call.Stage.TheVariants.{LoadingSingle, TakingPacked, LoadingCounts, LoadingCount, Raising, Walking, LoadingSample, RaisingSample, LoadingSum, Swapping};
+    ghost use Rattle.hist_core.specs.DeltaCall.{IsSomeDeltaCall, IsStarted, DeltaCallSteps, Lists, IsBehindSingle, HasBegun, behind_bucket, behind_sample, behind_walk, IsTaken, TakesUnits, mark_of};
+
+    // It begins to take of a known histogram: it loads the single word, or, where the histogram is sparse, the next of its record. There
+    // is room for all keys.
+    pub(crate) fn start(
+        alloc: Global,
+        shape: Shape,
+        version: u64,
+        known: &Known,
+    ) -> Result<DeltaCall, AllocError>
+        requires lawful { spec_fault known.now.spec ≡ None }
+        ensures { IfOk result (IsStarted shape version (known_of known.now)) }
+    {
+        let Ok(ranges) = Ranges::of(alloc, &known.spec) else {
+            return Err(AllocError);
+        };
+        if ranges.len() == 0 {
+            let most = (shape.size() as usize - HEADER_WORDS) / BLOCK_LEAST;
+            let counts = Vec::with_capacity(alloc, most)?;
+            return Ok(DeltaCall {
+                version,
+                histogram: known.reference,
+                ranges,
+                counts,
+                stage: Stage::Walking {
+                    walk: Walk::LoadingFirst,
+                },
+            });
+        }
+        let counts = Vec::with_capacity(alloc, ranges.len())?;
+        Ok(DeltaCall {
+            version,
+            histogram: known.reference,
+            ranges,
+            counts,
+            stage: Stage::LoadingSingle,
+        })
+    }
+
+    // What a single word leads to.
+    fn behind_single(&self, word: u64) -> Stage
+        requires { length self.now.ranges ≤ 65535 }
+        ensures { IsBehindSingle self.now word result }
+    {
+        let (packed, kept) = packed_in(self.version, word, self.ranges.len());
+        if word >= DISABLED_BIT {
+            return Stage::LoadingCounts { packed, kept };
+        }
+        match packed {
+            Some(bucket) => Stage::TakingPacked {
+                bucket,
+                units: kept,
+            },
+            None => Stage::LoadingSum,
+        }
+    }
+
+    // It loads the single word.
+    fn load_single(&mut self, words: &[u64]) -> DeltaCallStep
+        requires loads { self.old.stage ≡ LoadingSingle }
+        requires stands { ∥ IsSomeDeltaCall (length words.now) self.old ∥₁ }
+        ensures steps { DeltaCallSteps self.old words.now self.new words.now result }
+        ensures lists { Lists self.old self.new result }
+        ensures room { vec_capacity self.new.counts ≡ vec_capacity self.old.counts }
+        ensures begun { HasBegun self.new.stage }
+        ensures of { self.new.histogram ≡ self.old.histogram }
+    {
+        let word = words[self.histogram as usize + HISTOGRAM_SINGLE];
+        self.stage = self.behind_single(word);
+        DeltaCallStep::More
+    }
+
+    // It lists the units of a key that stood between a mark and what that was raised to.
+    fn take(&mut self, key: i32, total: u64, mark: u64) -> DeltaCallStep
+        requires { vec_len self.old.counts < vec_capacity self.old.counts }
+        ensures { TakesUnits key total mark self.old self.new result }
+    {
+        if mark >= total {
+            return DeltaCallStep::More;
+        }
+        list_by_key(&mut self.counts, key, total - mark);
+        DeltaCallStep::Took(key, total - mark)
+    }
+
+    // Those of a bucket.
+    fn take_bucket(&mut self, bucket: usize, total: u64, mark: u64) -> DeltaCallStep
+        requires inside { bucket + 1 < length self.old.ranges }
+        requires room { vec_len self.old.counts < vec_capacity self.old.counts }
+        ensures { IsTaken bucket total mark self.old self.new result }
+    {
+        let key = self.ranges.low(bucket);
+        self.take(key, total, mark)
+    }
+
+    // It raises the single mark to the packed units.
+    fn take_packed(&mut self, words: &mut [u64], bucket: usize, units: u64) -> DeltaCallStep
+        requires takes { self.old.stage ≡ TakingPacked bucket units }
+        requires stands { ∥ IsSomeDeltaCall (length words.old) self.old ∥₁ }
+        ensures steps { DeltaCallSteps self.old words.old self.new words.new result }
+        ensures lists { Lists self.old self.new result }
+        ensures room { vec_capacity self.new.counts ≡ vec_capacity self.old.counts }
+        ensures begun { HasBegun self.new.stage }
+        ensures of { self.new.histogram ≡ self.old.histogram }
+    {
+        let at = self.histogram as usize + HISTOGRAM_SINGLE_MARK;
+        let mark = fetch_max(words, at, units);
+        self.stage = Stage::LoadingSum;
+        self.take_bucket(bucket, units, mark)
+    }
+
+    // It loads the counts reference. The counts are in use, so they lie within the segment.
+    fn load_counts(&mut self, words: &[u64], packed: Option<usize>, kept: u64) -> DeltaCallStep
+        requires loads { self.old.stage ≡ LoadingCounts packed kept }
+        requires stands { ∥ IsSomeDeltaCall (length words.now) self.old ∥₁ }
+        ensures steps { DeltaCallSteps self.old words.now self.new words.now result }
+        ensures lists { Lists self.old self.new result }
+        ensures room { vec_capacity self.new.counts ≡ vec_capacity self.old.counts }
+        ensures begun { HasBegun self.new.stage }
+        ensures of { self.new.histogram ≡ self.old.histogram }
+    {
+        let counts = words[self.histogram as usize + HISTOGRAM_COUNTS];
+        let mounted = Mounted {
+            counts,
+            packed,
+            kept,
+        };
+        self.stage = Stage::LoadingCount { mounted, bucket: 0 };
+        DeltaCallStep::More
+    }
+
+    // What it does behind a bucket: it goes on to the next, or to the sum.
+    fn behind_bucket(&self, mounted: Mounted, bucket: usize) -> Stage
+        requires { bucket ≤ 65535 }
+        ensures { result ≡ behind_bucket self.now mounted bucket }
+    {
+        if bucket + 1 < self.ranges.len() {
+            Stage::LoadingCount {
+                mounted,
+                bucket: bucket + 1,
+            }
+        } else {
+            Stage::LoadingSum
+        }
+    }
+
+    // It loads the count of a bucket, and raises its mark next where the bucket has units.
+    fn load_count(&mut self, words: &[u64], mounted: Mounted, bucket: usize) -> DeltaCallStep
+        requires loads { self.old.stage ≡ LoadingCount mounted bucket }
+        requires stands { ∥ IsSomeDeltaCall (length words.now) self.old ∥₁ }
+        ensures steps { DeltaCallSteps self.old words.now self.new words.now result }
+        ensures lists { Lists self.old self.new result }
+        ensures room { vec_capacity self.new.counts ≡ vec_capacity self.old.counts }
+        ensures begun { HasBegun self.new.stage }
+        ensures of { self.new.histogram ≡ self.old.histogram }
+    {
+        let count = words[mounted.counts as usize + (BLOCK_HEADER + bucket)];
+        let total = mounted.total(bucket, count);
+        self.stage = if total == 0 {
+            self.behind_bucket(mounted, bucket)
+        } else {
+            Stage::Raising {
+                mounted,
+                bucket,
+                total,
+            }
+        };
+        DeltaCallStep::More
+    }
+
+    // Where the mark of a bucket stands: the packed one has the single mark, each other its own behind the counts.
+    fn mark_of(&self, mounted: Mounted, bucket: usize) -> usize
+        requires few { (length self.now.ranges ≤ 65535) × (bucket ≤ 65535) }
+        requires inside { (self.now.histogram ≤ 1048576) × (mounted.counts ≤ 1048576) }
+        ensures { result ≡ mark_of self.now mounted bucket }
+    {
+        if mounted.packed == Some(bucket) {
+            self.histogram as usize + HISTOGRAM_SINGLE_MARK
+        } else {
+            mounted.counts as usize + BLOCK_HEADER + self.ranges.len() + bucket
+        }
+    }
+
+    // It raises the mark of a bucket.
+    fn raise(
+        &mut self,
+        words: &mut [u64],
+        mounted: Mounted,
+        bucket: usize,
+        total: u64,
+    ) -> DeltaCallStep
+        requires raises { self.old.stage ≡ Raising mounted bucket total }
+        requires stands { ∥ IsSomeDeltaCall (length words.old) self.old ∥₁ }
+        ensures steps { DeltaCallSteps self.old words.old self.new words.new result }
+        ensures lists { Lists self.old self.new result }
+        ensures room { vec_capacity self.new.counts ≡ vec_capacity self.old.counts }
+        ensures begun { HasBegun self.new.stage }
+        ensures of { self.new.histogram ≡ self.old.histogram }
+    {
+        let mark = fetch_max(words, self.mark_of(mounted, bucket), total);
+        self.stage = self.behind_bucket(mounted, bucket);
+        self.take_bucket(bucket, total, mark)
+    }
+
+    // What its walk met leads to: it goes on, or to the count of a sample, or at the end of the list to the sum.
+    fn behind_walk(met: Met) -> Stage
+        ensures { result ≡ behind_walk met }
+    {
+        match met {
+            Met::Nothing(walk) => Stage::Walking { walk },
+            Met::Sample { at, value } => Stage::LoadingSample { at, value },
+            Met::End => Stage::LoadingSum,
+        }
+    }
+
+    // It walks on.
+    fn walk_on(&mut self, words: &[u64], walk: Walk) -> DeltaCallStep
+        requires loads { self.old.stage ≡ Walking walk }
+        requires stands { ∥ IsSomeDeltaCall (length words.now) self.old ∥₁ }
+        ensures steps { DeltaCallSteps self.old words.now self.new words.now result }
+        ensures lists { Lists self.old self.new result }
+        ensures room { vec_capacity self.new.counts ≡ vec_capacity self.old.counts }
+        ensures begun { HasBegun self.new.stage }
+        ensures of { self.new.histogram ≡ self.old.histogram }
+    {
+        let met = walk.step(self.histogram, words);
+        self.stage = DeltaCall::behind_walk(met);
+        DeltaCallStep::More
+    }
+
+    // What the count of a sample leads to: its mark is raised next where it has units.
+    fn behind_sample(at: u64, value: i32, count: u64) -> Stage
+        ensures { result ≡ behind_sample at value count }
+    {
+        if count == 0 {
+            Stage::Walking {
+                walk: Walk::LoadingNext { at },
+            }
+        } else {
+            Stage::RaisingSample { at, value, count }
+        }
+    }
+
+    // It loads the count of a sample of its histogram.
+    fn load_sample(&mut self, words: &[u64], at: u64, value: i32) -> DeltaCallStep
+        requires loads { self.old.stage ≡ LoadingSample at value }
+        requires stands { ∥ IsSomeDeltaCall (length words.now) self.old ∥₁ }
+        ensures steps { DeltaCallSteps self.old words.now self.new words.now result }
+        ensures lists { Lists self.old self.new result }
+        ensures room { vec_capacity self.new.counts ≡ vec_capacity self.old.counts }
+        ensures begun { HasBegun self.new.stage }
+        ensures of { self.new.histogram ≡ self.old.histogram }
+    {
+        let count = words[at as usize + SAMPLE_COUNT];
+        self.stage = DeltaCall::behind_sample(at, value, count);
+        DeltaCallStep::More
+    }
+
+    // It raises the mark of a sample to its count.
+    fn raise_sample(&mut self, words: &mut [u64], at: u64, value: i32, count: u64) -> DeltaCallStep
+        requires raises { self.old.stage ≡ RaisingSample at value count }
+        requires stands { ∥ IsSomeDeltaCall (length words.old) self.old ∥₁ }
+        ensures steps { DeltaCallSteps self.old words.old self.new words.new result }
+        ensures lists { Lists self.old self.new result }
+        ensures room { vec_capacity self.new.counts ≡ vec_capacity self.old.counts }
+        ensures begun { HasBegun self.new.stage }
+        ensures of { self.new.histogram ≡ self.old.histogram }
+    {
+        let mark = fetch_max(words, at as usize + SAMPLE_MARK, count);
+        self.stage = Stage::Walking {
+            walk: Walk::LoadingNext { at },
+        };
+        self.take(value, count, mark)
+    }
+
+    // It loads the sum.
+    fn load_sum(&mut self, words: &[u64]) -> DeltaCallStep
+        requires loads { self.old.stage ≡ LoadingSum }
+        requires stands { ∥ IsSomeDeltaCall (length words.now) self.old ∥₁ }
+        ensures steps { DeltaCallSteps self.old words.now self.new words.now result }
+        ensures lists { Lists self.old self.new result }
+        ensures room { vec_capacity self.new.counts ≡ vec_capacity self.old.counts }
+        ensures begun { HasBegun self.new.stage }
+        ensures of { self.new.histogram ≡ self.old.histogram }
+    {
+        let sum = words[self.histogram as usize + HISTOGRAM_SUM].cast_signed();
+        self.stage = Stage::Swapping { sum };
+        DeltaCallStep::More
+    }
+
+    // It swaps the sum into the sum mark, and has ended.
+    fn swap_sum(&mut self, words: &mut [u64], sum: i64) -> DeltaCallStep
+        requires swaps { self.old.stage ≡ Swapping sum }
+        requires stands { ∥ IsSomeDeltaCall (length words.old) self.old ∥₁ }
+        ensures steps { DeltaCallSteps self.old words.old self.new words.new result }
+        ensures lists { Lists self.old self.new result }
+        ensures room { vec_capacity self.new.counts ≡ vec_capacity self.old.counts }
+        ensures begun { HasBegun self.new.stage }
+        ensures of { self.new.histogram ≡ self.old.histogram }
+    {
+        let at = self.histogram as usize + HISTOGRAM_SUM_MARK;
+        let mark = swap(words, at, sum.cast_unsigned());
+        DeltaCallStep::Done(sum.wrapping_sub(mark.cast_signed()))
+    }
+
+    // StepsBy on by one event.
+    pub(crate) fn step(&mut self, words: &mut [u64]) -> DeltaCallStep
+        requires stands { ∥ IsSomeDeltaCall (length words.old) self.old ∥₁ }
+        ensures steps { DeltaCallSteps self.old words.old self.new words.new result }
+        ensures lists { Lists self.old self.new result }
+        ensures room { vec_capacity self.new.counts ≡ vec_capacity self.old.counts }
+        ensures begun { HasBegun self.new.stage }
+        ensures of { self.new.histogram ≡ self.old.histogram }
+    {
+        match self.stage {
+            Stage::LoadingSingle => self.load_single(words),
+            Stage::TakingPacked { bucket, units } => self.take_packed(words, bucket, units),
+            Stage::LoadingCounts { packed, kept } => self.load_counts(words, packed, kept),
+            Stage::LoadingCount { mounted, bucket } => self.load_count(words, mounted, bucket),
+            Stage::Raising {
+                mounted,
+                bucket,
+                total,
+            } => self.raise(words, mounted, bucket, total),
+            Stage::Walking { walk } => self.walk_on(words, walk),
+            Stage::LoadingSample { at, value } => self.load_sample(words, at, value),
+            Stage::RaisingSample { at, value, count } => {
+                self.raise_sample(words, at, value, count)
+            }
+            Stage::LoadingSum => self.load_sum(words),
+            Stage::Swapping { sum } => self.swap_sum(words, sum),
+        }
+    }
+}

@@ -1,0 +1,279 @@
+//! A snapshot that is going on: it looks at all that is counted of a histogram, and changes nothing.
+
+ghost use Rattle.std.specs.Prelude.{◌≡◌, IfOk};
+ghost use Rattle.hist_core.specs.SnapshotCall.{blank_totals};
+
+use crate::hist::Known;
+use crate::mounted::Mounted;
+use crate::samples::sort_by_key;
+use crate::walk::{Met, Walk};
+use bucket_ranges::Ranges;
+use segment_calls::packing::{DISABLED_BIT, packed_in};
+use segment_image::Shape;
+use segment_image::layout::{
+    BLOCK_HEADER, BLOCK_LEAST, HEADER_WORDS, HISTOGRAM_COUNTS, HISTOGRAM_REDUNDANT,
+    HISTOGRAM_SINGLE, HISTOGRAM_SUM, SAMPLE_COUNT,
+};
+use std::alloc::{AllocError, Global};
+
+/// What a snapshot does next.
+#[derive(Clone, Copy, Debug, PartialEq, Eq)]
+pub(crate) enum Stage {
+    /// It loads the single word.
+    LoadingSingle,
+    /// It loads the counts reference. The counts are in use.
+    LoadingCounts { packed: Option<usize>, kept: u64 },
+    /// It loads the count of a bucket.
+    LoadingCount { mounted: Mounted, bucket: usize },
+    /// It walks along the samples. The histogram is sparse.
+    Walking { walk: Walk },
+    /// It loads the count of a sample of its histogram.
+    LoadingSample { at: u64, value: i32 },
+    /// It loads the sum.
+    LoadingSum,
+    /// It loads the redundant count.
+    LoadingRedundant { sum: i64 },
+}
+
+/// What a step of a snapshot says.
+#[derive(Clone, Copy, Debug, PartialEq, Eq)]
+pub(crate) enum SnapshotCallStep {
+    /// It goes on.
+    More,
+    /// It has ended, with this sum and this redundant count.
+    Done { sum: i64, redundant: u64 },
+}
+
+/// A snapshot that is going on.
+#[derive(Debug, Drop)]
+pub(crate) struct SnapshotCall {
+    pub(crate) version: u64,
+    // The histogram's record.
+    pub(crate) histogram: u64,
+    // The key of each bucket, in order, with the units that it saw there, 0 so far as it did not look. Of a sparse histogram the values
+    // that it met with units, in the order of the list; at its end they are sorted.
+    pub(crate) totals: Vec<(i32, u64)>,
+    pub(crate) stage: Stage,
+}
+
+// The key of each bucket in order, each with no units yet.
+fn blank_totals(alloc: Global, ranges: &Ranges) -> Result<Vec<(i32, u64)>, AllocError>
+    ensures { IfOk result (λ totals. totals.items ≡ blank_totals ranges.now) }
+{
+    let mut totals = Vec::with_capacity(alloc, ranges.len())?;
+    for bucket in 0..ranges.len() {
+        totals.push_reserved((ranges.low(bucket), 0));
+    }
+    Ok(totals)
+}
+
+impl SnapshotCall {
+    ghost use Rattle.std.specs.Prelude.{◌≤◌, ◌<◌, length, vec_len, vec_capacity, None};
+    ghost use Rattle.bucket_ranges.specs.Ranges.{boundaries_of};
+    ghost use Rattle.bucket_ranges.specs.Spec.{spec_fault};
+    ghost use Rattle.hist_core.specs.ActorRun.{known_of};
+    ghost use Rattle.hist_core.specs.declared.snapshot_call.Stage.TheVariants.{LoadingSingle, LoadingCounts, LoadingCount, Walking, LoadingSample, LoadingSum, LoadingRedundant};
+    ghost use Rattle.hist_core.specs.SnapshotCall.{IsSomeSnapshotCall, IsStarted, SnapshotCallSteps, IsPut, IsBehindSingle, IsBehindWalk, IsListed, behind_bucket};
+
+    // It begins to look at a known histogram: it loads the single word, or, where the histogram is sparse, the next of its record.
+    pub(crate) fn start(
+        alloc: Global,
+        shape: Shape,
+        version: u64,
+        known: &Known,
+    ) -> Result<SnapshotCall, AllocError>
+        requires lawful { spec_fault known.now.spec ≡ None }
+        requires ranges { known.now.ranges ≡ boundaries_of known.now.spec }
+        ensures { IfOk result (IsStarted shape version (known_of known.now)) }
+    {
+        if known.ranges.len() == 0 {
+            let most = (shape.size() as usize - HEADER_WORDS) / BLOCK_LEAST;
+            return Ok(SnapshotCall {
+                version,
+                histogram: known.reference,
+                totals: Vec::with_capacity(alloc, most)?,
+                stage: Stage::Walking {
+                    walk: Walk::LoadingFirst,
+                },
+            });
+        }
+        Ok(SnapshotCall {
+            version,
+            histogram: known.reference,
+            totals: blank_totals(alloc, &known.ranges)?,
+            stage: Stage::LoadingSingle,
+        })
+    }
+
+    // The units of a bucket that it saw.
+    fn put(&mut self, bucket: usize, total: u64)
+        requires { bucket < length self.old.totals.items }
+        ensures { IsPut bucket total self.old self.new }
+    {
+        self.totals[bucket].1 = total;
+    }
+
+    // What a single word leads to. Its units are all that there are, where the counts are not in use.
+    fn behind_single(&mut self, word: u64)
+        requires { length self.old.totals.items ≤ 65535 }
+        ensures { IsBehindSingle self.old word self.new self.new.stage }
+    {
+        let (packed, kept) = packed_in(self.version, word, self.totals.len());
+        if word >= DISABLED_BIT {
+            self.stage = Stage::LoadingCounts { packed, kept };
+            return;
+        }
+        self.stage = Stage::LoadingSum;
+        if let Some(bucket) = packed {
+            self.put(bucket, kept);
+        }
+    }
+
+    // It loads the single word.
+    fn load_single(&mut self, words: &[u64]) -> SnapshotCallStep
+        requires loads { self.old.stage ≡ LoadingSingle }
+        requires stands { ∥ IsSomeSnapshotCall (length words.now) self.old ∥₁ }
+        ensures steps { SnapshotCallSteps self.old words.now self.new words.now result }
+        ensures of { self.new.histogram ≡ self.old.histogram }
+    {
+        let word = words[self.histogram as usize + HISTOGRAM_SINGLE];
+        self.behind_single(word);
+        SnapshotCallStep::More
+    }
+
+    // It loads the counts reference. The counts are in use, so they lie within the segment.
+    fn load_counts(&mut self, words: &[u64], packed: Option<usize>, kept: u64) -> SnapshotCallStep
+        requires loads { self.old.stage ≡ LoadingCounts packed kept }
+        requires stands { ∥ IsSomeSnapshotCall (length words.now) self.old ∥₁ }
+        ensures steps { SnapshotCallSteps self.old words.now self.new words.now result }
+        ensures of { self.new.histogram ≡ self.old.histogram }
+    {
+        let counts = words[self.histogram as usize + HISTOGRAM_COUNTS];
+        let mounted = Mounted {
+            counts,
+            packed,
+            kept,
+        };
+        self.stage = Stage::LoadingCount { mounted, bucket: 0 };
+        SnapshotCallStep::More
+    }
+
+    // What it does behind a bucket: it goes on to the next, or to the sum.
+    fn behind_bucket(&self, mounted: Mounted, bucket: usize) -> Stage
+        requires { bucket ≤ 65535 }
+        ensures { result ≡ behind_bucket (length self.now.totals.items) mounted bucket }
+    {
+        if bucket + 1 < self.totals.len() {
+            Stage::LoadingCount {
+                mounted,
+                bucket: bucket + 1,
+            }
+        } else {
+            Stage::LoadingSum
+        }
+    }
+
+    // It loads the count of a bucket.
+    fn load_count(&mut self, words: &[u64], mounted: Mounted, bucket: usize) -> SnapshotCallStep
+        requires loads { self.old.stage ≡ LoadingCount mounted bucket }
+        requires stands { ∥ IsSomeSnapshotCall (length words.now) self.old ∥₁ }
+        ensures steps { SnapshotCallSteps self.old words.now self.new words.now result }
+        ensures of { self.new.histogram ≡ self.old.histogram }
+    {
+        let count = words[mounted.counts as usize + (BLOCK_HEADER + bucket)];
+        self.stage = self.behind_bucket(mounted, bucket);
+        self.put(bucket, mounted.total(bucket, count));
+        SnapshotCallStep::More
+    }
+
+    // What its walk met leads to: it goes on, or to the count of a sample, or at the end of the list to the sum.
+    fn meet(&mut self, met: Met)
+        ensures { IsBehindWalk self.old met self.new }
+    {
+        self.stage = match met {
+            Met::Nothing(walk) => Stage::Walking { walk },
+            Met::Sample { at, value } => Stage::LoadingSample { at, value },
+            Met::End => {
+                sort_by_key(&mut self.totals);
+                Stage::LoadingSum
+            }
+        };
+    }
+
+    // It walks on.
+    fn walk_on(&mut self, words: &[u64], walk: Walk) -> SnapshotCallStep
+        requires loads { self.old.stage ≡ Walking walk }
+        requires stands { ∥ IsSomeSnapshotCall (length words.now) self.old ∥₁ }
+        ensures steps { SnapshotCallSteps self.old words.now self.new words.now result }
+        ensures of { self.new.histogram ≡ self.old.histogram }
+    {
+        let met = walk.step(self.histogram, words);
+        self.meet(met);
+        SnapshotCallStep::More
+    }
+
+    // The units of a value that it met, where it has some.
+    fn list(&mut self, value: i32, count: u64)
+        requires { vec_len self.old.totals < vec_capacity self.old.totals }
+        ensures { IsListed value count self.old self.new }
+    {
+        if count != 0 {
+            self.totals.push_reserved((value, count));
+        }
+    }
+
+    // It loads the count of a sample of its histogram.
+    fn load_sample(&mut self, words: &[u64], at: u64, value: i32) -> SnapshotCallStep
+        requires loads { self.old.stage ≡ LoadingSample at value }
+        requires stands { ∥ IsSomeSnapshotCall (length words.now) self.old ∥₁ }
+        ensures steps { SnapshotCallSteps self.old words.now self.new words.now result }
+        ensures of { self.new.histogram ≡ self.old.histogram }
+    {
+        let count = words[at as usize + SAMPLE_COUNT];
+        self.stage = Stage::Walking {
+            walk: Walk::LoadingNext { at },
+        };
+        self.list(value, count);
+        SnapshotCallStep::More
+    }
+
+    // It loads the sum.
+    fn load_sum(&mut self, words: &[u64]) -> SnapshotCallStep
+        requires loads { self.old.stage ≡ LoadingSum }
+        requires stands { ∥ IsSomeSnapshotCall (length words.now) self.old ∥₁ }
+        ensures steps { SnapshotCallSteps self.old words.now self.new words.now result }
+        ensures of { self.new.histogram ≡ self.old.histogram }
+    {
+        let sum = words[self.histogram as usize + HISTOGRAM_SUM].cast_signed();
+        self.stage = Stage::LoadingRedundant { sum };
+        SnapshotCallStep::More
+    }
+
+    // It loads the redundant count, and has ended.
+    fn load_redundant(&mut self, words: &[u64], sum: i64) -> SnapshotCallStep
+        requires loads { self.old.stage ≡ LoadingRedundant sum }
+        requires stands { ∥ IsSomeSnapshotCall (length words.now) self.old ∥₁ }
+        ensures steps { SnapshotCallSteps self.old words.now self.new words.now result }
+        ensures of { self.new.histogram ≡ self.old.histogram }
+    {
+        let redundant = words[self.histogram as usize + HISTOGRAM_REDUNDANT];
+        SnapshotCallStep::Done { sum, redundant }
+    }
+
+    // StepsBy on by one event.
+    pub(crate) fn step(&mut self, words: &[u64]) -> SnapshotCallStep
+        requires stands { ∥ IsSomeSnapshotCall (length words.now) self.old ∥₁ }
+        ensures steps { SnapshotCallSteps self.old words.now self.new words.now result }
+        ensures of { self.new.histogram ≡ self.old.histogram }
+    {
+        match self.stage {
+            Stage::LoadingSingle => self.load_single(words),
+            Stage::LoadingCounts { packed, kept } => self.load_counts(words, packed, kept),
+            Stage::LoadingCount { mounted, bucket } => self.load_count(words, mounted, bucket),
+            Stage::Walking { walk } => self.walk_on(words, walk),
+            Stage::LoadingSample { at, value } => self.load_sample(words, at, value),
+            Stage::LoadingSum => self.load_sum(words),
+            Stage::LoadingRedundant { sum } => self.load_redundant(words, sum),
+        }
+    }
+}

@@ -1,0 +1,19 @@
+-- The call `add`.
+pub mod Added
+pub mod Adds
+pub mod Attempts
+pub mod Beginning
+pub mod Counted
+pub mod CountsAlone
+pub mod Disabled
+pub mod Ended
+pub mod Finished
+pub mod Mounted
+pub mod OwnSamples
+pub mod Refusing
+pub mod SampleMade
+pub mod SampleOf
+pub mod SampleSearches
+pub mod SampleWords
+pub mod TurnedAway
+pub mod ValueCounted

@@ -1,0 +1,15 @@
+-- The call `delta`.
+pub mod AllBuckets
+pub mod BucketKeys
+pub mod DeltaEnds
+pub mod FewSamples
+pub mod Given
+pub mod OneBucket
+pub mod OneDelta
+pub mod OneSample
+pub mod OneValue
+pub mod SampleCounts
+pub mod SamplesBehind
+pub mod ValuesDelta
+pub mod ValuesListed
+pub mod ValuesTaken

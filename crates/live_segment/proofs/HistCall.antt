@@ -1,0 +1,9 @@
+-- The call `hist`.
+pub mod HistAnnounced
+pub mod HistAnswered
+pub mod Knowing
+pub mod KnownNames
+pub mod Naming
+pub mod OwnNames
+pub mod Searching
+pub mod Settled

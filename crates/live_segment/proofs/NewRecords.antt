@@ -1,0 +1,7 @@
+-- A block is claimed, filled and published.
+pub mod Claimed
+pub mod Filled
+pub mod Owned
+pub mod Published
+pub mod Recorded
+pub mod Tries

@@ -1,0 +1,6 @@
+-- Seats at the table of a segment, and what their steps note.
+pub mod Allowed
+pub mod Callers
+pub mod GhostNoted
+pub mod Proceeding
+pub mod Seated

@@ -1,0 +1,85 @@
+-- A call of a recorder goes on, step by step.
+use Rattle.std.proofs.Common.{◌≡◌, ℕ, ◌==◌, Bool, true, false, if◌then◌else◌, refl, ap, ◌∙◌, arith}
+use Rattle.std.proofs.lemmas.Bool.{eqb-true, eq-eqb}
+use Rattle.segment_machine.specs.declared.actor.Actor.{Actor}
+use Rattle.segment_machine.specs.declared.actor.Done.{Done}
+use Rattle.segment_machine.specs.declared.seen.Seen.{Seen}
+use Rattle.segment_machine.specs.declared.place.Look.{Look}
+use Rattle.segment_machine.specs.declared.place.Place.{Place}
+use Rattle.segment_machine.specs.declared.place.Place.TheVariants.{Looking}
+use Rattle.segment_machine.specs.Calls.{look_of, nothing_of}
+use Rattle.segment_promises.specs.Onward.{DoesOn, SeesOn}
+use Rattle.segment_promises.proofs.Growing.{grows_not, grows_on}
+use Rattle.live_segment.specs.Working.{FrameOfCall, LooksOn}
+
+-- ---- what is done and seen
+
+pub does_not : (a : Done) → DoesOn a a
+does_not a = record { same = refl; claimed = grows_not a.claimed; published = grows_not a.published; filled = λ e. e; spoiled = λ e. refl }
+
+pub sees_not : (a : Seen) → SeesOn a a
+sees_not a = record {
+  free = omega arith;
+  corrupt = λ saw. saw;
+  chain = grows_not a.chain;
+  tails = grows_not a.tails;
+  singles = grows_not a.singles;
+  counts = grows_not a.counts;
+  words = grows_not a.words;
+  cursors = grows_not a.cursors;
+}
+
+pub does_on : (a b c : Done) → DoesOn a b → DoesOn b c → DoesOn a c
+does_on a b c first second = record {
+  same = second.same ∙ ap (λ (d : Done). record d { claimed = c.claimed; published = c.published; filled = c.filled; beaten = c.beaten }) first.same;
+  claimed = grows_on a.claimed b.claimed c.claimed first.claimed second.claimed;
+  published = grows_on a.published b.published c.published first.published second.published;
+  filled = λ e. second.filled (first.filled e);
+  spoiled = λ e. second.spoiled (ap (λ (d : Done). d.spoiled) first.same ∙ e) ∙ first.spoiled e;
+}
+
+pub sees_on : (a b c : Seen) → SeesOn a b → SeesOn b c → SeesOn a c
+sees_on a b c first second = record {
+  free = let x = first.free in let y = second.free in omega (arith, x, y);
+  corrupt = λ saw. second.corrupt (first.corrupt saw);
+  chain = grows_on a.chain b.chain c.chain first.chain second.chain;
+  tails = grows_on a.tails b.tails c.tails first.tails second.tails;
+  singles = grows_on a.singles b.singles c.singles first.singles second.singles;
+  counts = grows_on a.counts b.counts c.counts first.counts second.counts;
+  words = grows_on a.words b.words c.words first.words second.words;
+  cursors = grows_on a.cursors b.cursors c.cursors first.cursors second.cursors;
+}
+
+-- ---- a call that goes on
+
+pub proceeds_on : (a b c : Actor) → FrameOfCall a b → FrameOfCall b c → FrameOfCall a c
+proceeds_on a b c first second = record {
+  same = second.same ∙ ap (λ (d : Actor). record d { units = c.units; entries = c.entries; hand = c.hand; done = c.done; seen = c.seen }) first.same;
+  free = second.free;
+  done = does_on a.done b.done c.done first.done second.done;
+  seen = sees_on a.seen b.seen c.seen first.seen second.seen;
+}
+
+pub looks_on : (a b c : Actor) → LooksOn a b → LooksOn b c → LooksOn a c
+looks_on a b c first second = record {
+  proceeds = proceeds_on a b c first.proceeds second.proceeds;
+  units = second.units ∙ first.units;
+  entries = second.entries ∙ first.entries;
+}
+
+-- ---- what it looks at
+
+-- what it goes on with is of the histogram that it looks at
+pub looks_there : (place : Place) (histogram : ℕ) → (look_of place histogram).histogram ≡ histogram
+looks_there (Looking look) histogram = by_test (look.histogram == histogram) refl
+  where
+    by_test : (b : Bool) → (look.histogram == histogram) ≡ b → (if b then look else nothing_of histogram).histogram ≡ histogram
+    by_test true same = eqb-true look.histogram histogram same
+    by_test false apart = refl
+looks_there place histogram = refl
+
+-- where it looked at that before, it goes on with that
+pub looks_again : (place : Place) (look : Look) (histogram : ℕ) → place ≡ Looking look → look.histogram ≡ histogram → look_of place histogram ≡ look
+looks_again place look histogram placed same =
+    ap (λ (p : Place). look_of p histogram) placed
+    ∙ ap (λ (b : Bool). if b then look else nothing_of histogram) (eq-eqb look.histogram histogram same)

@@ -1,0 +1,8 @@
+-- The call `snapshot`.
+pub mod Answered
+pub mod Answering
+pub mod BucketsSeen
+pub mod Packed
+pub mod Seeing
+pub mod Totals
+pub mod ValuesSeen

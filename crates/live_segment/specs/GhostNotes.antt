@@ -17,7 +17,7 @@ use Rattle.segment_machine.specs.Packing.{pack, add_moved}
 use Rattle.segment_machine.specs.Form.{IsPacking}
 use Rattle.segment_machine.specs.Made.{SawSample}
 use Rattle.segment_machine.specs.Note.{Note, begins, goes_on, amounts, ends}
-use Rattle.segment_promises.specs.Follows.{MayNote, noted_by, GhostNoted}
+use Rattle.segment_promises.specs.Follows.{MayNoteAll, noted_by, GhostNoted}
 use Rattle.live_segment.specs.Steps.{Does, IsSame, Pass, Sat}
 
 -- ---- which entry begins
@@ -158,9 +158,9 @@ AddsMoved units me found me' =
 -- a recorder's seat may do an event with notes before it and behind it
 pub record MayDo (seat : Pass) (before : List Note) (event : Event) (behind : List Note) : Type 0 where
   pub recorder : is_opener seat.me.0.role ≡ false
-  pub may : MayNote seat.me.0 before
+  pub may : MayNoteAll seat.me.0 before
   pub ready : Ready (noted_by seat.me.0 before) event
-  pub goes : (found : ℕ) → Learned (noted_by seat.me.0 before) event found → MayNote (next (noted_by seat.me.0 before) event found) behind
+  pub goes : (found : ℕ) → Learned (noted_by seat.me.0 before) event found → MayNoteAll (next (noted_by seat.me.0 before) event found) behind
 
 -- and what it is then, by the number that was found
 pub record Noted (old : Pass) (before : List Note) (event : Event) (behind : List Note) (found : ℕ) (new : Pass) : Type 0 where

@@ -60,8 +60,8 @@ GhostNoted before event behind me found me' =
     × Learned (noted_by me.0 before) event found
 
 -- an actor may make some notes, one after the other
-abbrev pub MayNote : Actor → List Note → Type 0
-MayNote a notes = Notes a notes (noted_by a notes)
+abbrev pub MayNoteAll : Actor → List Note → Type 0
+MayNoteAll a notes = Notes a notes (noted_by a notes)
 
 -- A table whose slots have values of a type may do a step on a segment that is an event of a recorder, with notes before and behind it: the
 -- step's word is the event's, behind the one that never changes, and what becomes of it is what the event makes of it. What was learned of
@@ -69,14 +69,14 @@ MayNote a notes = Notes a notes (noted_by a notes)
 abbrev pub TablesFollow : Type 0 → Type 0
 TablesFollow S = (shape : Dimensions) (opened : Anatomy) (before : List Note) (event : Event) (behind : ℕ → List Note) (slots id : ℕ)
     (me : table.Me S Actor) (word : ℕ)
-    → word ≡ spot shape.size event + 1 → is_opener me.0.role ≡ false → MayNote me.0 before → Ready (noted_by me.0 before) event
-    → ((found : ℕ) → Learned (noted_by me.0 before) event found → MayNote (next (noted_by me.0 before) event found) (behind found))
+    → word ≡ spot shape.size event + 1 → is_opener me.0.role ≡ false → MayNoteAll me.0 before → Ready (noted_by me.0 before) event
+    → ((found : ℕ) → Learned (noted_by me.0 before) event found → MayNoteAll (next (noted_by me.0 before) event found) (behind found))
     → table.Allows (Running S shape opened) slots id me word (change opened.version event) (GhostNoted before event behind me)
 
 -- an announcement: notes at a step on the word that never changes
 abbrev pub TablesAnnounce : Type 0 → Type 0
 TablesAnnounce S = (shape : Dimensions) (opened : Anatomy) (notes : List Note) (slots id : ℕ) (me : table.Me S Actor) (becomes : ℕ → ℕ)
-    → ((n : ℕ) → becomes n ≡ n) → is_opener me.0.role ≡ false → MayNote me.0 notes
+    → ((n : ℕ) → becomes n ≡ n) → is_opener me.0.role ≡ false → MayNoteAll me.0 notes
     → table.Allows (Running S shape opened) slots id me 0 becomes (λ found me'. (me'.0 ≡ noted_by me.0 notes) × (me'.1 ≡ me.1))
 
 -- an opener says so how many units its next recorder is to have

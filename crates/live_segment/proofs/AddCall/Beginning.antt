@@ -21,7 +21,7 @@ use Rattle.segment_machine.specs.Actor.{is_bound, is_opener, known_at, Buckets}
 use Rattle.segment_machine.specs.Calls.{IsNext}
 use Rattle.segment_machine.specs.Entry.{AreWithin, fresh, has_ended}
 use Rattle.segment_machine.specs.Note.{Note, begins, goes_on}
-use Rattle.segment_promises.specs.Follows.{MayNote, noted_by}
+use Rattle.segment_promises.specs.Follows.{MayNoteAll, noted_by}
 use Rattle.segment_invariant.proofs.Lists.Elements.{all_from, each_of_one}
 use Rattle.segment_invariant.proofs.Lists.Maps.{contains_map}
 use Rattle.segment_promises.specs.Onward.{SeesOn}
@@ -119,11 +119,11 @@ within entry none = record {
     nothing true = omega arith
     nothing false = omega arith
 
-pub may_tell : (a : Actor) (known : Known) (entry : Entry) → CountsAlone a known entry → MayNote a (entry_notes a entry)
+pub may_tell : (a : Actor) (known : Known) (entry : Entry) → CountsAlone a known entry → MayNoteAll a (entry_notes a entry)
 may_tell a known entry may = by may.begun
   where
-    by : IsOpenTo a entry → MayNote a (entry_notes a entry)
-    by (inl new) = subst (MayNote a) (sym (notes_new a entry new)) (
+    by : IsOpenTo a entry → MayNoteAll a (entry_notes a entry)
+    by (inl new) = subst (MayNoteAll a) (sym (notes_new a entry new)) (
       (
         λ e. true≢false (sym (ap is_bound e) ∙ may.free),
         may.recorder,
@@ -137,11 +137,11 @@ may_tell a known entry may = by may.begun
       ),
       refl,
     )
-    by (inr (inl going)) = subst (MayNote a) (sym (notes_going a entry going)) (
+    by (inr (inl going)) = subst (MayNoteAll a) (sym (notes_going a entry going)) (
       (going.runs, going.ended.ended, going.enough, (entry.name, going.spent, going.holds, going.within)),
       refl,
     )
-    by (inr (inr waits)) = subst (MayNote a) (sym (notes_waiting a entry may.some waits)) refl
+    by (inr (inr waits)) = subst (MayNoteAll a) (sym (notes_waiting a entry may.some waits)) refl
 
 -- the entry then waits
 pub then_waits : (a : Actor) (known : Known) (entry : Entry) → CountsAlone a known entry → Waits (noted_by a (entry_notes a entry)) entry

@@ -10,7 +10,7 @@ use Rattle.segment_machine.specs.Allocating.{load_flags, set_flag}
 use Rattle.segment_machine.specs.Entry.{has_ended}
 use Rattle.segment_machine.specs.Event.{allocating_event, next, Ready, spot, change}
 use Rattle.segment_machine.specs.Note.{is_untouched}
-use Rattle.segment_promises.specs.Follows.{MayNote, noted_by}
+use Rattle.segment_promises.specs.Follows.{MayNoteAll, noted_by}
 use Rattle.segment_promises.proofs.Tables.{tables_follow}
 use Rattle.atomic_table.specs.Table.{Allows}
 use Rattle.live_segment.specs.declared.rule.Announcement.{Announcement}
@@ -45,7 +45,7 @@ only_given_up a = by a.entries.running
 -- ---- that it may note so
 
 pub may_end : (a : Actor) (running : List EntryProgress) → MayEnd running → a.entries.running ≡ running → is_bound a.hand.place ≡ false
-    → MayNote a (refusing_notes running)
+    → MayNoteAll a (refusing_notes running)
 may_end a [] may is free = refl
 may_end a (c ∷ rest) may is free =
     let added = how_many_ended (c ∷ rest) in (
@@ -87,12 +87,12 @@ module _ (setting : Setting) (slots id : ℕ) (me : Sat) (word : ℕ) (records :
       refl ready (λ found learned. by_test found (bit_and found 1 == 0) refl)
     where
       by_test : (found : ℕ) (b : Bool) → (bit_and found 1 == 0) ≡ b
-          → MayNote (next me.0 (allocating_event load_flags) found) (flags_notes me.0.entries.running found)
+          → MayNoteAll (next me.0 (allocating_event load_flags) found) (flags_notes me.0.entries.running found)
       by_test found b is =
-          subst (λ (x : Bool). MayNote (flags_seen me.0 x) (if x then [] else refusing_notes me.0.entries.running))
+          subst (λ (x : Bool). MayNoteAll (flags_seen me.0 x) (if x then [] else refusing_notes me.0.entries.running))
           (sym is) (by b)
         where
-          by : (b : Bool) → MayNote (flags_seen me.0 b) (if b then [] else refusing_notes me.0.entries.running)
+          by : (b : Bool) → MayNoteAll (flags_seen me.0 b) (if b then [] else refusing_notes me.0.entries.running)
           by true = refl
           by false = may_end (flags_seen me.0 false) me.0.entries.running may refl refl
 

@@ -23,7 +23,7 @@ use Rattle.segment_machine.specs.Entry.{AreWithin, batch_cost, batch_entries, fr
 use Rattle.segment_machine.specs.Event.{counting_event, next}
 use Rattle.segment_machine.specs.Note.{Note, begins, ends, goes_on}
 use Rattle.segment_machine.specs.Taking.{is_looking}
-use Rattle.segment_promises.specs.Follows.{MayNote, noted_by}
+use Rattle.segment_promises.specs.Follows.{MayNoteAll, noted_by}
 use Rattle.live_segment.specs.Batching.{HasItems, IsBatched, ended_item}
 use Rattle.segment_promises.specs.Onward.{DoesOn, GoesOn, SeesOn}
 use Rattle.live_segment.specs.Steps.{IsAtRest, IsSame, Pass}
@@ -61,7 +61,7 @@ module _ (known : Known) (sum : ℤ) (old : Actor) (seat : Pass) (rest : IsAtRes
   -- ---- it begins
 
   record Begins (items : List (ℤ × ℕ)) : Type 0 where
-    pub tells : MayNote a (sum_notes a known sum)
+    pub tells : MayNoteAll a (sum_notes a known sum)
     pub units_are : x.units ≡ record old.units { share = old.units.share - batch_cost items sum; held = record { name = known.name; units = batch_cost items sum } ∷ [] }
     pub entries_are : x.entries ≡ record old.entries { running = over items ++ fresh entry ∷ [] }
     pub else_as : x ≡ record a { units = x.units; entries = x.entries }
@@ -87,7 +87,7 @@ module _ (known : Known) (sum : ℤ) (old : Actor) (seat : Pass) (rest : IsAtRes
       let ns : sum_notes a known sum ≡ begins known.name (batch_cost [] sum) (entry ∷ []) ∷ [] =
       ap (λ (r : List EntryProgress). opening_notes r entry (sum_cost a sum)) runs ∙ ap (λ (n : ℕ). begins known.name n (entry ∷ []) ∷ []) cost in
       let share = ap (λ (u : Units). u.share) has.units_are in record {
-        tells = subst (MayNote a) (sym ns) (
+        tells = subst (MayNoteAll a) (sym ns) (
           (
             λ e. true≢false (sym (ap is_bound e) ∙ has.proceeds.free),
             recorder [] has,
@@ -119,7 +119,7 @@ module _ (known : Known) (sum : ℤ) (old : Actor) (seat : Pass) (rest : IsAtRes
       let ns : sum_notes a known sum ≡ goes_on entry more ∷ [] =
       goes_on_with a.entries.running entry (sum_cost a sum) (some_run known item old a rest y ys has) (all_over known item old a rest y ys has).ended
       ∙ ap (λ (n : ℕ). goes_on entry n ∷ []) cost in record {
-        tells = subst (MayNote a) (sym ns) (
+        tells = subst (MayNoteAll a) (sym ns) (
           (
             some_run known item old a rest y ys has,
             (all_over known item old a rest y ys has).ended,

@@ -22,7 +22,7 @@ use Rattle.segment_invariant.specs.Seen.{HasRecord, Knows as IsKnown}
 use Rattle.segment_invariant.proofs.Counting.Looks.{one_record}
 use Rattle.segment_invariant.proofs.Lists.Firsts.{split_among}
 use Rattle.segment_invariant.proofs.Notes.Names.{first_right}
-use Rattle.segment_promises.specs.Follows.{MayNote}
+use Rattle.segment_promises.specs.Follows.{MayNoteAll}
 use Rattle.segment_promises.proofs.Tables.{tables_announce}
 use Rattle.live_segment.specs.declared.rule.Announcement.{Announcement}
 use Rattle.live_segment.specs.declared.rule.Setting.{Setting}
@@ -80,6 +80,6 @@ module _ (setting : Setting) (slots id : ℕ) (me : Sat) (records : is_opener me
             ),
       )
 
-  pub declines_owed : MayNote me.0 (map declines me.0.answers.owed) → Allows (Runs setting) slots id me 0 (λ n. n) (Declines me)
+  pub declines_owed : MayNoteAll me.0 (map declines me.0.answers.owed) → Allows (Runs setting) slots id me 0 (λ n. n) (Declines me)
   declines_owed may =
       tables_announce Announcement setting.shape (opened_of setting) (map declines me.0.answers.owed) slots id me (λ n. n) (λ n. refl) records may

@@ -15,7 +15,7 @@ use Rattle.segment_machine.specs.declared.actor.Published.{Published}
 use Rattle.segment_machine.specs.declared.place.Place.TheVariants.{Idle}
 use Rattle.segment_machine.specs.Actor.{looking}
 use Rattle.segment_machine.specs.Note.{declines, knows, noted}
-use Rattle.segment_promises.specs.Follows.{MayNote, noted_by}
+use Rattle.segment_promises.specs.Follows.{MayNoteAll, noted_by}
 use Rattle.segment_machine.specs.Calls.{MayTurn}
 use Rattle.segment_machine.specs.Made.{SawOtherName}
 use Rattle.segment_calls.specs.declared.asked.Asked.{Asked}
@@ -269,13 +269,13 @@ not_made asked at a b c cause none rests searched (walks, others, made_none) all
 -- ---- what is said of it
 
 -- a call that owes answers may refuse them, where the first record of the name has another spec
-pub may_decline : (asked : Asked) (cause : Refusal) (a : Actor) → OwesAs asked cause a → IsRefusedBy asked cause a → MayNote a (map declines a.answers.owed)
-may_decline asked why.OtherSpec a (inl none) other = subst (λ (l : List Known). MayNote a (map declines l)) (sym none) refl
+pub may_decline : (asked : Asked) (cause : Refusal) (a : Actor) → OwesAs asked cause a → IsRefusedBy asked cause a → MayNoteAll a (map declines a.answers.owed)
+may_decline asked why.OtherSpec a (inl none) other = subst (λ (l : List Known). MayNoteAll a (map declines l)) (sym none) refl
 may_decline asked why.OtherSpec a (inr (at, one)) other =
-    subst (λ (l : List Known). MayNote a (map declines l)) (sym one)
+    subst (λ (l : List Known). MayNoteAll a (map declines l)) (sym one)
     ((subst (λ (l : List Known). Contains l (asked_at asked at)) (sym one) (0, omega arith, refl), other), refl)
-may_decline asked why.Full a none cause = subst (λ (l : List Known). MayNote a (map declines l)) (sym none) refl
-may_decline asked why.Corrupt a none cause = subst (λ (l : List Known). MayNote a (map declines l)) (sym none) refl
+may_decline asked why.Full a none cause = subst (λ (l : List Known). MayNoteAll a (map declines l)) (sym none) refl
+may_decline asked why.Corrupt a none cause = subst (λ (l : List Known). MayNoteAll a (map declines l)) (sym none) refl
 may_decline asked why.BadName a none cause = absurd cause.1
 may_decline asked (why.BadSpec fault) a none cause = absurd cause.1
 may_decline asked why.ZeroCount a none cause = absurd cause.1

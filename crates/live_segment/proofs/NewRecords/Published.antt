@@ -15,7 +15,7 @@ use Rattle.segment_machine.specs.Calls.{without}
 use Rattle.segment_machine.specs.Event.{publishing_event, next}
 use Rattle.segment_machine.specs.Note.{Note}
 use Rattle.segment_machine.specs.Publishing.{store_own_next, load_tail, link, move_tail, own_at, owed_for, published_as, after_link, MayPublish}
-use Rattle.segment_promises.specs.Follows.{MayNote, noted_by}
+use Rattle.segment_promises.specs.Follows.{MayNoteAll, noted_by}
 use Rattle.live_segment.specs.declared.rule.Announcement.{Announcement}
 use Rattle.live_segment.specs.declared.segment.Segment.{Segment}
 use Rattle.live_segment.specs.Holders.{table_of, MayStep}
@@ -92,7 +92,7 @@ module _ (segment : Segment) (first : Pass) (at : ℕ) (made : Made) (is : IsFil
 
 -- notes before a link say what the block is to hold, where nobody has said it yet
 record IsAsked (a : Actor) (at : ℕ) (made : Made) (own : Own) (notes : List Note) : Type 0 where
-  may : MayNote a notes
+  may : MayNoteAll a notes
   only : noted_by a notes ≡ record a { hand = (noted_by a notes).hand }
   place : (noted_by a notes).hand.place ≡ a.hand.place
   block : own_at (noted_by a notes).hand.own at ≡ Some (queued own (Some made))

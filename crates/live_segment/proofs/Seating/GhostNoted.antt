@@ -14,7 +14,7 @@ use Rattle.segment_machine.specs.Form.{IsPacking, packed_word}
 use Rattle.segment_machine.specs.Note.{Note}
 use Rattle.segment_machine.specs.Packing.{add_moved}
 use Rattle.segment_machine.proofs.Values.{value_word}
-use Rattle.segment_promises.specs.Follows.{MayNote, noted_by, GhostNoted}
+use Rattle.segment_promises.specs.Follows.{MayNoteAll, noted_by, GhostNoted}
 use Rattle.segment_promises.proofs.Tables.{tables_follow}
 use Rattle.live_segment.specs.declared.rule.Announcement.{Announcement}
 use Rattle.live_segment.specs.declared.rule.Setting.{Setting}
@@ -93,8 +93,8 @@ one_summed a word number x y here there (_, knows, is, fits) (_, known, same, sm
 
 module _ (setting : Setting) (slots id : ℕ) (me : Sat) (word : ℕ) (records : is_opener me.0.role ≡ false) where
   pub tells : (X : Type 0) (Fits : X → Type 0) (before : X → List Note) (event : X → Event) (behind : List Note) (x : X)
-      → ((y : X) → Fits y → x ≡ y) → word ≡ spot setting.shape.size (event x) + 1 → MayNote me.0 (before x) → Ready (noted_by me.0 (before x)) (event x)
-      → ((found : ℕ) → Learned (noted_by me.0 (before x)) (event x) found → MayNote (next (noted_by me.0 (before x)) (event x) found) behind)
+      → ((y : X) → Fits y → x ≡ y) → word ≡ spot setting.shape.size (event x) + 1 → MayNoteAll me.0 (before x) → Ready (noted_by me.0 (before x)) (event x)
+      → ((found : ℕ) → Learned (noted_by me.0 (before x)) (event x) found → MayNoteAll (next (noted_by me.0 (before x)) (event x) found) behind)
       → Allows (Runs setting) slots id me word (change setting.version (event x)) (TellsOf X Fits before event behind me)
   tells X Fits before event behind x one at may ready goes s run wide mine small =
       let (view, act, valid, holds, told) =

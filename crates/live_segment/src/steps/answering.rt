@@ -3,7 +3,7 @@
 ghost use Rattle.std.specs.Prelude.{◌≡◌, false, map};
 ghost use Rattle.segment_machine.specs.Actor.{is_opener};
 ghost use Rattle.segment_machine.specs.Note.{declines};
-ghost use Rattle.segment_promises.specs.Follows.{MayNote, noted_by};
+ghost use Rattle.segment_promises.specs.Follows.{MayNoteAll, noted_by};
 ghost use Rattle.live_segment.specs.Answering.{Declines, HasKnown, Knows, MayKnow};
 
 use crate::rule::{Announcement, Pass};
@@ -41,7 +41,7 @@ impl Segment {
     // The answers that it owes are refusals.
     pub(crate) fn decline(&self, seat: &mut Pass)
         requires seat { (seat.old.table_id ≡ table_of self.now) × (is_opener seat.old.me.0.role ≡ false) }
-        requires may { MayNote seat.old.me.0 (map declines seat.old.me.0.answers.owed) }
+        requires may { MayNoteAll seat.old.me.0 (map declines seat.old.me.0.answers.owed) }
         ensures same { IsSame seat.old seat.new }
         ensures view { seat.new.me.0 ≡ noted_by seat.old.me.0 (map declines seat.old.me.0.answers.owed) }
     {

@@ -14,7 +14,7 @@ import subprocess
 import sys
 import tempfile
 
-from program import Answer
+from support.program import Answer
 
 LIBC = ctypes.CDLL(None, use_errno=True)
 LIBC.ptrace.restype = ctypes.c_long

@@ -10,12 +10,11 @@ import pathlib
 import random
 import tempfile
 
-import plain_reader
-import plain_tally
-import scripts
-import seeded
-from program import Answer, answer, difference, fault
+from parts import scripts
+from support import plain_reader, plain_tally, seeded
+from support.program import Answer, answer, difference, fault
 
+PROGRAM = "persist_report"
 NOTHING = Answer()
 KINDS = plain_reader.KINDS
 

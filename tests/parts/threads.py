@@ -6,12 +6,11 @@ of the image.
 """
 
 import collections
-import itertools
 
-import plain_tally
-import program
+from support import plain_tally
+from support.program import answer
 
-BUILT = program.ROOT / "crates" / "recording_threads" / "out" / "recording_threads"
+PROGRAM = "recording_threads"
 THREADS = (2, 3, 4, 8, 16)
 ROUNDS = 200
 RECORDS = 100
@@ -51,7 +50,9 @@ class Round:
 def pairs(fields):
     """Keys or values with their units, in the order in which they were printed."""
     numbers = [int(field) for field in fields]
-    return list(zip(numbers[::2], numbers[1::2], strict=True))
+    if len(numbers) % 2:
+        raise ValueError(f"no pairs: {numbers}")
+    return list(zip(numbers[::2], numbers[1::2]))
 
 
 def tally(samples, batches):
@@ -86,7 +87,7 @@ def wrong_snapshots(name, snapshots, tallied):
         keys = [low for low, _ in units]
         if keys != sorted(set(keys)) or (name != "sparse" and keys != tallied.boundaries[:-1]):
             return f"a snapshot of {name} has the keys {keys}"
-        if redundant > tallied.counts.total() or any(count > tallied.counts[low] for low, count in units):
+        if redundant > sum(tallied.counts.values()) or any(count > tallied.counts[low] for low, count in units):
             return f"a snapshot of {name} saw {units}, and the samples are {tallied.counts}"
     return None
 
@@ -106,18 +107,18 @@ def wrong_round(lines):
     return None
 
 
-def rounds(words):
+def rounds(program, words):
     """The lines of each round of a run, or what it said in place of them."""
-    came = program.answer(BUILT, words)
+    came = answer(program, words)
     if came.status != 0 or came.error:
         return None, f"status {came.status}, {came.error[:200]!r}"
     lines = came.output.decode().splitlines()
     starts = [place for place, line in enumerate(lines) if line.startswith("round,")]
-    return [lines[start + 1:end] for start, end in itertools.pairwise([*starts, len(lines)])], None
+    return [lines[start + 1:end] for start, end in zip(starts, [*starts[1:], len(lines)])], None
 
 
-def recorded(threads, seed):
-    every, wrong = rounds(["record", str(threads), str(seed), str(ROUNDS)])
+def recorded(program, threads, seed):
+    every, wrong = rounds(program, ["record", str(threads), str(seed), str(ROUNDS)])
     if wrong is not None:
         return wrong
     if len(every) != ROUNDS:
@@ -125,9 +126,9 @@ def recorded(threads, seed):
     return next(filter(None, map(wrong_round, every)), None)
 
 
-def shared():
+def shared(program):
     """Two threads that share a cursor are given each record once between them, each in the order of the list."""
-    every, wrong = rounds(["walk", "2", str(RECORDS), str(ROUNDS)])
+    every, wrong = rounds(program, ["walk", "2", str(RECORDS), str(ROUNDS)])
     if wrong is not None:
         return wrong
     for lines in every:
@@ -142,7 +143,7 @@ def shared():
     return None if len(every) == ROUNDS else f"{len(every)} rounds"
 
 
-def cases(_, options):
+def cases(program, options):
     for threads in THREADS:
-        yield f"{threads} threads, {ROUNDS} rounds", recorded(threads, options.seed)
-    yield f"a shared cursor, {ROUNDS} rounds", shared()
+        yield f"{threads} threads, {ROUNDS} rounds", recorded(program, threads, options.seed)
+    yield f"a shared cursor, {ROUNDS} rounds", shared(program)

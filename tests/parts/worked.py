@@ -2,8 +2,9 @@
 
 import struct
 
-from program import EXAMPLE, Answer, answer, difference, fault
+from support.program import EXAMPLE, Answer, answer, difference, fault
 
+PROGRAM = "persist_report"
 VERSION, COUNTS_REFERENCE, SINGLE, SUM, REDUNDANT = 1, 24, 25, 27, 29
 COUNTS = 36
 FROZEN = 2**63

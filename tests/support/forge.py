@@ -5,6 +5,7 @@
 
 import dataclasses
 import struct
+import typing
 
 NAMES = [b"A", b"B", b"abcdefgh", b"a-longer-name", b"n" * 128, b"Z.1", b"A!", b"~"]
 BLOCK_COOKIE = 0xC8799269
@@ -27,7 +28,7 @@ class Record:
     name: bytes = b""
     n: int = 0
     counts: int = 0
-    named: int | None = None
+    named: typing.Optional[int] = None
 
     @property
     def first_range(self):

@@ -6,7 +6,7 @@ A spec is a tuple as a script writes it: ("linear", MIN, MAX, BUCKETS), ("boolea
 import bisect
 import collections
 
-from plain_reader import GREATEST, linear_boundaries
+from support.plain_reader import GREATEST, linear_boundaries
 
 MOST_VALUE = GREATEST - 1
 
@@ -68,5 +68,5 @@ def report(histograms):
         one = histograms[name]
         for key in sorted(key for key, count in one.counts.items() if count):
             lines.append(f"{name},{one.kind},{key},{one.high(key)},{one.counts[key]}\n")
-        lines.append(f"{name},total,{one.counts.total()},{one.sum}\n")
+        lines.append(f"{name},total,{sum(one.counts.values())},{one.sum}\n")
     return "".join(lines).encode()

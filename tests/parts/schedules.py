@@ -17,31 +17,34 @@ import random
 import struct
 import tempfile
 
-import plain_reader
-import seeded_schedules
-import worked_schedules
-from program import ROOT, Answer, answer, difference
+from support import plain_reader, seeded_schedules, worked_schedules
+from support.program import ROOT, Answer, answer, difference
 
-BUILT = ROOT / "crates" / "stepped" / "out" / "stepped"
+PROGRAM = "stepped"
 FOLDER = ROOT / "tests" / "cases" / "schedules"
 FULL = "/dev/full"
 
 
-def wrong_known(case):
-    """What is wrong with the answers to a known schedule, or None."""
+def shown_of(case):
+    """What a known schedule shows: a name, the words of the command line behind its path, and what has to come."""
+
     def kept(kind):
         return case.with_suffix(kind).read_bytes()
 
     status = int(kept(".status"))
-    wrong = difference(Answer(kept(".out"), kept(".err"), status), answer(BUILT, [case]))
-    if wrong is None and status != 0:
-        wrong = difference(Answer(b"", kept(".err"), status), answer(BUILT, [case, "--report"]))
-    elif wrong is None:
+    yield "lines", [], Answer(kept(".out"), kept(".err"), status)
+    if status != 0:
+        yield "fault", ["--report"], Answer(b"", kept(".err"), status)
+    else:
         stop = ["--stop", kept(".stop").decode().strip()]
-        wrong = difference(Answer(kept(".report")), answer(BUILT, [case, *stop, "--report"]))
-        came = answer(BUILT, [case, *stop, "--image"])
-        wrong = wrong or difference(Answer(kept(".words")), came)
-    return wrong
+        yield "report", [*stop, "--report"], Answer(kept(".report"))
+        yield "words", [*stop, "--image"], Answer(kept(".words"))
+
+
+def wrong_known(program, case):
+    """What is wrong with the answers to a known schedule, or None."""
+    wrongs = (difference(wanted, answer(program, [case, *words])) for _, words, wanted in shown_of(case))
+    return next(filter(None, wrongs), None)
 
 
 def keys_on_their_way(words, references, done):
@@ -76,41 +79,41 @@ def wrong_units(words, done):
     return None
 
 
-def wrong_stop(schedule, path, lines, events):
+def wrong_stop(program, schedule, path, lines, events):
     """What is wrong where a schedule stops after so many events, or None."""
     done = seeded_schedules.Done(schedule, lines, events)
-    came = answer(BUILT, [path, "--stop", str(events)])
+    came = answer(program, [path, "--stop", str(events)])
     wrong = difference(Answer(b"".join(done.lines)), came)
-    image = answer(BUILT, [path, "--stop", str(events), "--image"])
+    image = answer(program, [path, "--stop", str(events), "--image"])
     wrong = wrong or difference(Answer(struct.pack(f"<{schedule.size}Q", *done.words)), image)
     if wrong is None:
         report = plain_reader.report_of(image.output, collections.Counter())
-        came = answer(BUILT, [path, "--stop", str(events), "--report"])
+        came = answer(program, [path, "--stop", str(events), "--report"])
         wrong = difference(Answer(report), came) or wrong_units(tuple(done.words), done)
     return wrong and f"after {events} events: {wrong}"
 
 
-def wrong_seeded(seed, stops, folder):
+def wrong_seeded(program, seed, stops, folder):
     """What is wrong with the schedule of a seed, or None. It is stopped at so many events, or at each where they are 0."""
     chance = random.Random(seed)
     path = folder / f"{seed}.csv"
-    schedule, came = seeded_schedules.schedule_of(chance, lambda text: replayed(path, text))
+    schedule, came = seeded_schedules.schedule_of(chance, lambda text: replayed(program, path, text))
     if came.status != 0 or came.error:
         return f"status {came.status}, {came.error[:200]!r}\n{path.read_text()}"
     lines = came.output.splitlines(True)
     last = sum(b",step" in line for line in lines)
     events = range(last + 1) if stops == 0 else [last, *chance.choices(range(last + 1), k=stops - 1)]
-    wrong = next(filter(None, (wrong_stop(schedule, path, lines, event) for event in events)), None)
+    wrong = next(filter(None, (wrong_stop(program, schedule, path, lines, event) for event in events)), None)
     if wrong is not None:
         return f"{wrong}\n{path.read_text()}"
     path.unlink()
     return None
 
 
-def wrong_worked(number, schedule, known, folder):
+def wrong_worked(program, number, schedule, known, folder):
     """What is wrong with a worked example, which is stopped at every event, or None."""
     path = folder / f"worked-{number}.csv"
-    came = replayed(path, schedule.text())
+    came = replayed(program, path, schedule.text())
     if came.status != 0 or came.error:
         return f"status {came.status}, {came.error[:200]!r}"
     lines = came.output.splitlines(True)
@@ -118,12 +121,12 @@ def wrong_worked(number, schedule, known, folder):
     if any(last[at] != word for at, word in known.items()):
         return f"the last words are {last}, and known are {known}"
     events = range(sum(b",step" in line for line in lines) + 1)
-    return next(filter(None, (wrong_stop(schedule, path, lines, event) for event in events)), None)
+    return next(filter(None, (wrong_stop(program, schedule, path, lines, event) for event in events)), None)
 
 
-def replayed(path, text):
+def replayed(program, path, text):
     path.write_text(text)
-    return answer(BUILT, [path])
+    return answer(program, [path])
 
 
 def fault(text, status):
@@ -145,31 +148,31 @@ def lawful(folder):
         yield [path, *shown], FULL, fault("Write", 4)
 
 
-def wrong_lawful(words, device, wanted):
+def wrong_lawful(program, words, device, wanted):
     if device is None:
-        return difference(wanted, answer(BUILT, words))
+        return difference(wanted, answer(program, words))
     with open(device, "wb") as stream:
-        return difference(wanted, answer(BUILT, words, stdout=stream))
+        return difference(wanted, answer(program, words, stdout=stream))
 
 
-def wrong_usage(words, status):
-    came = answer(BUILT, words)
+def wrong_usage(program, words, status):
+    came = answer(program, words)
     told = bool(came.error) if status else bool(came.output)
     return None if came.status == status and told else f"came {came}"
 
 
-def cases(_, options):
+def cases(program, options):
     for case in sorted(FOLDER.glob("*.csv")):
-        yield f"known {case.stem}", wrong_known(case)
+        yield f"known {case.stem}", wrong_known(program, case)
     with tempfile.TemporaryDirectory() as scratch, concurrent.futures.ThreadPoolExecutor(os.cpu_count()) as pool:
         folder = pathlib.Path(scratch)
         for words, device, wanted in lawful(folder):
-            yield f"{' '.join(map(str, words))} to {device}", wrong_lawful(words, device, wanted)
+            yield f"{' '.join(map(str, words))} to {device}", wrong_lawful(program, words, device, wanted)
         for words, status in (([], 2), (["a", "--report", "--image"], 2), (["a", "--stop", "x"], 2), (["--help"], 0)):
-            yield f"usage {' '.join(words)}", wrong_usage(words, status)
+            yield f"usage {' '.join(words)}", wrong_usage(program, words, status)
         worked = list(worked_schedules.examples())
-        wrongs = pool.map(lambda one: wrong_worked(one[0], *one[1][1:], folder), enumerate(worked))
+        wrongs = pool.map(lambda one: wrong_worked(program, one[0], *one[1][1:], folder), enumerate(worked))
         yield from zip((name for name, *_ in worked), wrongs)
         seeds = [f"{options.seed}-{number}" for number in range(options.schedules)]
-        wrongs = pool.map(lambda seed: wrong_seeded(seed, options.stops, folder), seeds)
+        wrongs = pool.map(lambda seed: wrong_seeded(program, seed, options.stops, folder), seeds)
         yield from zip((f"schedule {seed}" for seed in seeds), wrongs)

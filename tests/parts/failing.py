@@ -9,9 +9,10 @@ import pathlib
 import signal
 import tempfile
 
-import tracer
-from program import EXAMPLE, Answer, answer, difference, fault
+from support import tracer
+from support.program import EXAMPLE, Answer, answer, difference, fault
 
+PROGRAM = "persist_report"
 READ_FAULT, WRITE_FAULT = fault("Read", 4), fault("Write", 4)
 NO_MEMORY, NO_THREAD = fault("NoMemory", 5), fault("NoThread", 5)
 # What comes where the program is not even loaded.

@@ -4,8 +4,7 @@ import dataclasses
 import pathlib
 import subprocess
 
-ROOT = pathlib.Path(__file__).resolve().parent.parent
-BUILT = ROOT / "crates" / "persist_report" / "out" / "persist_report"
+ROOT = pathlib.Path(__file__).resolve().parents[2]
 EXAMPLE = ROOT / "examples" / "three_samples.img"
 SCRIPT = ROOT / "examples" / "three_samples.csv"
 MOST_SECONDS = 60
@@ -18,6 +17,11 @@ class Answer:
     output: bytes = b""
     error: bytes = b""
     status: int = 0
+
+
+def built(name):
+    """Where 'rt ci' leaves the program of this name, or 'rt run' in its crate."""
+    return ROOT / "crates" / name / "out" / name
 
 
 def fault(text, status):

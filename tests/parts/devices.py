@@ -8,8 +8,9 @@ import struct
 import subprocess
 import tempfile
 
-from program import EXAMPLE, SCRIPT, Answer, answer, difference, fault
+from support.program import EXAMPLE, SCRIPT, Answer, answer, difference, fault
 
+PROGRAM = "persist_report"
 REPORT = Answer(b"A,boolean,0,1,1\nA,boolean,1,2,2\nA,total,3,2\n")
 READ_FAULT, WRITE_FAULT = fault("Read", 4), fault("Write", 4)
 MOST_BYTES = 8_388_608

@@ -9,11 +9,10 @@ import random
 import struct
 import tempfile
 
-import plain_reader
-import plain_tally
-import seeded
-from program import Answer, answer, difference
+from support import plain_reader, plain_tally, seeded
+from support.program import Answer, answer, difference
 
+PROGRAM = "persist_report"
 WORKERS = (1, 2, 3, 16)
 WRITTEN_VERSION = 2
 

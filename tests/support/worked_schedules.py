@@ -1,11 +1,10 @@
 """Worked examples of the stepped world, as schedules of two actors: each is stopped at every event, in both versions."""
 
-import pathlib
-
-from seeded_schedules import Schedule
+from support.program import ROOT
+from support.seeded_schedules import Schedule
 
 ALL = 10**6
-STORED = pathlib.Path(__file__).resolve().parent.parent / "examples" / "pack_before_disabling.csv"
+STORED = ROOT / "examples" / "pack_before_disabling.csv"
 MOUNTED = [("hist", 0, "A", "boolean"), ("step", 0, ALL), ("add", 0, "A", 1, 1), ("step", 0, ALL), ("add", 0, "A", 1, 1), ("step", 0, ALL)]
 KNOWN_TWICE = [*MOUNTED, ("hist", 1, "A", "boolean"), ("step", 1, ALL)]
 

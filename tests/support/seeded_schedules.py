@@ -6,8 +6,8 @@ know which calls have ended. So no record of it is a fault.
 
 import collections
 
-from plain_reader import GREATEST, SEGMENT_COOKIE
-from plain_tally import Histogram
+from support.plain_reader import GREATEST, SEGMENT_COOKIE
+from support.plain_tally import Histogram
 
 LEAST_VALUE = -(2**31)
 SHAPES = [(64, 64), (128, 64), (128, 128), (192, 64), (256, 128), (512, 64)]

@@ -1,7 +1,8 @@
 """Images with known answers: cases/reading/NNN.img, with the answer in NNN.out, NNN.err and NNN.status beside it."""
 
-from program import ROOT, Answer, answer, difference
+from support.program import ROOT, Answer, answer, difference
 
+PROGRAM = "persist_report"
 FOLDER = ROOT / "tests" / "cases" / "reading"
 
 

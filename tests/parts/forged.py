@@ -4,10 +4,10 @@ import collections
 import pathlib
 import random
 
-import forge
-import plain_reader
-from program import Answer, answer, difference
+from support import forge, plain_reader
+from support.program import Answer, answer, difference
 
+PROGRAM = "persist_report"
 ENOUGH_IMAGES = 1000
 
 

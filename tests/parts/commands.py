@@ -7,8 +7,9 @@ The answers are those of an independent implementation.
 import pathlib
 import tempfile
 
-from program import ROOT, Answer, answer, difference
+from support.program import ROOT, Answer, answer, difference
 
+PROGRAM = "persist_report"
 FOLDER = ROOT / "tests" / "cases" / "program"
 COMMANDS = ("report", "run", "merge")
 

@@ -10,8 +10,9 @@ import random
 import sys
 import tempfile
 
-from program import Answer, answer, difference, fault
+from support.program import Answer, answer, difference, fault
 
+PROGRAM = "persist_report"
 SIZE = 1_048_576
 PAGE = 65_536
 QUEUE = 12

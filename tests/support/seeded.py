@@ -2,8 +2,8 @@
 
 import string
 
-from plain_reader import GREATEST
-from plain_tally import Histogram
+from support.plain_reader import GREATEST
+from support.plain_tally import Histogram
 
 MOST_WORKERS = 16
 MOST_UNITS = 2**32 - 1

@@ -5,8 +5,9 @@ import pathlib
 import struct
 import tempfile
 
-from program import EXAMPLE, Answer, answer, difference, fault
+from support.program import EXAMPLE, Answer, answer, difference, fault
 
+PROGRAM = "persist_report"
 VERSION, FREE, SECOND_COUNT = 1, 7, 37
 COUNTS_REFERENCE, SINGLE, SINGLE_MARK, SUM, SUM_MARK, REDUNDANT = 24, 25, 26, 27, 28, 29
 FIRST_COUNT = 36

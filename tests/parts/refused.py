@@ -10,10 +10,10 @@ import random
 import resource
 import tempfile
 
-import known
-import largest
-from program import EXAMPLE, answer, difference, fault
+from parts import known, largest
+from support.program import EXAMPLE, answer, difference, fault
 
+PROGRAM = "persist_report"
 PAGE = resource.getpagesize()
 MOST_TO_LOAD = 200
 MOST_PAGES = 100_000

@@ -385,7 +385,7 @@ impl ActorRun {
         }))
     }
 
-    // StepsBy on by one event, which is the next of the running call.
+    // Goes on by one event, which is the next of the running call.
     pub(crate) fn advance(&mut self, words: &mut [u64]) -> Stepped
         requires runs { IsSome self.old.running }
         requires stands { ∥ IsSomeRun (length words.old) self.old ∥₁ }

@@ -260,7 +260,7 @@ impl SnapshotCall {
         SnapshotCallStep::Done { sum, redundant }
     }
 
-    // StepsBy on by one event.
+    // Goes on by one event.
     pub(crate) fn step(&mut self, words: &[u64]) -> SnapshotCallStep
         requires stands { ∥ IsSomeSnapshotCall (length words.now) self.old ∥₁ }
         ensures steps { SnapshotCallSteps self.old words.now self.new words.now result }

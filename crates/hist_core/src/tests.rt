@@ -89,7 +89,7 @@ fn hist_answer(answer: &Answer) -> Result<u64, u32> {
     }
 }
 
-// StepsBy on with an actor's `hist` for 200 events at most, and says what it answers.
+// Goes on with an actor's `hist` for 200 events at most, and says what it answers.
 fn finish(world: &mut World, actor: usize) -> Result<Result<u64, u32>, WorldFault> {
     for _ in 0..200 {
         if let Stepped::Done(answer) = world.step(actor)? {
@@ -132,7 +132,7 @@ fn add_answer(answer: &Answer) -> u32 {
     }
 }
 
-// StepsBy on with what an actor counts for 200 events at most, and gives the number of the answer.
+// Goes on with what an actor counts for 200 events at most, and gives the number of the answer.
 fn finish_add(world: &mut World, actor: usize) -> Result<u32, WorldFault> {
     for _ in 0..200 {
         if let Stepped::Done(answer) = world.step(actor)? {

@@ -13,7 +13,7 @@ fn is_delta(answer: &Answer, counts: &[(i32, u64)], sum: i64) -> bool {
     }
 }
 
-// StepsBy on with an actor's delta for 200 events at most, and says whether it takes these units and this of the sum.
+// Goes on with an actor's delta for 200 events at most, and says whether it takes these units and this of the sum.
 fn takes(
     world: &mut World,
     actor: usize,

@@ -6,7 +6,7 @@ use bucket_ranges::Spec;
 use std::alloc::Global;
 use std::test::Fail;
 
-// StepsBy on with an actor's call. Whether it ends with so many events.
+// Goes on with an actor's call. Whether it ends with so many events.
 fn ends_with(world: &mut World, actor: usize, events: u32) -> Result<bool, WorldFault> {
     for event in 1..=events {
         if let Stepped::Done(_) = world.step(actor)? {

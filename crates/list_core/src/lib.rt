@@ -10,8 +10,6 @@
 pub mod laws;
 mod publish;
 mod reference;
-#[cfg(test)]
-mod tests;
 mod walk;
 
 pub use publish::{PubStep, Publish};

@@ -76,7 +76,7 @@ impl Write for Sink {
 }
 
 // A reader of sixteen bytes of which one call fails.
-fn source(failing: usize) -> Watched<Source<'static>> {
+fn sixteen_bytes(failing: usize) -> Watched<Source<'static>> {
     let calls = Calls::new(failing);
     Watched::new(Source {
         bytes: BYTES,
@@ -88,14 +88,14 @@ fn source(failing: usize) -> Watched<Source<'static>> {
 #[test]
 fn failing_reads(rt: HostRuntime) -> Result<(), Fail> {
     for failing in 0..17 {
-        let read = read_bytes(rt.alloc(), &mut source(failing), 16);
+        let read = read_bytes(rt.alloc(), &mut sixteen_bytes(failing), 16);
         assert_eq!(rt; read.err(), Some(ReadFault::Device), "{failing}");
-        let read = read_words(rt.alloc(), &mut source(failing), 2);
+        let read = read_words(rt.alloc(), &mut sixteen_bytes(failing), 2);
         assert_eq!(rt; read.err(), Some(ReadFault::Device), "{failing}");
     }
-    let bytes = read_bytes(rt.alloc(), &mut source(17), usize::MAX)?;
+    let bytes = read_bytes(rt.alloc(), &mut sixteen_bytes(17), usize::MAX)?;
     assert_eq!(rt; bytes.as_slice(), BYTES);
-    let words = read_words(rt.alloc(), &mut source(17), usize::MAX)?;
+    let words = read_words(rt.alloc(), &mut sixteen_bytes(17), usize::MAX)?;
     assert_eq!(rt; words.as_slice(), WORDS.as_slice());
     Ok(())
 }

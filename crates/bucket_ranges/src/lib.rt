@@ -13,8 +13,6 @@ pub mod reading;
 mod samples;
 mod single;
 mod spec;
-#[cfg(test)]
-mod tests;
 
 pub use custom::{CustomValues, distinct_values_stand_once};
 pub use ranges::{Ranges, buckets_split_values, one_bucket_has_a_value};

@@ -11,8 +11,6 @@
 pub mod laws;
 mod publish;
 mod reference;
-#[cfg(test)]
-mod tests;
 mod walk;
 
 pub use publish::{PubStep, Publish};

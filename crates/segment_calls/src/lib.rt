@@ -7,8 +7,6 @@ mod answer;
 mod asked;
 pub mod packing;
 mod refusal;
-#[cfg(test)]
-mod tests;
 
 pub use answer::{Delta, Snapshot};
 pub use asked::Asked;

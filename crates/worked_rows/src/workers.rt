@@ -1,4 +1,6 @@
-use crate::{Gate, OpenGate, run_script};
+//! Workers beside one another: they meet at a gate, a gate lets one not go on, and of two refusals the first record's is answered.
+
+use persist_commands::{Gate, OpenGate, run_script};
 use persist_report_core::CliFault;
 use segment_calls::Refusal;
 use segment_image::Watched;
@@ -65,26 +67,19 @@ impl Gate for Shut {
     fn after(&self, _worker: u32, _call: u64) {}
 }
 
-#[test]
-fn three_samples(rt: HostRuntime) -> Result<(), Fail> {
-    for workers in [1u32, 2, 16] {
-        let mut image = Watched::new(Vec::new(rt.alloc()));
-        let mut report = Watched::new(Vec::new(rt.alloc()));
-        let mut script = Watched::new(SCRIPT);
-        run_script(
-            &rt,
-            rt.alloc(),
-            &mut script,
-            &mut image,
-            &mut report,
-            workers,
-            &OpenGate,
-        )?;
-        let text: Vec<u8> = report.into_inner();
-        let bytes: Vec<u8> = image.into_inner();
-        assert!(rt; text.as_slice() == REPORT && bytes.len() == 1024);
-    }
-    Ok(())
+// Why a script is not run by two workers, how many bytes of an image are written, and the report.
+fn run<R: Threads + Wait, G: Gate + Sync>(
+    rt: &R,
+    alloc: Global,
+    script: &[u8],
+    gate: &G,
+) -> (Option<CliFault>, usize, Vec<u8>) {
+    let mut image = Watched::new(Vec::new(alloc));
+    let mut report = Watched::new(Vec::new(alloc));
+    let mut script = Watched::new(script);
+    let ran = run_script(rt, alloc, &mut script, &mut image, &mut report, 2, gate);
+    let bytes: Vec<u8> = image.into_inner();
+    (ran.err(), bytes.len(), report.into_inner())
 }
 
 #[test]
@@ -93,57 +88,21 @@ fn gate_meets_two_workers(rt: HostRuntime) -> Result<(), Fail> {
         first: AtomicU64::new(0),
         second: AtomicU64::new(0),
     };
-    let mut image = Watched::new(Vec::new(rt.alloc()));
-    let mut report = Watched::new(Vec::new(rt.alloc()));
-    let mut script = Watched::new(SCRIPT);
-    run_script(
-        &rt,
-        rt.alloc(),
-        &mut script,
-        &mut image,
-        &mut report,
-        2,
-        &gate,
-    )?;
-    let text: Vec<u8> = report.into_inner();
-    let bytes: Vec<u8> = image.into_inner();
-    assert!(rt; text.as_slice() == REPORT && bytes.len() == 1024);
-    Ok(())
-}
-
-// Why a script is not run by two workers, and how many bytes are written.
-fn stop_of<R: Threads + Wait, G: Gate + Sync>(
-    rt: &R,
-    alloc: Global,
-    script: &[u8],
-    gate: &G,
-) -> (Option<CliFault>, usize) {
-    let mut image = Watched::new(Vec::new(alloc));
-    let mut report = Watched::new(Vec::new(alloc));
-    let mut script = Watched::new(script);
-    let ran = run_script(rt, alloc, &mut script, &mut image, &mut report, 2, gate);
-    let text: Vec<u8> = report.into_inner();
-    let bytes: Vec<u8> = image.into_inner();
-    (ran.err(), text.len() + bytes.len())
-}
-
-#[test]
-fn shut_gate(rt: HostRuntime) -> Result<(), Fail> {
-    let found = stop_of(&rt, rt.alloc(), SCRIPT, &Shut);
-    assert!(rt; found == (Some(CliFault::Gate), 0));
+    let (fault, len, report) = run(&rt, rt.alloc(), SCRIPT, &gate);
+    assert!(rt; fault.is_none() && len == 1024 && report.as_slice() == REPORT);
     Ok(())
 }
 
 // The records of three histograms fill the segment, so both workers are refused: the second at record 6, and the first at record 7.
 #[test]
 fn stops_in_order(rt: HostRuntime) -> Result<(), Fail> {
-    let refused = CliFault::Refused {
-        number: 6,
-        why: Refusal::Full,
-    };
-    let found = stop_of(&rt, rt.alloc(), FULL, &OpenGate);
-    assert!(rt; found == (Some(refused), 0));
-    let found = stop_of(&rt, rt.alloc(), FULL, &Shut);
-    assert!(rt; found == (Some(CliFault::Gate), 0));
+    let why = Refusal::Full;
+    let (fault, len, report) = run(&rt, rt.alloc(), FULL, &OpenGate);
+    assert!(rt; fault == Some(CliFault::Refused { number: 6, why }));
+    assert!(rt; len == 0 && report.is_empty());
+    for script in [SCRIPT, FULL] {
+        let (fault, len, report) = run(&rt, rt.alloc(), script, &Shut);
+        assert!(rt; fault == Some(CliFault::Gate) && len == 0 && report.is_empty());
+    }
     Ok(())
 }

@@ -1,13 +1,12 @@
-//! Calls whose memory is refused once. Each test passes too where any one allocation fails: the refused call has changed nothing, and
-//! its next is answered as if it had not been.
+//! The calls of a recorder.
 
 ghost use Rattle.std.specs.Prelude.{◌≡◌, IfOk};
 ghost use Rattle.live_segment.specs.Holders.{IsMadeWith, IsSameRecorder, Knows};
 ghost use Rattle.live_segment.specs.Hist.{KnowsOn};
 
-use super::{CLAIMED, stand};
-use crate::{Hist, OpenFault, Opener, Recorder, Segment};
+use crate::images::stand;
 use bucket_ranges::{CustomValues, Spec};
+use live_segment::{Hist, OpenFault, Opener, Recorder, Segment};
 use segment_calls::{Delta, Refusal, Snapshot};
 use std::alloc::{AllocError, Global};
 use std::test::Fail;
@@ -98,7 +97,7 @@ fn lists_again(recorder: &mut Recorder) -> Result<bool, Refusal>
 }
 
 #[test]
-fn refused_memory_once(rt: HostRuntime) -> Result<(), Fail> {
+fn refused_memory_of_lists(rt: HostRuntime) -> Result<(), Fail> {
     let custom = custom_again(rt.alloc())?;
     let (segment, mut opener) = segment_again(rt.alloc())?;
     let mut recorder = opener.recorder(&segment, 3)?;
@@ -145,6 +144,6 @@ fn refused_memory_of_deltas(rt: HostRuntime) -> Result<(), Fail> {
     assert!(rt;
         stand(words, 24, &[0, 4_294_967_298, 2, 2, 2, 2]) && stand(words, 43, &[five, five, 1])
     );
-    assert!(rt; stand(words, 48, &[8, CLAIMED, 3, 12, 32, five, 1, 1]));
+    assert!(rt; stand(words, 48, &[8, 0xC879_9269, 3, 12, 32, five, 1, 1]));
     Ok(())
 }

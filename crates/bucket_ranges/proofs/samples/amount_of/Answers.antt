@@ -1,7 +1,7 @@
 use Rattle.std.proofs.Common.{rules, arith}
 use Rattle.std.proofs.lemmas.Int.{ints}
 use Rattle.bucket_ranges.proofs.Sums.{returned-product}
-use Rattle.bucket_ranges.proofs.samples.amount.Goals as goal
+use Rattle.bucket_ranges.proofs.samples.amount_of.Goals as goal
 
 pub returns-clause-small : goal.returns-clause-small
 returns-clause-small c =

@@ -11,7 +11,7 @@ use Rattle.live_segment.specs.Rule.{IsOf}
 use Rattle.live_segment.specs.Steps.{IsAtRest}
 use Rattle.live_segment.specs.Working.{LooksOn}
 use Rattle.live_segment.proofs.AddCall.Beginning.{known_there}
-use Rattle.live_segment.proofs.DeltaCall.BucketKeys.{is_bucketed}
+use Rattle.segment_promises.proofs.Calls.SpecBuckets.{is_bucketed}
 use Rattle.live_segment.proofs.AddCall.Disabled.{may_load, may_disable, looks_after}
 use Rattle.live_segment.proofs.AddCall.Mounted.{mounts_on}
 use Rattle.live_segment.proofs.Seating.Proceeding.{does_not, sees_not}

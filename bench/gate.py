@@ -4,8 +4,9 @@
     bench/gate.py
 
 It prints what the gate prints, and then a table: minutes of processor time (user and system), and the most memory that
-one check had. The processes of the gate are looked at twice a second; what ended between two looks is told as the rest.
-The status is that of the gate. Run it on a clean clone, on a machine that does nothing else.
+one check had. Behind it stand the ten dearest edits; the first of a crate pays for a check of all of it. The processes of the
+gate are looked at twice a second; what ended between two looks is told as the rest. The status is that of the gate. Run it on a
+clean clone, on a machine that does nothing else.
 """
 
 import collections
@@ -27,6 +28,7 @@ class Costs:
 
     def __init__(self):
         self.seconds = collections.defaultdict(dict)
+        self.rooms = collections.defaultdict(dict)
         self.most = collections.Counter()
         self.most_together = 0
 
@@ -39,14 +41,25 @@ class Costs:
                 seconds, size, started = taken_by(pid)
             except OSError:
                 continue
-            self.seconds[task][pid, started] = seconds
-            held[task] += size
+            crate, part, room = task
+            self.seconds[crate, part][pid, started] = seconds
+            self.rooms[crate, part].setdefault(room, {})[pid, started] = seconds
+            held[crate, part] += size
         for task, size in held.items():
             self.most[task] = max(self.most[task], size)
         self.most_together = max(self.most_together, sum(held.values()))
 
     def minutes(self, task):
         return sum(self.seconds[task].values()) / 60
+
+    def edits(self):
+        """The seconds of each edit by its crate and name: a crate's edits are tried in the order of their names, each in a room of
+        its own."""
+        for crate, part in list(self.rooms):
+            names = sorted(path.stem for path in ROOT.glob(f"crates/{crate}/must-fail/*.edit"))
+            if part == "edits":
+                for name, room in zip(names, self.rooms[crate, part].values()):
+                    yield sum(room.values()), f"{crate}/{name}"
 
 
 def children():
@@ -72,7 +85,7 @@ def tasks_below(gate):
 
 
 def task_of(pid):
-    """The crate that a process checks, and for which part: an edit is checked on a copy, outside the repository."""
+    """The crate that a process checks, for which part, and in which folder: an edit is checked on a copy, outside the repository."""
     process = pathlib.Path("/proc") / str(pid)
     try:
         words = process.joinpath("cmdline").read_bytes().decode(errors="replace").split("\0")
@@ -82,7 +95,7 @@ def task_of(pid):
     if "--crate-name" not in words:
         return None
     part = "edits" if not folder.is_relative_to(ROOT) else "tests" if "--test" in words else "proofs"
-    return words[words.index("--crate-name") + 1], part
+    return words[words.index("--crate-name") + 1], part, folder
 
 
 def taken_by(pid):
@@ -106,6 +119,9 @@ def show(costs):
     by_part = [sum(costs.minutes((crate, part)) for crate in crates) for part in PARTS]
     sums = " | ".join(f"{minutes:.1f}" for minutes in by_part)
     print(f"| all | {sums} | {sum(by_part):.1f} | {costs.most_together / GIBIBYTE:.1f} |")
+    print("\nThe dearest edits, in seconds:")
+    for seconds, edit in sorted(costs.edits(), reverse=True)[:10]:
+        print(f"{seconds:6.0f} {edit}")
     return sum(by_part)
 
 

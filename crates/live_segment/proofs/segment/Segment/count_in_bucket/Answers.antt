@@ -9,7 +9,7 @@ pub load_counts-counts-requires-clause-may : goal.load_counts-counts-requires-cl
 load_counts-counts-requires-clause-may c =
     let k = known_view c.args.histogram.now in
     let may = counts_off k c.args.bucket c.args.units c.args.seat.now c.pack_units.new.seat c.requires.may c.in-Off.ensures.outcome in
-    may_load_counts c.args.self.now k c.pack_units.new.seat (c.pack_units.ensures.same.0 ∙ c.requires.seat.0) (may_mount _ k c.args.bucket c.args.units may)
+    may_load_counts c.args.self.now k c.pack_units.new.seat (c.pack_units.ensures.same.0 ∙ c.requires.seat.table) (may_mount _ k c.args.bucket c.args.units may)
 
 pub counts_of-requires-clause-may : goal.counts_of-requires-clause-may
 counts_of-requires-clause-may c =
@@ -38,7 +38,7 @@ add_to_bucket_count-requires-clause-room c =
     room_here c.args.self.now k c.args.bucket c.args.units _ c.args.seat.now c.load_counts-counts.new.seat c.requires.may
     (looks_off_on k c.args.bucket c.args.units c.args.seat.now c.pack_units.new.seat c.requires.may c.in-Off.ensures.outcome _ c.load_counts-counts.new.seat c.load_counts-counts.ensures.step)
     (filled_off k c.args.bucket c.args.units c.args.seat.now c.pack_units.new.seat c.requires.may c.in-Off.ensures.outcome _ c.load_counts-counts.new.seat c.load_counts-counts.ensures.step)
-    (stands_off k c.args.bucket c.args.units c.args.seat.now c.pack_units.new.seat c.requires.may c.in-Off.ensures.outcome _ c.load_counts-counts.new.seat c.load_counts-counts.ensures.step) c.requires.bucket c.requires.seat.1
+    (stands_off k c.args.bucket c.args.units c.args.seat.now c.pack_units.new.seat c.requires.may c.in-Off.ensures.outcome _ c.load_counts-counts.new.seat c.load_counts-counts.ensures.step) c.requires.bucket c.requires.seat.of
 
 pub add_to_bucket_count-requires-clause-may : goal.add_to_bucket_count-requires-clause-may
 add_to_bucket_count-requires-clause-may c =

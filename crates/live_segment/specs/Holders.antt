@@ -32,12 +32,6 @@ pub record MayStep (segment : Segment) (seat : Pass) (event : Event) : Type 0 wh
   pub recorder : is_opener seat.me.0.role ≡ false
   pub ready : Ready seat.me.0 event
 
--- a recorder's seat at a segment: it is one of its table, and what it knows is of what the segment was made as
-pub record IsSeated (segment : Segment) (seat : Pass) : Type 0 where
-  pub table : seat.table_id ≡ table_of segment
-  pub recorder : is_opener seat.me.0.role ≡ false
-  pub of : IsOf segment.setting seat.me.0
-
 -- an opener was made with a segment
 pub record IsMadeWith (segment : Segment) (opener : Opener) : Type 0 where
   pub table : opener.seat.table_id ≡ table_of segment

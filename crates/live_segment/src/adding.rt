@@ -11,7 +11,7 @@ impl Segment {
     ghost use Rattle.bucket_ranges.specs.declared.spec.Spec.TheVariants.{Sparse};
     ghost use Rattle.live_segment.specs.Adding.{AnswersSample};
     ghost use Rattle.live_segment.specs.Finishing.{item_of};
-    ghost use Rattle.live_segment.specs.Holders.{IsSeated};
+    ghost use Rattle.live_segment.specs.Seated.{IsSeated};
     ghost use Rattle.live_segment.specs.Known.{known_view, KnowsRight};
     ghost use Rattle.live_segment.specs.Refusing.{IsNotCounted};
     ghost use Rattle.live_segment.specs.Steps.{IsAtRest, IsSame};

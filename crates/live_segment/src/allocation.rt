@@ -14,7 +14,8 @@ use segment_calls::Refusal;
 use segment_image::layout::{CLAIMED_COOKIE, FLAG_CORRUPT, WASTED_COOKIE};
 
 impl Segment {
-    ghost use Rattle.live_segment.specs.Holders.{IsSeated, MayStep};
+    ghost use Rattle.live_segment.specs.Holders.{MayStep};
+    ghost use Rattle.live_segment.specs.Seated.{IsSeated};
     ghost use Rattle.live_segment.specs.Steps.{IsSame};
     ghost use Rattle.live_segment.specs.Refusing.{MayGiveUp};
 

@@ -13,7 +13,7 @@ use segment_calls::{BatchRefusal, Refusal};
 impl Segment {
     ghost use Rattle.live_segment.specs.Batching.{HasItems, HasNoted, IsBatched, IsCutShort, StopsAt};
     ghost use Rattle.live_segment.specs.Finishing.{item_of};
-    ghost use Rattle.live_segment.specs.Holders.{IsSeated};
+    ghost use Rattle.live_segment.specs.Seated.{IsSeated};
     ghost use Rattle.live_segment.specs.Known.{known_view, KnowsRight};
     ghost use Rattle.live_segment.specs.Refusing.{IsNotCounted};
     ghost use Rattle.live_segment.specs.Steps.{IsAtRest, IsSame};

@@ -22,7 +22,8 @@ impl Segment {
     ghost use Rattle.bucket_ranges.specs.Spec.{buckets_of};
     ghost use Rattle.live_segment.specs.Known.{known_view, KnowsRight};
     ghost use Rattle.live_segment.specs.Refusing.{IsTurnedAway};
-    ghost use Rattle.live_segment.specs.Holders.{IsSeated, table_of};
+    ghost use Rattle.live_segment.specs.Holders.{table_of};
+    ghost use Rattle.live_segment.specs.Seated.{IsSeated};
     ghost use Rattle.live_segment.specs.Steps.{IsSame};
     ghost use Rattle.segment_image.specs.declared.layout.TheConstants.{BLOCK_HEADER};
     ghost use Rattle.live_segment.specs.GhostNotes.{HasAddedTo, MayAddTo, bucket_entry};

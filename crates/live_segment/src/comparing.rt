@@ -19,7 +19,8 @@ const NAME: usize = HISTOGRAM_NAME - BLOCK_HEADER;
 const BUCKETS: usize = HISTOGRAM_BUCKETS - BLOCK_HEADER;
 
 impl Segment {
-    ghost use Rattle.live_segment.specs.Holders.{IsSeated, table_of};
+    ghost use Rattle.live_segment.specs.Holders.{table_of};
+    ghost use Rattle.live_segment.specs.Seated.{IsSeated};
     ghost use Rattle.live_segment.specs.Steps.{IsSame};
 
     // Whether a record that was met has these words from a place on. They are loaded up to the first that is another one.

@@ -34,7 +34,7 @@ pub(crate) struct Mounted {
 impl Segment {
     ghost use Rattle.segment_machine.specs.declared.actor.Actor.{Actor};
     ghost use Rattle.live_segment.specs.declared.rule.Setting.{Setting};
-    ghost use Rattle.live_segment.specs.Holders.{IsSeated};
+    ghost use Rattle.live_segment.specs.Seated.{IsSeated};
     ghost use Rattle.live_segment.specs.Steps.{IsAtRest, IsSame};
 
     // The units of a bucket that the delta takes: its count is loaded, and where that is not 0, the mark is raised to it. The packed bucket

@@ -19,7 +19,7 @@ pub(crate) enum Search {
 }
 
 impl Segment {
-    ghost use Rattle.live_segment.specs.Holders.{IsSeated};
+    ghost use Rattle.live_segment.specs.Seated.{IsSeated};
     ghost use Rattle.live_segment.specs.Steps.{IsSame};
 
     // Walks along the list, on from where a walk stands, up to the first record of the name that is asked for.

@@ -12,7 +12,8 @@ use segment_calls::{Asked, Refusal};
 use segment_image::layout::{BLOCK_HEADER, TYPE_HISTOGRAM};
 
 impl Segment {
-    ghost use Rattle.live_segment.specs.Holders.{IsSeated, table_of};
+    ghost use Rattle.live_segment.specs.Holders.{table_of};
+    ghost use Rattle.live_segment.specs.Seated.{IsSeated};
     ghost use Rattle.live_segment.specs.Steps.{IsSame};
 
     // Stores the words of a payload, but for those that are 0, in the block at a word that it claimed last. The last is not 0.

@@ -9,7 +9,7 @@ use crate::segment::Segment;
 use segment_image::layout::QUEUE;
 
 impl Segment {
-    ghost use Rattle.live_segment.specs.Holders.{IsSeated};
+    ghost use Rattle.live_segment.specs.Seated.{IsSeated};
     ghost use Rattle.live_segment.specs.Steps.{IsSame};
 
     /// Puts a block of its own that is filled at the end of the list: from then on it is the record that is said, and a walk

@@ -32,7 +32,7 @@ impl WalkPlace {
 }
 
 impl Segment {
-    ghost use Rattle.live_segment.specs.Holders.{IsSeated};
+    ghost use Rattle.live_segment.specs.Seated.{IsSeated};
     ghost use Rattle.live_segment.specs.Steps.{IsSame};
 
     // Walks along the list, on from a place to its end, and lists the records behind. There is room for as many as fit in a

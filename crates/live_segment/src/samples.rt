@@ -24,7 +24,7 @@ pub(crate) fn sort_by_key(counts: &mut Vec<(i32, u64)>)
 }
 
 impl Segment {
-    ghost use Rattle.live_segment.specs.Holders.{IsSeated};
+    ghost use Rattle.live_segment.specs.Seated.{IsSeated};
     ghost use Rattle.live_segment.specs.Steps.{IsSame};
 
     // The value of a record that was met, where it is a sample of a histogram.

@@ -14,7 +14,7 @@ use segment_calls::{Asked, Refusal};
 use segment_image::layout::QUEUE;
 
 impl Segment {
-    ghost use Rattle.live_segment.specs.Holders.{IsSeated};
+    ghost use Rattle.live_segment.specs.Seated.{IsSeated};
     ghost use Rattle.live_segment.specs.Steps.{IsSame};
 
     // The first record of the name that is asked for, which is made where there is none.

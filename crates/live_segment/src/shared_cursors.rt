@@ -9,7 +9,7 @@ use crate::segment::Segment;
 use segment_image::layout::QUEUE;
 
 impl Segment {
-    ghost use Rattle.live_segment.specs.Holders.{IsSeated};
+    ghost use Rattle.live_segment.specs.Seated.{IsSeated};
     ghost use Rattle.live_segment.specs.Steps.{IsSame};
 
     /// Moves a shared cursor on to the record behind it, and gives that; none where the list ends there.

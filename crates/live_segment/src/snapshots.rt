@@ -70,7 +70,8 @@ impl Segment {
     ghost use Rattle.segment_machine.specs.Event.{taking_event};
     ghost use Rattle.segment_machine.specs.Note.{answers, MayNote, noted};
     ghost use Rattle.segment_machine.specs.Taking.{load_sum};
-    ghost use Rattle.live_segment.specs.Holders.{IsSeated, MayStep, table_of};
+    ghost use Rattle.live_segment.specs.Holders.{MayStep, table_of};
+    ghost use Rattle.live_segment.specs.Seated.{IsSeated};
     ghost use Rattle.live_segment.specs.Known.{known_view, KnowsRight};
     ghost use Rattle.live_segment.specs.Steps.{IsAtRest, IsSame};
     ghost use Rattle.live_segment.specs.Snapshots.{HasSeenBuckets, HasSnapshot, saw_sum};

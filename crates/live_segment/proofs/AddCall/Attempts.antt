@@ -23,7 +23,8 @@ use Rattle.segment_machine.specs.Packing.{load_single, pack, after_pack, IsSingl
 use Rattle.segment_promises.specs.Follows.{noted_by}
 use Rattle.live_segment.specs.declared.segment.Segment.{Segment}
 use Rattle.live_segment.specs.declared.bucket_counting.PackAttempt.TheVariants.{Packed, Off, Passed}
-use Rattle.live_segment.specs.Holders.{MayStep, IsSeated}
+use Rattle.live_segment.specs.Holders.{MayStep}
+use Rattle.live_segment.specs.Seated.{IsSeated}
 use Rattle.live_segment.specs.Steps.{Pass, IsSame, Stepped}
 use Rattle.segment_promises.specs.Onward.{SeesOn}
 use Rattle.live_segment.specs.GhostNotes.{MayPack, HasPacked, Noted, bucket_entry, bucket_notes}

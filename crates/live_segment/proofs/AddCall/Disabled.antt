@@ -22,7 +22,8 @@ use Rattle.segment_machine.specs.Form.{is_off, off_word, units_in, Leads}
 use Rattle.segment_machine.specs.Packing.{load_single, disable, add_moved, after_disable, after_disabling, IsSingleOf}
 use Rattle.segment_invariant.proofs.Packing.OffForms.{on_form}
 use Rattle.live_segment.specs.declared.segment.Segment.{Segment}
-use Rattle.live_segment.specs.Holders.{MayStep, IsSeated}
+use Rattle.live_segment.specs.Holders.{MayStep}
+use Rattle.live_segment.specs.Seated.{IsSeated}
 use Rattle.live_segment.specs.Mounting.{MayMount, HasDisabled, LooksAtCounts}
 use Rattle.live_segment.specs.Steps.{Pass, IsSame, Stepped}
 use Rattle.live_segment.specs.Working.{CountsWithin, LooksAt, LooksOn}

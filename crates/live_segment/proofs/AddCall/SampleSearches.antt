@@ -16,7 +16,8 @@ use Rattle.segment_invariant.proofs.Lists.Maps.{contains_map}
 use Rattle.live_segment.specs.declared.sampling.SampleSearch.TheVariants as search
 use Rattle.live_segment.specs.declared.segment.Segment.{Segment}
 use Rattle.live_segment.specs.Steps.{Pass, Stepped}
-use Rattle.live_segment.specs.Holders.{MayStep, IsSeated}
+use Rattle.live_segment.specs.Holders.{MayStep}
+use Rattle.live_segment.specs.Seated.{IsSeated}
 use Rattle.segment_promises.specs.Values.{NoRepeats}
 use Rattle.live_segment.specs.Records.{KnowsOwnSamples}
 use Rattle.live_segment.specs.Finding.{Meets, SeesWords}

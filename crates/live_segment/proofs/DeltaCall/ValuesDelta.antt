@@ -19,7 +19,7 @@ use Rattle.segment_machine.specs.Walking.{load_next}
 use Rattle.segment_invariant.proofs.Lists.Maps.{contains_map}
 use Rattle.live_segment.specs.declared.segment.Segment.{Segment}
 use Rattle.live_segment.specs.Deltas.{HasTaken, HasTakenSum, MayTakeSum, TakesValues}
-use Rattle.live_segment.specs.Holders.{IsSeated}
+use Rattle.live_segment.specs.Seated.{IsSeated}
 use Rattle.segment_promises.specs.Onward.{SeesOn}
 use Rattle.segment_promises.specs.Values.{NoRepeats, AreSorted, ComesTo, Passes, first_of}
 use Rattle.live_segment.specs.Rule.{IsOf}

@@ -18,7 +18,8 @@ use Rattle.segment_machine.specs.Publishing.{store_own_next, load_tail, link, mo
 use Rattle.segment_promises.specs.Follows.{MayNoteAll, noted_by}
 use Rattle.live_segment.specs.declared.rule.Announcement.{Announcement}
 use Rattle.live_segment.specs.declared.segment.Segment.{Segment}
-use Rattle.live_segment.specs.Holders.{table_of, MayStep, IsSeated}
+use Rattle.live_segment.specs.Holders.{table_of, MayStep}
+use Rattle.live_segment.specs.Seated.{IsSeated}
 use Rattle.live_segment.specs.Listing.{asked_for, asking_notes, link_notes, MayLink, HasLinked}
 use Rattle.segment_promises.specs.Onward.{Grows}
 use Rattle.live_segment.specs.Publishing.{IsFilledAs, HasPublished, owed_as}

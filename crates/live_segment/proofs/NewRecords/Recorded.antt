@@ -10,7 +10,7 @@ use Rattle.live_segment.specs.declared.rule.Announcement.{Announcement}
 use Rattle.live_segment.specs.declared.segment.Segment.{Segment}
 use Rattle.live_segment.specs.Allocation.{Allocates, claimed}
 use Rattle.live_segment.specs.Finding.{IsAsked}
-use Rattle.live_segment.specs.Holders.{IsSeated}
+use Rattle.live_segment.specs.Seated.{IsSeated}
 use Rattle.live_segment.specs.Making.{HasFilled, HasMade, SaysAsked}
 use Rattle.live_segment.specs.Publishing.{HasPublished, HasPublishedFor}
 use Rattle.segment_promises.specs.Onward.{Grows}

@@ -23,7 +23,8 @@ use Rattle.segment_machine.specs.Packing.{load_single}
 use Rattle.segment_invariant.proofs.Lists.Elements.{contains_at, below_length}
 use Rattle.segment_invariant.proofs.Lists.Pairs.{element_at}
 use Rattle.live_segment.specs.declared.segment.Segment.{Segment}
-use Rattle.live_segment.specs.Holders.{MayStep, IsSeated}
+use Rattle.live_segment.specs.Holders.{MayStep}
+use Rattle.live_segment.specs.Seated.{IsSeated}
 use Rattle.live_segment.specs.Looking.{StandsAt, MayLookAt, HasLookedAt}
 use Rattle.segment_promises.specs.Onward.{SeesOn}
 use Rattle.live_segment.specs.Snapshots.{HavePacked, HasLooked, HasSeenBuckets}

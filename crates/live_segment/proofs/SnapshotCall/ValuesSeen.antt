@@ -23,7 +23,8 @@ use Rattle.segment_machine.specs.Walking.{extended, load_next}
 use Rattle.segment_machine.proofs.Values.{value_word}
 use Rattle.live_segment.specs.declared.segment.Segment.{Segment}
 use Rattle.live_segment.specs.Deltas.{AreUnits}
-use Rattle.live_segment.specs.Holders.{MayStep, IsSeated}
+use Rattle.live_segment.specs.Holders.{MayStep}
+use Rattle.live_segment.specs.Seated.{IsSeated}
 use Rattle.segment_promises.specs.Onward.{SeesOn}
 use Rattle.segment_promises.specs.Values.{NoRepeats, AreSorted, ComesTo, ListsOf, ListsValues, listed_of}
 use Rattle.live_segment.specs.Rule.{IsOf}

@@ -18,7 +18,8 @@ use Rattle.segment_machine.specs.Event.{cursor_event, walking_event, next}
 use Rattle.segment_machine.specs.Walking.{load_next, behind, records_met, IsNextOf}
 use Rattle.live_segment.specs.declared.segment.Segment.{Segment}
 use Rattle.live_segment.specs.Steps.{Pass, IsSame, Stepped}
-use Rattle.live_segment.specs.Holders.{MayStep, IsSeated}
+use Rattle.live_segment.specs.Holders.{MayStep}
+use Rattle.live_segment.specs.Seated.{IsSeated}
 use Rattle.segment_promises.specs.Onward.{Grows}
 use Rattle.segment_promises.proofs.Growing.{grows_on, extended_grows, extended_end, reference_within, reference_behind}
 use Rattle.live_segment.specs.Cursors.{AnswersNext, IsLate, IsGivenNext, IsAtEnd, StandsBehind, at_cursor, ended_at}

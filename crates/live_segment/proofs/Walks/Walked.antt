@@ -28,7 +28,8 @@ use Rattle.live_segment.specs.declared.rule.Setting.{Setting}
 use Rattle.live_segment.specs.declared.segment.Segment.{Segment}
 use Rattle.live_segment.specs.Rule.{Runs, opened_of}
 use Rattle.live_segment.specs.Steps.{Pass, Sat, IsSame, Stepped}
-use Rattle.live_segment.specs.Holders.{MayStep, IsSeated}
+use Rattle.live_segment.specs.Holders.{MayStep}
+use Rattle.live_segment.specs.Seated.{IsSeated}
 use Rattle.segment_promises.specs.Onward.{Grows, StaysApart}
 use Rattle.live_segment.specs.declared.recorder.KnownHistogram.{KnownHistogram}
 use Rattle.live_segment.specs.declared.records.WalkPlace.{WalkPlace}

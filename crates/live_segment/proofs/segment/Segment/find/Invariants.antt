@@ -1,5 +1,5 @@
 use Rattle.std.proofs.Common.{◌-◌}
-use Rattle.live_segment.specs.Holders.{IsSeated}
+use Rattle.live_segment.specs.Seated.{IsSeated}
 use Rattle.live_segment.specs.Searching.{HasSearched, WalksAt}
 use Rattle.live_segment.specs.Steps.{IsSame}
 use Rattle.segment_promises.proofs.Furthest.{last_of}

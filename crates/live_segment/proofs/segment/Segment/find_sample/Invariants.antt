@@ -1,6 +1,6 @@
 use Rattle.std.proofs.Common.{◌≡◌, ◌-◌, ℤ}
 use Rattle.live_segment.specs.Sampling.{WalksBehind}
-use Rattle.live_segment.specs.Holders.{IsSeated}
+use Rattle.live_segment.specs.Seated.{IsSeated}
 use Rattle.live_segment.specs.Searching.{HasSearched}
 use Rattle.live_segment.specs.Steps.{IsSame}
 use Rattle.segment_promises.proofs.Furthest.{last_of}
